@@ -1,0 +1,42 @@
+-- What one call of `Items::next` gives (HID 1.11, 6.2.2).
+use Rattle.std.specs.Prelude.{◌≡◌, ◌≢◌, ℕ, ◌+◌, List, [], ◌++◌, length, Option, Some, None, Result, Ok, Err, ◌==◌, if◌then◌else◌, slice_index}
+use Rattle.hid_items.specs.declared.spelling.Item.{Item}
+use Rattle.hid_items.specs.declared.spelling.ItemKind.{ItemKind}
+use Rattle.hid_items.specs.declared.spelling.ItemKind.TheVariants.{Short, Long}
+use Rattle.hid_items.specs.declared.fault.ItemFault.{ItemFault}
+use Rattle.hid_items.specs.declared.fault.ItemFault.TheVariants.{Truncated}
+use Rattle.hid_items.specs.declared.reading.Items.{Items}
+use Rattle.hid_items.specs.Spelling.{IsSpelling, IsCut, prefix_of}
+
+-- the place of the next item, and the bytes that are left from there on
+abbrev pub place : Items → ℕ
+place items = items.at
+
+abbrev pub left : Items → List ℕ
+left items = items.rest.now
+
+-- nothing has been read: these bytes are to come, the first of them at this place
+abbrev pub StartsAt : Items → ℕ → List ℕ → Type 0
+StartsAt items at bytes = (place items ≡ at) × (left items ≡ bytes)
+
+-- what stands first in a spelling
+abbrev pub kind_of : List ℕ → ItemKind
+kind_of bytes = if slice_index bytes 0 == 0xFE then Long (slice_index bytes 2) else Short (prefix_of bytes)
+
+-- the next item is at the front of what was left
+pub record GivesItem (old : Items) (item : Item) (new : Items) : Type 0 where
+  pub at : item.at ≡ place old
+  pub spelled : IsSpelling item.bytes.now
+  pub kind : item.kind ≡ kind_of item.bytes.now
+  pub rest : left old ≡ item.bytes.now ++ left new
+  pub after : place new ≡ place old + length item.bytes.now
+
+-- an item, the one refusal, or the end; after a refusal the end comes
+abbrev pub GivesNext : Items → Option (Result Item ItemFault) → Items → Type 0
+GivesNext old None new = (left old ≡ []) × (left new ≡ [])
+GivesNext old (Some (Ok item)) new = GivesItem old item new
+GivesNext old (Some (Err (Truncated at))) new = (at ≡ place old) × IsCut (left old) × (left new ≡ [])
+
+-- the item is a short one, spelled as such
+abbrev pub IsShort : Item → Type 0
+IsShort item = IsSpelling item.bytes.now × (slice_index item.bytes.now 0 ≢ 0xFE)

@@ -1,0 +1,61 @@
+-- What items a report descriptor is made of (HID 1.11, 6.2.2). An item is known by its spelling, the bytes that it takes.
+use Rattle.std.specs.Prelude.{◌≡◌, ℕ, ◌+◌, ◌-◌, ◌*◌, ◌%◌, ◌^◌, ◌<◌, List, [], ◌∷◌, ◌++◌, length, take, drop, All, ◌==◌, nat_lt, if◌then◌else◌, ℤ, pos, ◌-ℤ◌}
+use Rattle.std.specs.Bool.{MatchBool}
+use Rattle.std.specs.List.{flat_map}
+
+-- the number of data bytes of a short item, by the low two bits of its first byte (6.2.2.2)
+abbrev pub data_length : ℕ → ℕ
+data_length first = if (first % 4) == 3 then 4 else first % 4
+
+-- after the first byte of a long item: n, a tag and n bytes (6.2.2.3)
+abbrev pub IsLongRest : List ℕ → Type 0
+IsLongRest (n ∷ tag ∷ bytes) = length bytes ≡ n
+IsLongRest (n ∷ []) = ⊥
+IsLongRest [] = ⊥
+
+-- the bytes of one item: FE with a long item's rest, or another first byte with its data
+abbrev pub IsSpelling : List ℕ → Type 0
+IsSpelling [] = ⊥
+IsSpelling (first ∷ rest) = MatchBool (first == 0xFE) (IsLongRest rest) (length rest ≡ data_length first)
+
+-- the bytes are these items, one after another
+pub record AreItems (bytes : List ℕ) (items : List (List ℕ)) : Type 0 where
+  pub joined : flat_map (λ item. item) items ≡ bytes
+  pub spelled : All IsSpelling items
+
+-- no item begins here, though some bytes are left
+pub record IsCut (rest : List ℕ) : Type 0 where
+  pub some : 0 < length rest
+  pub none : (item more : List ℕ) → IsSpelling item → rest ≡ item ++ more → ⊥
+
+-- the first `at` bytes are these items, and what follows them is cut off
+pub record IsTruncatedAt (bytes : List ℕ) (at : ℕ) (items : List (List ℕ)) : Type 0 where
+  pub within : at < length bytes
+  pub items_before : AreItems (take at bytes) items
+  pub cut : IsCut (drop at bytes)
+
+-- the prefix of a short item: its first byte without the size
+abbrev pub prefix_of : List ℕ → ℕ
+prefix_of [] = 0
+prefix_of (first ∷ rest) = first - first % 4
+
+-- the data of a short item
+abbrev pub data_of : List ℕ → List ℕ
+data_of [] = []
+data_of (first ∷ rest) = rest
+
+-- a number by its bytes, the lowest first (5.8)
+abbrev pub little_endian : List ℕ → ℕ
+little_endian [] = 0
+little_endian (byte ∷ bytes) = byte + 256 * little_endian bytes
+
+-- the number that a bit pattern stands for in two's complement, among `patterns` patterns
+abbrev pub two's_complement : ℕ → ℕ → ℤ
+two's_complement patterns n = if nat_lt (2 * n) patterns then pos n else pos n -ℤ pos patterns
+
+-- data read as a number without sign, and with one; no data is 0
+abbrev pub unsigned_of : List ℕ → ℕ
+unsigned_of bytes = little_endian bytes
+
+abbrev pub signed_of : List ℕ → ℤ
+signed_of bytes = two's_complement (256 ^ length bytes) (little_endian bytes)

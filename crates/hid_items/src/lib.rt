@@ -1,0 +1,32 @@
+//! The items of a report descriptor, in order (HID 1.11, 6.2.2).
+//! ```text
+//!   report descriptor    05 01      09 02      A1 01      FE 02 10 AA BB      C0
+//!                        |  |       short      short      |  |  |  |          short, no data
+//!                        |  data                          |  |  |  2 bytes of data
+//!                        first byte: tag, type, size      |  |  tag
+//!                                                         |  size of the data
+//!                                                         the first byte of every long item
+//! ```
+//! An item is known by its spelling, a slice of the descriptor: nothing is copied, and nothing
+//! takes memory. What an item means is said in `hid_layout`, and never here.
+//! [`Items`] gives exactly the items whose spellings, one after another, are the descriptor, each
+//! at its place: `next_gives` of its `Iterator`, with [`laws::one_reading`]. Where bytes are left
+//! in which no item begins, it ends with [`ItemFault::Truncated`].
+//! ```text
+//!   for item in Items::new(&[0x09, 0x02, 0x25]) {      // Ok(Item { at: 0, .. }), whose unsigned() is 2,
+//!       ..                                             // then Err(ItemFault::Truncated { at: 2 })
+//!   }
+//! ```
+#![tactic(auto)]
+
+mod fault;
+pub mod laws;
+mod reading;
+mod spelling;
+
+pub use fault::ItemFault;
+pub use reading::Items;
+pub use spelling::{Item, ItemKind};
+
+#[cfg(test)]
+mod tests;
