@@ -1,0 +1,5 @@
+pub mod FieldLemmas
+pub mod PartLemmas
+pub mod ValueLemmas
+pub mod Vectors
+pub mod WordLemmas

@@ -1,0 +1,215 @@
+-- Fields of several bytes as one word.
+use Rattle.std.proofs.Common.{◌≡◌, ℕ, zero, suc, ◌+◌, ◌-◌, ◌*◌, ◌/◌, ◌%◌, ◌^◌, ◌<◌, ◌≤◌, ◌⊎◌, inl, inr, length, List, get_or, refl, sym, ap, ◌∙◌, bit_and, bit_or, add_comm, one-add, arith}
+use Rattle.std.specs.Int.{bit_at, sum_through, byte_worth}
+use Rattle.std.proofs.lemmas.Nat.Bits.{bit_at-lt, bit_at_cat_low, bit_at_cat_high}
+use Rattle.std.proofs.lemmas.Nat.{or_shifted, pow_below, and_mask, shr_below, mod-pow-add, shr_split, shr_high, mod_low, mod_below, pow_pos, pow-add}
+use Rattle.std.proofs.Math.Nat.{mod-eq_of_lt, mul-le-mul_right, pow-suc}
+use Rattle.std.proofs.lemmas.Bool.{cases_eq, cases_lt}
+use borrow.Rule.Slice.PartMut.{put_mid}
+use Rattle.std.specs.List.{between}
+use Rattle.hid_fields.proofs.PartLemmas.{bit_of-between, bit_of-put, bit_of-put_other}
+use Rattle.hid_fields.specs.Field.{bit_of, pattern_of, IsOutside}
+use Rattle.hid_fields.specs.Word.{spliced}
+use Rattle.hid_fields.proofs.FieldLemmas.{pattern_of-lt}
+
+-- a field is its low part and its high part
+pub pattern_of-add : (bytes : List ℕ) (at m n : ℕ)
+    → pattern_of bytes at (m + n) ≡ pattern_of bytes at m + pattern_of bytes (at + m) n * 2 ^ m
+pattern_of-add bytes at m zero =
+    let e : m + 0 ≡ m = omega arith in
+    rw e (grind arith)
+pattern_of-add bytes at m (suc n) =
+    let here : at + (m + n) ≡ (at + m) + n = omega arith in
+    let e : m + suc n ≡ suc (m + n) = omega arith in
+    let p : 2 ^ (m + n) ≡ 2 ^ m * 2 ^ n = pow-add 2 m n in
+    rw (e, pattern_of-add bytes at m n, here, p) (grind arith)
+
+-- the low bits of a byte
+low_bits : (bytes : List ℕ) (i k : ℕ) → k ≤ 8
+    → pattern_of bytes (8 * i) k ≡ get_or bytes i 0 % 2 ^ k
+low_bits bytes i zero h = omega arith
+low_bits bytes i (suc k) h =
+    let e : (8 * i + k) / 8 ≡ i = omega arith in
+    let f : (8 * i + k) % 8 ≡ k = omega arith in
+    let split = rw (one-add k) at (mod-pow-add (get_or bytes i 0) 1 k) in
+    rw (low_bits bytes i k (omega arith), e, f) (add_comm _ _ ∙ sym split)
+
+-- a byte is its eight bits
+pub pattern_of-byte : (bytes : List ℕ) (i : ℕ) → get_or bytes i 0 < 256
+    → pattern_of bytes (8 * i) 8 ≡ get_or bytes i 0
+pattern_of-byte bytes i small = low_bits bytes i 8 (omega arith) ∙ mod-eq_of_lt small
+
+-- the bits of the next byte
+pattern_of-next_byte : (bytes : List ℕ) (k : ℕ) → get_or bytes k 0 < 256
+    → pattern_of bytes 0 (8 * suc k) ≡ pattern_of bytes 0 (8 * k) + get_or bytes k 0 * 2 ^ (8 * k)
+pattern_of-next_byte bytes k small =
+    let next : 8 * suc k ≡ 8 * k + 8 = omega arith in
+    let here : 0 + 8 * k ≡ 8 * k = omega arith in
+    rw (next, pattern_of-add bytes 0 (8 * k) 8, here, pattern_of-byte bytes k small) refl
+
+power_of_256 : (k : ℕ) → 2 ^ (8 * k) ≡ 256 ^ k
+power_of_256 zero = refl
+power_of_256 (suc k) =
+    let next : 8 * suc k ≡ 8 + 8 * k = omega arith in
+    rw (next, pow-add 2 8 (8 * k), power_of_256 k, pow-suc 256 k) (omega arith)
+
+-- bytes, the first one lowest, are the sum of their worths
+pattern_of-bytes : (bytes : List ℕ) (k : ℕ) → ((i : ℕ) → get_or bytes i 0 < 256)
+    → pattern_of bytes 0 (8 * suc k) ≡ sum_through (λ i. byte_worth i (get_or bytes i 0)) k
+pattern_of-bytes bytes zero small = pattern_of-byte bytes 0 (small 0)
+pattern_of-bytes bytes (suc k) small =
+    let power = power_of_256 (suc k) in
+    rw (pattern_of-next_byte bytes (suc k) (small (suc k)), power, pattern_of-bytes bytes k small) refl
+
+-- what is gathered from a whole slice
+pub gathered : (bytes : List ℕ) (k word : ℕ) → length bytes ≡ suc k
+    → ((i : ℕ) → get_or bytes i 0 < 256)
+    → word ≡ sum_through (λ i. byte_worth i (get_or bytes i 0)) k
+    → word ≡ pattern_of bytes 0 (8 * length bytes)
+gathered bytes k word len small is = rw len (is ∙ sym (pattern_of-bytes bytes k small))
+
+-- the first n bytes are those of the word
+abbrev pub HasBytes : List ℕ → ℕ → ℕ → Type 0
+HasBytes bytes word zero = Unit {0}
+HasBytes bytes word (suc k) = HasBytes bytes word k × (get_or bytes k 0 ≡ word / 2 ^ (8 * k) % 256)
+
+pattern_of-scattered : (bytes : List ℕ) (word n : ℕ) → HasBytes bytes word n
+    → pattern_of bytes 0 (8 * n) ≡ word % 2 ^ (8 * n)
+pattern_of-scattered bytes word zero has = omega arith
+pattern_of-scattered bytes word (suc k) has =
+    let small : get_or bytes k 0 < 256 = rw has.1 (omega arith) in
+    let next : 8 * suc k ≡ 8 + 8 * k = omega arith in
+    pattern_of-next_byte bytes k small
+    ∙ rw (pattern_of-scattered bytes word k has.0, has.1)
+    (add_comm _ _ ∙ sym (mod-pow-add word 8 (8 * k)) ∙ ap (λ (m : ℕ). word % 2 ^ m) (sym next))
+
+-- what is scattered into a whole slice
+pub scattered : (bytes : List ℕ) (word n : ℕ) → length bytes ≡ n → word < 2 ^ (8 * length bytes)
+    → HasBytes bytes word n → pattern_of bytes 0 (8 * length bytes) ≡ word
+scattered bytes word n len fits has =
+    let small : word < 2 ^ (8 * n) = rw len at fits in
+    rw len (pattern_of-scattered bytes word n has ∙ mod-eq_of_lt small)
+
+-- a bit of a field
+pub bit_at-pattern_of : (bytes : List ℕ) (at w k : ℕ) → k < w
+    → bit_at (pattern_of bytes at w) k ≡ bit_of bytes (at + k)
+bit_at-pattern_of bytes at zero k h = absurd (omega arith)
+bit_at-pattern_of bytes at (suc w) k h =
+    elim (cases_eq k w) [
+      | inl e ↦
+          rw (e, add_comm (pattern_of bytes at w) (bit_of bytes (at + w) * 2 ^ w), shr_high (bit_of bytes (at + w)) w (pattern_of bytes at w) (pattern_of-lt bytes at w))
+          (mod-eq_of_lt (bit_at-lt _ _))
+      | inr ne ↦
+          let lt : k < w = omega arith in
+          rw (add_comm (pattern_of bytes at w) (bit_of bytes (at + w) * 2 ^ w))
+          (bit_at_cat_low (bit_of bytes (at + w)) w (pattern_of bytes at w) k lt ∙ bit_at-pattern_of bytes at w k lt)
+    ]
+
+-- a field inside a word
+pub field_of_word : (bytes : List ℕ) (at s w m : ℕ) → s + w ≤ m
+    → pattern_of bytes at m / 2 ^ s % 2 ^ w ≡ pattern_of bytes (at + s) w
+field_of_word bytes at s w m h =
+    let rest = m - (s + w) in
+    let e : m ≡ s + (w + rest) = omega arith in
+    let parts : pattern_of bytes at m ≡ (pattern_of bytes ((at + s) + w) rest * 2 ^ w + pattern_of bytes (at + s) w) * 2 ^ s + pattern_of bytes at s =
+    rw (e, pattern_of-add bytes at s (w + rest), pattern_of-add bytes (at + s) w rest) (grind arith)
+    in
+    rw (parts, shr_high (pattern_of bytes ((at + s) + w) rest * 2 ^ w + pattern_of bytes (at + s) w) s (pattern_of bytes at s) (pattern_of-lt bytes at s))
+    (mod_low (pattern_of bytes ((at + s) + w) rest) w (pattern_of bytes (at + s) w) (pattern_of-lt bytes (at + s) w))
+
+low_fits : (n s : ℕ) → n % 2 ^ s < 2 ^ s
+low_fits n s = mod_below n (2 ^ s) (pow_pos s)
+
+pub spliced-field : (s w pattern word : ℕ) → pattern < 2 ^ w
+    → spliced s w pattern word / 2 ^ s % 2 ^ w ≡ pattern
+spliced-field s w pattern word h =
+    rw (shr_high (word / 2 ^ (s + w) * 2 ^ w + pattern) s (word % 2 ^ s) (low_fits word s))
+    (mod_low (word / 2 ^ (s + w)) w pattern h)
+
+cat_lt : (a b p q : ℕ) → a < p → b < q → a * q + b < p * q
+cat_lt a b zero q h k = absurd (omega arith)
+cat_lt a b (suc p) q h k =
+    let le : a * q ≤ p * q = mul-le-mul_right q (omega arith) in
+    let e : suc p * q ≡ p * q + q = grind arith in
+    rw e (omega arith)
+
+split_sum : (r s w : ℕ) → r + (s + w) ≡ r + w + s
+split_sum r s w = omega arith
+
+bit_low : (n s k : ℕ) → k < s → bit_at (n % 2 ^ s) k ≡ bit_at n k
+bit_low n s k h = sym (bit_at_cat_low (n / 2 ^ s) s (n % 2 ^ s) k h) ∙ ap (λ (m : ℕ). bit_at m k) (shr_split n s)
+
+bit_high : (n s k : ℕ) → s ≤ k → bit_at (n / 2 ^ s) (k - s) ≡ bit_at n k
+bit_high n s k h = sym (bit_at_cat_high (n / 2 ^ s) s (n % 2 ^ s) k (low_fits n s) h) ∙ ap (λ (m : ℕ). bit_at m k) (shr_split n s)
+
+pub spliced-others : (s w pattern word k : ℕ) → pattern < 2 ^ w → (k < s) ⊎ (s + w ≤ k)
+    → bit_at (spliced s w pattern word) k ≡ bit_at word k
+spliced-others s w pattern word k h (inl below) =
+    bit_at_cat_low (word / 2 ^ (s + w) * 2 ^ w + pattern) s (word % 2 ^ s) k below
+    ∙ bit_low word s k below
+spliced-others s w pattern word k h (inr above) =
+    let e : k - s - w ≡ k - (s + w) = omega arith in
+    bit_at_cat_high (word / 2 ^ (s + w) * 2 ^ w + pattern) s (word % 2 ^ s) k (low_fits word s) (omega arith)
+    ∙ bit_at_cat_high (word / 2 ^ (s + w)) w pattern (k - s) h (omega arith)
+    ∙ ap (λ (j : ℕ). bit_at (word / 2 ^ (s + w)) j) e
+    ∙ bit_high word (s + w) k above
+
+-- a bound on a word with a field replaced
+pub spliced-lt : (s w pattern word m : ℕ) → pattern < 2 ^ w → s + w ≤ m → word < 2 ^ m
+    → spliced s w pattern word < 2 ^ m
+spliced-lt s w pattern word m h inside word_fits =
+    let rest = m - (s + w) in
+    let e : rest + (s + w) ≡ m = omega arith in
+    let word_fits' : word < 2 ^ (rest + (s + w)) = rw e word_fits in
+    let high : word / 2 ^ (s + w) < 2 ^ rest = shr_below word rest (s + w) word_fits' in
+    let mid : word / 2 ^ (s + w) * 2 ^ w + pattern < 2 ^ rest * 2 ^ w = cat_lt _ _ _ _ high h in
+    let all : (word / 2 ^ (s + w) * 2 ^ w + pattern) * 2 ^ s + word % 2 ^ s < 2 ^ rest * 2 ^ w * 2 ^ s = cat_lt _ _ _ _ mid (low_fits word s) in
+    let p : 2 ^ m ≡ 2 ^ rest * 2 ^ w * 2 ^ s = ap (λ (n : ℕ). 2 ^ n) (sym e ∙ split_sum rest s w) ∙ pow-add 2 (rest + w) s ∙ ap (λ (n : ℕ). n * 2 ^ s) (pow-add 2 rest w) in
+    rw p all
+
+-- what the code makes, step by step
+pub spliced-made : (word s w pattern : ℕ) → word < 2 ^ 40 → s < 8 → w ≤ 32 → pattern < 2 ^ w
+    → bit_or (bit_or (word / 2 ^ (s + w) * 2 ^ w % 2 ^ 64) pattern * 2 ^ s % 2 ^ 64) (bit_and word (1 * 2 ^ s % 2 ^ 64 - 1)) ≡ spliced s w pattern word
+spliced-made word s w pattern word_fits s_fits w_fits h =
+    let one : 1 * 2 ^ s % 2 ^ 64 ≡ 2 ^ s = mod-eq_of_lt (omega (arith, pow_below s 64 (omega arith))) ∙ omega arith in
+    let whole : spliced s w pattern word < 2 ^ 40 = spliced-lt s w pattern word 40 h (omega arith) word_fits in
+    let word_fits' : word < 2 ^ ((40 - (s + w)) + (s + w)) = let e : (40 - (s + w)) + (s + w) ≡ 40 = omega arith in rw e word_fits in
+    let high : word / 2 ^ (s + w) * 2 ^ w + 0 < 2 ^ (40 - (s + w)) * 2 ^ w = cat_lt _ _ _ _ (shr_below word (40 - (s + w)) (s + w) word_fits') (pow_pos w) in
+    let high_fits : word / 2 ^ (s + w) * 2 ^ w < 2 ^ 64 = omega (arith, sym (pow-add 2 (40 - (s + w)) w), pow_below (40 - (s + w) + w) 64 (omega arith)) in
+    let mid_fits : (word / 2 ^ (s + w) * 2 ^ w + pattern) * 2 ^ s < 2 ^ 64 = omega arith in
+    rw (one, and_mask, mod-eq_of_lt high_fits, or_shifted (word / 2 ^ (s + w)) w pattern h, mod-eq_of_lt mid_fits)
+    (or_shifted (word / 2 ^ (s + w) * 2 ^ w + pattern) s (word % 2 ^ s) (low_fits word s))
+
+-- a bit outside a field that was replaced in a word of bytes
+pub bit_of-spliced : (xs ys : List ℕ) (at s w m pattern k : ℕ) → pattern < 2 ^ w → k < m
+    → pattern_of ys at m ≡ spliced s w pattern (pattern_of xs at m)
+    → (k < s) ⊎ (s + w ≤ k) → bit_of ys (at + k) ≡ bit_of xs (at + k)
+bit_of-spliced xs ys at s w m pattern k h inside word outside =
+    sym (bit_at-pattern_of ys at m k inside)
+    ∙ ap (λ (x : ℕ). bit_at x k) word
+    ∙ spliced-others s w pattern (pattern_of xs at m) k h outside
+    ∙ bit_at-pattern_of xs at m k inside
+
+-- a bit outside a field that was replaced in a part of a slice
+pub put_elsewhere : (xs ys : List ℕ) (first last s w pattern n : ℕ) → last ≤ length xs
+    → length (between first last xs) ≡ last - first → length ys ≡ last - first
+    → pattern < 2 ^ w
+    → pattern_of ys 0 (8 * length (between first last xs)) ≡ spliced s w pattern (pattern_of (between first last xs) 0 (8 * length (between first last xs)))
+    → IsOutside (8 * first + s) w n → bit_of (put_mid first (last - first) xs ys) n ≡ bit_of xs n
+put_elsewhere xs ys first last s w pattern n inside part_len len fits word outside =
+    elim (cases_lt n (8 * first)) [
+      | inl below ↦ bit_of-put_other xs ys first last n inside len (inl below)
+      | inr from ↦ elim (cases_lt n (8 * last)) [
+        | inr above ↦ bit_of-put_other xs ys first last n inside len (inr above)
+        | inl within ↦
+            let k = n - 8 * first in
+            let place : 8 * first + (0 + k) ≡ n = omega arith in
+            let low : 0 + k < 8 * (last - first) = omega arith in
+            let apart : (k < s) ⊎ (s + w ≤ k) = elim outside [ inl a ↦ inl (omega arith) | inr b ↦ inr (omega arith) ] in
+            ap (bit_of (put_mid first (last - first) xs ys)) (sym place)
+            ∙ bit_of-put xs ys first last (0 + k) (omega arith) len low
+            ∙ bit_of-spliced (between first last xs) ys 0 s w (8 * length (between first last xs)) pattern k fits (omega arith) word apart
+            ∙ bit_of-between xs first last (0 + k) low
+            ∙ ap (bit_of xs) place
+      ]
+    ]

@@ -1,0 +1,15 @@
+use Rattle.std.proofs.Common.{arith}
+use Rattle.hid_fields.proofs.WordLemmas.{gathered}
+use Rattle.hid_fields.proofs.word_codec.gather.Goals as goal
+
+pub returns-in-len3 : goal.returns-in-len3
+returns-in-len3 c =
+    gathered _ 2 _ (omega arith) (λ i. omega (arith, c.type_inv.bytes i)) (omega (arith, c.from_le_bytes-in-len3.ensures))
+
+pub returns-in-len4 : goal.returns-in-len4
+returns-in-len4 c =
+    gathered _ 3 _ (omega arith) (λ i. omega (arith, c.type_inv.bytes i)) (omega (arith, c.from_le_bytes-in-len4.ensures))
+
+pub returns-in-len5-up : goal.returns-in-len5-up
+returns-in-len5-up c =
+    gathered _ 4 _ (omega arith) (λ i. omega (arith, c.type_inv.bytes i)) (omega (arith, c.from_le_bytes-in-len5-up.ensures))

@@ -1,0 +1,82 @@
+//! The codec by words: the bytes that a field touches, five at most, are taken as one word.
+ghost use Rattle.std.specs.Prelude.{◌≡◌, ◌+◌, ◌*◌, ◌^◌, ◌<◌, ◌≤◌, length};
+ghost use Rattle.hid_fields.specs.Field.{pattern_of};
+ghost use Rattle.hid_fields.specs.Word.{spliced};
+
+use crate::codec::{FieldCodec, MAX_WIDTH};
+
+/// In bytes: the most that a field touches, 32 bits from the last bit of a byte on.
+const MAX_TOUCHED: usize = 5;
+
+/// Gathers the bytes that a field touches into a 64-bit word, shifts and masks.
+pub struct WordCodec;
+
+/// How many bytes a field of this width touches that begins at this bit of a byte.
+fn touched(shift: usize, width: u32) -> usize
+    requires shift { shift < 8 }
+    requires width { width ≤ MAX_WIDTH }
+    ensures enough { shift + width ≤ 8 * result }
+    ensures few { 8 * result < shift + width + 8 }
+{
+    (shift + width as usize).div_ceil(8)
+}
+
+/// The bytes as a word, the first one lowest.
+fn gather(bytes: &[u8]) -> u64
+    requires { length bytes.now ≤ MAX_TOUCHED }
+    ensures { result ≡ pattern_of bytes.now 0 (8 * length bytes.now) }
+{
+    match *bytes {
+        [] => 0,
+        [a] => u64::from(a),
+        [a, b] => u64::from_le_bytes([a, b, 0, 0, 0, 0, 0, 0]),
+        [a, b, c] => u64::from_le_bytes([a, b, c, 0, 0, 0, 0, 0]),
+        [a, b, c, d] => u64::from_le_bytes([a, b, c, d, 0, 0, 0, 0]),
+        [a, b, c, d, e, ..] => u64::from_le_bytes([a, b, c, d, e, 0, 0, 0]),
+    }
+}
+
+/// Makes the bytes those of the word.
+fn scatter(bytes: &mut [u8], word: u64)
+    requires count { length bytes.old ≤ MAX_TOUCHED }
+    requires fits { word < 2 ^ (8 * length bytes.old) }
+    ensures { pattern_of bytes.new 0 (8 * length bytes.new) ≡ word }
+{
+    let [a, b, c, d, e, ..] = word.to_le_bytes();
+    match bytes.len() {
+        0 => {}
+        1 => bytes[0] = a,
+        2 => (bytes[0], bytes[1]) = (a, b),
+        3 => (bytes[0], bytes[1], bytes[2]) = (a, b, c),
+        4 => (bytes[0], bytes[1], bytes[2], bytes[3]) = (a, b, c, d),
+        _ => (bytes[0], bytes[1], bytes[2], bytes[3], bytes[4]) = (a, b, c, d, e),
+    }
+}
+
+/// The word with this field of it replaced.
+fn splice(word: u64, shift: usize, width: u32, pattern: u32) -> u64
+    requires word { word < 2 ^ (8 * MAX_TOUCHED) }
+    requires shift { shift < 8 }
+    requires width { width ≤ MAX_WIDTH }
+    requires fits { pattern < 2 ^ width }
+    ensures { result ≡ spliced shift width pattern word }
+{
+    let low = word & ((1u64 << shift) - 1);
+    let high = word >> (shift + width as usize);
+    (high << width | u64::from(pattern)) << shift | low
+}
+
+impl FieldCodec for WordCodec {
+    fn get(bytes: &[u8], at: usize, width: u32) -> u32 {
+        let (first, shift) = (at / 8, at % 8);
+        let word = gather(&bytes[first..first + touched(shift, width)]);
+        (word >> shift & ((1u64 << width) - 1)) as u32
+    }
+
+    fn put(bytes: &mut [u8], at: usize, width: u32, pattern: u32) {
+        let (first, shift) = (at / 8, at % 8);
+        let field = &mut bytes[first..first + touched(shift, width)];
+        let word = splice(gather(field), shift, width, pattern);
+        scatter(field, word);
+    }
+}
