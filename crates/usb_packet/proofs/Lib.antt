@@ -1,0 +1,2 @@
+pub mod PidLemmas
+mod Vectors

@@ -1,0 +1,50 @@
+//! From a packet to its bytes (USB 2.0, 8.3 and 8.4).
+ghost use Rattle.std.specs.Prelude.{◌≡◌};
+ghost use Rattle.usb_packet.specs.Spelling.{Fits, Spells, token_pid, data_pid};
+
+use crate::packet::{Packet, TokenKind};
+use crate::pid;
+use arrayvec::ArrayVec;
+
+fn pid_of_token(kind: TokenKind) -> u8
+    ensures { result ≡ token_pid kind }
+{
+    match kind {
+        TokenKind::Out => pid::OUT,
+        TokenKind::In => pid::IN,
+        TokenKind::Setup => pid::SETUP,
+    }
+}
+
+fn pid_of_data(one: bool) -> u8
+    ensures { result ≡ data_pid one }
+{
+    if one { pid::DATA1 } else { pid::DATA0 }
+}
+
+/// The bytes that spell the packet, 1 to 65: its PID, then the two bytes of a token or the payload of a data
+/// packet. Fields go from the least significant bit upwards, and bytes from the least significant one (USB 2.0,
+/// 8.1).
+pub fn encode(packet: &Packet) -> ArrayVec<u8, 65>
+    requires fits { Fits packet.now }
+    ensures spelled { Spells packet.now result.items }
+{
+    let mut bytes = ArrayVec::new();
+    match packet {
+        Packet::Token { kind, addr, endp } => {
+            let fields = u16::from(*endp) << 7 | u16::from(*addr);
+            let [low, high] = fields.to_le_bytes();
+            bytes.push(pid_of_token(*kind));
+            bytes.push(low);
+            bytes.push(high);
+        }
+        Packet::Data { one, payload } => {
+            bytes.push(pid_of_data(*one));
+            bytes.try_extend_from_slice(payload).unwrap();
+        }
+        Packet::Ack => bytes.push(pid::ACK),
+        Packet::Nak => bytes.push(pid::NAK),
+        Packet::Stall => bytes.push(pid::STALL),
+    }
+    bytes
+}

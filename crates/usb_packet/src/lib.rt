@@ -1,0 +1,32 @@
+//! Packets of the bus, and the bytes that spell them (USB 2.0, 8.3 and 8.4).
+//! ```text
+//!             encode                 decode
+//!   Packet ------------> bytes ------------> Packet, or the first PacketFault
+//!
+//!   token       PID | address, 7 bits | endpoint, 4 bits | zeros, 5 bits
+//!   data        PID | payload, 0 to 64 bytes
+//!   handshake   PID
+//! ```
+//! A PID is one byte: the type of the packet in its low half, and the complement of that in its high half.
+//! No CRC is carried: a packet that a CRC would refuse is one that was lost.
+//!
+//! The rule to know: only a packet that [`fits`] has a spelling, and [`encode`] asks for one. All other packets
+//! fit: a payload has at most 64 bytes by its type.
+//!
+//! The promise: `decode` accepts exactly the spellings, and gives the packet that is spelled: `found`,
+//! `complete` and `fault` on [`decode`]. No call takes memory.
+#![tactic(auto)]
+
+mod decoding;
+mod encoding;
+mod fault;
+mod packet;
+mod pid;
+
+pub use decoding::decode;
+pub use encoding::encode;
+pub use fault::PacketFault;
+pub use packet::{MAX_ADDRESS, MAX_ENDPOINT, MAX_PAYLOAD, Packet, TokenKind, fits};
+
+#[cfg(test)]
+mod tests;

@@ -1,0 +1,150 @@
+-- Over a bus that loses packets, a transaction is its row of the table (USB 2.0, 8.5.4 and 8.6).
+use Rattle.std.proofs.Common.{◌≡◌, ◌∙◌, ℕ, Bool, true, false, if◌then◌else◌, Option, Some, None, List, refl, ap}
+use Rattle.std.specs.Bool.{beq}
+use Rattle.usb_packet.specs.declared.packet.Packet.{Packet}
+use Rattle.usb_packet.specs.declared.packet.Packet.TheVariants as packets
+use Rattle.usb_packet.specs.Spelling.{spelling}
+use Rattle.usb_transact.specs.declared.bus.Stage.{Stage}
+use Rattle.usb_transact.specs.declared.bus.Stage.TheVariants.{Token, Reply, Acknowledgement}
+use Rattle.usb_transact.specs.declared.host.Took.{Took}
+use Rattle.usb_transact.specs.declared.host.Took.TheVariants.{Fresh, Again}
+use Rattle.usb_transact.specs.declared.transaction.Fate.{Fate}
+use Rattle.usb_transact.specs.declared.transaction.Fate.TheVariants.{Clean, TokenLost, ReplyLost, AckLost}
+use Rattle.usb_transact.specs.Host.{HostPipeState, token_to}
+use Rattle.usb_transact.specs.Device.{DevPipeState, answer_of, answer_with, closed}
+use Rattle.usb_transact.specs.Taken.{taken}
+use Rattle.usb_transact.specs.Bus.{Arrivals, Carries}
+use Rattle.usb_transact.specs.Fate.{arrives_under}
+use Rattle.usb_transact.specs.Transaction.{Replies, device_behind, HearsAck, Acknowledges, Transacts}
+use Rattle.usb_transact.specs.Exchange.{took_where, took_of, device_after}
+
+-- a packet that arrives as it was sent is read
+pub read_whole :
+    (arrivals : Arrivals) (stage : Stage) (sent : Packet) (came : Option Packet)
+    → arrivals stage (spelling sent) ≡ Some (spelling sent) → Carries arrivals stage sent came
+    → came ≡ Some sent
+read_whole arrivals stage sent came whole c = let read = rw whole at c.read in read.1 sent c.sent
+
+-- of a packet that is lost nothing is read
+pub read_lost :
+    (arrivals : Arrivals) (stage : Stage) (sent : Packet) (came : Option Packet)
+    → arrivals stage (spelling sent) ≡ None → Carries arrivals stage sent came → came ≡ None
+read_lost arrivals stage sent came lost c = rw lost at c.read
+
+-- a token that did not come gets no answer
+pub no_reply :
+    (arrivals : Arrivals) (token : Option Packet) (device : DevPipeState) (reply : Option Packet)
+    → token ≡ None → Replies arrivals token device reply → reply ≡ None
+no_reply arrivals token device reply none replied = rw none at replied
+
+-- the host's token gets the device's answer
+pub full_reply :
+    (arrivals : Arrivals) (host : HostPipeState) (token : Option Packet) (device : DevPipeState)
+    (reply : Option Packet)
+    → token ≡ Some (token_to host) → Replies arrivals token device reply
+    → Carries arrivals Reply (answer_of device) reply
+full_reply arrivals host token device reply came replied = rw came at replied
+
+-- where token and answer arrive as they were sent, the host reads the device's answer
+pub whole_reply :
+    (arrivals : Arrivals) (host : HostPipeState) (device : DevPipeState) (token reply : Option Packet)
+    → arrivals Token (spelling (token_to host)) ≡ Some (spelling (token_to host))
+    → arrivals Reply (spelling (answer_of device)) ≡ Some (spelling (answer_of device))
+    → Carries arrivals Token (token_to host) token → Replies arrivals token device reply
+    → reply ≡ Some (answer_of device)
+whole_reply arrivals host device token reply token_whole reply_whole polled replied =
+    let came = read_whole arrivals Token (token_to host) token token_whole polled in
+    read_whole arrivals Reply (answer_of device) reply reply_whole
+    (full_reply arrivals host token device reply came replied)
+
+-- the host takes the device's answer by its row
+pub took_answer :
+    (expects toggle : Bool) (armed : Option (List ℕ))
+    → taken expects (Some (answer_with toggle armed)) ≡ took_where expects toggle armed
+took_answer expects toggle None = refl
+took_answer expects toggle (Some bytes) = refl
+
+-- what the host takes, for each fate
+pub Transacts-took :
+    (fate : Fate) (host : HostPipeState) (device : DevPipeState)
+    (took : Took) (host_then : HostPipeState) (device_then : DevPipeState)
+    → Transacts (arrives_under fate) host device took host_then device_then
+    → took ≡ took_of fate host device
+Transacts-took TokenLost host device took host_then device_then t =
+    let none = read_lost (arrives_under TokenLost) Token (token_to host) t.token refl t.polled in
+    let reply = no_reply (arrives_under TokenLost) t.token device t.reply none t.replied in
+    t.took_reply ∙ ap (taken host.expects) reply
+Transacts-took ReplyLost host device took host_then device_then t =
+    let came = read_whole (arrives_under ReplyLost) Token (token_to host) t.token refl t.polled in
+    let sent = full_reply (arrives_under ReplyLost) host t.token device t.reply came t.replied in
+    let reply = read_lost (arrives_under ReplyLost) Reply (answer_of device) t.reply refl sent in
+    t.took_reply ∙ ap (taken host.expects) reply
+Transacts-took Clean host device took host_then device_then t =
+    let reply = whole_reply (arrives_under Clean) host device t.token t.reply refl refl t.polled t.replied in
+    t.took_reply ∙ ap (taken host.expects) reply ∙ took_answer host.expects device.toggle device.armed
+Transacts-took AckLost host device took host_then device_then t =
+    let reply = whole_reply (arrives_under AckLost) host device t.token t.reply refl refl t.polled t.replied in
+    t.took_reply ∙ ap (taken host.expects) reply ∙ took_answer host.expects device.toggle device.armed
+
+-- data are acknowledged under either toggle
+pub hears_either :
+    (arrivals : Arrivals) (fresh : Bool) (bytes : List ℕ) (device after : DevPipeState)
+    → Acknowledges arrivals (if fresh then Fresh (record { items = bytes }) else Again) device after
+    → HearsAck arrivals device after
+hears_either arrivals true bytes device after h = h
+hears_either arrivals false bytes device after h = h
+
+-- an ACK that arrives closes
+pub ack_closes :
+    (arrivals : Arrivals) (device after : DevPipeState)
+    → arrivals Acknowledgement (spelling packets.Ack) ≡ Some (spelling packets.Ack)
+    → HearsAck arrivals device after → after ≡ closed device
+ack_closes arrivals device after whole (came, carries, moved) =
+    moved ∙ ap (λ heard. device_behind heard device) (read_whole arrivals Acknowledgement packets.Ack came whole carries)
+
+-- an ACK that is lost leaves the device as it was
+pub ack_lost :
+    (arrivals : Arrivals) (device after : DevPipeState)
+    → arrivals Acknowledgement (spelling packets.Ack) ≡ None → HearsAck arrivals device after
+    → after ≡ device
+ack_lost arrivals device after lost (came, carries, moved) =
+    moved ∙ ap (λ heard. device_behind heard device) (read_lost arrivals Acknowledgement packets.Ack came lost carries)
+
+-- the device after the host took its answer, where the ACK arrives
+pub closes :
+    (arrivals : Arrivals) (expects toggle : Bool) (armed : Option (List ℕ)) (after : DevPipeState)
+    → arrivals Acknowledgement (spelling packets.Ack) ≡ Some (spelling packets.Ack)
+    → Acknowledges arrivals (took_where expects toggle armed) (record { toggle = toggle; armed = armed }) after
+    → after ≡ closed (record { toggle = toggle; armed = armed })
+closes arrivals expects toggle None after whole h = h
+closes arrivals expects toggle (Some bytes) after whole h =
+    let device : DevPipeState = record { toggle = toggle; armed = Some bytes } in
+    ack_closes arrivals device after whole (hears_either arrivals (beq toggle expects) bytes device after h)
+
+-- and where it is lost
+pub stays :
+    (arrivals : Arrivals) (expects toggle : Bool) (armed : Option (List ℕ)) (after : DevPipeState)
+    → arrivals Acknowledgement (spelling packets.Ack) ≡ None
+    → Acknowledges arrivals (took_where expects toggle armed) (record { toggle = toggle; armed = armed }) after
+    → after ≡ record { toggle = toggle; armed = armed }
+stays arrivals expects toggle None after lost h = h
+stays arrivals expects toggle (Some bytes) after lost h =
+    let device : DevPipeState = record { toggle = toggle; armed = Some bytes } in
+    ack_lost arrivals device after lost (hears_either arrivals (beq toggle expects) bytes device after h)
+
+-- the device after a transaction, for each fate
+pub Transacts-device :
+    (fate : Fate) (host : HostPipeState) (device : DevPipeState)
+    (took : Took) (host_then : HostPipeState) (device_then : DevPipeState)
+    → Transacts (arrives_under fate) host device took host_then device_then
+    → device_then ≡ device_after fate device
+Transacts-device TokenLost host device took host_then device_then t =
+    rw (Transacts-took TokenLost host device took host_then device_then t) at t.acknowledged
+Transacts-device ReplyLost host device took host_then device_then t =
+    rw (Transacts-took ReplyLost host device took host_then device_then t) at t.acknowledged
+Transacts-device Clean host device took host_then device_then t =
+    let acknowledged = rw (Transacts-took Clean host device took host_then device_then t) at t.acknowledged in
+    closes (arrives_under Clean) host.expects device.toggle device.armed device_then refl acknowledged
+Transacts-device AckLost host device took host_then device_then t =
+    let acknowledged = rw (Transacts-took AckLost host device took host_then device_then t) at t.acknowledged in
+    stays (arrives_under AckLost) host.expects device.toggle device.armed device_then refl acknowledged

@@ -1,0 +1,20 @@
+-- A packet on a bus: it goes as its bytes, and the other end reads the bytes that arrive (USB 2.0, 8.3 and 8.4).
+use Rattle.std.specs.Prelude.{◌≡◌, ℕ, List, Option, Some, None, IfSome}
+use Rattle.usb_packet.specs.declared.packet.Packet.{Packet}
+use Rattle.usb_packet.specs.Spelling.{Spells, spelling}
+use Rattle.usb_transact.specs.declared.bus.Stage.{Stage}
+
+-- what arrives of the bytes that are sent at a stage
+abbrev pub Arrivals : Type 0
+Arrivals = Stage → List ℕ → Option (List ℕ)
+
+-- of nothing an end reads nothing, and of bytes the one packet that they spell
+abbrev pub IsRead : Option (List ℕ) → Option Packet → Type 0
+IsRead None came = came ≡ None
+IsRead (Some bytes) came =
+    IfSome came (λ packet. Spells packet bytes) × ((packet : Packet) → Spells packet bytes → came ≡ Some packet)
+
+-- the packet has a spelling, and this is what the other end reads of what arrives of that
+pub record Carries (arrivals : Arrivals) (stage : Stage) (packet : Packet) (came : Option Packet) : Type 0 where
+  pub sent : Spells packet (spelling packet)
+  pub read : IsRead (arrivals stage (spelling packet)) came

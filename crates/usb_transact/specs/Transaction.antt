@@ -1,0 +1,45 @@
+-- One transaction of an interrupt-IN pipe over any bus (USB 2.0, 8.5.4): each end acts on what it reads of the bytes
+-- that arrive, and on nothing else.
+use Rattle.std.specs.Prelude.{◌≡◌, Option, Some, None}
+use Rattle.usb_packet.specs.declared.packet.Packet.{Packet}
+use Rattle.usb_packet.specs.declared.packet.Packet.TheVariants as packets
+use Rattle.usb_packet.specs.declared.packet.TokenKind.TheVariants.{In}
+use Rattle.usb_transact.specs.declared.bus.Stage.TheVariants.{Token, Reply, Acknowledgement}
+use Rattle.usb_transact.specs.declared.host.Took.{Took}
+use Rattle.usb_transact.specs.declared.host.Took.TheVariants.{Fresh, Again}
+use Rattle.usb_transact.specs.Host.{HostPipeState, token_to}
+use Rattle.usb_transact.specs.Device.{DevPipeState, answer_of, closed}
+use Rattle.usb_transact.specs.Taken.{taken, host_after}
+use Rattle.usb_transact.specs.Bus.{Arrivals, Carries}
+
+-- what the host reads of the device's answer, where this came of the token: only an IN token is answered
+abbrev pub Replies : Arrivals → Option Packet → DevPipeState → Option Packet → Type 0
+Replies arrivals (Some (packets.Token In addr endp)) device reply = Carries arrivals Reply (answer_of device) reply
+Replies arrivals _ device reply = reply ≡ None
+
+-- the device, where this came of an acknowledgement
+abbrev pub device_behind : Option Packet → DevPipeState → DevPipeState
+device_behind (Some packets.Ack) device = closed device
+device_behind _ device = device
+
+-- the device after an ACK is sent to it
+abbrev pub HearsAck : Arrivals → DevPipeState → DevPipeState → Type 0
+HearsAck arrivals device after =
+    (came : Option Packet) × Carries arrivals Acknowledgement packets.Ack came × (after ≡ device_behind came device)
+
+-- data are acknowledged, fresh or not, and nothing else is
+abbrev pub Acknowledges : Arrivals → Took → DevPipeState → DevPipeState → Type 0
+Acknowledges arrivals (Fresh payload) device after = HearsAck arrivals device after
+Acknowledges arrivals Again device after = HearsAck arrivals device after
+Acknowledges arrivals _ device after = after ≡ device
+
+-- the transaction by its packets, as each end reads them
+pub record Transacts (arrivals : Arrivals) (host : HostPipeState) (device : DevPipeState)
+    (took : Took) (host_then : HostPipeState) (device_then : DevPipeState) : Type 0 where
+  pub token : Option Packet
+  pub reply : Option Packet
+  pub polled : Carries arrivals Token (token_to host) token
+  pub replied : Replies arrivals token device reply
+  pub took_reply : took ≡ taken host.expects reply
+  pub host_moved : host_then ≡ host_after took host
+  pub acknowledged : Acknowledges arrivals took device device_then

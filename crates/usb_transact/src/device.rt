@@ -1,0 +1,104 @@
+//! The device's end of the pipe (USB 2.0, 8.5.4 and 8.6).
+ghost use Rattle.std.specs.Prelude.{◌≡◌, ◌≤◌, Some, IsNone, length};
+ghost use Rattle.std.specs.Option.{option_copied};
+ghost use Rattle.usb_packet.specs.Spelling.{Fits};
+ghost use Rattle.usb_transact.specs.Device.{device_at_start, answer_of, closed};
+
+use arrayvec::ArrayVec;
+use std::marker::Model;
+use usb_packet::{MAX_PAYLOAD, Packet};
+
+/// The device's end: its toggle, and the data that it sends until they are acknowledged. A contract sees it as
+/// `toggle` and `armed`.
+#[derive(Debug, Drop)]
+pub struct DevPipe {
+    toggle: bool,
+    armed: Option<ArrayVec<u8, 64>>,
+}
+
+impl Model for DevPipe {
+    ghost use Rattle.std.specs.Option.{option_map};
+    ghost use Rattle.usb_transact.specs.Device.{DevPipeState};
+
+    ghost Value = { DevPipeState };
+
+    ghost view = { λ p. record { toggle = p.toggle; armed = option_map (λ bytes. bytes.items) p.armed } };
+}
+
+impl Default for DevPipe {
+    ghost is_default = { λ p. p ≡ device_at_start };
+
+    fn default() -> DevPipe {
+        DevPipe::new()
+    }
+}
+
+impl DevPipe {
+    /// A pipe at DATA0 with nothing armed.
+    pub fn new() -> DevPipe
+        ensures { result ≡ device_at_start }
+    {
+        DevPipe {
+            toggle: false,
+            armed: None,
+        }
+    }
+
+    /// Goes back to DATA0 with nothing armed, as a configuration does (USB 2.0, 9.1.1.5).
+    pub fn restart(&mut self)
+        ensures { self.new ≡ device_at_start }
+    {
+        *self = DevPipe::new();
+    }
+
+    /// Whether data go out as DATA1.
+    pub fn toggle(&self) -> bool
+        ensures { result ≡ self.now.toggle }
+    {
+        self.toggle
+    }
+
+    /// Puts in the bytes that go out until they are acknowledged, 0 to [`MAX_PAYLOAD`].
+    pub fn arm(&mut self, bytes: &[u8])
+        requires idle { IsNone self.old.armed }
+        requires fits { length bytes.now ≤ MAX_PAYLOAD }
+        ensures { self.new ≡ record self.old { armed = Some bytes.now } }
+    {
+        self.armed = Some(ArrayVec::try_from(bytes).unwrap());
+    }
+
+    /// The bytes that wait for an acknowledgement.
+    pub fn armed(&self) -> Option<&[u8]>
+        ensures { option_copied result ≡ self.now.armed }
+    {
+        match &self.armed {
+            Some(bytes) => Some(bytes.as_slice()),
+            None => None,
+        }
+    }
+
+    /// The answer to an IN token: what is armed under the toggle, else NAK (USB 2.0, 8.4.6.1).
+    pub fn answer(&self) -> Packet
+        ensures answer { result ≡ answer_of self.now }
+        ensures fits { Fits result }
+    {
+        match &self.armed {
+            Some(bytes) => Packet::Data {
+                one: self.toggle,
+                payload: ArrayVec::try_from(bytes.as_slice()).unwrap(),
+            },
+            None => Packet::Nak,
+        }
+    }
+
+    /// An acknowledgement has arrived: what was armed is done with, and the toggle changes (USB 2.0, 8.6.2). With
+    /// nothing armed it changes nothing.
+    pub fn acknowledged(&mut self)
+        ensures closed { self.new ≡ closed self.old }
+    {
+        if self.armed.is_some() {
+            self.toggle = !self.toggle;
+            self.armed = None;
+        }
+    }
+}

@@ -1,0 +1,29 @@
+//! Transactions of an interrupt-IN pipe, and the data toggles at its two ends (USB 2.0, 8.5.4 and 8.6).
+//! ```text
+//!   HostPipe                          bus                          DevPipe
+//!   token          ---- IN 69 81 00 ------------------------->     lost: TokenLost
+//!   take           <--- DATA0 C3 .. where armed, else NAK 5A --    answer          lost: ReplyLost
+//!   Fresh, Again   ---- ACK D2 ------------------------------>     acknowledged    lost: AckLost
+//! ```
+//! The device sends what is armed under its toggle, again and again, until an acknowledgement arrives. Data under
+//! the toggle that the host expects are fresh. Data under the other one are a repeat: the host acknowledges them
+//! once more and throws them away.
+//!
+//! The rule to know: [`DevPipe::arm`] asks that nothing is armed, so a retry never carries other bytes.
+//!
+//! The promise: one transaction is its row of the table on [`exchange`]: `took`, `host` and `device`, and packet by
+//! packet over the bytes `packets`. By single packets: `took` and `pipe` on [`HostPipe::take`], `answer` on
+//! [`DevPipe::answer`], `closed` on [`DevPipe::acknowledged`]. No call takes memory.
+#![tactic(auto)]
+
+mod bus;
+mod device;
+mod host;
+mod transaction;
+
+pub use device::DevPipe;
+pub use host::{HostPipe, Took};
+pub use transaction::{Fate, exchange};
+
+#[cfg(test)]
+mod tests;
