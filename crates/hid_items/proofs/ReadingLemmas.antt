@@ -32,7 +32,7 @@ same_length (a ∷ x) (b ∷ y) p q s t e =
     ap (λ n. suc n) (rest_same (nat_eq a 0xFE) a x y p q s (subst (λ f. MatchBool (nat_eq f 0xFE) (IsLongRest y) (length y ≡ data_length f)) (sym h) t) r)
 
 -- bytes begin with one spelling at most
-same_spelling : (x y p q : List ℕ) → IsSpelling x → IsSpelling y → x ++ p ≡ y ++ q → x ≡ y
+pub same_spelling : (x y p q : List ℕ) → IsSpelling x → IsSpelling y → x ++ p ≡ y ++ q → x ≡ y
 same_spelling x y p q s t e = sym (take-append_seam x p) ∙ ap (λ n. take n (x ++ p)) (same_length x y p q s t e) ∙ ap (take (length y)) e ∙ take-append_seam y q
 
 -- no item begins here

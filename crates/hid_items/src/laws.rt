@@ -1,7 +1,12 @@
 //! Laws of the definitions: bytes are items in one way at most.
 
-ghost use Rattle.std.specs.Prelude.{◌≡◌, ℕ, List};
-ghost use Rattle.hid_items.specs.Spelling.{AreItems, IsTruncatedAt};
+ghost use Rattle.std.specs.Prelude.{◌≡◌, ℕ, List, ◌++◌};
+ghost use Rattle.hid_items.specs.Spelling.{IsSpelling, AreItems, IsTruncatedAt};
+
+/// No spelling is the beginning of another.
+pub fn prefix_free()
+    ensures { (item other more rest : List ℕ) → IsSpelling item → IsSpelling other → item ++ more ≡ other ++ rest → item ≡ other }
+{}
 
 /// A descriptor has one reading as items.
 pub fn one_reading()
