@@ -1,0 +1,147 @@
+-- The controls that a layout gives (HID 1.11, 6.2.2.5 and 8).
+use Rattle.std.specs.Prelude.{ℕ, zero, suc, ◌+◌, ◌*◌, Bool, true, false, not, ◌==◌, ◌&&◌, ◌||◌, nat_lt, if◌then◌else◌, List, [], ◌∷◌, length, take, sum_by, slice_get, Option, Some, None, ℤ, pos, ◌+ℤ◌, int_le, int_lt}
+use Rattle.std.specs.Int.{int_min, int_max}
+use Rattle.std.specs.Ordering.{int_eq}
+use Rattle.std.specs.Option.{option_map}
+use Rattle.hid_layout.specs.declared.usage.Usage.{Usage}
+use Rattle.hid_layout.specs.declared.report.Report.{Report}
+use Rattle.hid_layout.specs.declared.main_item.MainItem.{MainItem}
+use Rattle.hid_layout.specs.declared.report.ReportKind.TheVariants.{Input}
+use Rattle.hid_layout.specs.declared.main_item.Shape.{Shape}
+use Rattle.hid_layout.specs.declared.main_item.Shape.TheVariants.{Padding, Variable, Array}
+use Rattle.hid_layout.specs.declared.control.Control.{Control}
+use Rattle.hid_layout.specs.declared.control.Controls.{Controls}
+use Rattle.hid_layout.specs.declared.control.Controls.TheVariants as head
+use Rattle.hid_layout.specs.declared.control.ControlId.{ControlId}
+use Rattle.hid_layout.specs.declared.control.ControlKind.{ControlKind}
+use Rattle.hid_layout.specs.declared.control.ControlKind.TheVariants.{Switch, Value, NullValue, Relative}
+use Rattle.hid_layout.specs.Kinds.{same_kind}
+use Rattle.hid_layout.specs.Usages.{Entry, usage_list}
+use Rattle.hid_layout.specs.Flags.{has_flag, RELATIVE, NULL_STATE}
+use Rattle.hid_layout.specs.Faults.{least_value, greatest_value}
+use Rattle.hid_layout.specs.Layout.{Contents}
+
+-- A place of an array's usage list: its usage, and whether an element can press it.
+pub record Key : Type 0 where
+  pub usage : Usage
+  pub is_switch : Bool
+
+-- The controls of a listed item: none; one for each element, of one kind and range of encodable values;
+-- or the keys of an array with so many elements, which may have a rollover code.
+pub data Form : Type 0 where
+  NoControls : Form
+  Elements : (kind : ControlKind) → (least greatest : ℤ) → (usages : List Usage) → Form
+  Keys : (elements : ℕ) → (rolls_over : Bool) → (keys : List Key) → Form
+
+-- A listed item: the number of its report among the Input reports, where it is in one, and its controls.
+pub record Item : Type 0 where
+  pub report : Option ℕ
+  pub form : Form
+
+-- the least and the greatest number of the logical range that some pattern stands for
+abbrev pub least_of : MainItem → ℤ
+least_of item = int_max item.min (least_value item.min item.size)
+
+abbrev pub greatest_of : MainItem → ℤ
+greatest_of item = int_min item.max (greatest_value item.min item.size)
+
+abbrev pub is_encodable : MainItem → ℤ → Bool
+is_encodable item v = int_le (least_of item) v && int_le v (greatest_of item)
+
+-- some pattern of the width lies outside the range
+abbrev pub has_outside : MainItem → Bool
+has_outside item = int_lt (least_value item.min item.size) item.min || int_lt item.max (greatest_value item.min item.size)
+
+-- of what kind the elements of a variable item are
+abbrev pub element_kind : MainItem → ControlKind
+element_kind item =
+    if has_flag RELATIVE item.flags.0 then Relative
+    else (if int_eq item.min (pos 0) && int_eq item.max (pos 1) && not (has_flag NULL_STATE item.flags.0) then Switch
+    else (if has_flag NULL_STATE item.flags.0 && has_outside item then NullValue else Value))
+
+-- of so many elements, each with its usage, or the last one where there are fewer
+unfoldable pub spread : ℕ → List Usage → List Usage
+spread zero us = []
+spread (suc n) [] = []
+spread (suc n) (u ∷ []) = u ∷ spread n (u ∷ [])
+spread (suc n) (u ∷ v ∷ us) = u ∷ spread n (v ∷ us)
+
+-- the usages ErrorRollOver, POSTFail and ErrorUndefined of a keyboard, which tell an error
+abbrev pub is_rollover : Usage → Bool
+is_rollover u = (u.page == 7) && (u.id == 1)
+
+abbrev pub tells_error : Usage → Bool
+tells_error u = (u.page == 7) && ((u.id == 1) || ((u.id == 2) || (u.id == 3)))
+
+abbrev pub is_key : MainItem → ℕ → Usage → Bool
+is_key item i u = is_encodable item (item.min +ℤ pos i) && (nat_lt i 65536 && (not (u.id == 0) && not (tells_error u)))
+
+-- the keys from the place i of the usage list on
+unfoldable pub keys_from : MainItem → ℕ → List Usage → List Key
+keys_from item i [] = []
+keys_from item i (u ∷ us) = record { usage = u; is_switch = is_key item i u } ∷ keys_from item (i + 1) us
+
+-- no key stands beyond these
+abbrev pub key_places : List Usage → List Usage
+key_places us = take 65536 us
+
+-- the least place, from i on, that an element can carry and that names ErrorRollOver
+unfoldable pub rollover_from : MainItem → ℕ → List Usage → Option ℕ
+rollover_from item i [] = None
+rollover_from item i (u ∷ us) = if is_rollover u && is_encodable item (item.min +ℤ pos i) then Some i else rollover_from item (i + 1) us
+
+abbrev pub has_place : Option ℕ → Bool
+has_place None = false
+has_place (Some i) = true
+
+abbrev pub form_of : MainItem → List Usage → Shape → Form
+form_of item us Padding = NoControls
+form_of item us Variable = Elements (element_kind item) (least_of item) (greatest_of item) (spread item.count us)
+form_of item us Array = Keys item.count (has_place (rollover_from item 0 us)) (keys_from item 0 (key_places us))
+
+-- whether an item stands in an Input report
+abbrev pub is_input : List Report → ℕ → Bool
+is_input reports r = elim (slice_get reports r) [ None ↦ false | Some report ↦ same_kind report.kind Input ]
+
+abbrev pub item_of : List Report → MainItem → List Entry → Item
+item_of reports item es =
+    if is_input reports item.report then record { report = Some item.report; form = form_of item (usage_list es) item.shape }
+    else record { report = None; form = NoControls }
+
+unfoldable pub items_from : List Report → List MainItem → List (List Entry) → List Item
+items_from reports [] ess = []
+items_from reports (item ∷ items) [] = []
+items_from reports (item ∷ items) (es ∷ ess) = item_of reports item es ∷ items_from reports items ess
+
+-- what the definitions of controls, parts and views see of a layout
+abbrev pub items_of : Contents → List Item
+items_of layout = items_from layout.reports layout.items layout.entries
+
+-- the control at a place
+abbrev pub control_in : Form → ℕ → Option Control
+control_in NoControls j = None
+control_in (Elements kind least greatest usages) j = option_map (λ u. record { kind = kind; usage = u }) (slice_get usages j)
+control_in (Keys elements rolls keys) j =
+    elim (slice_get keys j) [ None ↦ None | Some key ↦ (if key.is_switch then Some (record { kind = Switch; usage = key.usage }) else None) ]
+
+abbrev pub control_of : List Item → ControlId → Option Control
+control_of items c = elim (slice_get items c.item) [ None ↦ None | Some item ↦ control_in item.form c.index ]
+
+-- variable Input elements, and twice the array Input elements
+abbrev pub events_in : Form → ℕ
+events_in NoControls = 0
+events_in (Elements kind least greatest usages) = length usages
+events_in (Keys elements rolls keys) = 2 * elements
+
+abbrev pub max_events : List Item → ℕ
+max_events items = sum_by (λ item. events_in item.form) items
+
+-- the least and greatest of a list of usages' form, without the usages
+abbrev pub head_of : Form → Controls
+head_of NoControls = head.None
+head_of (Elements kind least greatest usages) = head.Elements kind least greatest (length usages)
+head_of (Keys elements rolls keys) = head.Keys elements rolls (length keys)
+
+-- the controls of the item at a place
+abbrev pub form_at : List Item → ℕ → Form
+form_at items i = elim (slice_get items i) [ None ↦ NoControls | Some item ↦ item.form ]

@@ -1,0 +1,53 @@
+//! The controls of a layout (HID 1.11, 6.2.2.5 and 8).
+
+use crate::usage::Usage;
+
+/// Names a control.
+#[derive(Clone, Copy, Debug, PartialEq, Eq)]
+pub struct ControlId {
+    /// The place of its item among the listed items.
+    pub item: usize,
+    /// The place of its element, or its place in an array's usage list.
+    pub index: usize,
+}
+
+#[derive(Clone, Copy, Debug, PartialEq, Eq)]
+pub enum ControlKind {
+    /// Pressed or not: a variable element with range 0 to 1 that is absolute and has no null state, or a key of an array.
+    Switch,
+    /// A number.
+    Value,
+    /// A number, or null: its item has Null State, and some pattern lies out of the range.
+    NullValue,
+    /// A motion: its item has Relative.
+    Relative,
+}
+
+/// What a control is and means.
+#[derive(Clone, Copy, Debug, PartialEq, Eq)]
+pub struct Control {
+    pub kind: ControlKind,
+    pub usage: Usage,
+}
+
+/// The controls of a listed item, without their usages.
+#[derive(Clone, Copy, Debug, PartialEq, Eq)]
+pub enum Controls {
+    /// Padding, and items of Output and Feature reports.
+    None,
+    /// One for each element, with the least and the greatest number that one can be sent as.
+    Elements {
+        kind: ControlKind,
+        least: i64,
+        greatest: i64,
+        count: usize,
+    },
+    /// The keys of an array with so many elements.
+    Keys {
+        elements: usize,
+        /// Whether it can tell that more keys are pressed than it has elements.
+        rolls_over: bool,
+        /// The places of its usage list at which a key can stand.
+        count: usize,
+    },
+}

@@ -1,0 +1,134 @@
+//! The fields that an Input, Output or Feature item describes (HID 1.11, 6.2.2.4 and 6.2.2.7).
+
+ghost use Rattle.std.specs.Prelude.{◌≡◌, ◌≤◌, ◌<◌, ◌+◌, ◌*◌, ◌==◌, nat_lt, ℕ, [], length, if◌then◌else◌};
+ghost use Rattle.std.specs.Bool.{OnFalse};
+ghost use Rattle.hid_layout.specs.Fields.{is_padding, shape_of, shown_entries};
+ghost use Rattle.hid_layout.specs.Usages.{are_ranges};
+ghost use Rattle.hid_layout.specs.Faults.{report_limit, has_value, first_met, value_tests, checked_values, Tells};
+
+use crate::fault::Cause;
+use crate::flags::MainFlags;
+use crate::locals::ItemUsages;
+use crate::main_item::Shape;
+use crate::report::ReportKind;
+use crate::usage::Usage;
+use crate::values::{greatest_value, least_value};
+
+/// The fields of an item by what is in force at it, without their usages and collections.
+#[derive(Clone, Copy, Debug)]
+pub(crate) struct KeptField {
+    pub(crate) kind: ReportKind,
+    pub(crate) id: u8,
+    /// The bits of the earlier fields of the same report.
+    pub(crate) offset: u32,
+    pub(crate) size: u32,
+    pub(crate) count: u32,
+    pub(crate) flags: MainFlags,
+    pub(crate) min: i64,
+    pub(crate) max: i64,
+    pub(crate) shape: Shape,
+}
+
+impl KeptField {
+    ghost use Rattle.hid_layout.specs.Heads.{whole_field};
+
+    /// How many data fields there are.
+    pub(crate) fn elements(&self) -> u32
+        ensures { result ≡ (if is_padding self.now.shape then 0 else self.now.count) }
+    {
+        match self.shape {
+            Shape::Padding => 0,
+            Shape::Variable | Shape::Array => self.count,
+        }
+    }
+
+    /// Whether the report is too long with these fields.
+    pub(crate) fn is_too_long(&self) -> bool
+        ensures value { result ≡ nat_lt (report_limit self.now.id) (self.now.offset + self.now.size * self.now.count) }
+        ensures short { OnFalse result (self.now.offset + self.now.size * self.now.count ≤ 512) }
+    {
+        let limit: u64 = if self.id == 0 { 512 } else { 504 };
+        match self.size.checked_mul(self.count) {
+            Some(bits) => u64::from(self.offset) + u64::from(bits) > limit,
+            None => true,
+        }
+    }
+
+    /// Whether some pattern of the fields stands for a value of the range.
+    fn has_value(&self) -> bool
+        requires some { 0 < self.now.size }
+        requires narrow { self.now.size ≤ 32 }
+        ensures { result ≡ has_value self.now.min self.now.max self.now.size }
+    {
+        self.min <= self.max
+            && least_value(self.min, self.size) <= self.max
+            && self.min <= greatest_value(self.min, self.size)
+    }
+
+    fn test_values(&self, usages: &ItemUsages) -> Result<(), Cause>
+        ensures { Tells result (first_met (value_tests (whole_field self.now [] []) usages.now.paired usages.now.entries.items)) }
+    {
+        if !usages.paired {
+            return Err(Cause::UnpairedUsage);
+        }
+        if !are_ranges(&usages.entries) {
+            return Err(Cause::BadUsageRange);
+        }
+        if usages.entries.is_empty() {
+            return Ok(());
+        }
+        if self.size == 0 || self.size > 32 {
+            return Err(Cause::BadSize);
+        }
+        if self.has_value() {
+            Ok(())
+        } else {
+            Err(Cause::BadRange)
+        }
+    }
+
+    /// Refuses wrong usages, a wrong size and a wrong range, unless the item is Constant or has no fields.
+    pub(crate) fn check_values(&self, usages: &ItemUsages) -> Result<(), Cause>
+        ensures { Tells result (first_met (checked_values (whole_field self.now [] []) usages.now.paired usages.now.entries.items)) }
+    {
+        if self.flags.is_constant() || self.count == 0 {
+            return Ok(());
+        }
+        self.test_values(usages)
+    }
+}
+
+/// Whether each range has its minimum at most at its maximum, and the two on one page.
+fn are_ranges(entries: &[(Usage, Usage)]) -> bool
+    ensures { result ≡ are_ranges entries.now }
+{
+    entries
+        .iter()
+        .all(|e| e.0.page == e.1.page && e.0.id <= e.1.id)
+}
+
+/// What the fields are: padding, where the item is Constant or has no fields or no usage.
+pub(crate) fn shape_of(flags: MainFlags, count: u32, entries: &[(Usage, Usage)]) -> Shape
+    ensures { result ≡ shape_of flags.0 count entries.now }
+{
+    if entries.is_empty() {
+        return Shape::Padding;
+    }
+    if flags.is_constant() || count == 0 {
+        Shape::Padding
+    } else if flags.is_variable() {
+        Shape::Variable
+    } else {
+        Shape::Array
+    }
+}
+
+/// The usages that a layout shows: none of padding.
+pub(crate) fn shown_entries(shape: Shape, entries: &[(Usage, Usage)]) -> &[(Usage, Usage)]
+    ensures { result.now ≡ shown_entries shape entries.now }
+{
+    match shape {
+        Shape::Padding => &entries[..0],
+        Shape::Variable | Shape::Array => entries,
+    }
+}

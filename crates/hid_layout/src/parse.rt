@@ -1,0 +1,51 @@
+//! A layout from a descriptor.
+
+ghost use Rattle.std.specs.Prelude.{◌≡◌, ◌≢◌, ℕ, List, [], ◌∷◌, ◌<◌, ◌≤◌, true, false, length, IfOk, IfErr};
+ghost use Rattle.hid_layout.specs.Items.{Item as Spelled};
+ghost use Rattle.hid_layout.specs.Faults.{Reaches, Explains};
+ghost use Rattle.hid_layout.specs.Parser.{StandsAt, told_place, place_of};
+
+use crate::fault::{Cause, LayoutFault};
+use crate::parser::Parser;
+use hid_items::{Item, ItemFault, Items};
+use std::alloc::Global;
+
+fn fault(cause: Cause, at: usize) -> LayoutFault
+    ensures cause { result.cause ≡ cause }
+    ensures at { result.at ≡ told_place cause at }
+{
+    let at = match cause {
+        Cause::Memory => 0,
+        _ => at,
+    };
+    LayoutFault { cause, at }
+}
+
+fn truncated_at(e: ItemFault) -> usize
+    ensures { result ≡ place_of e }
+{
+    match e {
+        ItemFault::Truncated { at } => at,
+    }
+}
+
+/// The parser behind all items.
+pub(crate) fn parse_items(alloc: Global, descriptor: &[u8]) -> Result<Parser, LayoutFault>
+    requires { length descriptor.now ≤ 4096 }
+    ensures ok { IfOk result (λ parser. (before : List Spelled) × Reaches descriptor.now (length descriptor.now) before × StandsAt before parser) }
+    ensures err { IfErr result (λ f. Explains descriptor.now f.cause f.at) }
+{
+    let mut parser = Parser::new(alloc);
+    for next in Items::new(descriptor) {
+        match next {
+            Ok(item) => {
+                match parser.take(&item) {
+                    Ok(()) => {}
+                    Err(cause) => return Err(fault(cause, item.at)),
+                }
+            }
+            Err(e) => return Err(fault(Cause::Truncated, truncated_at(e))),
+        }
+    }
+    Ok(parser)
+}

@@ -1,0 +1,66 @@
+//! The collections that are open.
+
+ghost use Rattle.std.specs.Prelude.{◌≡◌, ℕ, ◌<◌, ◌%◌, ◌^◌, List, [], ◌∷◌, ◌++◌, OnOk, IfOk, map, slice_get, length};
+ghost use Rattle.std.specs.Bool.{OnTrue, OnFalse};
+ghost use Rattle.hid_items.specs.Spelling.{prefix_of, data_of, unsigned_of};
+ghost use Rattle.hid_items.specs.Reading.{IsShort};
+ghost use Rattle.hid_layout.specs.Items.{Item as Spelled, COLLECTION, END_COLLECTION};
+ghost use Rattle.hid_layout.specs.Usages.{usage_list, entries};
+ghost use Rattle.hid_layout.specs.Path.{path};
+
+use crate::collection::Collection;
+use crate::usage::Usage;
+use hid_items::Item;
+use std::alloc::{AllocError, Global};
+
+/// The first usage of the entries written out.
+pub(crate) fn first_usage(entries: &[(Usage, Usage)]) -> Option<Usage>
+    ensures { result ≡ slice_get (usage_list entries.now) 0 }
+{
+    for e in entries {
+        if e.0.id <= e.1.id {
+            return Some(e.0);
+        }
+    }
+    None
+}
+
+#[derive(Debug, Drop)]
+pub(crate) struct OpenCollections {
+    pub(crate) open: Vec<Collection>,
+}
+
+impl OpenCollections {
+    pub(crate) fn new(alloc: Global) -> OpenCollections
+        ensures { result.open.items ≡ path [] }
+    {
+        OpenCollections {
+            open: Vec::new(alloc),
+        }
+    }
+
+    /// Takes a Collection with its usages.
+    pub(crate) fn begin(&mut self, item: &Item, usages: &[(Usage, Usage)]) -> Result<(), AllocError>
+        requires { IsShort item.now }
+        ensures { OnOk result ((before : List Spelled) → prefix_of item.now.bytes.now ≡ COLLECTION → usages.now ≡ entries before → self.old.open.items ≡ path before → self.new.open.items ≡ path (item.now.bytes.now ∷ before)) }
+    {
+        let collection = Collection {
+            kind: (item.unsigned() % 0x100) as u8,
+            usage: first_usage(usages),
+        };
+        self.open.push(collection)?;
+        Ok(())
+    }
+
+    /// Takes an End Collection, and says whether a Collection matches it.
+    pub(crate) fn end(&mut self) -> bool
+        ensures matched { (before : List Spelled) (item : Spelled) → prefix_of item ≡ END_COLLECTION → self.old.open.items ≡ path before → OnTrue result (self.new.open.items ≡ path (item ∷ before)) }
+        ensures alone { OnFalse result (self.old.open.items ≡ []) }
+        ensures among { OnTrue result (0 < length self.old.open.items) }
+    {
+        match self.open.pop() {
+            Some(_) => true,
+            None => false,
+        }
+    }
+}

@@ -1,0 +1,33 @@
+//! The numbers that patterns of some width stand for (HID 1.11, 5.8).
+
+ghost use Rattle.std.specs.Prelude.{◌≡◌, ◌≤◌, ◌<◌, ◌^◌, pos};
+ghost use Rattle.hid_layout.specs.Faults.{least_value, greatest_value};
+
+fn power_of_two(n: u32) -> i64
+    requires { n ≤ 32 }
+    ensures { result ≡ pos (2 ^ n) }
+{
+    (1u64 << n) as i64
+}
+
+/// The least value of a field of this width, in two's complement where the minimum is negative.
+pub(crate) fn least_value(min: i64, width: u32) -> i64
+    requires positive { 0 < width }
+    requires narrow { width ≤ 32 }
+    ensures { result ≡ least_value min width }
+{
+    if min < 0 { -power_of_two(width - 1) } else { 0 }
+}
+
+/// The greatest value of a field of this width, in two's complement where the minimum is negative.
+pub(crate) fn greatest_value(min: i64, width: u32) -> i64
+    requires positive { 0 < width }
+    requires narrow { width ≤ 32 }
+    ensures { result ≡ greatest_value min width }
+{
+    if min < 0 {
+        power_of_two(width - 1) - 1
+    } else {
+        power_of_two(width) - 1
+    }
+}
