@@ -1,0 +1,36 @@
+-- The line that names a fault, and its codes (our choice: docs/SCRIPT.md).
+use Rattle.std.specs.Prelude.{ℕ, List, [], ◌∷◌, ◌++◌, codes}
+use Rattle.std.specs.Fmt.{decimal}
+use Rattle.hid_layout.specs.Codes.{fault_text as layout_fault_text}
+use Rattle.hid_script.specs.declared.report.ReportFault.{ReportFault}
+use Rattle.hid_script.specs.declared.report.ReportFault.TheVariants.{Short, UnknownReport}
+use Rattle.hid_script.specs.declared.fault.StepFault.{StepFault}
+use Rattle.hid_script.specs.declared.fault.StepFault.TheVariants.{Layout, Report}
+use Rattle.hid_script.specs.declared.fault.Cause.{Cause}
+use Rattle.hid_script.specs.declared.fault.Cause.TheVariants.{Syntax, LineTooLong, BadHex, Step, Read, Write, Memory, TooManyReads, NoLayout}
+use Rattle.hid_script.specs.declared.fault.ScriptFault.{ScriptFault}
+
+abbrev pub report_code : ReportFault → List ℕ
+report_code Short = codes "U8"
+report_code UnknownReport = codes "U9"
+
+-- a descriptor's cause is printed with its place
+abbrev pub step_text : StepFault → List ℕ
+step_text (Layout fault) = layout_fault_text fault
+step_text (Report fault) = report_code fault
+
+-- the codes from the outermost to the innermost
+abbrev pub cause_text : Cause → List ℕ
+cause_text Syntax = codes "X1"
+cause_text LineTooLong = codes "X2"
+cause_text BadHex = codes "X3"
+cause_text (Step fault) = codes "X4 " ++ step_text fault
+cause_text Read = codes "X5"
+cause_text Write = codes "X6"
+cause_text Memory = codes "X7"
+cause_text TooManyReads = codes "X8"
+cause_text NoLayout = codes "X9"
+
+-- line N: and the codes
+abbrev pub fault_text : ScriptFault → List ℕ
+fault_text fault = codes "line " ++ decimal fault.line ++ codes ": " ++ cause_text fault.cause ++ 10 ∷ []

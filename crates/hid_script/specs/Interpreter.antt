@@ -1,0 +1,6 @@
+-- The interpreter, seen as the session that it is in: for proofs.
+use Rattle.hid_script.specs.declared.interpreter.Interpreter.{Interpreter}
+use Rattle.hid_script.specs.Session.{Session}
+
+abbrev pub session_of : Interpreter → Session
+session_of i = record { layout = i.layout }

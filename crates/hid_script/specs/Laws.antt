@@ -1,0 +1,12 @@
+-- Laws of what a script tells, which hold whatever runs it.
+use Rattle.std.specs.Prelude.{◌≡◌, ℕ, List}
+use Rattle.hid_script.specs.Session.{Session, Outcome, LineTells}
+use Rattle.hid_script.specs.Run.{AllTell}
+
+-- a line tells one outcome at most
+abbrev pub LineTellsOneThing : Type 0
+LineTellsOneThing = (session : Session) (line : List ℕ) (o other : Outcome) → LineTells session line o → LineTells session line other → o ≡ other
+
+-- lines that are all accepted tell one text at most, and leave one session
+abbrev pub LinesTellOneText : Type 0
+LinesTellOneText = (session : Session) (script : List (List ℕ)) (text other : List ℕ) (last end : Session) → AllTell session script text last → AllTell session script other end → (text ≡ other) × (last ≡ end)

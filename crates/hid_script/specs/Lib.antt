@@ -1,0 +1,14 @@
+pub mod Words
+pub mod Meaning
+pub mod Text
+pub mod LayoutText
+pub mod ValuesText
+pub mod Report
+pub mod FaultText
+pub mod Session
+pub mod Output
+pub mod Run
+pub mod Laws
+pub mod Place
+pub mod Interpreter
+pub mod Script

@@ -1,0 +1,7 @@
+-- A script that is being run, seen as its place: for proofs.
+use Rattle.hid_script.specs.declared.script.Script.{Script}
+use Rattle.hid_script.specs.Interpreter.{session_of}
+use Rattle.hid_script.specs.Place.{Place}
+
+abbrev pub place_of : Script → Place
+place_of s = record { session = session_of s.interpreter; begun = s.begun.items; lines = s.lines }

@@ -1,0 +1,127 @@
+//! The lines of a script, from bytes that come in pieces.
+
+ghost use Rattle.std.specs.Prelude.{◌≡◌, ◌+◌, ◌-◌, ◌^◌, ◌<◌, ◌≤◌, [], ◌∷◌, length};
+ghost use Rattle.std.specs.Str.Lines.{strip_carriage_return};
+ghost use Rattle.hid_script.specs.Place.{IsUnbroken, AppendsTaken, AppendsRun};
+
+use super::fault::{Cause, ScriptFault, Summary};
+use super::interpreter::Interpreter;
+use arrayvec::ArrayVec;
+use std::io::Write;
+
+/// One byte more than a line has: a carriage return may stand before the end.
+const ROOM: usize = 1025;
+
+const LINE_FEED: u8 = b'\n';
+
+/// The session, the line that has begun, and how many lines came before it.
+#[derive(Drop)]
+pub struct Script {
+    interpreter: Interpreter,
+    begun: ArrayVec<u8, ROOM>,
+    lines: u64,
+    ghost unbroken: { IsUnbroken begun.items },
+}
+
+impl Script {
+    ghost use Rattle.hid_script.specs.Interpreter.{session_of};
+    ghost use Rattle.hid_script.specs.Script.{place_of};
+
+    pub fn new(interpreter: Interpreter) -> Self
+        ensures { place_of result ≡ record { session = session_of interpreter; begun = []; lines = 0 } }
+    {
+        Script {
+            interpreter,
+            begun: ArrayVec::new(),
+            lines: 0,
+        }
+    }
+
+    /// Takes the next bytes, and runs each line that they end.
+    pub fn feed<W: Write>(&mut self, bytes: &[u8], writer: &mut W) -> Result<(), ScriptFault>
+        requires { self.old.lines + length bytes.now < 2 ^ 64 - 1 }
+        ensures taken { AppendsTaken (W.contents writer.old) (W.contents writer.new) (place_of self.old) bytes.now result (place_of self.new) }
+        ensures count { self.new.lines ≤ self.old.lines + length bytes.now }
+    {
+        for byte in bytes {
+            self.take(*byte, writer)?;
+        }
+        Ok(())
+    }
+
+    fn take<W: Write>(&mut self, byte: u8, writer: &mut W) -> Result<(), ScriptFault>
+        requires { self.old.lines < 2 ^ 64 - 1 }
+        ensures taken { AppendsTaken (W.contents writer.old) (W.contents writer.new) (place_of self.old) (byte ∷ []) result (place_of self.new) }
+        ensures count { self.new.lines ≤ self.old.lines + 1 }
+    {
+        if byte == LINE_FEED {
+            return self.end_line(writer);
+        }
+        if self.begun.is_full() {
+            return Err(self.fault(Cause::LineTooLong));
+        }
+        self.begun.push(byte);
+        Ok(())
+    }
+
+    // A line feed came.
+    fn end_line<W: Write>(&mut self, writer: &mut W) -> Result<(), ScriptFault>
+        requires { self.old.lines < 2 ^ 64 - 1 }
+        ensures taken { AppendsTaken (W.contents writer.old) (W.contents writer.new) (place_of self.old) (10 ∷ []) result (place_of self.new) }
+        ensures count { self.new.lines ≤ self.old.lines + 1 }
+    {
+        let line = without_return(self.begun.as_slice());
+        if let Err(cause) = self.interpreter.line(line, writer) {
+            return Err(self.fault(cause));
+        }
+        self.begun.clear();
+        self.lines += 1;
+        Ok(())
+    }
+
+    /// Runs the line that has begun, if it has a byte: the script is at its end.
+    pub fn finish<W: Write>(&mut self, writer: &mut W) -> Result<Summary, ScriptFault>
+        requires { self.old.lines < 2 ^ 64 - 1 }
+        ensures { AppendsRun (W.contents writer.old) (W.contents writer.new) (place_of self.old) result }
+    {
+        if self.begun.is_empty() {
+            return Ok(self.summary());
+        }
+        if let Err(cause) = self.interpreter.line(self.begun.as_slice(), writer) {
+            return Err(self.fault(cause));
+        }
+        self.lines += 1;
+        Ok(self.summary())
+    }
+
+    fn summary(&self) -> Summary
+        ensures lines { result.lines ≡ self.now.lines }
+        ensures events { result.events ≡ 0 }
+    {
+        Summary {
+            lines: self.lines,
+            events: 0,
+        }
+    }
+
+    /// What ends the run at the line that has begun.
+    pub fn fault(&self, cause: Cause) -> ScriptFault
+        requires { self.now.lines < 2 ^ 64 - 1 }
+        ensures { (result.line ≡ self.now.lines + 1) × (result.cause ≡ cause) }
+    {
+        ScriptFault {
+            line: self.lines + 1,
+            cause,
+        }
+    }
+}
+
+// A line without the one carriage return at its end, if it has one.
+fn without_return(line: &[u8]) -> &[u8]
+    ensures { result.now ≡ strip_carriage_return line.now }
+{
+    match line {
+        [shorter @ .., b'\r'] => shorter,
+        _ => line,
+    }
+}

@@ -1,0 +1,248 @@
+//! Scripts over memory, and what they print.
+//! The keyboard and the mouse are those of HID 1.11, appendix E.6 and E.10; the other descriptors, and every expected
+//! text, were worked out by hand from docs/FORMATS.md and docs/SCRIPT.md.
+
+use crate::{Summary, fault_line, run};
+use std::test::Fail;
+
+/// Scripts that run to their end.
+#[rattlefmt::skip]
+const ACCEPTED: [(&str, &str, &str); 27] = [
+    ("a mouse with three buttons, and its report",
+        "layout 05 01 09 02 A1 01 09 01 A1 00 05 09 19 01 29 03 15 00 25 01 95 03 75 01 81 02 95 01 75 05 81 01 05 01 09 30 09 31 15 81 25 7F 75 08 95 02 81 06 C0 C0\nvalues 05 7F 81\n",
+        "report input 0 bytes 3\nitem 0 input 0 at 0 1x3 variable 0..1 09:01-09:03 in 1/01:02 0/01:01\nitem 1 input 0 at 3 5x1 padding in 1/01:02 0/01:01\nitem 2 input 0 at 8 8x2 relative -127..127 01:30 01:31 in 1/01:02 0/01:01\nvalue 0.0 1 09:01\nvalue 0.1 0 09:02\nvalue 0.2 1 09:03\nvalue 2.0 127 01:30\nvalue 2.1 -127 01:31\n"),
+    ("a keyboard",
+        "layout 05 01 09 06 A1 01 05 07 19 E0 29 E7 15 00 25 01 75 01 95 08 81 02 95 01 75 08 81 01 95 05 75 01 05 08 19 01 29 05 91 02 95 01 75 03 91 01 95 06 75 08 15 00 25 65 05 07 19 00 29 65 81 00 C0\n",
+        "report input 0 bytes 8\nreport output 0 bytes 1\nitem 0 input 0 at 0 1x8 variable 0..1 07:E0-07:E7 in 1/01:06\nitem 1 input 0 at 8 8x1 padding in 1/01:06\nitem 2 output 0 at 0 1x5 variable 0..1 08:01-08:05 in 1/01:06\nitem 3 output 0 at 5 3x1 padding in 1/01:06\nitem 4 input 0 at 16 8x6 array 0..101 07:00-07:65 in 1/01:06\n"),
+    ("a maximum is read without sign where the minimum isn't negative",
+        "layout 05 01 09 30 15 00 25 FF 75 08 95 01 81 02\n",
+        "report input 0 bytes 1\nitem 0 input 0 at 0 8x1 variable 0..255 01:30\n"),
+    ("a maximum is read with sign where the minimum is negative",
+        "layout 05 01 09 30 15 80 25 FF 75 08 95 01 81 02\n",
+        "report input 0 bytes 1\nitem 0 input 0 at 0 8x1 variable -128..-1 01:30\n"),
+    ("a Pop brings the globals back, and a usage outlives the Push",
+        "layout 05 01 09 30 15 81 25 7F 75 08 95 01 A4 05 09 09 01 15 00 25 01 75 01 81 02 B4 81 06\n",
+        "report input 0 bytes 2\nitem 0 input 0 at 0 1x1 variable 0..1 09:30 09:01\nitem 1 input 0 at 1 8x1 padding\n"),
+    ("a long item says nothing",
+        "layout FE 02 10 AA BB\n",
+        "no reports\n"),
+    ("no items, no reports",
+        "layout\n",
+        "no reports\n"),
+    ("an array of 256 usages",
+        "layout 05 09 19 01 2A 00 01 15 00 26 FF 00 75 08 95 01 81 00\n",
+        "report input 0 bytes 1\nitem 0 input 0 at 0 8x1 array 0..255 09:01-09:100\n"),
+    ("an empty script",
+        "",
+        ""),
+    ("surplus usages are listed",
+        "layout 05 01 09 30 05 09 15 00 25 01 75 01 95 01 81 02\n",
+        "report input 0 bytes 1\nitem 0 input 0 at 0 1x1 variable 0..1 09:30\n"),
+    ("numbered reports, and one of them",
+        "layout 05 01 09 02 A1 01 85 01 09 30 15 81 25 7F 75 08 95 01 81 06 85 02 05 09 09 01 15 00 25 01 75 01 81 02 C0\nvalues 02 01\n",
+        "report input 1 bytes 2\nreport input 2 bytes 2\nitem 0 input 1 at 0 8x1 relative -127..127 01:30 in 1/01:02\nitem 1 input 2 at 0 1x1 variable 0..1 09:01 in 1/01:02\nvalue 1.0 1 09:01\n"),
+    ("a report of 64 bytes",
+        "layout 75 08 95 40 81 01\n",
+        "report input 0 bytes 64\nitem 0 input 0 at 0 8x64 padding\n"),
+    ("comments, empty lines, tabs and spaces",
+        "# layout\r\n\n \t\r\n\t#\n  layout\t05 01  09 30 1581257F 75 08 95 01 81 06 \n\tvalues\tfF\n",
+        "report input 0 bytes 1\nitem 0 input 0 at 0 8x1 relative -127..127 01:30\nvalue 0.0 -1 01:30\n"),
+    ("the last layout counts",
+        "layout 05 01 09 30 25 7F 75 08 95 01 81 02\nlayout 05 01 09 31 25 7F 75 08 95 01 81 02\nvalues 05",
+        "report input 0 bytes 1\nitem 0 input 0 at 0 8x1 variable 0..127 01:30\nreport input 0 bytes 1\nitem 0 input 0 at 0 8x1 variable 0..127 01:31\nvalue 0.0 5 01:31\n"),
+    ("a value out of its range is printed as it is",
+        "layout 05 01 09 30 25 07 75 08 95 01 81 02\nvalues 09",
+        "report input 0 bytes 1\nitem 0 input 0 at 0 8x1 variable 0..7 01:30\nvalue 0.0 9 01:30\n"),
+    ("an array names usages from its minimum on",
+        "layout 05 07 19 04 29 06 15 01 25 04 75 08 95 05 81 00\nvalues 00 01 03 04 05",
+        "report input 0 bytes 5\nitem 0 input 0 at 0 8x5 array 1..4 07:04-07:06\nvalue 0.0 0 -\nvalue 0.1 1 07:04\nvalue 0.2 3 07:06\nvalue 0.3 4 -\nvalue 0.4 5 -\n"),
+    ("elements past the usages have the last one",
+        "layout 05 01 09 30 09 31 25 01 75 01 95 04 81 02\nvalues 0A",
+        "report input 0 bytes 1\nitem 0 input 0 at 0 1x4 variable 0..1 01:30 01:31\nvalue 0.0 0 01:30\nvalue 0.1 1 01:31\nvalue 0.2 0 01:31\nvalue 0.3 1 01:31\n"),
+    ("Null State is named, whatever the item is",
+        "layout 05 01 09 39 15 00 25 07 75 04 95 01 81 42 75 04 95 01 81 43 09 30 81 46 09 30 81 40",
+        "report input 0 bytes 2\nitem 0 input 0 at 0 4x1 variable null 0..7 01:39\nitem 1 input 0 at 4 4x1 padding\nitem 2 input 0 at 8 4x1 relative null 0..7 01:30\nitem 3 input 0 at 12 4x1 array null 0..7 01:30\n"),
+    ("an array with Relative is an array",
+        "layout 05 07 09 04 15 00 25 07 75 08 95 01 81 04",
+        "report input 0 bytes 1\nitem 0 input 0 at 0 8x1 array 0..7 07:04\n"),
+    ("a range with equal ends is one usage",
+        "layout 05 09 19 03 29 03 15 00 25 01 75 01 95 01 81 02",
+        "report input 0 bytes 1\nitem 0 input 0 at 0 1x1 variable 0..1 09:03\n"),
+    ("usages of four digits, and a collection without one",
+        "layout A1 00 06 00 FF 0A 34 12 25 01 75 01 95 01 91 02 C0",
+        "report output 0 bytes 1\nitem 0 output 0 at 0 1x1 variable 0..1 FF00:1234 in 0/-\n"),
+    ("a feature report",
+        "layout 05 01 09 30 25 01 75 01 95 01 B1 02",
+        "report feature 0 bytes 1\nitem 0 feature 0 at 0 1x1 variable 0..1 01:30\n"),
+    ("padding may have elements of any size",
+        "layout 75 F0 95 01 81 01",
+        "report input 0 bytes 30\nitem 0 input 0 at 0 240x1 padding\n"),
+    ("padding has no values",
+        "layout 75 08 95 01 81 01\nvalues 05",
+        "report input 0 bytes 1\nitem 0 input 0 at 0 8x1 padding\n"),
+    ("a report may be longer than its layout says",
+        "layout 05 01 09 30 15 81 25 7F 75 08 95 01 81 06\nvalues 81 00 00",
+        "report input 0 bytes 1\nitem 0 input 0 at 0 8x1 relative -127..127 01:30\nvalue 0.0 -127 01:30\n"),
+    ("the least and the greatest number of 32 bits",
+        "layout 05 01 09 30 17 00 00 00 80 27 FF FF FF 7F 75 20 95 01 81 02\nvalues 00 00 00 80\nlayout 05 01 09 30 14 27 FF FF FF FF 75 20 95 01 81 02\nvalues FF FF FF FF",
+        "report input 0 bytes 4\nitem 0 input 0 at 0 32x1 variable -2147483648..2147483647 01:30\nvalue 0.0 -2147483648 01:30\nreport input 0 bytes 4\nitem 0 input 0 at 0 32x1 variable 0..4294967295 01:30\nvalue 0.0 4294967295 01:30\n"),
+    ("an element that spans five bytes",
+        "layout 75 04 95 01 81 01 05 01 09 30 17 00 00 00 80 27 FF FF FF 7F 75 20 95 01 81 02\nvalues FF EF FF FF 0F",
+        "report input 0 bytes 5\nitem 0 input 0 at 0 4x1 padding\nitem 1 input 0 at 4 32x1 variable -2147483648..2147483647 01:30\nvalue 1.0 -257 01:30\n"),
+];
+
+/// Scripts that are refused, with what they print before and the line that names the fault.
+#[rattlefmt::skip]
+const REFUSED: [(&str, &str, &str, &str); 36] = [
+    ("a word that begins no line",
+        "jump\n",
+        "", "line 1: X1\n"),
+    ("a digit that is none",
+        "layout 0G\n",
+        "", "line 1: X3\n"),
+    ("values without a layout",
+        "values 00\n",
+        "", "line 1: X9\n"),
+    ("a report that is cut off",
+        "layout 05 01 09 02 A1 01 09 01 A1 00 05 09 19 01 29 03 15 00 25 01 95 03 75 01 81 02 95 01 75 05 81 01 05 01 09 30 09 31 15 81 25 7F 75 08 95 02 81 06 C0 C0\nvalues 05 7F\n",
+        "report input 0 bytes 3\nitem 0 input 0 at 0 1x3 variable 0..1 09:01-09:03 in 1/01:02 0/01:01\nitem 1 input 0 at 3 5x1 padding in 1/01:02 0/01:01\nitem 2 input 0 at 8 8x2 relative -127..127 01:30 01:31 in 1/01:02 0/01:01\n", "line 2: X4 U8\n"),
+    ("an ID of no Input report",
+        "layout 05 01 09 02 A1 01 85 01 09 30 15 81 25 7F 75 08 95 01 81 06 85 02 05 09 09 01 15 00 25 01 75 01 81 02 C0\nvalues 03 00\n",
+        "report input 1 bytes 2\nreport input 2 bytes 2\nitem 0 input 1 at 0 8x1 relative -127..127 01:30 in 1/01:02\nitem 1 input 2 at 0 1x1 variable 0..1 09:01 in 1/01:02\n", "line 2: X4 U9\n"),
+    ("a numbered report that is cut off",
+        "layout 05 01 09 02 A1 01 85 01 09 30 15 81 25 7F 75 08 95 01 81 06 85 02 05 09 09 01 15 00 25 01 75 01 81 02 C0\nvalues 01\n",
+        "report input 1 bytes 2\nreport input 2 bytes 2\nitem 0 input 1 at 0 8x1 relative -127..127 01:30 in 1/01:02\nitem 1 input 2 at 0 1x1 variable 0..1 09:01 in 1/01:02\n", "line 2: X4 U8\n"),
+    ("a numbered report without its ID",
+        "layout 05 01 09 02 A1 01 85 01 09 30 15 81 25 7F 75 08 95 01 81 06 85 02 05 09 09 01 15 00 25 01 75 01 81 02 C0\nvalues\n",
+        "report input 1 bytes 2\nreport input 2 bytes 2\nitem 0 input 1 at 0 8x1 relative -127..127 01:30 in 1/01:02\nitem 1 input 2 at 0 1x1 variable 0..1 09:01 in 1/01:02\n", "line 2: X4 U8\n"),
+    ("an item without its data",
+        "layout 05\n",
+        "", "line 1: X4 L1 at 0\n"),
+    ("a Pop without a Push",
+        "layout B4\n",
+        "", "line 1: X4 L3 at 0\n"),
+    ("nine open Pushes",
+        "layout A4 A4 A4 A4 A4 A4 A4 A4 A4\n",
+        "", "line 1: X4 L4 at 8\n"),
+    ("seventeen open collections",
+        "layout A1 01 A1 01 A1 01 A1 01 A1 01 A1 01 A1 01 A1 01 A1 01 A1 01 A1 01 A1 01 A1 01 A1 01 A1 01 A1 01 A1 01\n",
+        "", "line 1: X4 L5 at 32\n"),
+    ("an End Collection without its Collection",
+        "layout C0\n",
+        "", "line 1: X4 L6 at 0\n"),
+    ("a Collection that nothing ends",
+        "layout A1 01\n",
+        "", "line 1: X4 L7 at 2\n"),
+    ("report ID 0",
+        "layout 85 00\n",
+        "", "line 1: X4 L8 at 0\n"),
+    ("a report ID behind a field that has none",
+        "layout 75 08 95 01 81 01 85 01\n",
+        "", "line 1: X4 L9 at 8\n"),
+    ("a minimum over its maximum",
+        "layout 05 01 09 30 15 05 25 04 75 08 95 01 81 02\n",
+        "", "line 1: X4 L10 at 12\n"),
+    ("elements of 33 bits",
+        "layout 05 01 09 30 25 01 75 21 95 01 81 02\n",
+        "", "line 1: X4 L11 at 10\n"),
+    ("a range of usages that falls",
+        "layout 05 01 19 05 29 04 25 01 75 01 95 01 81 02\n",
+        "", "line 1: X4 L12 at 12\n"),
+    ("a Usage Minimum alone",
+        "layout 05 01 19 05 25 01 75 01 95 01 81 02\n",
+        "", "line 1: X4 L13 at 10\n"),
+    ("a Delimiter",
+        "layout A9 01\n",
+        "", "line 1: X4 L14 at 0\n"),
+    ("a report of 65 bytes",
+        "layout 75 08 95 41 81 01\n",
+        "", "line 1: X4 L15 at 4\n"),
+    ("a report of 64 bytes is no cause",
+        "layout 75 08 95 40 81 01 85 01\n",
+        "", "line 1: X4 L9 at 8\n"),
+    ("65 usage entries",
+        "layout 05 01 09 30 09 30 09 30 09 30 09 30 09 30 09 30 09 30 09 30 09 30 09 30 09 30 09 30 09 30 09 30 09 30 09 30 09 30 09 30 09 30 09 30 09 30 09 30 09 30 09 30 09 30 09 30 09 30 09 30 09 30 09 30 09 30 09 30 09 30 09 30 09 30 09 30 09 30 09 30 09 30 09 30 09 30 09 30 09 30 09 30 09 30 09 30 09 30 09 30 09 30 09 30 09 30 09 30 09 30 09 30 09 30 09 30 09 30 09 30 09 30 09 30 09 30 09 30 09 30 09 30 25 01 75 01 95 01 81 02\n",
+        "", "line 1: X4 L16 at 138\n"),
+    ("the first refused item decides",
+        "layout 85 00 B4\n",
+        "", "line 1: X4 L8 at 0\n"),
+    ("an open collection comes before a field without its ID",
+        "layout A1 01 75 08 95 01 81 01 85 01\n",
+        "", "line 1: X4 L7 at 10\n"),
+    ("another word in upper case",
+        "LAYOUT",
+        "", "line 1: X1\n"),
+    ("a vertical tab parts no words",
+        "layout\x0B05",
+        "", "line 1: X1\n"),
+    ("a return that no line feed follows belongs to its word",
+        "\n\r",
+        "", "line 2: X1\n"),
+    ("two returns before a line feed",
+        "layout\r\r\n",
+        "", "line 1: X1\n"),
+    ("an odd number of digits in a word",
+        "layout 0 501",
+        "", "line 1: X3\n"),
+    ("a first word decides before its digits",
+        "jump 0G",
+        "", "line 1: X1\n"),
+    ("a bad digit before a missing layout",
+        "values 0",
+        "", "line 1: X3\n"),
+    ("a missing layout before a short report",
+        "values",
+        "", "line 1: X9\n"),
+    ("no Input report",
+        "layout 05 01 09 30 25 01 75 01 95 01 91 02\nvalues 01",
+        "report output 0 bytes 1\nitem 0 output 0 at 0 1x1 variable 0..1 01:30\n", "line 2: X4 U9\n"),
+    ("no report at all",
+        "layout\nvalues",
+        "no reports\n", "line 2: X4 U9\n"),
+    ("a layout that is refused ends the run",
+        "layout 05 01 09 30 25 01 75 01 95 01 81 02\nlayout B4\nvalues 01\n",
+        "report input 0 bytes 1\nitem 0 input 0 at 0 1x1 variable 0..1 01:30\n", "line 2: X4 L3 at 0\n"),
+];
+
+#[test]
+fn an_accepted_script_prints_its_text(rt: HostRuntime) -> Result<(), Fail> {
+    for (name, script, text) in ACCEPTED {
+        let mut reader = script.as_bytes();
+        let mut written = Vec::new(rt.alloc());
+        run(rt.alloc(), &mut reader, &mut written)?;
+        assert_eq!(rt; written.as_slice(), text.as_bytes(), "{name}");
+    }
+    Ok(())
+}
+
+#[test]
+fn a_refused_script_prints_what_comes_before_the_refusal(rt: HostRuntime) -> Result<(), Fail> {
+    for (name, script, text, line) in REFUSED {
+        let mut reader = script.as_bytes();
+        let mut written = Vec::new(rt.alloc());
+        let fault = run(rt.alloc(), &mut reader, &mut written).expect_err(&rt, "a refusal");
+        assert_eq!(rt; written.as_slice(), text.as_bytes(), "{name}");
+        assert_eq!(rt;
+            fault_line(rt.alloc(), &fault)?.as_slice(),
+            line.as_bytes(),
+            "{name}"
+        );
+    }
+    Ok(())
+}
+
+#[test]
+fn a_summary_counts_all_lines(rt: HostRuntime) -> Result<(), Fail> {
+    for (script, lines) in [
+        ("", 0),
+        ("\n", 1),
+        ("# one\n\nlayout\r\n\t", 4),
+        ("layout\n", 1),
+    ] {
+        let mut reader = script.as_bytes();
+        let mut written = Vec::new(rt.alloc());
+        let summary = run(rt.alloc(), &mut reader, &mut written)?;
+        assert_eq!(rt; summary, Summary { lines, events: 0 }, "{script:?}");
+    }
+    Ok(())
+}

@@ -1,0 +1,36 @@
+//! A whole script, from a reader to a writer.
+
+ghost use Rattle.hid_script.specs.Run.{AppendsScript};
+
+use super::fault::{Cause, ScriptFault, Summary};
+use super::interpreter::Interpreter;
+use super::script::Script;
+use std::alloc::Global;
+use std::io::{Read, Write};
+
+/// How often the reader is asked at most.
+const READS: u32 = 1_000_000;
+
+/// For how many bytes the reader is asked at most.
+const PIECE: usize = 4096;
+
+/// Runs the script that the reader gives, and writes what it tells. A read of 0 bytes ends the script, and so does
+/// the first line that is refused.
+pub fn run<R: Read, W: Write>(
+    alloc: Global,
+    reader: &mut R,
+    writer: &mut W,
+) -> Result<Summary, ScriptFault>
+    ensures { AppendsScript (R.remaining reader.old) (W.contents writer.old) (W.contents writer.new) result }
+{
+    let mut script = Script::new(Interpreter::new(alloc));
+    let mut piece = [0u8; PIECE];
+    for _ in 0..READS {
+        match reader.read(&mut piece) {
+            Ok(0) => return script.finish(writer),
+            Ok(n) => script.feed(&piece[..n], writer)?,
+            Err(_) => return Err(script.fault(Cause::Read)),
+        }
+    }
+    Err(script.fault(Cause::TooManyReads))
+}
