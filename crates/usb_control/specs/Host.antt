@@ -1,0 +1,166 @@
+-- The host's end of a control transfer, packet by packet (USB 2.0, 8.5.3).
+use Rattle.std.specs.Prelude.{◌≡◌, ℕ, ◌+◌, Bool, true, false, not, nat_le, nat_lt, ◌==◌, ◌&&◌, if◌then◌else◌, List, [], ◌++◌, length, Option, Some, None}
+use Rattle.std.specs.Bool.{beq}
+use Rattle.usb_packet.specs.declared.packet.TokenKind.{TokenKind}
+use Rattle.usb_packet.specs.declared.packet.TokenKind.TheVariants as tokens
+use Rattle.usb_packet.specs.declared.packet.Packet.{Packet}
+use Rattle.usb_packet.specs.declared.packet.Packet.TheVariants.{Token, Data, Ack, Nak, Stall}
+use Rattle.usb_control.specs.declared.setup.Setup.{Setup as Request}
+use Rattle.usb_control.specs.declared.fault.ControlFault.{ControlFault}
+use Rattle.usb_control.specs.declared.fault.ControlFault.TheVariants.{Stalled, BusFault, Overrun}
+use Rattle.usb_control.specs.declared.host.HostStage.{HostStage}
+use Rattle.usb_control.specs.declared.host.HostStage.TheVariants.{Setup, DataIn, DataOut, StatusIn, StatusOut, Done, Failed}
+use Rattle.usb_control.specs.declared.host.Progress.{Progress}
+use Rattle.usb_control.specs.declared.host.Progress.TheVariants as progresses
+use Rattle.usb_control.specs.declared.host.Outcome.{Outcome}
+use Rattle.usb_control.specs.declared.host.Outcome.TheVariants as outcomes
+use Rattle.usb_control.specs.SetupBytes.{setup_bytes, reads}
+use Rattle.usb_control.specs.Pieces.{piece_from}
+use Rattle.usb_control.specs.Packets.{data_packet}
+
+-- a transfer: its request, the bytes that it sends or has got, what is tried next, and how many tries in a
+-- row had no answer
+pub record HostTransferState : Type 0 where
+  pub addr : ℕ
+  pub setup : Request
+  pub bytes : List ℕ
+  pub stage : HostStage
+  pub tries : ℕ
+
+-- how many bytes the host sends: a read sends none
+abbrev pub sent_length : Request → ℕ
+sent_length setup = if reads setup then 0 else setup.length
+
+-- a transfer that has yet to begin
+abbrev pub at_start : ℕ → Request → List ℕ → HostTransferState
+at_start addr setup sends = record { addr = addr; setup = setup; bytes = sends; stage = Setup; tries = 0 }
+
+abbrev pub progress_of : HostStage → Progress
+progress_of Done = progresses.Done
+progress_of (Failed fault) = progresses.Failed fault
+progress_of _ = progresses.Running
+
+abbrev pub IsRunning : HostStage → Type 0
+IsRunning stage = progress_of stage ≡ progresses.Running
+
+abbrev pub kind_of : HostStage → TokenKind
+kind_of Setup = tokens.Setup
+kind_of (DataIn one) = tokens.In
+kind_of StatusIn = tokens.In
+kind_of _ = tokens.Out
+
+-- whether the device is asked for data
+abbrev pub asks_at : HostStage → Bool
+asks_at (DataIn one) = true
+asks_at StatusIn = true
+asks_at _ = false
+
+abbrev pub token_of : HostTransferState → Packet
+token_of host = Token (kind_of host.stage) host.addr 0
+
+-- the data that go with the token, of this request with these bytes
+abbrev pub payload_at : HostStage → Request → List ℕ → Option Packet
+payload_at Setup setup bytes = Some (data_packet false (setup_bytes setup))
+payload_at (DataOut sent one) setup bytes = Some (data_packet one (piece_from bytes sent))
+payload_at StatusOut setup bytes = Some (data_packet true [])
+payload_at _ setup bytes = None
+
+abbrev pub payload_of : HostTransferState → Option Packet
+payload_of host = payload_at host.stage host.setup host.bytes
+
+-- the transfer goes on
+abbrev pub answered : HostStage → HostTransferState → HostTransferState
+answered stage host = record host { stage = stage; tries = 0 }
+
+abbrev pub failed : ControlFault → HostTransferState → HostTransferState
+failed fault host = record host { stage = Failed fault }
+
+-- the third try in a row without an answer is the last
+abbrev pub unanswered : HostTransferState → HostTransferState
+unanswered host = if nat_lt host.tries 2 then record host { tries = host.tries + 1 } else failed BusFault host
+
+-- what follows SETUP, in a read or a write of this length
+abbrev pub after_setup : Bool → ℕ → HostStage
+after_setup is_read len = if len == 0 then StatusIn else if is_read then DataIn true else DataOut 0 true
+
+-- what follows a piece of a write, where so many bytes were sent of so many
+abbrev pub after_write_piece : ℕ → ℕ → Bool → HostStage
+after_write_piece sent len one = if sent == len then StatusIn else DataOut sent (not one)
+
+-- what follows a piece of a read of so many bytes, where so many came before it
+abbrev pub after_read_piece : ℕ → ℕ → ℕ → Bool → HostStage
+after_read_piece got count len one =
+    if (count == 8) && nat_lt (got + count) len then DataIn (not one) else StatusOut
+
+-- data under the toggle that is expected: too much, or the next bytes
+abbrev pub joined : Bool → List ℕ → HostTransferState → HostTransferState
+joined one payload host =
+    if nat_le (length payload) 8 && nat_le (length host.bytes + length payload) host.setup.length
+    then record host {
+      bytes = host.bytes ++ payload;
+      stage = after_read_piece (length host.bytes) (length payload) host.setup.length one;
+      tries = 0;
+    }
+    else failed Overrun host
+
+abbrev pub status_in : Bool → List ℕ → HostTransferState → HostTransferState
+status_in false payload host = answered StatusIn host
+status_in true [] host = answered Done host
+status_in true payload host = failed Overrun host
+
+-- an answer to SETUP: only ACK is one
+abbrev pub setup_answered : Option Packet → HostTransferState → HostTransferState
+setup_answered (Some Ack) host = answered (after_setup (reads host.setup) host.setup.length) host
+setup_answered _ host = unanswered host
+
+-- what takes the transfer no further
+abbrev pub not_taken : Option Packet → HostTransferState → HostTransferState
+not_taken (Some Nak) host = answered host.stage host
+not_taken (Some Stall) host = failed Stalled host
+not_taken _ host = unanswered host
+
+-- a handshake on data that were sent, where this follows an ACK
+abbrev pub handshake : Option Packet → HostStage → HostTransferState → HostTransferState
+handshake (Some Ack) next host = answered next host
+handshake packet next host = not_taken packet host
+
+-- an answer to IN, where data have this meaning
+abbrev pub in_answered : Option Packet → (Bool → List ℕ → HostTransferState → HostTransferState) → HostTransferState → HostTransferState
+in_answered (Some (Data one payload)) taken host = taken one payload.items host
+in_answered packet taken host = not_taken packet host
+
+-- data in the data stage
+abbrev pub data_in : Bool → Bool → List ℕ → HostTransferState → HostTransferState
+data_in expected one payload host = if beq one expected then joined one payload host else answered host.stage host
+
+-- what the host makes of what came
+abbrev pub took_at : HostStage → Option Packet → HostTransferState → HostTransferState
+took_at Setup packet host = setup_answered packet host
+took_at (DataIn one) packet host = in_answered packet (data_in one) host
+took_at (DataOut sent one) packet host =
+    handshake packet (after_write_piece (sent + length (piece_from host.bytes sent)) (length host.bytes) one) host
+took_at StatusIn packet host = in_answered packet status_in host
+took_at StatusOut packet host = handshake packet Done host
+took_at _ packet host = host
+
+abbrev pub took : Option Packet → HostTransferState → HostTransferState
+took packet host = took_at host.stage packet host
+
+abbrev pub is_overrun : HostStage → Bool
+is_overrun (Failed Overrun) = true
+is_overrun _ = false
+
+-- data in answer to IN are acknowledged, but for those that are too much
+abbrev pub acknowledges_at : HostStage → Option Packet → HostStage → Bool
+acknowledges_at (DataIn one) (Some (Data toggle payload)) after = not (is_overrun after)
+acknowledges_at StatusIn (Some (Data toggle payload)) after = not (is_overrun after)
+acknowledges_at _ _ _ = false
+
+abbrev pub acknowledges : Option Packet → HostTransferState → Bool
+acknowledges packet host = acknowledges_at host.stage packet (took packet host).stage
+
+-- an outcome shows where the transfer stands, and the bytes of a read
+abbrev pub Shows : Outcome → HostStage → List ℕ → Type 0
+Shows outcomes.Running stage bytes = IsRunning stage
+Shows (outcomes.Done got) stage bytes = (stage ≡ Done) × (got.now ≡ bytes)
+Shows (outcomes.Failed fault) stage bytes = stage ≡ Failed fault

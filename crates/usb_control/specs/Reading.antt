@@ -1,0 +1,35 @@
+-- The bytes of a read, by the packets that the host took (USB 2.0, 8.5.3 and 8.6.2).
+use Rattle.std.specs.Prelude.{◌≡◌, ℕ, ◌-◌, ◌<◌, ◌≤◌, ◌⊎◌, Bool, true, not, if◌then◌else◌, List, [], ◌∷◌, ◌++◌, length, Option, Some}
+use Rattle.std.specs.Bool.{beq}
+use Rattle.std.specs.List.{concat}
+use Rattle.usb_packet.specs.declared.packet.Packet.{Packet}
+use Rattle.usb_packet.specs.declared.packet.Packet.TheVariants.{Data, Ack}
+use Rattle.usb_control.specs.Host.{HostTransferState, took}
+
+-- the host after what came in each of these tries
+abbrev pub took_all : List (Option Packet) → HostTransferState → HostTransferState
+took_all [] host = host
+took_all (came ∷ rest) host = took_all rest (took came host)
+
+-- the payloads that a data stage accepts: under this toggle the next one, then under the other in turn; all else is
+-- thrown away (8.6.2)
+abbrev pub accepted : Bool → List (Option Packet) → List (List ℕ)
+accepted one [] = []
+accepted one (Some (Data toggle payload) ∷ rest) =
+    if beq toggle one then payload.items ∷ accepted (not one) rest else accepted one rest
+accepted one (_ ∷ rest) = accepted one rest
+
+-- the payloads of a data stage for so many bytes: of 8, up to one that is shorter or brings the last byte (8.5.3.2)
+abbrev pub IsDataStage : ℕ → List (List ℕ) → Type 0
+IsDataStage left [] = left ≡ 0
+IsDataStage left (payload ∷ []) = (length payload ≤ 8) × (length payload ≤ left) × ((length payload < 8) ⊎ (length payload ≡ left))
+IsDataStage left (payload ∷ next ∷ rest) = (length payload ≡ 8) × (8 < left) × IsDataStage (left - 8) (next ∷ rest)
+
+-- a read for so many bytes got these: behind the ACK to SETUP came a data stage, whose payloads they are joined
+pub record IsReadOf (asked : ℕ) (packets : List (Option Packet)) (bytes : List ℕ) : Type 0 where
+  pub before : List (Option Packet)
+  pub stage : List (Option Packet)
+  pub behind : List (Option Packet)
+  pub order : packets ≡ before ++ (Some Ack ∷ (stage ++ behind))
+  pub data_stage : IsDataStage asked (accepted true stage)
+  pub bytes_are : bytes ≡ concat (accepted true stage)

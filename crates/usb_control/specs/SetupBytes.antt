@@ -1,0 +1,31 @@
+-- The bytes of a request (USB 2.0, 9.3).
+use Rattle.std.specs.Prelude.{◌≡◌, ℕ, Bool, nat_le, ◌++◌, List, ◌∷◌, slice_index, ◌+◌, ◌*◌}
+use Rattle.std.specs.Int.{w16, to_le_bytes}
+use Rattle.usb_control.specs.declared.setup.Setup.{Setup}
+
+abbrev pub setup_bytes : Setup → List ℕ
+setup_bytes s =
+    s.request_type ∷ s.request ∷ (to_le_bytes w16 s.value ++ to_le_bytes w16 s.index ++ to_le_bytes w16 s.length)
+
+-- the word at a place, its low byte first
+abbrev pub word_at : List ℕ → ℕ → ℕ
+word_at bytes i = slice_index bytes i + 256 * slice_index bytes (i + 1)
+
+-- the request that eight bytes spell
+abbrev pub setup_of : List ℕ → Setup
+setup_of bytes =
+    record {
+      request_type = slice_index bytes 0;
+      request = slice_index bytes 1;
+      value = word_at bytes 2;
+      index = word_at bytes 4;
+      length = word_at bytes 6;
+    }
+
+-- whether data go to the host: bit 7 of the request type
+abbrev pub reads : Setup → Bool
+reads s = nat_le 128 s.request_type
+
+-- a request is spelled by its bytes: its fields fit their bytes
+abbrev pub IsSpelled : Setup → Type 0
+IsSpelled s = setup_of (setup_bytes s) ≡ s

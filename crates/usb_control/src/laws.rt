@@ -1,0 +1,122 @@
+//! What follows for whole transfers, and for lists of packets, from what single calls say.
+ghost use Rattle.std.specs.Prelude.{◌≡◌, ◌↔◌, ◌⊎◌, ℕ, Bool, List, [], Option, length, take, unwrap_or, if◌then◌else◌, true, false};
+ghost use Rattle.std.specs.List.{concat};
+ghost use Rattle.usb_packet.specs.declared.packet.Packet.{Packet};
+ghost use Rattle.usb_transact.specs.declared.transaction.Fate.{Fate};
+ghost use Rattle.usb_control.specs.declared.setup.Setup.{Setup as Request};
+ghost use Rattle.usb_control.specs.declared.fault.ControlFault.{ControlFault};
+ghost use Rattle.usb_control.specs.declared.device.Stage.{Stage};
+ghost use Rattle.usb_control.specs.declared.device.Heard.{Heard};
+ghost use Rattle.usb_control.specs.declared.host.HostStage.{HostStage};
+ghost use Rattle.usb_control.specs.SetupBytes.{IsSpelled, reads};
+ghost use Rattle.usb_control.specs.Device.{DevControlState, begun, effect};
+ghost use Rattle.usb_control.specs.Host.{HostTransferState, at_start, sent_length};
+ghost use Rattle.usb_control.specs.Reading.{IsReadOf, took_all};
+ghost use Rattle.usb_control.specs.Writing.{AnswersAll, IsApplied, IsNoWrite, given_data};
+ghost use Rattle.usb_control.specs.Transfer.{Shape, Decision, Place, answered_bytes, shape_of, start};
+ghost use Rattle.usb_control.specs.Standing.{Stands};
+ghost use Rattle.usb_control.specs.Runs.{IsDone, IsOnce};
+ghost use Rattle.usb_control.specs.Steps.{IsAppliedOnce, IsDecided, Steps};
+
+use crate::requests::Requests;
+
+/// What answers requests after the steps of a transfer, whatever was lost in them, and wherever endpoint 0 of the device
+/// stood before. `fates` are those of the steps, with nothing done at the device between them.
+pub fn transfers_are_told<R: Requests>()
+    // A read that is done gave the answer as fixed at the last SETUP that arrived, cut to what was asked for.
+    ensures read { (addr : ℕ) (request : Request) (fates : List Fate)
+        (old new : DevControlState R) (host : HostTransferState)
+        → IsSpelled request → reads request ≡ true
+        → Steps R.prepare_gives R.apply_gives R.answer_of fates (at_start addr request []) old host new
+        → host.stage ≡ HostStage.Done
+        → IsDecided R.prepare_gives request true new.requests
+        × (host.bytes ≡ take request.length (unwrap_or (R.answer_of new.requests) [])) }
+
+    // A write that is done took effect exactly once since the last SETUP that arrived.
+    ensures write { (addr : ℕ) (request : Request) (sends : List ℕ) (fates : List Fate)
+        (old new : DevControlState R) (host : HostTransferState)
+        → IsSpelled request → reads request ≡ false → length sends ≡ request.length
+        → Steps R.prepare_gives R.apply_gives R.answer_of fates (at_start addr request sends) old host new
+        → host.stage ≡ HostStage.Done
+        → IsAppliedOnce R.prepare_gives R.apply_gives request sends new.requests }
+
+    // What a STALL ended was refused, and never took effect.
+    ensures stalled { (addr : ℕ) (request : Request) (sends : List ℕ) (fates : List Fate)
+        (old new : DevControlState R) (host : HostTransferState)
+        → IsSpelled request → length sends ≡ sent_length request
+        → Steps R.prepare_gives R.apply_gives R.answer_of fates (at_start addr request sends) old host new
+        → host.stage ≡ HostStage.Failed ControlFault.Stalled
+        → IsDecided R.prepare_gives request false new.requests }
+
+    // However a transfer ends, and while it runs: no SETUP arrived, or the request was decided on and
+    // nothing was done since, or it took effect once.
+    ensures any { (addr : ℕ) (request : Request) (sends : List ℕ) (fates : List Fate)
+        (old new : DevControlState R) (host : HostTransferState)
+        → IsSpelled request → length sends ≡ sent_length request
+        → Steps R.prepare_gives R.apply_gives R.answer_of fates (at_start addr request sends) old host new
+        → (new.requests ≡ old.requests)
+        ⊎ (((said : Bool) × IsDecided R.prepare_gives request said new.requests)
+        ⊎ IsAppliedOnce R.prepare_gives R.apply_gives request sends new.requests) }
+{}
+
+/// Whatever packets come to the host in a read: the bytes of a read that is done are the payloads of its data stage
+/// joined. The stage is what came behind the ACK to SETUP. It accepts data under DATA1 first, then in turn, and all
+/// else is thrown away.
+pub fn reads_are_joined()
+    ensures { (came : List (Option Packet)) (addr : ℕ) (request : Request) → reads request ≡ true
+        → (took_all came (at_start addr request [])).stage ≡ HostStage.Done
+        → IsReadOf request.length came (took_all came (at_start addr request [])).bytes }
+{}
+
+/// Whatever packets a device hears: a write takes effect with the payloads of its data stage joined, and with as many
+/// bytes as its SETUP announced. It does so once at most since then.
+pub fn writes_are_joined()
+    // From the SETUP of an accepted write on, over packets that are only answered, up to the one that
+    // brings the effect.
+    ensures written { (answer : Option (List ℕ)) (len : ℕ) (heard : List Packet)
+        (stage : Stage) (last : Heard) (packet : Packet) (bytes : List ℕ)
+        → AnswersAll answer (begun true false len) Heard.Nothing heard stage last
+        → IsApplied (effect answer stage last packet) bytes
+        → (bytes ≡ concat (given_data false true heard)) × (length bytes ≡ len) }
+
+    // After the effect, and from the SETUP of any other request on, nothing takes effect before the next.
+    ensures once { (answer : Option (List ℕ)) (begins stage : Stage) (first last : Heard)
+        (heard : List Packet) (packet : Packet) (bytes : List ℕ)
+        → IsNoWrite begins → AnswersAll answer begins first heard stage last
+        → ¬ IsApplied (effect answer stage last packet) bytes }
+{}
+
+/// Whatever is lost in a transfer: what counts is the decision at the last SETUP that arrived, a write that is done took
+/// effect exactly once since then, and one that was refused never did. This is said of lists of tries, each with what a
+/// SETUP that arrives in it is decided.
+pub fn effects_are_once()
+    ensures { (shape : Shape) (tries : List (Fate × Decision)) → IsOnce shape tries }
+{}
+
+/// How the places of a transfer, which `tried` of [`HostTransfer::step`](crate::HostTransfer::step) speaks of, are those
+/// of its ends.
+pub fn places_are_met<R: Requests>()
+    // A transfer that has yet to begin stands before its first try, whatever endpoint 0 of the device is at.
+    ensures begins { (addr : ℕ) (request : Request) (sends : List ℕ) (control : DevControlState R)
+        → length sends ≡ sent_length request
+        → Stands R.answer_of (shape_of request) sends start (at_start addr request sends) control }
+
+    // The host is done exactly where it is past the last piece.
+    ensures done { (shape : Shape) (sends : List ℕ) (place : Place)
+        (host : HostTransferState) (control : DevControlState R)
+        → Stands R.answer_of shape sends place host control
+        → (host.stage ≡ HostStage.Done) ↔ IsDone place }
+
+    // A read that is done has the answer that was fixed, cut to what was asked for.
+    ensures read { (shape : Shape) (sends : List ℕ) (place : Place)
+        (host : HostTransferState) (control : DevControlState R)
+        → Stands R.answer_of shape sends place host control → IsDone place → shape.reads ≡ true
+        → host.bytes ≡ answered_bytes shape place.decision }
+
+    // What answers requests may change meanwhile, as long as the answer stays.
+    ensures kept { (shape : Shape) (sends : List ℕ) (place : Place)
+        (host : HostTransferState) (old new : DevControlState R)
+        → Stands R.answer_of shape sends place host old
+        → R.answer_of new.requests ≡ R.answer_of old.requests → new.stage ≡ old.stage
+        → Stands R.answer_of shape sends place host new }
+{}

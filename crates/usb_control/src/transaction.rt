@@ -1,0 +1,141 @@
+//! One transaction of endpoint 0 over a bus that may lose packets (USB 2.0, 8.5.3).
+ghost use Rattle.std.specs.Prelude.{◌≡◌, List, ℕ, IfSome};
+ghost use Rattle.std.specs.Option.{option_copied};
+ghost use Rattle.usb_packet.specs.Spelling.{Fits};
+ghost use Rattle.usb_control.specs.Host.{IsRunning, asks_at, payload_of, progress_of, token_of};
+ghost use Rattle.usb_control.specs.Bus.{arrives_under};
+ghost use Rattle.usb_control.specs.Crossing.{Acknowledges, Crosses, Hears, Reaches, Replies, phase_of};
+ghost use Rattle.usb_control.specs.Transaction.{Transacts};
+ghost use Rattle.usb_control.specs.Transfer.{Place, Tries, shape_of};
+ghost use Rattle.usb_control.specs.Standing.{Stands};
+ghost use Rattle.usb_control.specs.SetupBytes.{IsSpelled};
+
+use crate::bus::{Bus, Phase, carried};
+use crate::device::DevControl;
+use crate::host::{HostTransfer, Progress};
+use crate::requests::Requests;
+use usb_packet::Packet;
+use usb_transact::Fate;
+
+impl<R: Requests> DevControl<R> {
+    // Hears the packet that came, if one did, and gives the answer to it.
+    fn hear(&mut self, packet: Option<&Packet>) -> Option<Packet>
+        ensures hears { Hears R.prepare_gives R.apply_gives R.answer_of (option_copied packet.entry)
+            self.old self.new result }
+        ensures fits { IfSome result Fits }
+    {
+        match packet {
+            Some(packet) => self.on_packet(packet),
+            None => None,
+        }
+    }
+}
+
+// What the host reads of an answer.
+fn replied<B: Bus>(bus: &B, phase: Phase, answer: Option<Packet>) -> Option<Packet>
+    requires { IfSome answer Fits }
+    ensures { Replies (B.arrives bus.now) phase answer result }
+{
+    match answer {
+        Some(answer) => carried(bus, phase, &answer),
+        None => None,
+    }
+}
+
+// Sends ACK where the host does, and lets the device have what arrives of it.
+fn acknowledge<B: Bus, R: Requests>(bus: &B, control: &mut DevControl<R>, says: bool)
+    ensures { Acknowledges R.prepare_gives R.apply_gives R.answer_of (B.arrives bus.now) says
+        control.old control.new }
+{
+    if says {
+        let ack = carried(bus, Phase::Acknowledgement, &Packet::Ack);
+        control.hear(ack.as_ref());
+    }
+}
+
+impl HostTransfer {
+    // The phase in which the device answers.
+    fn phase(&self) -> Phase
+        ensures phase { result ≡ phase_of (asks_at self.now.stage) }
+        ensures spelled { IsSpelled self.now.setup }
+    {
+        if self.asks() {
+            Phase::Reply
+        } else {
+            Phase::Handshake
+        }
+    }
+
+    // Sends the token, and the data that go with it. Gives the device's answer to what arrives.
+    fn reach<B: Bus, R: Requests>(&self, bus: &B, control: &mut DevControl<R>) -> Option<Packet>
+        requires { IsRunning self.now.stage }
+        ensures reaches { Reaches R.prepare_gives R.apply_gives R.answer_of (B.arrives bus.now)
+            (token_of self.now) (payload_of self.now) control.old control.new result }
+        ensures fits { IfSome result Fits }
+    {
+        let token = carried(bus, Phase::Token, &self.token());
+        let answer = control.hear(token.as_ref());
+        match self.payload() {
+            Some(payload) => {
+                let data = carried(bus, Phase::HostData, &payload);
+                control.hear(data.as_ref())
+            }
+            None => answer,
+        }
+    }
+
+    // One transaction over any bus.
+    fn transact<B: Bus, R: Requests>(&mut self, bus: &B, control: &mut DevControl<R>)
+        requires { IsRunning self.old.stage }
+        ensures crosses { Crosses R.prepare_gives R.apply_gives R.answer_of (B.arrives bus.now)
+            self.old control.old self.new control.new }
+        ensures same { (self.new.setup ≡ self.old.setup) × (self.new.addr ≡ self.old.addr) }
+        ensures spelled { IsSpelled self.old.setup }
+    {
+        let phase = self.phase();
+        let answer = self.reach(bus, control);
+        let reply = replied(bus, phase, answer);
+        let says = self.take(reply.as_ref());
+        acknowledge(bus, control, says);
+    }
+
+    /// One try of the transfer with the device: what is next goes over the bus, each packet as its bytes, and one of them
+    /// may be lost (USB 2.0, 8.5.3).
+    ///
+    /// A transfer is a list of pieces: SETUP, the data cut in eights, the status. Host and device each stand at one of
+    /// them, and a try moves them on so:
+    ///
+    /// | piece | `TokenLost` | `ReplyLost` | `AckLost` | `Clean` |
+    /// |---|---|---|---|---|
+    /// | SETUP | neither | device, which decides | as `ReplyLost` | both |
+    /// | data of a write, status of a read | neither | device | as `ReplyLost` | both |
+    /// | data of a read | neither | neither | host | host, and device |
+    /// | status of a write | neither | neither, but it takes effect | host, and it takes effect | both, and it takes effect |
+    /// | status of a read of no bytes | neither | neither | host | both |
+    /// | any but SETUP, of a refused request | no answer | no answer | C1 where it came by IN, else no answer | C1 |
+    ///
+    /// An end that has the piece already stays where it is. A write takes effect at the first try of its status that
+    /// arrives, and not again. Where the host hears no answer it counts the try: the third in a row is C2.
+    pub fn step<R: Requests>(&mut self, control: &mut DevControl<R>, fate: Fate) -> Progress
+        requires { IsRunning self.old.stage }
+        ensures progress { result ≡ progress_of self.new.stage }
+        ensures same { (self.new.setup ≡ self.old.setup) × (self.new.addr ≡ self.old.addr) }
+
+        // Packet by packet: as bytes, and as what each end makes of them.
+        ensures packets { Crosses R.prepare_gives R.apply_gives R.answer_of (arrives_under fate)
+            self.old control.old self.new control.new }
+        ensures transacts { Transacts R.prepare_gives R.apply_gives R.answer_of fate
+            self.old control.old self.new control.new }
+
+        // From any place at which both ends stand, the try goes on as two positions in one list of pieces do.
+        ensures tried { (sends : List ℕ) (place : Place)
+            → Stands R.answer_of (shape_of self.old.setup) sends place self.old control.old
+            → (after : Place)
+            × Tries R.prepare_gives R.apply_gives R.answer_of self.old.setup sends fate
+            place control.old.requests after control.new.requests
+            × Stands R.answer_of (shape_of self.old.setup) sends after self.new control.new }
+    {
+        self.transact(&fate, control);
+        self.progress()
+    }
+}
