@@ -20,3 +20,11 @@ pub mod Shares
 pub mod FieldFacts
 pub mod ListedFields
 pub mod WellFormed
+pub mod StretchLemmas
+pub mod CodeLemmas
+pub mod PatternLemmas
+pub mod NullLemmas
+pub mod IndexLemmas
+pub mod FormLemmas
+pub mod StartLemmas
+pub mod FindLemmas

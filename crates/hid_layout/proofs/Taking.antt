@@ -17,7 +17,7 @@ use Rattle.hid_layout.specs.Items.{Item}
 use Rattle.hid_layout.specs.Faults.{fault_of, Reaches, IsRefused, Refuses, Explains}
 use Rattle.hid_layout.specs.Parser.{StandsAt, Took, told_place, place_of, HasTaken}
 
-reverse_more : (before : List Item) (item : Item) → reverse (item ∷ before) ≡ reverse before ++ item ∷ []
+pub reverse_more : (before : List Item) (item : Item) → reverse (item ∷ before) ≡ reverse before ++ item ∷ []
 reverse_more before item = grind (arith, common_steps)
 
 joined_more : (before : List Item) (item : Item) → flat_map (λ i. i) (reverse (item ∷ before)) ≡ flat_map (λ i. i) (reverse before) ++ item

@@ -10,6 +10,7 @@ use Rattle.std.specs.Int.{int_max, int_min}
 use Rattle.std.specs.List.{list_all}
 use Rattle.hid_layout.specs.Usages.{Entry, entry_count, rising, usage_list, are_ranges}
 use Rattle.hid_layout.specs.Reports.{HasElements, IsLayout, first_bit, report_bytes, bits_of as bits_of_report}
+use Rattle.hid_layout.proofs.Taking.{reverse_more}
 use Rattle.hid_layout.proofs.Places.{rising-length}
 use Rattle.std.proofs.lemmas.Grind.{common_steps}
 use Rattle.std.proofs.lemmas.List.Concat.{flat_map-cons}
@@ -362,9 +363,6 @@ all_and_last [] item all = (All-nil IsSpelling, All-head IsSpelling item [] all)
 all_and_last (first ∷ items) item all =
     let rest = all_and_last items item (All-tail IsSpelling first (items ++ item ∷ []) all) in
     (All-cons IsSpelling first items (All-head IsSpelling first (items ++ item ∷ []) all) rest.0, rest.1)
-
-reverse_more : (before : List Item) (item : Item) → reverse (item ∷ before) ≡ reverse before ++ item ∷ []
-reverse_more before item = grind (arith, common_steps)
 
 spelled_before : (before : List Item) → All IsSpelling (reverse before) → AreSpelled before
 spelled_before [] all = tt

@@ -100,8 +100,12 @@ form_of item us Variable = Elements (element_kind item) (least_of item) (greates
 form_of item us Array = Keys item.count (has_place (rollover_from item 0 us)) (keys_from item 0 (key_places us))
 
 -- whether an item stands in an Input report
+abbrev pub is_input_report : Option Report → Bool
+is_input_report None = false
+is_input_report (Some report) = same_kind report.kind Input
+
 abbrev pub is_input : List Report → ℕ → Bool
-is_input reports r = elim (slice_get reports r) [ None ↦ false | Some report ↦ same_kind report.kind Input ]
+is_input reports r = is_input_report (slice_get reports r)
 
 abbrev pub item_of : List Report → MainItem → List Entry → Item
 item_of reports item es =
@@ -117,15 +121,23 @@ items_from reports (item ∷ items) (es ∷ ess) = item_of reports item es ∷ i
 abbrev pub items_of : Contents → List Item
 items_of layout = items_from layout.reports layout.items layout.entries
 
+-- a place of an array's usage list is a control where a key stands there
+abbrev pub control_of_key : Option Key → Option Control
+control_of_key None = None
+control_of_key (Some key) = if key.is_switch then Some (record { kind = Switch; usage = key.usage }) else None
+
 -- the control at a place
 abbrev pub control_in : Form → ℕ → Option Control
 control_in NoControls j = None
 control_in (Elements kind least greatest usages) j = option_map (λ u. record { kind = kind; usage = u }) (slice_get usages j)
-control_in (Keys elements rolls keys) j =
-    elim (slice_get keys j) [ None ↦ None | Some key ↦ (if key.is_switch then Some (record { kind = Switch; usage = key.usage }) else None) ]
+control_in (Keys elements rolls keys) j = control_of_key (slice_get keys j)
+
+abbrev pub control_of_item : ℕ → Option Item → Option Control
+control_of_item j None = None
+control_of_item j (Some item) = control_in item.form j
 
 abbrev pub control_of : List Item → ControlId → Option Control
-control_of items c = elim (slice_get items c.item) [ None ↦ None | Some item ↦ control_in item.form c.index ]
+control_of items c = control_of_item c.index (slice_get items c.item)
 
 -- variable Input elements, and twice the array Input elements
 abbrev pub events_in : Form → ℕ
@@ -143,5 +155,9 @@ head_of (Elements kind least greatest usages) = head.Elements kind least greates
 head_of (Keys elements rolls keys) = head.Keys elements rolls (length keys)
 
 -- the controls of the item at a place
+abbrev pub form_of_item : Option Item → Form
+form_of_item None = NoControls
+form_of_item (Some item) = item.form
+
 abbrev pub form_at : List Item → ℕ → Form
-form_at items i = elim (slice_get items i) [ None ↦ NoControls | Some item ↦ item.form ]
+form_at items i = form_of_item (slice_get items i)

@@ -19,3 +19,7 @@ pub mod Kept
 pub mod Parser
 pub mod Reports
 pub mod Laws
+pub mod Sent
+pub mod Stretches
+pub mod Index
+pub mod Finding

@@ -1,17 +1,18 @@
 //! The controls that a layout gives.
 
-ghost use Rattle.std.specs.Prelude.{◌≡◌, ◌<◌, ◌≤◌, ◌*◌, ◌^◌, ◌+◌, ◌+ℤ◌, pos, ℕ, List, [], ◌∷◌, length, slice_get, Option, Some, None};
+ghost use Rattle.std.specs.Prelude.{◌≡◌, false, ◌<◌, ◌≤◌, ◌*◌, ◌^◌, ◌+◌, ◌+ℤ◌, pos, ℕ, List, [], ◌∷◌, length, slice_get, Option, Some, None};
 ghost use Rattle.hid_layout.specs.Usages.{entry_count, usage_list};
 ghost use Rattle.hid_layout.specs.Flags.{has_flag};
 ghost use Rattle.hid_layout.specs.Faults.{least_value, greatest_value};
 ghost use Rattle.hid_layout.specs.Controls.{least_of, greatest_of, is_encodable, has_outside, element_kind, is_rollover, tells_error, is_key};
 
-use crate::control::ControlKind;
-use crate::main_item::MainItem;
+use crate::control::{Control, ControlKind, Controls};
+use crate::main_item::{MainItem, Shape};
+use crate::sent::{Codes, MAX_KEYS, is_encodable};
 use crate::usage::Usage;
 use crate::values::{greatest_value, least_value};
 
-fn entry_count(entry: &(Usage, Usage)) -> usize
+pub(crate) fn entry_count(entry: &(Usage, Usage)) -> usize
     ensures value { result ≡ entry_count entry.now }
     ensures few { result ≤ 65536 }
     ensures within { entry.now.0.id + result ≤ 65536 }
@@ -93,6 +94,106 @@ impl MainItem {
             ControlKind::NullValue
         } else {
             ControlKind::Value
+        }
+    }
+}
+
+impl Usage {
+    /// Whether it tells an error of a keyboard: ErrorRollOver, POSTFail or ErrorUndefined.
+    fn tells_error(self) -> bool
+        ensures { result ≡ tells_error self }
+    {
+        self.page == 7 && (self.id == 1 || (self.id == 2 || self.id == 3))
+    }
+}
+
+impl MainItem {
+    ghost use Rattle.hid_layout.specs.Controls.{form_of, head_of, control_in};
+    ghost use Rattle.hid_layout.specs.Fields.{is_padding};
+    ghost use Rattle.hid_layout.specs.Reports.{HasElements};
+    ghost use Rattle.hid_layout.specs.Sent.{AreCodes};
+
+    /// The controls of an item of an Input report, without their usages.
+    pub(crate) fn controls(&self, entries: &[(Usage, Usage)], codes: &Codes) -> Controls
+        requires elements { is_padding self.now.shape ≡ false → HasElements self.now }
+        requires few { length entries.now ≤ 64 }
+        requires some { is_padding self.now.shape ≡ false → 0 < length (usage_list entries.now) }
+        requires codes { is_padding self.now.shape ≡ false → AreCodes self.now (usage_list entries.now) codes.now }
+        ensures { result ≡ head_of (form_of self.now (usage_list entries.now) self.now.shape) }
+    {
+        match self.shape {
+            Shape::Padding => Controls::None,
+            Shape::Variable => Controls::Elements {
+                kind: self.element_kind(),
+                least: self.least(),
+                greatest: self.greatest(),
+                count: self.count as usize,
+            },
+            Shape::Array => Controls::Keys {
+                elements: self.count as usize,
+                rolls_over: codes.rollover.is_some(),
+                count: usage_count(entries).min(MAX_KEYS),
+            },
+        }
+    }
+
+    /// Whether an element can press the key with this usage at a place of the usage list.
+    fn is_key(&self, place: usize, usage: Usage) -> bool
+        requires elements { HasElements self.now }
+        requires small { place ≤ 2 ^ 35 }
+        ensures { result ≡ is_key self.now place usage }
+    {
+        is_encodable(self, place) && (place < MAX_KEYS && (usage.id != 0 && !usage.tells_error()))
+    }
+
+    /// The control at an element of a variable item: the last usage is that of all further elements.
+    fn element_control(&self, entries: &[(Usage, Usage)], index: usize) -> Option<Control>
+        requires elements { HasElements self.now }
+        requires few { length entries.now ≤ 64 }
+        requires some { 0 < length (usage_list entries.now) }
+        ensures { result ≡ control_in (form_of self.now (usage_list entries.now) Shape.Variable) index }
+    {
+        if index >= self.count as usize {
+            return None;
+        }
+        let last = usage_count(entries) - 1;
+        match usage_at(entries, index.min(last)) {
+            Some(usage) => Some(Control {
+                kind: self.element_kind(),
+                usage,
+            }),
+            None => None,
+        }
+    }
+
+    /// The key at a place of an array's usage list.
+    fn key_control(&self, entries: &[(Usage, Usage)], index: usize) -> Option<Control>
+        requires { HasElements self.now }
+        ensures { result ≡ control_in (form_of self.now (usage_list entries.now) Shape.Array) index }
+    {
+        if index >= MAX_KEYS {
+            return None;
+        }
+        match usage_at(entries, index) {
+            Some(usage) if self.is_key(index, usage) => Some(Control {
+                kind: ControlKind::Switch,
+                usage,
+            }),
+            _ => None,
+        }
+    }
+
+    /// The control at a place of an item of an Input report.
+    pub(crate) fn control(&self, entries: &[(Usage, Usage)], index: usize) -> Option<Control>
+        requires elements { is_padding self.now.shape ≡ false → HasElements self.now }
+        requires few { length entries.now ≤ 64 }
+        requires some { is_padding self.now.shape ≡ false → 0 < length (usage_list entries.now) }
+        ensures { result ≡ control_in (form_of self.now (usage_list entries.now) self.now.shape) index }
+    {
+        match self.shape {
+            Shape::Padding => None,
+            Shape::Variable => self.element_control(entries, index),
+            Shape::Array => self.key_control(entries, index),
         }
     }
 }

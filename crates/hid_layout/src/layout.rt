@@ -1,25 +1,32 @@
 //! Layouts, and how they are read.
 
-ghost use Rattle.std.specs.Prelude.{◌≡◌, ◌<◌, ◌≤◌, ℕ, List, ◌++◌, length, map, slice_get, IfOk, IfErr, Some};
+ghost use Rattle.std.specs.Prelude.{◌≡◌, ◌^◌, false, ◌<◌, ◌≤◌, ℕ, List, ◌++◌, length, map, slice_get, IfOk, IfErr, Some};
 ghost use Rattle.hid_layout.specs.Items.{Item as Spelled};
 ghost use Rattle.hid_layout.specs.Fields.{Field};
 ghost use Rattle.hid_layout.specs.Kept.{AreKept};
 ghost use Rattle.hid_layout.specs.Heads.{item_of};
 ghost use Rattle.hid_layout.specs.Reports.{report_bytes, usage_of, element_of, IsLayout};
+ghost use Rattle.hid_layout.specs.Usages.{Entry, usage_list};
+ghost use Rattle.hid_layout.specs.Fields.{is_padding};
+ghost use Rattle.hid_layout.specs.Sent.{AreCodes};
+ghost use Rattle.hid_layout.specs.Index.{starts_of, plan_of};
 ghost use Rattle.hid_layout.specs.Faults.{Accepts, Explains};
 ghost use Rattle.hid_layout.specs.Totals.{place_of};
 ghost use Rattle.hid_layout.specs.Layout.{contents_of, layout_of};
 
 use crate::collection::Collection;
-use crate::controls::usage_at;
+use crate::control::{Control, ControlId, Controls};
 use crate::fault::{Cause, LayoutFault};
 use crate::field::KeptField;
+use crate::index::{all_codes, all_plans, all_starts};
 use crate::kept::KeptFields;
 use crate::lists::Lists;
-use crate::main_item::{Element, MainItem};
+use crate::main_item::{Element, MainItem, Shape};
 use crate::parse::parse_items;
 use crate::parser::Parser;
 use crate::report::{Report, ReportKind};
+use crate::search::{holds, usage_by_starts};
+use crate::sent::Codes;
 use crate::usage::Usage;
 use std::alloc::{AllocError, Global};
 use std::marker::Model;
@@ -32,18 +39,24 @@ pub struct Layout {
     items: Vec<MainItem>,
     entries: Lists<(Usage, Usage)>,
     paths: Lists<Collection>,
+    /// For each item and each of its entries how many usages stand before it.
+    starts: Lists<u32>,
+    /// For each report the places of its items.
+    plans: Lists<usize>,
+    codes: Vec<Codes>,
 }
 
 impl Model for Layout {
-    ghost use Rattle.std.specs.Prelude.{◌≡◌, length};
+    ghost use Rattle.std.specs.Prelude.{◌≡◌, ◌≤◌, length};
     ghost use Rattle.hid_layout.specs.Layout.{Contents};
     ghost use Rattle.hid_layout.specs.Reports.{IsLayout};
+    ghost use Rattle.hid_layout.specs.Index.{IsIndexed};
 
     ghost Value = { Contents };
 
     ghost view = { λ l. record { reports = l.reports.items; numbered = l.numbered; items = l.items.items; entries = l.entries; paths = l.paths } };
 
-    ghost invariant = { λ l. (length l.paths ≡ length l.items.items) × IsLayout (record { reports = l.reports.items; numbered = l.numbered; items = l.items.items; entries = l.entries; paths = l.paths }) };
+    ghost invariant = { λ l. let layout : Contents = record { reports = l.reports.items; numbered = l.numbered; items = l.items.items; entries = l.entries; paths = l.paths } in (length l.paths ≡ length l.items.items) × IsLayout layout × IsIndexed layout l.starts l.plans l.codes.items × (length l.items.items ≤ 512) };
 }
 
 impl Layout {
@@ -91,7 +104,7 @@ impl Layout {
         requires { item < length self.now.items }
         ensures { result ≡ usage_of self.now item index }
     {
-        usage_at(self.entries.get(item), index)
+        usage_by_starts(self.entries.get(item), self.starts.get(item), index)
     }
 
     /// A data field of a listed item; none of padding, and none past the last.
@@ -108,6 +121,147 @@ impl Layout {
         ensures { slice_get self.now.paths item ≡ Some result.now }
     {
         self.paths.get(item)
+    }
+}
+
+impl Layout {
+    /// For each entry of a listed item how many usages stand before it.
+    pub fn starts(&self, item: usize) -> &[u32]
+        requires { item < length self.now.items }
+        ensures { slice_get (map starts_of self.now.entries) item ≡ Some result.now }
+    {
+        self.starts.get(item)
+    }
+
+    /// The places of a report's items among the listed items, in order.
+    pub fn plan(&self, r: usize) -> &[usize]
+        requires { r < length self.now.reports }
+        ensures { result.now ≡ plan_of self.now r }
+    {
+        self.plans.get(r)
+    }
+
+    /// The numbers by which the elements of a listed item tell null, no key, and more keys than there are elements.
+    pub fn codes(&self, item: usize) -> Codes
+        requires { item < length self.now.items }
+        ensures { (main : MainItem) (es : List Entry) → slice_get self.now.items item ≡ Some main → slice_get self.now.entries item ≡ Some es
+            → is_padding main.shape ≡ false → AreCodes main (usage_list es) result }
+    {
+        self.codes[item]
+    }
+}
+
+impl Layout {
+    ghost use Rattle.hid_layout.specs.Controls.{is_input, items_of, form_at, head_of, control_of, events_in, max_events};
+
+    /// Whether an item stands in an Input report.
+    fn is_input(&self, item: &MainItem) -> bool
+        ensures { result ≡ is_input self.now.reports item.now.report }
+    {
+        match self.reports.get(item.report) {
+            Some(report) => report.kind.is(ReportKind::Input),
+            None => false,
+        }
+    }
+
+    /// The controls of a listed item, without their usages.
+    pub fn controls(&self, item: usize) -> Controls
+        requires { item < length self.now.items }
+        ensures { result ≡ head_of (form_at (items_of self.now) item) }
+    {
+        let main = &self.items[item];
+        if self.is_input(main) {
+            main.controls(self.entries.get(item), &self.codes[item])
+        } else {
+            Controls::None
+        }
+    }
+
+    /// The control at a place; none of padding, of Output and Feature items and past the last.
+    pub fn control(&self, id: ControlId) -> Option<Control>
+        ensures { result ≡ control_of (items_of self.now) id }
+    {
+        if id.item >= self.items.len() {
+            return None;
+        }
+        let main = &self.items[id.item];
+        if self.is_input(main) {
+            main.control(self.entries.get(id.item), id.index)
+        } else {
+            None
+        }
+    }
+
+    /// How many events a reading of an item gives at most.
+    fn events(&self, item: usize) -> usize
+        requires { item < length self.now.items }
+        ensures value { result ≡ events_in (form_at (items_of self.now) item) }
+        ensures small { result < 2 ^ 33 }
+    {
+        let main = &self.items[item];
+        if !self.is_input(main) {
+            return 0;
+        }
+        match main.shape {
+            Shape::Padding => 0,
+            Shape::Variable => main.count as usize,
+            Shape::Array => 2 * main.count as usize,
+        }
+    }
+
+    /// How many events the reading of reports gives at most: one for each element of a variable Input item, and two for
+    /// each element of an array, whose key goes up and another one down.
+    pub fn max_events(&self) -> usize
+        ensures { result ≡ max_events (items_of self.now) }
+    {
+        let mut events = 0;
+        for i in 0..self.items.len() {
+            events += self.events(i);
+        }
+        events
+    }
+}
+
+impl Layout {
+    ghost use Rattle.hid_layout.specs.Finding.{shown_at, shown_in};
+    ghost use Rattle.hid_layout.specs.Controls.{items_of, form_at};
+    ghost use Rattle.std.specs.Prelude.{IfSome, IfNone, ◌⊎◌};
+
+    /// The least place of a listed item whose control has a usage.
+    fn find_in(&self, item: usize, usage: Usage) -> Option<usize>
+        requires { item < length self.now.items }
+        ensures found { IfSome result (λ j. shown_in (form_at (items_of self.now) item) j ≡ Some usage) }
+        ensures least { IfSome result (λ j. (i : ℕ) → i < j → shown_in (form_at (items_of self.now) item) i ≡ Some usage → ⊥) }
+        ensures none { IfNone result ((i : ℕ) → shown_in (form_at (items_of self.now) item) i ≡ Some usage → ⊥) }
+    {
+        let entries = self.entries.get(item);
+        let starts = self.starts.get(item);
+        for i in 0..entries.len() {
+            let entry = &entries[i];
+            if holds(entry, usage) {
+                let index = starts[i] as usize + (usage.id - entry.0.id) as usize;
+                if let Some(control) = self.control(ControlId { item, index }) {
+                    if control.usage == usage {
+                        return Some(index);
+                    }
+                }
+            }
+        }
+        None
+    }
+
+    /// The least control with a usage: the first item that has one, and its least place there.
+    pub fn find(&self, usage: Usage) -> Option<ControlId>
+        ensures found { IfSome result (λ c. shown_at (items_of self.now) c ≡ Some usage) }
+        ensures least { IfSome result (λ c. (d : ControlId) → (d.item < c.item) ⊎ ((d.item ≡ c.item) × (d.index < c.index)) → shown_at (items_of self.now) d ≡ Some usage → ⊥) }
+        ensures none { IfNone result ((d : ControlId) → shown_at (items_of self.now) d ≡ Some usage → ⊥) }
+    {
+        for item in 0..self.items.len() {
+            if let Some(index) = self.find_in(item, usage) {
+                return Some(ControlId { item, index });
+            }
+        }
+        None
     }
 }
 
@@ -159,12 +313,18 @@ fn lay_out(alloc: Global, kept: KeptFields, numbered: bool) -> Result<Layout, Al
         reports,
         ..
     } = kept;
+    let starts = all_starts(alloc, &entries)?;
+    let plans = all_plans(alloc, reports.list.len(), &items)?;
+    let codes = all_codes(alloc, &items, &entries)?;
     Ok(Layout {
         reports: reports.list,
         numbered,
         items,
         entries,
         paths,
+        starts,
+        plans,
+        codes,
     })
 }
 

@@ -25,6 +25,8 @@
 //!   layout.report_bytes(0);                             // 3
 //!   layout.usage(0, 2);                                 // Some(Usage { page: 9, id: 3 })
 //!   layout.element(2, 1);                               // 8 bits at bit 16, from -127 to 127
+//!   layout.control(ControlId { item: 0, index: 2 });    // Some, a switch with usage 09:03
+//!   layout.find(Usage { page: 1, id: 0x31 });           // Some(ControlId { item: 2, index: 1 })
 //! ```
 #![tactic(auto)]
 
@@ -35,6 +37,7 @@ mod fault;
 mod field;
 mod flags;
 mod globals;
+mod index;
 mod kept;
 pub mod laws;
 mod layout;
@@ -46,6 +49,8 @@ mod parser;
 mod path;
 mod prefix;
 mod report;
+mod search;
+mod sent;
 mod totals;
 mod usage;
 mod values;
@@ -58,7 +63,10 @@ pub use flags::MainFlags;
 pub use layout::Layout;
 pub use main_item::{Element, MainItem, Shape};
 pub use report::{Report, ReportKind};
+pub use sent::{Codes, MAX_KEYS};
 pub use usage::Usage;
 
+#[cfg(test)]
+mod control_tests;
 #[cfg(test)]
 mod tests;

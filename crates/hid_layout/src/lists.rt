@@ -40,6 +40,13 @@ impl<T: Copy> Lists<T> {
         }
     }
 
+    /// How many lists there are.
+    pub(crate) fn len(&self) -> usize
+        ensures { result ≡ length self.now }
+    {
+        self.spans.len()
+    }
+
     /// The list at a place.
     pub(crate) fn get(&self, i: usize) -> &[T]
         requires { i < length self.now }

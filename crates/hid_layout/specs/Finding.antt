@@ -1,0 +1,19 @@
+-- The usages of controls, by which they are found.
+use Rattle.std.specs.Prelude.{ℕ, Bool, ◌==◌, ◌&&◌, nat_le, List, Option}
+use Rattle.std.specs.Option.{option_map}
+use Rattle.hid_layout.specs.declared.usage.Usage.{Usage}
+use Rattle.hid_layout.specs.declared.control.ControlId.{ControlId}
+use Rattle.hid_layout.specs.Usages.{Entry}
+use Rattle.hid_layout.specs.Controls.{Item, Form, control_in, control_of}
+
+-- the usage of an item's control at a place
+abbrev pub shown_in : Form → ℕ → Option Usage
+shown_in form j = option_map (λ c. c.usage) (control_in form j)
+
+-- the usage of a layout's control
+abbrev pub shown_at : List Item → ControlId → Option Usage
+shown_at items c = option_map (λ c. c.usage) (control_of items c)
+
+-- a usage is one of a range
+abbrev pub holds : Entry → Usage → Bool
+holds e u = (e.0.page == u.page) && (nat_le e.0.id u.id && nat_le u.id e.1.id)

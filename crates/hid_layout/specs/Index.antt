@@ -1,0 +1,38 @@
+-- What a layout keeps beside its items, so that they are read without a search.
+use Rattle.std.specs.Prelude.{◌≡◌, ℕ, ◌+◌, false, ◌==◌, if◌then◌else◌, List, [], ◌∷◌, map, length, slice_get, Some}
+use Rattle.hid_layout.specs.declared.main_item.MainItem.{MainItem}
+use Rattle.hid_layout.specs.declared.sent.Codes.{Codes}
+use Rattle.hid_layout.specs.Usages.{Entry, entry_count, usage_list}
+use Rattle.hid_layout.specs.Fields.{is_padding}
+use Rattle.hid_layout.specs.Faults.{upward}
+use Rattle.hid_layout.specs.Layout.{Contents}
+use Rattle.hid_layout.specs.Sent.{AreCodes}
+
+-- for each range how many usages stand before it
+abbrev pub starts_from : ℕ → List Entry → List ℕ
+starts_from n [] = []
+starts_from n (e ∷ es) = n ∷ starts_from (n + entry_count e) es
+
+abbrev pub starts_of : List Entry → List ℕ
+starts_of es = starts_from 0 es
+
+-- the places of a report's items, from the place i on
+abbrev pub places_from : ℕ → ℕ → List MainItem → List ℕ
+places_from i r [] = []
+places_from i r (item ∷ items) = if item.report == r then i ∷ places_from (i + 1) r items else places_from (i + 1) r items
+
+-- the places of a report's items, in order
+abbrev pub plan_of : Contents → ℕ → List ℕ
+plan_of layout r = places_from 0 r layout.items
+
+-- each data item has its codes
+pub record AreAllCodes (items : List MainItem) (entries : List (List Entry)) (codes : List Codes) : Type 0 where
+  pub one_each : length codes ≡ length items
+  pub at_each : (i : ℕ) (item : MainItem) (es : List Entry) (c : Codes) → slice_get items i ≡ Some item → slice_get entries i ≡ Some es → slice_get codes i ≡ Some c
+      → is_padding item.shape ≡ false → AreCodes item (usage_list es) c
+
+-- what is kept is that of the layout
+pub record IsIndexed (layout : Contents) (starts plans : List (List ℕ)) (codes : List Codes) : Type 0 where
+  pub starts_there : starts ≡ map starts_of layout.entries
+  pub plans_there : plans ≡ map (plan_of layout) (upward 0 (length layout.reports))
+  pub codes_there : AreAllCodes layout.items layout.entries codes

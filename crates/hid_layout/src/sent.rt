@@ -1,0 +1,333 @@
+//! The codes of an item: the numbers by which its elements tell null, that they are empty, and that the array rolled
+//! over (HID 1.11, 5.10 and 6.2.2.5). They are worked out over whole ranges of usages, never place by place.
+
+ghost use Rattle.std.specs.Prelude.{◌≡◌, ◌<◌, ◌≤◌, ◌+◌, ◌-◌, ◌*◌, ◌^◌, ◌+ℤ◌, ◌-ℤ◌, ◌≤ℤ◌, ◌<ℤ◌, pos, neg_ℤ, ℕ, ℤ, List, true, false, length, IfSome, IfNone, Some, None};
+ghost use Rattle.std.specs.Int.{int_min};
+ghost use Rattle.hid_layout.specs.Usages.{entry_count, usage_list};
+ghost use Rattle.hid_layout.specs.Controls.{rollover_from, is_rollover, tells_error, least_of, greatest_of, is_encodable};
+ghost use Rattle.hid_layout.specs.Faults.{least_value, greatest_value};
+ghost use Rattle.hid_layout.specs.Reports.{HasElements};
+ghost use Rattle.hid_fields.specs.Value.{is_negative};
+ghost use Rattle.hid_layout.specs.declared.usage.Usage.{Usage as Named};
+ghost use Rattle.hid_layout.specs.Stretches.{RollsOverAt, RollsOverIn, IsFirst, IsLeastNothing, NamesAll};
+ghost use Rattle.hid_layout.specs.Sent.{AreCodes, names_nothing as names_nothing_at, number_of, empty_number, null_number, rollover_number};
+
+use crate::controls::entry_count;
+use crate::main_item::MainItem;
+use crate::usage::Usage;
+use crate::values::{greatest_value, least_value};
+use hid_fields::{null_pattern, to_value};
+
+/// The page of keyboards (HID Usage Tables, Keyboard/Keypad Page).
+const KEYBOARD: u16 = 0x07;
+
+/// The usage ID ErrorRollOver of that page; POSTFail and ErrorUndefined follow it.
+const ERROR_ROLL_OVER: u16 = 0x01;
+
+/// The first usage ID of that page that is a key.
+const FIRST_KEY: u16 = 0x04;
+
+/// No key of an array stands at this place of its usage list or behind it (our choice).
+pub const MAX_KEYS: usize = 65_536;
+
+/// The numbers by which elements tell what no key and no value tells; where an item has no such number, none.
+#[derive(Clone, Copy, Debug, PartialEq, Eq)]
+pub struct Codes {
+    /// Of an element with Null State: the least pattern out of the range (HID 1.11, 5.10).
+    pub null: Option<i64>,
+    /// Of an element of an array with no key: the least pattern that names neither a key nor an error (our choice).
+    pub empty: Option<i64>,
+    /// Of every element of an array with more keys than elements: the least place of ErrorRollOver.
+    pub rollover: Option<i64>,
+}
+
+/// The usages of one entry at their places in the usage list.
+#[derive(Clone, Copy)]
+struct Stretch {
+    low: Usage,
+    /// The place of the first one, and the place behind the last one.
+    start: usize,
+    end: usize,
+    ghost small: { end < 2 ^ 40 },
+}
+
+impl Stretch {
+    ghost use Rattle.hid_layout.specs.Stretches.{IsFirstNothing, tells_error_at};
+
+    /// Whether the usage at a place tells an error of a keyboard.
+    fn tells_error(&self, place: usize) -> bool
+        requires { self.now.start ≤ place }
+        ensures { result ≡ tells_error_at self.now.low self.now.start place }
+    {
+        let after = place - self.start;
+        self.low.page == KEYBOARD
+            && after < FIRST_KEY as usize
+            && ERROR_ROLL_OVER as usize <= self.low.id as usize + after
+            && self.low.id as usize + after < FIRST_KEY as usize
+    }
+
+    /// The first place from one on that names neither a key nor an error, or the end, or where it is behind the end,
+    /// the place itself.
+    fn first_nothing(&self, from: usize) -> usize
+        requires { self.now.start ≤ from }
+        ensures { IsFirstNothing self.now.low self.now.start from self.now.end result }
+    {
+        if self.end <= from || (from == self.start && self.low.id == 0) {
+            return from;
+        }
+        let next = from.max(MAX_KEYS);
+        if next >= self.end {
+            return self.end;
+        }
+        if !self.tells_error(next) {
+            return next;
+        }
+        self.end
+            .min(self.start + (FIRST_KEY as usize - self.low.id as usize))
+    }
+}
+
+/// The first place of a usage list from one on, also behind its end, that names neither a key nor an error.
+fn first_nothing(entries: &[(Usage, Usage)], from: usize) -> usize
+    requires few { length entries.now ≤ 64 }
+    requires small { from ≤ 2 ^ 34 }
+    ensures first { IsFirst (usage_list entries.now) from result }
+    ensures small { result ≤ 2 ^ 35 }
+{
+    let mut start = 0;
+    let mut next = from;
+    for entry in entries {
+        let end = start + entry_count(entry);
+        let stretch = Stretch {
+            low: entry.0,
+            start,
+            end,
+        };
+        let found = stretch.first_nothing(next);
+        if found < end {
+            return found;
+        }
+        next = found;
+        start = end;
+    }
+    next
+}
+
+/// Numbers from the first to below the end.
+#[derive(Clone, Copy)]
+struct Numbers {
+    first: i64,
+    end: i64,
+}
+
+/// The place that an element with the first of these numbers names.
+fn place_of(item: &MainItem, numbers: &Numbers) -> usize
+    requires elements { HasElements item.now }
+    requires within { item.now.min ≤ℤ numbers.now.first }
+    requires small { numbers.now.first ≤ℤ pos (2 ^ 32) }
+    ensures place { (item.now.min +ℤ pos result) ≡ numbers.now.first }
+    ensures small { result ≤ 2 ^ 34 }
+{
+    (numbers.first - item.min) as usize
+}
+
+/// The number by which an element names a place.
+fn number_at(item: &MainItem, place: usize) -> i64
+    requires elements { HasElements item.now }
+    requires small { place ≤ 2 ^ 35 }
+    ensures { result ≡ (item.now.min +ℤ pos place) }
+{
+    item.min + place as i64
+}
+
+/// The least number from the first on by which an element names neither a key nor an error: it may be over the end.
+fn unnamed_number(item: &MainItem, entries: &[(Usage, Usage)], numbers: &Numbers) -> i64
+    requires elements { HasElements item.now }
+    requires few { length entries.now ≤ 64 }
+    requires low { least_value item.now.min item.now.size ≤ℤ numbers.now.first }
+    requires high { numbers.now.end ≤ℤ (greatest_value item.now.min item.now.size +ℤ pos 1) }
+    requires some { numbers.now.first <ℤ numbers.now.end }
+    ensures low { numbers.now.first ≤ℤ result }
+    ensures nothing { result <ℤ numbers.now.end → names_nothing_at item.now (usage_list entries.now) result ≡ true }
+    ensures named { (v : ℤ) → numbers.now.first ≤ℤ v → v <ℤ numbers.now.end → v <ℤ result → names_nothing_at item.now (usage_list entries.now) v ≡ false }
+{
+    if numbers.first < item.min || item.max < numbers.first {
+        return numbers.first;
+    }
+    let number = number_at(item, first_nothing(entries, place_of(item, numbers)));
+    let over = item.greatest() + 1;
+    if over < number {
+        return over;
+    }
+    number
+}
+
+/// The least of some numbers that an element of an array can carry and by which it names neither a key nor an error.
+fn least_nothing(item: &MainItem, entries: &[(Usage, Usage)], numbers: &Numbers) -> Option<i64>
+    requires elements { HasElements item.now }
+    requires few { length entries.now ≤ 64 }
+    requires low { least_value item.now.min item.now.size ≤ℤ numbers.now.first }
+    requires high { numbers.now.end ≤ℤ (greatest_value item.now.min item.now.size +ℤ pos 1) }
+    requires some { numbers.now.first <ℤ numbers.now.end }
+    ensures some { IfSome result (λ v. IsLeastNothing item.now (usage_list entries.now) numbers.now.first numbers.now.end v) }
+    ensures none { IfNone result (NamesAll item.now (usage_list entries.now) numbers.now.first numbers.now.end) }
+{
+    let number = unnamed_number(item, entries, numbers);
+    if number < numbers.end {
+        Some(number)
+    } else {
+        None
+    }
+}
+
+/// Whether elements stand for numbers below 0 too.
+fn is_signed(item: &MainItem) -> bool
+    ensures { result ≡ is_negative item.now.min }
+{
+    item.min < 0
+}
+
+/// The numbers from 0 on that elements can carry.
+fn from_zero(item: &MainItem) -> Numbers
+    requires { HasElements item.now }
+    ensures first { result.first ≡ pos 0 }
+    ensures end { result.end ≡ (greatest_value item.now.min item.now.size +ℤ pos 1) }
+{
+    Numbers {
+        first: 0,
+        end: greatest_value(item.min, item.size) + 1,
+    }
+}
+
+/// The numbers below 0 that elements can carry.
+fn below_zero(item: &MainItem) -> Numbers
+    requires { HasElements item.now }
+    ensures first { result.first ≡ least_value item.now.min item.now.size }
+    ensures end { result.end ≡ pos 0 }
+{
+    Numbers {
+        first: least_value(item.min, item.size),
+        end: 0,
+    }
+}
+
+/// The number of an element of an array without a key: of the least pattern that names neither a key nor an error.
+/// Patterns from 0 up stand for the numbers from 0 up, and the rest for those below 0.
+fn empty_number(item: &MainItem, entries: &[(Usage, Usage)]) -> Option<i64>
+    requires elements { HasElements item.now }
+    requires few { length entries.now ≤ 64 }
+    ensures { result ≡ empty_number item.now (usage_list entries.now) }
+{
+    let found = least_nothing(item, entries, &from_zero(item));
+    if found.is_some() {
+        return found;
+    }
+    if !is_signed(item) {
+        return found;
+    }
+    least_nothing(item, entries, &below_zero(item))
+}
+
+/// The number that a pattern stands for.
+fn number_of(item: &MainItem, pattern: u32) -> i64
+    requires elements { HasElements item.now }
+    requires pattern { pattern < 2 ^ item.now.size }
+    ensures { result ≡ number_of item.now pattern }
+{
+    to_value(pattern, item.size, item.min < 0)
+}
+
+/// The number of an element of a value that is null: of the least pattern out of the range.
+#[tactic(auto, using(crate::proofs::NullLemmas::codes))]
+fn null_number(item: &MainItem) -> Option<i64>
+    requires { HasElements item.now }
+    ensures { result ≡ null_number item.now }
+{
+    match null_pattern(item.size, item.min, item.max) {
+        Some(pattern) => Some(number_of(item, pattern)),
+        None => None,
+    }
+}
+
+/// The place of ErrorRollOver among the usages of an entry that begins at a place.
+fn error_place(entry: &(Usage, Usage), start: usize) -> Option<usize>
+    requires { start ≤ 64 * 65536 }
+    ensures { RollsOverAt entry.now start result }
+{
+    let (low, high) = *entry;
+    if low.page == KEYBOARD && low.id <= ERROR_ROLL_OVER && ERROR_ROLL_OVER <= high.id {
+        Some(start + (ERROR_ROLL_OVER - low.id) as usize)
+    } else {
+        None
+    }
+}
+
+/// Whether an element can carry the number by which it names a place.
+pub(crate) fn is_encodable(item: &MainItem, place: usize) -> bool
+    requires elements { HasElements item.now }
+    requires small { place ≤ 2 ^ 35 }
+    ensures { result ≡ is_encodable item.now (item.now.min +ℤ pos place) }
+{
+    let number = number_at(item, place);
+    item.least() <= number && number <= item.greatest()
+}
+
+/// The same, where an element can carry the number by which it names the place.
+fn rollover_in(item: &MainItem, entry: &(Usage, Usage), start: usize) -> Option<usize>
+    requires elements { HasElements item.now }
+    requires small { start ≤ 64 * 65536 }
+    ensures place { (us : List Named) → RollsOverIn item.now entry.now start us result }
+    ensures small { IfSome result (λ place. place ≤ 2 ^ 35) }
+{
+    let Some(place) = error_place(entry, start) else {
+        return None;
+    };
+    if is_encodable(item, place) {
+        Some(place)
+    } else {
+        None
+    }
+}
+
+/// The least place of ErrorRollOver that an element can name.
+fn rollover_place(item: &MainItem, entries: &[(Usage, Usage)]) -> Option<usize>
+    requires elements { HasElements item.now }
+    requires few { length entries.now ≤ 64 }
+    ensures place { result ≡ rollover_from item.now 0 (usage_list entries.now) }
+    ensures small { IfSome result (λ place. place ≤ 2 ^ 35) }
+{
+    let mut start = 0;
+    for entry in entries {
+        let found = rollover_in(item, entry, start);
+        if found.is_some() {
+            return found;
+        }
+        start += entry_count(entry);
+    }
+    None
+}
+
+/// The number by which every element of an array tells that it rolled over.
+fn rollover_number(item: &MainItem, entries: &[(Usage, Usage)]) -> Option<i64>
+    requires elements { HasElements item.now }
+    requires few { length entries.now ≤ 64 }
+    ensures { result ≡ rollover_number item.now (usage_list entries.now) }
+{
+    match rollover_place(item, entries) {
+        Some(place) => Some(number_at(item, place)),
+        None => None,
+    }
+}
+
+/// The codes of an item with these usages.
+pub(crate) fn codes_of(item: &MainItem, entries: &[(Usage, Usage)]) -> Codes
+    requires elements { HasElements item.now }
+    requires few { length entries.now ≤ 64 }
+    ensures { AreCodes item.now (usage_list entries.now) result }
+{
+    Codes {
+        null: null_number(item),
+        empty: empty_number(item, entries),
+        rollover: rollover_number(item, entries),
+    }
+}

@@ -1,0 +1,18 @@
+-- Tests as facts.
+use Rattle.std.proofs.Common.{◌≡◌, ◌&&◌, Bool, true, false, refl, inl, inr, T, ◌⊎◌}
+
+pub test_true : (b : Bool) → T b → b ≡ true
+test_true true h = refl
+test_true false h = absurd h
+
+pub true_test : (b : Bool) → b ≡ true → T b
+true_test true h = tt
+true_test false h = absurd (cc)
+
+pub bool_cases : (b : Bool) → (b ≡ true) ⊎ (b ≡ false)
+bool_cases true = inl refl
+bool_cases false = inr refl
+
+pub both_true : (a b : Bool) → (a && b) ≡ true → (a ≡ true) × (b ≡ true)
+both_true true b h = (refl, h)
+both_true false b h = absurd (cc)

@@ -1,0 +1,96 @@
+-- Values of the definitions, worked out by hand.
+use Rattle.std.specs.Prelude.{◌≡◌, ℕ, Bool, true, false, List, [], ◌∷◌, map, replicate, Some, None, Ok, Err, Result, ℤ, pos, negsuc, refl}
+use Rattle.hid_layout.specs.Controls.{Item}
+use Rattle.hid_usages.specs.declared.cell.Cell.{Cell}
+use Rattle.hid_usages.specs.declared.cell.Cell.TheVariants.{Vacant, Pressed, Holding, Moved, RolledOver}
+use Rattle.hid_usages.specs.declared.change.Change.{Change}
+use Rattle.hid_usages.specs.declared.change.Change.TheVariants as change
+use Rattle.hid_usages.specs.declared.change.ChangeFault.TheVariants as fault
+use Rattle.hid_usages.specs.declared.event.Event.{Event}
+use Rattle.hid_usages.specs.declared.event.Event.TheVariants as event
+use Rattle.hid_usages.specs.Cells.{blank}
+use Rattle.hid_usages.specs.Snapshots.{OrFault, changed}
+use Rattle.hid_usages.specs.Parts.{blank_parts, shown, taken, is_changed}
+use Rattle.hid_usages.specs.Events.{at}
+use Rattle.hid_usages.specs.Views.{seen, events_between}
+use Rattle.hid_usages.specs.Samples.{usage, keyboard, mouse, hat, wheel_and_button}
+
+-- the snapshot after these changes of a blank one, one behind the other
+abbrev after : List Item → OrFault (List Cell) → List Change → OrFault (List Cell)
+after items cells [] = cells
+after items (Err f) (c ∷ changes) = Err f
+after items (Ok cells) (c ∷ changes) = after items (changed items cells c) changes
+
+abbrev changes_of : List Item → List Change → OrFault (List Cell)
+changes_of items changes = after items (Ok (blank items)) changes
+
+abbrev kept : OrFault (List Cell) → List Cell
+kept (Ok cells) = cells
+kept (Err f) = []
+
+-- what a report delivers in a view of blank parts, and what it leaves in the snapshot
+abbrev told : List Item → ℕ → List Change → List Event
+told items r changes =
+    let cells = kept (changes_of items changes) in
+    let parts = shown items r cells (blank_parts items) in
+    events_between items r (blank items) (seen items r (blank items) parts) parts
+
+abbrev left : List Item → ℕ → List Change → List Cell
+left items r changes = let cells = kept (changes_of items changes) in taken items r cells (shown items r cells (blank_parts items))
+
+abbrev due : List Item → ℕ → List Change → Bool
+due items r changes = is_changed items r (kept (changes_of items changes)) (blank_parts items)
+
+-- a key that is pressed goes down
+one_key : told keyboard 0 (change.Press (at 4 4) ∷ []) ≡ event.Down (at 4 4) (usage 7 4) ∷ []
+one_key = refl
+
+-- and one that is released before a report calls for none
+no_key : due keyboard 0 (change.Press (at 4 4) ∷ change.Release (at 4 4) ∷ []) ≡ false
+no_key = refl
+
+-- seven keys roll over, and a modifier goes on
+rolled_over : told keyboard 0 (change.Press (at 4 4) ∷ change.Press (at 4 5) ∷ change.Press (at 4 6) ∷ change.Press (at 4 7) ∷ change.Press (at 4 8) ∷ change.Press (at 4 9) ∷ change.Press (at 4 10) ∷ change.Press (at 0 1) ∷ [])
+    ≡ event.Down (at 0 1) (usage 7 0xE1) ∷ []
+rolled_over = refl
+
+-- 200 to the right: 127 now, and 73 stay
+far_right : told mouse 0 (change.Move (at 2 0) (pos 200) ∷ []) ≡ event.Motion (at 2 0) (usage 1 0x30) (pos 127) ∷ []
+far_right = refl
+
+rest_stays : left mouse 0 (change.Move (at 2 0) (pos 200) ∷ []) ≡ Pressed (false ∷ false ∷ false ∷ []) ∷ Vacant ∷ Moved (pos 73 ∷ pos 0 ∷ []) ∷ []
+rest_stays = refl
+
+-- 200 to the left
+far_left : told mouse 0 (change.Move (at 2 0) (negsuc 199) ∷ []) ≡ event.Motion (at 2 0) (usage 1 0x30) (negsuc 126) ∷ []
+far_left = refl
+
+-- a hat switch begins at null
+hat_is_null : blank hat ≡ Holding (None ∷ []) ∷ Vacant ∷ []
+hat_is_null = refl
+
+hat_north : told hat 0 (change.Set (at 0 0) (pos 0) ∷ []) ≡ event.Value (at 0 0) (usage 1 0x39) (pos 0) ∷ []
+hat_north = refl
+
+hat_null_again : due hat 0 (change.Set (at 0 0) (pos 0) ∷ change.Null (at 0 0) ∷ []) ≡ false
+hat_null_again = refl
+
+-- each report calls for itself
+two_reports : told wheel_and_button 0 (change.Press (at 1 0) ∷ change.Move (at 0 0) (negsuc 0) ∷ []) ≡ event.Motion (at 0 0) (usage 1 0x30) (negsuc 0) ∷ []
+two_reports = refl
+
+other_report : told wheel_and_button 1 (change.Press (at 1 0) ∷ change.Move (at 0 0) (negsuc 0) ∷ []) ≡ event.Down (at 1 0) (usage 9 1) ∷ []
+other_report = refl
+
+-- refusals, in their order
+no_such_key : changes_of keyboard (change.Press (at 4 1) ∷ []) ≡ Err fault.NoSuchControl
+no_such_key = refl
+
+no_switch : changes_of mouse (change.Press (at 2 0) ∷ []) ≡ Err fault.WrongKind
+no_switch = refl
+
+over_seven : changes_of hat (change.Set (at 0 0) (pos 8) ∷ []) ≡ Err fault.OutOfRange
+over_seven = refl
+
+full_motion : changes_of mouse (change.Move (at 2 0) (pos 0x7FFF_FFFF) ∷ change.Move (at 2 0) (pos 1) ∷ []) ≡ Err fault.MotionFull
+full_motion = refl

@@ -1,0 +1,14 @@
+pub mod Faults
+pub mod Cells
+pub mod Snapshots
+pub mod Parts
+pub mod Numbers
+pub mod Events
+pub mod Views
+pub mod Samples
+pub mod Reading
+pub mod Taking
+pub mod Sending
+pub mod Encoding
+pub mod Codes
+pub mod Law
