@@ -3,7 +3,7 @@
 //!   HostPipe                          bus                          DevPipe
 //!   token          ---- IN 69 81 00 ------------------------->     lost: TokenLost
 //!   take           <--- DATA0 C3 .. where armed, else NAK 5A --    answer          lost: ReplyLost
-//!   Fresh, Again   ---- ACK D2 ------------------------------>     acknowledged    lost: AckLost
+//!   Fresh, Again   ---- ACK 0xD2 ---------------------------->     acknowledged    lost: AckLost
 //! ```
 //! The device sends what is armed under its toggle, again and again, until an acknowledgement arrives. Data under
 //! the toggle that the host expects are fresh. Data under the other one are a repeat: the host acknowledges them
