@@ -25,11 +25,11 @@ map_map g f (x ∷ xs) = ap (λ t. g (f x) ∷ t) (map_map g f xs)
 
 -- what the layout shows is that of the fields
 pub laid : (fs : List Field) (kept : KeptFields) (numbered : Bool) (items : List MainItem) → AreKept fs kept → items ≡ map (item_of kept.reports.list.items) kept.list.items
-    → record { reports = kept.reports.list.items; numbered = numbered; items = items; entries = kept.entries; paths = kept.paths } ≡ contents_of fs numbered
+    → record { reports = kept.reports.list.items; numbered = numbered; items = items; entries = kept.lists.entries; paths = kept.lists.paths } ≡ contents_of fs numbered
 laid fs kept numbered items k i =
     let r : kept.reports.list.items ≡ reports_of fs = k.reports in
-    let e : kept.entries ≡ map (λ (x : Field). x.entries) fs = k.entries in
-    let p : kept.paths ≡ map (λ (x : Field). x.path) fs = k.paths in
+    let e : kept.lists.entries ≡ map (λ (x : Field). x.entries) fs = k.entries in
+    let p : kept.lists.paths ≡ map (λ (x : Field). x.path) fs = k.paths in
     let j : items ≡ map (main_item (reports_of fs)) fs = i ∙ ap (λ hs. map (item_of kept.reports.list.items) hs) k.heads ∙ map_map (item_of kept.reports.list.items) head_of fs ∙ ap (λ rs. map (main_item rs) fs) r in
     cc
 

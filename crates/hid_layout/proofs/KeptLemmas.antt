@@ -16,6 +16,7 @@ use Rattle.hid_layout.specs.Heads.{head_of, whole_field, ArePlaced}
 use Rattle.hid_layout.specs.Usages.{Entry}
 use Rattle.hid_layout.specs.declared.collection.Collection.{Collection}
 use Rattle.hid_layout.specs.Kept.{AreKept}
+use Rattle.hid_layout.specs.ItemLists.{Listed, none_listed, listed_more}
 use Rattle.hid_layout.proofs.ReportsLemmas.{with_bits-reports_of, reports_of-nil}
 
 some_is : (a b : KeptField) → Some a ≡ Some b → a ≡ b
@@ -127,17 +128,17 @@ ids_told id other old new there o n = by_case (nat_eq id other) refl
 
 -- one more field with its usages and its collections
 pub kept_more : (fs : List Field) (f : KeptField) (es : List Entry) (path : List Collection) (old new : KeptFields) → AreKept fs old → f.size * f.count ≢ 0 → f.id < 256 → f.offset + f.size * f.count ≤ 512
-    → new.list.items ≡ old.list.items ++ f ∷ [] → new.entries ≡ old.entries ++ es ∷ [] → new.paths ≡ old.paths ++ path ∷ [] → new.reports.list.items ≡ with_bits f.kind f.id (f.size * f.count) old.reports.list.items
+    → new.list.items ≡ old.list.items ++ f ∷ [] → new.lists ≡ listed_more old.lists es path → new.reports.list.items ≡ with_bits f.kind f.id (f.size * f.count) old.reports.list.items
     → new.elements ≡ old.elements + cond (is_padding f.shape) 0 f.count → new.ids.list.items ≡ with_id f.id old.ids.list.items → AreKept (fs ++ whole_field f es path ∷ []) new
 unfolding report_ids
-kept_more fs f es path old new k some small short l e p r n i =
+kept_more fs f es path old new k some small short l ls r n i =
     let w : Field = whole_field f es path in
     let one : sum_by (λ (field : Field). cond (is_padding field.shape) 0 field.count) (w ∷ []) ≡ cond (is_padding f.shape) 0 f.count = omega arith in
     record {
       heads = l ∙ ap (λ xs. xs ++ f ∷ []) k.heads ∙ sym (map-append head_of fs (w ∷ []));
       placed = subst ArePlaced (sym l) (placed_more old.list.items f k.placed short);
-      entries = e ∙ ap (λ xs. xs ++ es ∷ []) k.entries ∙ sym (map-append (λ (field : Field). field.entries) fs (w ∷ []));
-      paths = p ∙ ap (λ xs. xs ++ path ∷ []) k.paths ∙ sym (map-append (λ (field : Field). field.path) fs (w ∷ []));
+      entries = ap (λ (x : Listed). x.entries) ls ∙ ap (λ xs. xs ++ es ∷ []) k.entries ∙ sym (map-append (λ (field : Field). field.entries) fs (w ∷ []));
+      paths = ap (λ (x : Listed). x.paths) ls ∙ ap (λ xs. xs ++ path ∷ []) k.paths ∙ sym (map-append (λ (field : Field). field.path) fs (w ∷ []));
       reports = r ∙ ap (with_bits f.kind f.id (f.size * f.count)) k.reports ∙ with_bits-reports_of fs w some small;
       elements = n ∙ ap (λ m. m + cond (is_padding f.shape) 0 f.count) k.elements ∙ ap (λ m. element_count fs + m) (sym one) ∙ sym (sum_by-append (λ (field : Field). cond (is_padding field.shape) 0 field.count) fs (w ∷ []));
       id_count = ap length i ∙ ids_counted f.id old.ids.list.items (list_any (λ (field : Field). nat_eq field.id f.id) fs) small (k.ids f.id)
@@ -154,13 +155,13 @@ none_passed from zero = refl
 none_passed from (suc n) = none_passed (from + 1) n
 
 -- before all fields
-pub kept_none : (new : KeptFields) → new.list.items ≡ [] → new.entries ≡ [] → new.paths ≡ [] → new.reports.list.items ≡ [] → new.elements ≡ 0 → new.ids.list.items ≡ [] → AreKept [] new
+pub kept_none : (new : KeptFields) → new.list.items ≡ [] → new.lists ≡ none_listed → new.reports.list.items ≡ [] → new.elements ≡ 0 → new.ids.list.items ≡ [] → AreKept [] new
 unfolding report_ids
-kept_none new l e p r n i = record {
+kept_none new l ls r n i = record {
   heads = l;
   placed = subst ArePlaced (sym l) (λ k a b. absurd (cc));
-  entries = e;
-  paths = p;
+  entries = ap (λ (x : Listed). x.entries) ls;
+  paths = ap (λ (x : Listed). x.paths) ls;
   reports = r ∙ sym reports_of-nil;
   elements = n;
   id_count = ap length i ∙ sym (ap length (none_passed 1 255));

@@ -19,6 +19,7 @@ pub mod KeptLemmas
 pub mod Shares
 pub mod FieldFacts
 pub mod ListedFields
+pub mod ReportIdLemmas
 pub mod WellFormed
 pub mod StretchLemmas
 pub mod CodeLemmas
@@ -28,3 +29,4 @@ pub mod IndexLemmas
 pub mod FormLemmas
 pub mod StartLemmas
 pub mod FindLemmas
+pub mod ItemListLemmas

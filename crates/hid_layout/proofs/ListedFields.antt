@@ -87,7 +87,7 @@ accepted_field before item a s e bits =
     (sound_field field (are_paired before) (entries before) refl refl bits (small_ids 0 before a) (low_signed _ (short_minimum 0 before s)) split.0 within.few_entries, within)
 
 -- the place of an element, at the end of a list or before it
-get_end : {A : Type 0} (xs : List A) (x : A) (i : ℕ) (y : A) → slice_get (xs ++ x ∷ []) i ≡ Some y → (i < length xs) ⊎ ((i ≡ length xs) × (y ≡ x))
+pub get_end : {A : Type 0} (xs : List A) (x : A) (i : ℕ) (y : A) → slice_get (xs ++ x ∷ []) i ≡ Some y → (i < length xs) ⊎ ((i ≡ length xs) × (y ≡ x))
 get_end [] x zero y e = inr (refl, cc)
 get_end [] x (suc i) y e = absurd cc
 get_end (z ∷ xs) x zero y e = inl (omega arith)

@@ -42,19 +42,19 @@ sign_of : (min : ℤ) → int_lt min (pos 0) ≡ is_negative min
 sign_of (pos n) = grind (arith, ints)
 sign_of (negsuc n) = refl
 
-greatest_at : (min : ℤ) (w : ℕ) (s : Bool) → is_negative min ≡ s → greatest_value min w ≡ cond s (pos (2 ^ (w - 1) - 1)) (pos (2 ^ w - 1))
+pub greatest_at : (min : ℤ) (w : ℕ) (s : Bool) → is_negative min ≡ s → greatest_value min w ≡ cond s (pos (2 ^ (w - 1) - 1)) (pos (2 ^ w - 1))
 greatest_at min w s e = ap (λ b. cond b (pos (2 ^ (w - 1) - 1)) (pos (2 ^ w - 1))) (sign_of min ∙ e)
 
-least_at : (min : ℤ) (w : ℕ) (s : Bool) → is_negative min ≡ s → least_value min w ≡ cond s (neg_ℤ (pos (2 ^ (w - 1)))) (pos 0)
+pub least_at : (min : ℤ) (w : ℕ) (s : Bool) → is_negative min ≡ s → least_value min w ≡ cond s (neg_ℤ (pos (2 ^ (w - 1)))) (pos 0)
 least_at min w s e = ap (λ b. cond b (neg_ℤ (pos (2 ^ (w - 1)))) (pos 0)) (sign_of min ∙ e)
 
-plain : (item : MainItem) (k : ℕ) → is_negative item.min ≡ false → number_of item k ≡ pos k
+pub plain : (item : MainItem) (k : ℕ) → is_negative item.min ≡ false → number_of item k ≡ pos k
 plain item k e = ap (value_of k item.size) e
 
-high : (item : MainItem) (k : ℕ) → is_negative item.min ≡ true → 0 < item.size → 2 ^ (item.size - 1) ≤ k → k < 2 ^ item.size → number_of item k ≡ pos k -ℤ pos (2 ^ item.size)
+pub high : (item : MainItem) (k : ℕ) → is_negative item.min ≡ true → 0 < item.size → 2 ^ (item.size - 1) ≤ k → k < 2 ^ item.size → number_of item k ≡ pos k -ℤ pos (2 ^ item.size)
 high item k e some a b = ap (value_of k item.size) e ∙ value_of-high k item.size some a b
 
-low : (item : MainItem) (k : ℕ) → k < 2 ^ (item.size - 1) → number_of item k ≡ pos k
+pub low : (item : MainItem) (k : ℕ) → k < 2 ^ (item.size - 1) → number_of item k ≡ pos k
 low item k h = value_of-low k item.size (is_negative item.min) h
 
 -- a number from 0 on is found

@@ -1,7 +1,7 @@
 -- Where the ranges of a usage list begin.
 use Rattle.std.proofs.Common.{◌≡◌, ℕ, zero, suc, ◌+◌, ◌-◌, ◌<◌, ◌≤◌, List, [], ◌∷◌, ◌++◌, length, take, drop, get_or, refl, sym, ap, ◌∙◌, arith, add-one, length-append, Some, None, Bool, true, false, nat_lt}
 use Rattle.std.specs.List.{slice_get}
-use Rattle.std.proofs.lemmas.List.{take-append-drop, drop_all}
+use Rattle.std.proofs.lemmas.List.{take-append-drop, take_all, drop_all}
 use Rattle.std.proofs.lemmas.Grind.{flat_map-append}
 use Rattle.hid_layout.specs.Usages.{Entry, entry_count, rising, usage_list}
 use Rattle.hid_layout.specs.Index.{starts_from, starts_of}
@@ -59,6 +59,12 @@ past_by_start es starts k index d s within low past next =
         by_test true t =
             let more : k + 1 < length es = grind (arith, nat_tests) in
             absurd (omega (arith, more, at, past, low, next (omega (arith, more, n)), next_start es k d within, ap (λ l. get_or l (k + 1) 0) s, starts-get 0 es (k + 1) more))
+
+-- the last range begins behind the usages of the others, and ends the list
+pub counted : (es : List Entry) (starts : List ℕ) (k : ℕ) (d : Entry) → starts ≡ starts_of es → k + 1 ≡ length es → get_or starts k 0 + entry_count (get_or es k d) ≡ length (usage_list es)
+counted es starts k d s n =
+    let within : k < length es = omega (arith, n) in
+    omega (arith, at_start es starts k s within, next_start es k d within, ap (λ l. length (usage_list l)) (ap (λ m. take m es) n ∙ take_all (length es) es (omega arith)))
 
 pub none_by_start : (es : List Entry) (starts : List ℕ) (index : ℕ) → starts ≡ starts_of es → (0 < length starts → index < get_or starts 0 0) → None ≡ slice_get (usage_list es) index
 none_by_start [] starts index s next = refl

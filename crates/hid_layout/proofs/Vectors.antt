@@ -1,8 +1,9 @@
 -- Layouts and refusals worked out by hand from descriptors (HID 1.11, 6.2.2, B.1, B.2 and E.10). A list of items stands nearest first, as the definitions look back.
-use Rattle.std.proofs.Common.{◌≡◌, ℕ, [], ◌∷◌, refl, Some, None, pos, negsuc, true, false}
+use Rattle.std.proofs.Common.{◌≡◌, ℕ, List, [], ◌∷◌, refl, Some, None, pos, negsuc, true, false}
 use Rattle.hid_layout.specs.Usages.{Entry}
 use Rattle.hid_layout.specs.Fields.{fields, add_field}
-use Rattle.hid_layout.specs.Faults.{fault_of, field_fault, are_too_many, upward, report_ids, first_fault, is_mixed}
+use Rattle.hid_layout.specs.Faults.{fault_of, field_fault, report_limit, are_too_many, upward, report_ids, first_fault, is_mixed}
+use Rattle.hid_layout.specs.declared.limits.TheConstants.{MAX_DESCRIPTOR, MAX_ITEMS, MAX_ELEMENTS, MAX_ENTRIES, MAX_OPEN_PUSHES, MAX_OPEN_COLLECTIONS, MAX_REPORT_IDS, MAX_REPORT_BYTES, MAX_WIDTH, MAX_KEYS}
 use Rattle.hid_layout.specs.Layout.{layout_of, reports_of, reports_of_kind}
 use Rattle.hid_layout.specs.declared.collection.Collection.{Collection}
 use Rattle.hid_layout.specs.declared.report.ReportKind.TheVariants.{Input, Output}
@@ -111,3 +112,17 @@ accepted-report_of_64_bytes = refl
 mixed : is_mixed ((0x85 ∷ 0x01 ∷ []) ∷ (0x81 ∷ 0x01 ∷ []) ∷ (0x95 ∷ 0x01 ∷ []) ∷ (0x75 ∷ 0x08 ∷ []) ∷ []) ≡ true
 unfolding field_fault are_too_many add_field reports_of reports_of_kind upward report_ids
 mixed = refl
+
+-- the limits that the definitions and the code cite
+abbrev limits : List ℕ
+limits = MAX_DESCRIPTOR ∷ MAX_ITEMS ∷ MAX_ELEMENTS ∷ MAX_ENTRIES ∷ MAX_OPEN_PUSHES ∷ MAX_OPEN_COLLECTIONS ∷ MAX_REPORT_IDS ∷ MAX_REPORT_BYTES ∷ MAX_WIDTH ∷ MAX_KEYS ∷ []
+
+limits_there : limits ≡ 4096 ∷ 512 ∷ 4096 ∷ 64 ∷ 8 ∷ 16 ∷ 64 ∷ 64 ∷ 32 ∷ 65536 ∷ []
+limits_there = refl
+
+-- a report without an ID has 512 bits at most, and one with an ID 504 behind it
+longest_without_id : report_limit 0 ≡ 512
+longest_without_id = refl
+
+longest_with_id : report_limit 1 ≡ 504
+longest_with_id = refl

@@ -26,6 +26,7 @@ use Rattle.hid_layout.specs.Layout.{report_if_any, reports_of_kind, reports_of, 
 use Rattle.hid_layout.proofs.Shares.{same_kind_itself, kinds_equal, some_field, up_to, before_later}
 use Rattle.hid_layout.proofs.FieldFacts.{AreListed, AreSpelled}
 use Rattle.hid_layout.proofs.ListedFields.{id_of, listed}
+use Rattle.hid_layout.proofs.ReportIdLemmas.{one_place, byte_id, fields_unnumbered}
 use Rattle.hid_layout.specs.Items.{Item, is, REPORT_ID}
 use Rattle.hid_layout.specs.Fields.{fields}
 use Rattle.hid_layout.specs.Faults.{Accepts}
@@ -299,6 +300,13 @@ id_there fs r report e none =
     let not_zero : nat_eq found.0.id 0 ≡ false = none_any (λ (f : Field). nat_eq f.id 0) fs found.1 found.0 none found.2 in
     grind (arith, nat_tests, same, not_zero)
 
+-- the reports of fields without IDs have ID 0
+zero_id : (fs : List Field) (r : ℕ) (report : Report) → ((i : ℕ) (f : Field) → slice_get fs i ≡ Some f → f.id ≡ 0) → slice_get (reports_of fs) r ≡ Some report → report.id ≡ 0
+zero_id fs r report zeros e =
+    let is = report_at fs (reports_of fs) r report (all_reports fs) e in
+    let found = some_field report.kind report.id fs (omega (arith, is.0, is.1)) in
+    sym (id_of report.kind report.id found.0 found.3).1 ∙ zeros found.1 found.0 found.2
+
 -- no report is over 64 bytes
 all_short : (fs : List Field) (numbered : Bool) (r : ℕ) → AreListed fs → (numbered ≡ true → list_any (λ f. nat_eq f.id 0) fs ≡ false) → (bits_of_report (reports_of fs) r + 7) / 8 + cond numbered 1 0 ≤ 64
 all_short fs numbered r a unmixed = by_report (slice_get (reports_of fs) r) refl
@@ -321,8 +329,9 @@ all_short fs numbered r a unmixed = by_report (slice_get (reports_of fs) r) refl
         with_id numbered report.id report.bits (omega (arith, is.0, a.short report.kind report.id)) (λ n. id_there fs r report e (unmixed n))
 
 -- the layout of these fields
-pub well_formed : (fs : List Field) (numbered : Bool) → AreListed fs → (numbered ≡ true → list_any (λ f. nat_eq f.id 0) fs ≡ false) → IsLayout (contents_of fs numbered)
-well_formed fs numbered a unmixed = record {
+pub well_formed : (fs : List Field) (numbered : Bool) → AreListed fs → (numbered ≡ true → list_any (λ f. nat_eq f.id 0) fs ≡ false) → (numbered ≡ false → (i : ℕ) (f : Field) → slice_get fs i ≡ Some f → f.id ≡ 0)
+    → IsLayout (contents_of fs numbered)
+well_formed fs numbered a unmixed zeros = record {
   entries_there = length_map (λ (f : Field). f.entries) fs ∙ sym (length_map (main_item (reports_of fs)) fs);
   few_entries = λ i es e.
       let f = get_map (λ (f : Field). f.entries) fs i es e in
@@ -352,6 +361,9 @@ well_formed fs numbered a unmixed = record {
       let f = get_map (main_item (reports_of fs)) fs i item e in
       subst (λ (m : MainItem). first_bit (contents_of fs numbered) + (m.offset + m.size * m.count) ≤ 8 * report_bytes (contents_of fs numbered) m.report) (sym f.made) (lies_inside fs numbered i f.source a f.there);
   short = λ r. all_short fs numbered r a unmixed;
+  one_place = λ r k x y e d kinds ids. one_place fs r k x y e d kinds ids;
+  byte_id = λ r report e. byte_id fs r report e;
+  unnumbered = λ r report n e. zero_id fs r report (zeros n) e;
 }
   where
     one_value : {A : Type 0} {x y : A} → Some x ≡ Some y → x ≡ y
@@ -373,6 +385,7 @@ spelled_before (item ∷ before) all =
 pub layout_of_accepted : (bytes : List ℕ) (before : List Item) → Accepts bytes before → IsLayout (layout_of before)
 layout_of_accepted bytes before a =
     well_formed (fields before) (list_any (is REPORT_ID) before) (listed before a.reaches.accepted (spelled_before before a.reaches.items.spelled)) (λ n. mixed_not (list_any (is REPORT_ID) before) (list_any (λ f. nat_eq f.id 0) (fields before)) n a.unmixed)
+    (λ n. fields_unnumbered before n)
   where
     mixed_not : (n b : Bool) → n ≡ true → (n && b) ≡ false → b ≡ false
     mixed_not true b t e = e

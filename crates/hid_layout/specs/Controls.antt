@@ -3,6 +3,7 @@ use Rattle.std.specs.Prelude.{ℕ, zero, suc, ◌+◌, ◌*◌, Bool, true, fals
 use Rattle.std.specs.Int.{int_min, int_max}
 use Rattle.std.specs.Ordering.{int_eq}
 use Rattle.std.specs.Option.{option_map}
+use Rattle.hid_layout.specs.declared.limits.TheConstants.{MAX_KEYS}
 use Rattle.hid_layout.specs.declared.usage.Usage.{Usage}
 use Rattle.hid_layout.specs.declared.report.Report.{Report}
 use Rattle.hid_layout.specs.declared.main_item.MainItem.{MainItem}
@@ -74,7 +75,7 @@ abbrev pub tells_error : Usage → Bool
 tells_error u = (u.page == 7) && ((u.id == 1) || ((u.id == 2) || (u.id == 3)))
 
 abbrev pub is_key : MainItem → ℕ → Usage → Bool
-is_key item i u = is_encodable item (item.min +ℤ pos i) && (nat_lt i 65536 && (not (u.id == 0) && not (tells_error u)))
+is_key item i u = is_encodable item (item.min +ℤ pos i) && (nat_lt i MAX_KEYS && (not (u.id == 0) && not (tells_error u)))
 
 -- the keys from the place i of the usage list on
 unfoldable pub keys_from : MainItem → ℕ → List Usage → List Key
@@ -83,7 +84,7 @@ keys_from item i (u ∷ us) = record { usage = u; is_switch = is_key item i u } 
 
 -- no key stands beyond these
 abbrev pub key_places : List Usage → List Usage
-key_places us = take 65536 us
+key_places us = take MAX_KEYS us
 
 -- the least place, from i on, that an element can carry and that names ErrorRollOver
 unfoldable pub rollover_from : MainItem → ℕ → List Usage → Option ℕ

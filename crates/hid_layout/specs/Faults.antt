@@ -1,8 +1,9 @@
 -- Which descriptors are refused, for which cause and at which place.
-use Rattle.std.specs.Prelude.{◌≡◌, ℕ, zero, suc, ◌+◌, ◌-◌, ◌^◌, ◌<◌, ◌≤◌, Bool, true, false, not, List, [], ◌∷◌, ◌++◌, length, take, drop, reverse, filter, sum_by, Option, Some, None, Result, Ok, Err, ◌==◌, nat_le, nat_lt, ◌&&◌, ◌||◌, if◌then◌else◌, ℤ, pos, neg_ℤ, int_le, int_lt, ◌⊎◌}
+use Rattle.std.specs.Prelude.{◌≡◌, ℕ, zero, suc, ◌+◌, ◌-◌, ◌*◌, ◌^◌, ◌<◌, ◌≤◌, Bool, true, false, not, List, [], ◌∷◌, ◌++◌, length, take, drop, reverse, filter, sum_by, Option, Some, None, Result, Ok, Err, ◌==◌, nat_le, nat_lt, ◌&&◌, ◌||◌, if◌then◌else◌, ℤ, pos, neg_ℤ, int_le, int_lt, ◌⊎◌}
 use Rattle.std.specs.List.{list_any}
 use Rattle.std.specs.Option.{option_map}
 use Rattle.hid_items.specs.Spelling.{data_of, unsigned_of, IsSpelling, AreItems, IsCut}
+use Rattle.hid_layout.specs.declared.limits.TheConstants.{MAX_DESCRIPTOR, MAX_ITEMS, MAX_ELEMENTS, MAX_ENTRIES, MAX_OPEN_PUSHES, MAX_OPEN_COLLECTIONS, MAX_REPORT_IDS, MAX_REPORT_BYTES, MAX_WIDTH}
 use Rattle.hid_layout.specs.declared.fault.Cause.{Cause}
 use Rattle.hid_layout.specs.declared.fault.Cause.TheVariants.{Truncated, TooLong, PopEmpty, PushDepth, CollectionDepth, EndWithout, Unclosed, BadReportId, MixedReportId, BadRange, BadSize, BadUsageRange, UnpairedUsage, Delimiter, ReportTooLong, TooMany, Memory}
 use Rattle.hid_layout.specs.Items.{Item, is, is_field, PUSH, POP, REPORT_ID, DELIMITER, COLLECTION, END_COLLECTION}
@@ -47,11 +48,11 @@ element_count fs = sum_by (λ field. if is_padding field.shape then 0 else field
 
 -- the fields are more than the limits allow
 unfoldable pub are_too_many : List Field → Bool
-are_too_many fs = nat_lt 512 (length fs) || (nat_lt 4096 (element_count fs) || nat_lt 64 (length (report_ids fs)))
+are_too_many fs = nat_lt MAX_ITEMS (length fs) || (nat_lt MAX_ELEMENTS (element_count fs) || nat_lt MAX_REPORT_IDS (length (report_ids fs)))
 
--- a report has at most 64 bytes with its ID, which takes one where it isn't 0
+-- the most bits of a report behind its ID, which takes a byte where it isn't 0
 abbrev pub report_limit : ℕ → ℕ
-report_limit id = if id == 0 then 512 else 504
+report_limit id = if id == 0 then 8 * MAX_REPORT_BYTES else 8 * (MAX_REPORT_BYTES - 1)
 
 -- what is wrong with the usages, the range and the size of an item that is neither Constant nor without elements
 abbrev pub value_tests : Field → Bool → List Entry → List (Bool × Cause)
@@ -59,7 +60,7 @@ value_tests field paired es =
     let used = not (length es == 0) in
     (not paired, UnpairedUsage)
     ∷ (not (are_ranges es), BadUsageRange)
-    ∷ (used && ((field.size == 0) || nat_lt 32 field.size), BadSize)
+    ∷ (used && ((field.size == 0) || nat_lt MAX_WIDTH field.size), BadSize)
     ∷ (used && not (has_value field.min field.max field.size), BadRange)
     ∷ []
 
@@ -71,7 +72,7 @@ checked_values field paired es = if has_flag CONSTANT field.flags || (field.coun
 abbrev pub limit_tests : List Field → Field → List (Bool × Cause)
 limit_tests fs field =
     (nat_lt (report_limit field.id) (report_bits field.kind field.id fs), ReportTooLong)
-    ∷ (are_too_many fs || nat_lt 64 (length field.entries), TooMany)
+    ∷ (are_too_many fs || nat_lt MAX_ENTRIES (length field.entries), TooMany)
     ∷ []
 
 -- all tests of a field, in the order in which a cause is told
@@ -86,8 +87,8 @@ field_fault before item = first_met (field_tests (fields before) before (field_o
 abbrev pub other_fault : List Item → Item → Option Cause
 other_fault before item = first_met (
     (is POP item && (length (open_pushes before) == 0), PopEmpty)
-    ∷ (is PUSH item && nat_le 8 (length (open_pushes before)), PushDepth)
-    ∷ (is COLLECTION item && nat_le 16 (length (path before)), CollectionDepth)
+    ∷ (is PUSH item && nat_le MAX_OPEN_PUSHES (length (open_pushes before)), PushDepth)
+    ∷ (is COLLECTION item && nat_le MAX_OPEN_COLLECTIONS (length (path before)), CollectionDepth)
     ∷ (is END_COLLECTION item && (length (path before) == 0), EndWithout)
     ∷ (is REPORT_ID item && ((unsigned_of (data_of item) == 0) || nat_lt 255 (unsigned_of (data_of item))), BadReportId)
     ∷ (is DELIMITER item, Delimiter)
@@ -108,7 +109,7 @@ is_mixed before = list_any (is REPORT_ID) before && list_any (λ field. field.id
 
 -- a descriptor that isn't too long begins with these items (the last one first), which take `at` bytes and are accepted
 pub record Reaches (bytes : List ℕ) (at : ℕ) (before : List Item) : Type 0 where
-  pub short : length bytes ≤ 4096
+  pub short : length bytes ≤ MAX_DESCRIPTOR
   pub within : at ≤ length bytes
   pub items : AreItems (take at bytes) (reverse before)
   pub accepted : AreAccepted before
@@ -126,7 +127,7 @@ IsRefusedAtItem bytes cause at = (before : List Item) × (item : Item) × IsRefu
 
 -- The descriptor is refused as a whole: it is too long, cut off behind its items, or its items are accepted and a collection is open at the end, or an item has no report ID though some item sets one.
 abbrev pub IsRefusedAsWhole : List ℕ → Cause → ℕ → Type 0
-IsRefusedAsWhole bytes TooLong at = (4096 < length bytes) × (at ≡ 4096)
+IsRefusedAsWhole bytes TooLong at = (MAX_DESCRIPTOR < length bytes) × (at ≡ MAX_DESCRIPTOR)
 IsRefusedAsWhole bytes Truncated at = (before : List Item) × Reaches bytes at before × IsCut (drop at bytes)
 IsRefusedAsWhole bytes Unclosed at = (before : List Item) × Reaches bytes at before × (at ≡ length bytes) × (0 < length (path before))
 IsRefusedAsWhole bytes MixedReportId at = (before : List Item) × Reaches bytes at before × (at ≡ length bytes) × (length (path before) ≡ 0) × (is_mixed before ≡ true)

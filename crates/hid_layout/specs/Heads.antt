@@ -1,5 +1,6 @@
 -- Fields as the parser keeps them: without their usages and collections.
 use Rattle.std.specs.Prelude.{◌≡◌, ℕ, ◌+◌, ◌*◌, ◌≤◌, List, slice_get, Some}
+use Rattle.hid_layout.specs.declared.limits.TheConstants.{MAX_REPORT_BYTES}
 use Rattle.hid_layout.specs.declared.collection.Collection.{Collection}
 use Rattle.hid_layout.specs.declared.report.Report.{Report}
 use Rattle.hid_layout.specs.declared.main_item.MainItem.{MainItem}
@@ -20,6 +21,6 @@ whole_field head es path = record { kind = head.kind; id = head.id; offset = hea
 abbrev pub item_of : List Report → KeptField → MainItem
 item_of reports head = record { report = place_of head.kind head.id reports; offset = head.offset; size = head.size; count = head.count; flags = head.flags; min = head.min; max = head.max; shape = head.shape }
 
--- no field reaches past the bits of 64 bytes
+-- no field reaches past the bits of the longest report
 abbrev pub ArePlaced : List KeptField → Type 0
-ArePlaced heads = (i : ℕ) (head : KeptField) → slice_get heads i ≡ Some head → head.offset + head.size * head.count ≤ 512
+ArePlaced heads = (i : ℕ) (head : KeptField) → slice_get heads i ≡ Some head → head.offset + head.size * head.count ≤ 8 * MAX_REPORT_BYTES

@@ -32,7 +32,6 @@ pub record AreAllCodes (items : List MainItem) (entries : List (List Entry)) (co
       → is_padding item.shape ≡ false → AreCodes item (usage_list es) c
 
 -- what is kept is that of the layout
-pub record IsIndexed (layout : Contents) (starts plans : List (List ℕ)) (codes : List Codes) : Type 0 where
-  pub starts_there : starts ≡ map starts_of layout.entries
+pub record IsIndexed (layout : Contents) (plans : List (List ℕ)) (codes : List Codes) : Type 0 where
   pub plans_there : plans ≡ map (plan_of layout) (upward 0 (length layout.reports))
   pub codes_there : AreAllCodes layout.items layout.entries codes

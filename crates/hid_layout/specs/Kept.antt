@@ -13,8 +13,8 @@ use Rattle.hid_layout.specs.Heads.{head_of, ArePlaced}
 pub record AreKept (fs : List Field) (kept : KeptFields) : Type 0 where
   pub heads : kept.list.items ≡ map head_of fs
   pub placed : ArePlaced kept.list.items
-  pub entries : kept.entries ≡ map (λ field. field.entries) fs
-  pub paths : kept.paths ≡ map (λ field. field.path) fs
+  pub entries : kept.lists.entries ≡ map (λ field. field.entries) fs
+  pub paths : kept.lists.paths ≡ map (λ field. field.path) fs
   pub reports : kept.reports.list.items ≡ reports_of fs
   pub elements : kept.elements ≡ element_count fs
   pub id_count : length kept.ids.list.items ≡ length (report_ids fs)

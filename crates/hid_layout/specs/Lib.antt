@@ -22,4 +22,5 @@ pub mod Laws
 pub mod Sent
 pub mod Stretches
 pub mod Index
+pub mod ItemLists
 pub mod Finding

@@ -1,6 +1,6 @@
 -- Lists that stand one behind the other in one list.
 use Rattle.std.specs.Prelude.{◌≡◌, ℕ, ◌≤◌, List, map, length, slice_get, slice_range, Some}
-use Rattle.hid_layout.specs.declared.lists.Span.{Span}
+use Rattle.hid_layout.specs.declared.span.Span.{Span}
 
 -- the lists that stand at these places
 abbrev pub lists_at : {T : Type 0} → List T → List Span → List (List T)

@@ -1,5 +1,6 @@
 -- The reports of a layout, and what holds of every layout.
 use Rattle.std.specs.Prelude.{◌≡◌, ℕ, ◌+◌, ◌*◌, ◌/◌, ◌<◌, ◌≤◌, false, if◌then◌else◌, Option, not, ◌&&◌, nat_lt, int_lt, List, length, slice_get, Some, None, pos, neg_ℤ, ◌^◌, ◌≤ℤ◌}
+use Rattle.hid_layout.specs.declared.limits.TheConstants.{MAX_ENTRIES, MAX_REPORT_BYTES, MAX_WIDTH}
 use Rattle.hid_layout.specs.declared.main_item.MainItem.{MainItem}
 use Rattle.hid_layout.specs.declared.report.Report.{Report}
 use Rattle.hid_layout.specs.Fields.{is_padding}
@@ -42,17 +43,17 @@ report_id layout r = elim (slice_get layout.reports r) [ None ↦ 0 | Some repor
 -- an item with data elements, of 1 to 32 bits each, whose range some pattern meets
 pub record HasElements (item : MainItem) : Type 0 where
   pub some_bits : 0 < item.size
-  pub narrow : item.size ≤ 32
+  pub narrow : item.size ≤ MAX_WIDTH
   pub some : 0 < item.count
-  pub few : item.count ≤ 512
+  pub few : item.count ≤ 8 * MAX_REPORT_BYTES
   pub some_value : least_of item ≤ℤ greatest_of item
   pub not_low : neg_ℤ (pos (2 ^ 32)) ≤ℤ item.min
   pub not_high : item.min ≤ℤ pos (2 ^ 32)
 
--- What holds of every layout: fields lie behind one another in their report, and reports are short.
+-- What holds of every layout: fields lie behind one another in their report, reports are short, and no two of them have the same kind and ID.
 pub record IsLayout (layout : Contents) : Type 0 where
   pub entries_there : length layout.entries ≡ length layout.items
-  pub few_entries : (i : ℕ) (es : List Entry) → slice_get layout.entries i ≡ Some es → length es ≤ 64
+  pub few_entries : (i : ℕ) (es : List Entry) → slice_get layout.entries i ≡ Some es → length es ≤ MAX_ENTRIES
   pub some_usage : (i : ℕ) (item : MainItem) (es : List Entry) → slice_get layout.items i ≡ Some item → slice_get layout.entries i ≡ Some es → is_padding item.shape ≡ false
       → 0 < length (usage_list es)
   pub report_there : (i : ℕ) (item : MainItem) → slice_get layout.items i ≡ Some item → item.report < length layout.reports
@@ -60,4 +61,7 @@ pub record IsLayout (layout : Contents) : Type 0 where
   pub apart : (i k : ℕ) (a b : MainItem) → i < k → slice_get layout.items i ≡ Some a → slice_get layout.items k ≡ Some b → a.report ≡ b.report
       → a.offset + a.size * a.count ≤ b.offset
   pub inside : (i : ℕ) (item : MainItem) → slice_get layout.items i ≡ Some item → first_bit layout + (item.offset + item.size * item.count) ≤ 8 * report_bytes layout item.report
-  pub short : (r : ℕ) → report_bytes layout r ≤ 64
+  pub short : (r : ℕ) → report_bytes layout r ≤ MAX_REPORT_BYTES
+  pub one_place : (r k : ℕ) (a b : Report) → slice_get layout.reports r ≡ Some a → slice_get layout.reports k ≡ Some b → a.kind ≡ b.kind → a.id ≡ b.id → r ≡ k
+  pub byte_id : (r : ℕ) (report : Report) → slice_get layout.reports r ≡ Some report → report.id < 256
+  pub unnumbered : (r : ℕ) (report : Report) → layout.numbered ≡ false → slice_get layout.reports r ≡ Some report → report.id ≡ 0

@@ -1,5 +1,6 @@
 -- Places of an array's usage list that name neither a key nor an error.
 use Rattle.std.specs.Prelude.{◌≡◌, ◌≢◌, ℕ, ◌+◌, ◌-◌, ◌<◌, ◌≤◌, Bool, true, false, not, ◌==◌, ◌&&◌, ◌||◌, nat_lt, List, ◌++◌, slice_get, Option, Some, None, ℤ, ◌≤ℤ◌, ◌<ℤ◌}
+use Rattle.hid_layout.specs.declared.limits.TheConstants.{MAX_KEYS}
 use Rattle.hid_layout.specs.declared.usage.Usage.{Usage}
 use Rattle.hid_layout.specs.Controls.{tells_error, is_rollover, rollover_from}
 use Rattle.hid_layout.specs.Usages.{Entry, entry_count, rising}
@@ -8,7 +9,7 @@ use Rattle.hid_layout.specs.Sent.{names_nothing}
 
 -- a usage at a place that an element can carry is a key or tells an error
 abbrev pub is_named : ℕ → Usage → Bool
-is_named place u = (nat_lt place 65536 && not (u.id == 0)) || tells_error u
+is_named place u = (nat_lt place MAX_KEYS && not (u.id == 0)) || tells_error u
 
 -- nothing is named behind the end either
 abbrev pub is_nothing : ℕ → Option Usage → Bool

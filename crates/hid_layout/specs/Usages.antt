@@ -54,9 +54,12 @@ entries before = entries_behind (usage_page before) [] (locals before)
 abbrev pub are_paired : List Item → Bool
 are_paired before = length (minima (locals before)) == length (maxima (locals before))
 
--- no range has a minimum over its maximum, or the two on different pages
+-- the minimum isn't over its maximum, and the two are on one page
+abbrev pub is_range : Entry → Bool
+is_range e = e.0.page == e.1.page && nat_le e.0.id e.1.id
+
 abbrev pub are_ranges : List Entry → Bool
-are_ranges es = list_all (λ e. e.0.page == e.1.page && nat_le e.0.id e.1.id) es
+are_ranges es = list_all is_range es
 
 -- `n` usages of a page by rising number
 abbrev pub rising : ℕ → ℕ → ℕ → List Usage

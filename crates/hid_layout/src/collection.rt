@@ -3,7 +3,7 @@
 use crate::usage::Usage;
 
 /// A collection that is open round an item.
-#[derive(Clone, Copy, Debug, PartialEq, Eq)]
+#[derive(Clone, Copy, Debug, Default, PartialEq, Eq)]
 pub struct Collection {
     /// 0 Physical, 1 Application, 2 Logical, 3 Report, 4 Named Array, 5 Usage Switch, 6 Usage Modifier; other
     /// numbers as they stand.

@@ -7,24 +7,26 @@ ghost use Rattle.hid_layout.specs.Faults.{least_value, greatest_value};
 ghost use Rattle.hid_layout.specs.Controls.{least_of, greatest_of, is_encodable, has_outside, element_kind, is_rollover, tells_error, is_key};
 
 use crate::control::{Control, ControlKind, Controls};
+use crate::limits::{MAX_ENTRIES, MAX_KEYS, MAX_WIDTH};
 use crate::main_item::{MainItem, Shape};
-use crate::sent::{Codes, MAX_KEYS, is_encodable};
+use crate::search::{count_by_starts, usage_by_starts};
+use crate::sent::{Codes, is_encodable};
 use crate::usage::Usage;
 use crate::values::{greatest_value, least_value};
 
 pub(crate) fn entry_count(entry: &(Usage, Usage)) -> usize
     ensures value { result ≡ entry_count entry.now }
-    ensures few { result ≤ 65536 }
-    ensures within { entry.now.0.id + result ≤ 65536 }
+    ensures few { result ≤ 2 ^ 16 }
+    ensures within { entry.now.0.id + result ≤ 2 ^ 16 }
 {
     (entry.1.id as usize + 1).saturating_sub(entry.0.id as usize)
 }
 
 /// How many usages there are in the ranges.
 pub fn usage_count(entries: &[(Usage, Usage)]) -> usize
-    requires { length entries.now ≤ 64 }
+    requires { length entries.now ≤ MAX_ENTRIES }
     ensures value { result ≡ length (usage_list entries.now) }
-    ensures few { result ≤ 64 * 65536 }
+    ensures few { result ≤ MAX_ENTRIES * 2 ^ 16 }
 {
     let mut count = 0;
     for entry in entries {
@@ -55,7 +57,7 @@ impl MainItem {
     /// The least value that an element can carry.
     pub fn least(&self) -> i64
         requires some { 0 < self.now.size }
-        requires narrow { self.now.size ≤ 32 }
+        requires narrow { self.now.size ≤ MAX_WIDTH }
         ensures { result ≡ least_of self.now }
     {
         self.min.max(least_value(self.min, self.size))
@@ -64,7 +66,7 @@ impl MainItem {
     /// The greatest value that an element can carry.
     pub fn greatest(&self) -> i64
         requires some { 0 < self.now.size }
-        requires narrow { self.now.size ≤ 32 }
+        requires narrow { self.now.size ≤ MAX_WIDTH }
         ensures { result ≡ greatest_of self.now }
     {
         self.max.min(greatest_value(self.min, self.size))
@@ -72,7 +74,7 @@ impl MainItem {
 
     fn has_outside(&self) -> bool
         requires some { 0 < self.now.size }
-        requires narrow { self.now.size ≤ 32 }
+        requires narrow { self.now.size ≤ MAX_WIDTH }
         ensures { result ≡ has_outside self.now }
     {
         least_value(self.min, self.size) < self.min
@@ -82,7 +84,7 @@ impl MainItem {
     /// Of what kind the elements are.
     pub fn element_kind(&self) -> ControlKind
         requires some { 0 < self.now.size }
-        requires narrow { self.now.size ≤ 32 }
+        requires narrow { self.now.size ≤ MAX_WIDTH }
         ensures { result ≡ element_kind self.now }
     {
         let null_state = self.flags.has_null_state();
@@ -112,11 +114,12 @@ impl MainItem {
     ghost use Rattle.hid_layout.specs.Fields.{is_padding};
     ghost use Rattle.hid_layout.specs.Reports.{HasElements};
     ghost use Rattle.hid_layout.specs.Sent.{AreCodes};
+    ghost use Rattle.hid_layout.specs.Index.{starts_of};
 
     /// The controls of an item of an Input report, without their usages.
     pub(crate) fn controls(&self, entries: &[(Usage, Usage)], codes: &Codes) -> Controls
         requires elements { is_padding self.now.shape ≡ false → HasElements self.now }
-        requires few { length entries.now ≤ 64 }
+        requires few { length entries.now ≤ MAX_ENTRIES }
         requires some { is_padding self.now.shape ≡ false → 0 < length (usage_list entries.now) }
         requires codes { is_padding self.now.shape ≡ false → AreCodes self.now (usage_list entries.now) codes.now }
         ensures { result ≡ head_of (form_of self.now (usage_list entries.now) self.now.shape) }
@@ -147,17 +150,22 @@ impl MainItem {
     }
 
     /// The control at an element of a variable item: the last usage is that of all further elements.
-    fn element_control(&self, entries: &[(Usage, Usage)], index: usize) -> Option<Control>
+    fn element_control(
+        &self,
+        entries: &[(Usage, Usage)],
+        starts: &[u32],
+        index: usize,
+    ) -> Option<Control>
         requires elements { HasElements self.now }
-        requires few { length entries.now ≤ 64 }
+        requires starts { starts.now ≡ starts_of entries.now }
         requires some { 0 < length (usage_list entries.now) }
         ensures { result ≡ control_in (form_of self.now (usage_list entries.now) Shape.Variable) index }
     {
         if index >= self.count as usize {
             return None;
         }
-        let last = usage_count(entries) - 1;
-        match usage_at(entries, index.min(last)) {
+        let last = count_by_starts(entries, starts) - 1;
+        match usage_by_starts(entries, starts, index.min(last)) {
             Some(usage) => Some(Control {
                 kind: self.element_kind(),
                 usage,
@@ -167,14 +175,20 @@ impl MainItem {
     }
 
     /// The key at a place of an array's usage list.
-    fn key_control(&self, entries: &[(Usage, Usage)], index: usize) -> Option<Control>
-        requires { HasElements self.now }
+    fn key_control(
+        &self,
+        entries: &[(Usage, Usage)],
+        starts: &[u32],
+        index: usize,
+    ) -> Option<Control>
+        requires elements { HasElements self.now }
+        requires starts { starts.now ≡ starts_of entries.now }
         ensures { result ≡ control_in (form_of self.now (usage_list entries.now) Shape.Array) index }
     {
         if index >= MAX_KEYS {
             return None;
         }
-        match usage_at(entries, index) {
+        match usage_by_starts(entries, starts, index) {
             Some(usage) if self.is_key(index, usage) => Some(Control {
                 kind: ControlKind::Switch,
                 usage,
@@ -184,16 +198,21 @@ impl MainItem {
     }
 
     /// The control at a place of an item of an Input report.
-    pub(crate) fn control(&self, entries: &[(Usage, Usage)], index: usize) -> Option<Control>
+    pub(crate) fn control(
+        &self,
+        entries: &[(Usage, Usage)],
+        starts: &[u32],
+        index: usize,
+    ) -> Option<Control>
         requires elements { is_padding self.now.shape ≡ false → HasElements self.now }
-        requires few { length entries.now ≤ 64 }
+        requires starts { starts.now ≡ starts_of entries.now }
         requires some { is_padding self.now.shape ≡ false → 0 < length (usage_list entries.now) }
         ensures { result ≡ control_in (form_of self.now (usage_list entries.now) self.now.shape) index }
     {
         match self.shape {
             Shape::Padding => None,
-            Shape::Variable => self.element_control(entries, index),
-            Shape::Array => self.key_control(entries, index),
+            Shape::Variable => self.element_control(entries, starts, index),
+            Shape::Array => self.key_control(entries, starts, index),
         }
     }
 }

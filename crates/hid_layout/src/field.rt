@@ -1,14 +1,16 @@
 //! The fields that an Input, Output or Feature item describes (HID 1.11, 6.2.2.4 and 6.2.2.7).
 
-ghost use Rattle.std.specs.Prelude.{◌≡◌, ◌≤◌, ◌<◌, ◌+◌, ◌*◌, ◌==◌, nat_lt, ℕ, [], length, if◌then◌else◌};
+ghost use Rattle.std.specs.Prelude.{◌≡◌, ◌≤◌, ◌<◌, ◌+◌, ◌*◌, ◌==◌, nat_lt, ℕ, [], length, map, if◌then◌else◌};
 ghost use Rattle.std.specs.Bool.{OnFalse};
 ghost use Rattle.hid_layout.specs.Fields.{is_padding, shape_of, shown_entries};
-ghost use Rattle.hid_layout.specs.Usages.{are_ranges};
+ghost use Rattle.hid_layout.specs.Usages.{is_range, are_ranges};
+ghost use Rattle.hid_layout.specs.Locals.{entry_on_page};
 ghost use Rattle.hid_layout.specs.Faults.{report_limit, has_value, first_met, value_tests, checked_values, Tells};
 
 use crate::fault::Cause;
 use crate::flags::MainFlags;
-use crate::locals::ItemUsages;
+use crate::limits::{MAX_REPORT_BYTES, MAX_WIDTH};
+use crate::locals::{Locals, NamedUsage, entry_on_page};
 use crate::main_item::Shape;
 use crate::report::ReportKind;
 use crate::usage::Usage;
@@ -45,11 +47,12 @@ impl KeptField {
     /// Whether the report is too long with these fields.
     pub(crate) fn is_too_long(&self) -> bool
         ensures value { result ≡ nat_lt (report_limit self.now.id) (self.now.offset + self.now.size * self.now.count) }
-        ensures short { OnFalse result (self.now.offset + self.now.size * self.now.count ≤ 512) }
+        ensures short { OnFalse result (self.now.offset + self.now.size * self.now.count ≤ 8 * MAX_REPORT_BYTES) }
     {
-        let limit: u64 = if self.id == 0 { 512 } else { 504 };
+        let id_bytes = if self.id == 0 { 0 } else { 1 };
+        let limit = 8 * (MAX_REPORT_BYTES - id_bytes);
         match self.size.checked_mul(self.count) {
-            Some(bits) => u64::from(self.offset) + u64::from(bits) > limit,
+            Some(bits) => u64::from(self.offset) + u64::from(bits) > u64::from(limit),
             None => true,
         }
     }
@@ -57,7 +60,7 @@ impl KeptField {
     /// Whether some pattern of the fields stands for a value of the range.
     fn has_value(&self) -> bool
         requires some { 0 < self.now.size }
-        requires narrow { self.now.size ≤ 32 }
+        requires narrow { self.now.size ≤ MAX_WIDTH }
         ensures { result ≡ has_value self.now.min self.now.max self.now.size }
     {
         self.min <= self.max
@@ -65,19 +68,19 @@ impl KeptField {
             && self.min <= greatest_value(self.min, self.size)
     }
 
-    fn test_values(&self, usages: &ItemUsages) -> Result<(), Cause>
-        ensures { Tells result (first_met (value_tests (whole_field self.now [] []) usages.now.paired usages.now.entries.items)) }
+    fn test_values(&self, locals: &Locals, page: u16) -> Result<(), Cause>
+        ensures { Tells result (first_met (value_tests (whole_field self.now [] []) (length locals.now.minima.items == length locals.now.maxima.items) (map (entry_on_page page) locals.now.entries.items))) }
     {
-        if !usages.paired {
+        if !locals.are_paired() {
             return Err(Cause::UnpairedUsage);
         }
-        if !are_ranges(&usages.entries) {
+        if !are_ranges(&locals.entries, page) {
             return Err(Cause::BadUsageRange);
         }
-        if usages.entries.is_empty() {
+        if locals.entries.is_empty() {
             return Ok(());
         }
-        if self.size == 0 || self.size > 32 {
+        if self.size == 0 || self.size > MAX_WIDTH {
             return Err(Cause::BadSize);
         }
         if self.has_value() {
@@ -88,28 +91,37 @@ impl KeptField {
     }
 
     /// Refuses wrong usages, a wrong size and a wrong range, unless the item is Constant or has no fields.
-    pub(crate) fn check_values(&self, usages: &ItemUsages) -> Result<(), Cause>
-        ensures { Tells result (first_met (checked_values (whole_field self.now [] []) usages.now.paired usages.now.entries.items)) }
+    pub(crate) fn check_values(&self, locals: &Locals, page: u16) -> Result<(), Cause>
+        ensures { Tells result (first_met (checked_values (whole_field self.now [] []) (length locals.now.minima.items == length locals.now.maxima.items) (map (entry_on_page page) locals.now.entries.items))) }
     {
         if self.flags.is_constant() || self.count == 0 {
             return Ok(());
         }
-        self.test_values(usages)
+        self.test_values(locals, page)
     }
 }
 
-/// Whether each range has its minimum at most at its maximum, and the two on one page.
-fn are_ranges(entries: &[(Usage, Usage)]) -> bool
-    ensures { result ≡ are_ranges entries.now }
+/// Whether each range has its minimum at most at its maximum, and the two on one page, with this page in force.
+fn are_ranges(entries: &[(NamedUsage, NamedUsage)], page: u16) -> bool
+    ensures { result ≡ are_ranges (map (entry_on_page page) entries.now) }
 {
-    entries
-        .iter()
-        .all(|e| e.0.page == e.1.page && e.0.id <= e.1.id)
+    for e in entries {
+        if !is_range(&entry_on_page(e, page)) {
+            return false;
+        }
+    }
+    true
+}
+
+fn is_range(e: &(Usage, Usage)) -> bool
+    ensures { result ≡ is_range e.now }
+{
+    e.0.page == e.1.page && e.0.id <= e.1.id
 }
 
 /// What the fields are: padding, where the item is Constant or has no fields or no usage.
-pub(crate) fn shape_of(flags: MainFlags, count: u32, entries: &[(Usage, Usage)]) -> Shape
-    ensures { result ≡ shape_of flags.0 count entries.now }
+pub(crate) fn shape_of(flags: MainFlags, count: u32, entries: &[(NamedUsage, NamedUsage)]) -> Shape
+    ensures { (page : ℕ) → result ≡ shape_of flags.0 count (map (entry_on_page page) entries.now) }
 {
     if entries.is_empty() {
         return Shape::Padding;
@@ -124,8 +136,11 @@ pub(crate) fn shape_of(flags: MainFlags, count: u32, entries: &[(Usage, Usage)])
 }
 
 /// The usages that a layout shows: none of padding.
-pub(crate) fn shown_entries(shape: Shape, entries: &[(Usage, Usage)]) -> &[(Usage, Usage)]
-    ensures { result.now ≡ shown_entries shape entries.now }
+pub(crate) fn shown_entries(
+    shape: Shape,
+    entries: &[(NamedUsage, NamedUsage)],
+) -> &[(NamedUsage, NamedUsage)]
+    ensures { (page : ℕ) → map (entry_on_page page) result.now ≡ shown_entries shape (map (entry_on_page page) entries.now) }
 {
     match shape {
         Shape::Padding => &entries[..0],

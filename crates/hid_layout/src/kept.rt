@@ -1,30 +1,35 @@
 //! The listed fields, with the totals that the limits ask for.
 
-ghost use Rattle.std.specs.Prelude.{◌≡◌, ◌≢◌, ◌≤◌, ◌+◌, ◌*◌, List, [], ◌∷◌, ◌++◌, ◌<◌, ◌==◌, OnOk, vec_len};
+ghost use Rattle.std.specs.Prelude.{◌≡◌, ◌≢◌, ◌≤◌, ◌+◌, ◌*◌, List, [], ◌∷◌, ◌++◌, ◌<◌, ◌==◌, IfOk, OnOk, vec_len, length, map};
 ghost use Rattle.std.specs.List.{list_any};
 ghost use Rattle.hid_layout.specs.Totals.{bits_in};
+ghost use Rattle.hid_layout.specs.declared.limits.TheConstants.{MAX_ITEMS, MAX_REPORT_BYTES};
 ghost use Rattle.hid_layout.specs.Heads.{whole_field};
+ghost use Rattle.hid_layout.specs.Locals.{entry_on_page};
 
 use crate::collection::Collection;
 use crate::fault::Cause;
 use crate::field::KeptField;
-use crate::lists::Lists;
+use crate::item_lists::ItemLists;
+use crate::limits::{MAX_ELEMENTS, MAX_ENTRIES, MAX_ITEMS, MAX_REPORT_BYTES, MAX_REPORT_IDS};
+use crate::locals::NamedUsage;
 use crate::totals::{ReportIds, ReportTotals};
-use crate::usage::Usage;
 use std::alloc::{AllocError, Global};
+
+/// The items for which room is made at first.
+const FIRST_ITEMS: usize = 8;
 
 /// The listed fields, in order.
 #[derive(Debug, Drop)]
 pub(crate) struct KeptFields {
     pub(crate) list: Vec<KeptField>,
-    pub(crate) entries: Lists<(Usage, Usage)>,
-    pub(crate) paths: Lists<Collection>,
+    pub(crate) lists: ItemLists,
     pub(crate) reports: ReportTotals,
     /// Data fields of all kinds and reports, without padding.
     pub(crate) elements: u32,
     pub(crate) ids: ReportIds,
-    ghost bounded: { vec_len list ≤ 512 },
-    ghost counted: { elements ≤ 512 * vec_len list },
+    ghost bounded: { vec_len list ≤ MAX_ITEMS },
+    ghost counted: { elements ≤ 8 * MAX_REPORT_BYTES * vec_len list },
 }
 
 impl KeptFields {
@@ -32,17 +37,16 @@ impl KeptFields {
     ghost use Rattle.hid_layout.specs.Fields.{Field};
     ghost use Rattle.hid_layout.specs.Faults.{are_too_many};
 
-    pub(crate) fn new(alloc: Global) -> KeptFields
-        ensures { AreKept [] result }
+    pub(crate) fn new(alloc: Global) -> Result<KeptFields, AllocError>
+        ensures { IfOk result (AreKept []) }
     {
-        KeptFields {
-            list: Vec::new(alloc),
-            entries: Lists::new(alloc),
-            paths: Lists::new(alloc),
-            reports: ReportTotals::new(alloc),
+        Ok(KeptFields {
+            list: Vec::with_capacity(alloc, FIRST_ITEMS)?,
+            lists: ItemLists::new(alloc)?,
+            reports: ReportTotals::new(alloc)?,
             elements: 0,
             ids: ReportIds::new(alloc),
-        }
+        })
     }
 
     /// Whether some fields have no report ID.
@@ -56,26 +60,27 @@ impl KeptFields {
     pub(crate) fn are_too_many(&self) -> bool
         ensures { (fs : List Field) → AreKept fs self.now → result ≡ are_too_many fs }
     {
-        self.elements > 4096 || self.ids.list.len() > 64
+        self.elements > MAX_ELEMENTS || self.ids.list.len() > MAX_REPORT_IDS
     }
 
     /// Lists fields with their usages and collections.
     fn add(
         &mut self,
         field: &KeptField,
-        entries: &[(Usage, Usage)],
+        entries: &[(NamedUsage, NamedUsage)],
+        page: u16,
         path: &[Collection],
     ) -> Result<(), AllocError>
-        requires room { vec_len self.old.list < 512 }
+        requires room { vec_len self.old.list < MAX_ITEMS }
+        requires few { length entries.now ≤ MAX_ENTRIES }
         requires some { field.now.size * field.now.count ≢ 0 }
-        requires short { field.now.offset + field.now.size * field.now.count ≤ 512 }
+        requires short { field.now.offset + field.now.size * field.now.count ≤ 8 * MAX_REPORT_BYTES }
         requires place { field.now.offset ≡ bits_in field.now.kind field.now.id self.old.reports.list.items }
-        ensures { OnOk result ((fs : List Field) → AreKept fs self.old → AreKept (fs ++ whole_field field.now entries.now path.now ∷ []) self.new) }
+        ensures { OnOk result ((fs : List Field) → AreKept fs self.old → AreKept (fs ++ whole_field field.now (map (entry_on_page page) entries.now) path.now ∷ []) self.new) }
     {
         self.list.push(*field)?;
         self.elements += field.elements();
-        self.entries.push(entries)?;
-        self.paths.push(path)?;
+        self.lists.push(entries, page, path)?;
         self.reports
             .add(field.kind, field.id, field.size * field.count)?;
         self.ids.add(field.id)?;
@@ -86,18 +91,20 @@ impl KeptFields {
     pub(crate) fn keep(
         &mut self,
         field: &KeptField,
-        entries: &[(Usage, Usage)],
+        entries: &[(NamedUsage, NamedUsage)],
+        page: u16,
         path: &[Collection],
     ) -> Result<(), Cause>
+        requires few { length entries.now ≤ MAX_ENTRIES }
         requires some { field.now.size * field.now.count ≢ 0 }
-        requires short { field.now.offset + field.now.size * field.now.count ≤ 512 }
+        requires short { field.now.offset + field.now.size * field.now.count ≤ 8 * MAX_REPORT_BYTES }
         requires place { field.now.offset ≡ bits_in field.now.kind field.now.id self.old.reports.list.items }
-        ensures { (fs : List Field) → AreKept fs self.old → Keeps fs (whole_field field.now entries.now path.now) result self.new }
+        ensures { (fs : List Field) → AreKept fs self.old → Keeps fs (whole_field field.now (map (entry_on_page page) entries.now) path.now) result self.new }
     {
-        if self.list.len() >= 512 {
+        if self.list.len() >= MAX_ITEMS {
             return Err(Cause::TooMany);
         }
-        self.add(field, entries, path)?;
+        self.add(field, entries, page, path)?;
         if self.are_too_many() {
             return Err(Cause::TooMany);
         }

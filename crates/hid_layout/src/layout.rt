@@ -18,12 +18,14 @@ use crate::collection::Collection;
 use crate::control::{Control, ControlId, Controls};
 use crate::fault::{Cause, LayoutFault};
 use crate::field::KeptField;
-use crate::index::{all_codes, all_plans, all_starts};
+use crate::index::{all_codes, all_plans};
+use crate::item_lists::ItemLists;
 use crate::kept::KeptFields;
-use crate::lists::Lists;
+use crate::limits::MAX_DESCRIPTOR;
 use crate::main_item::{Element, MainItem, Shape};
 use crate::parse::parse_items;
 use crate::parser::Parser;
+use crate::plans::Plans;
 use crate::report::{Report, ReportKind};
 use crate::search::{holds, usage_by_starts};
 use crate::sent::Codes;
@@ -37,12 +39,8 @@ pub struct Layout {
     reports: Vec<Report>,
     numbered: bool,
     items: Vec<MainItem>,
-    entries: Lists<(Usage, Usage)>,
-    paths: Lists<Collection>,
-    /// For each item and each of its entries how many usages stand before it.
-    starts: Lists<u32>,
-    /// For each report the places of its items.
-    plans: Lists<usize>,
+    lists: ItemLists,
+    plans: Plans,
     codes: Vec<Codes>,
 }
 
@@ -51,12 +49,13 @@ impl Model for Layout {
     ghost use Rattle.hid_layout.specs.Layout.{Contents};
     ghost use Rattle.hid_layout.specs.Reports.{IsLayout};
     ghost use Rattle.hid_layout.specs.Index.{IsIndexed};
+    ghost use Rattle.hid_layout.specs.declared.limits.TheConstants.{MAX_ITEMS};
 
     ghost Value = { Contents };
 
-    ghost view = { λ l. record { reports = l.reports.items; numbered = l.numbered; items = l.items.items; entries = l.entries; paths = l.paths } };
+    ghost view = { λ l. record { reports = l.reports.items; numbered = l.numbered; items = l.items.items; entries = l.lists.entries; paths = l.lists.paths } };
 
-    ghost invariant = { λ l. let layout : Contents = record { reports = l.reports.items; numbered = l.numbered; items = l.items.items; entries = l.entries; paths = l.paths } in (length l.paths ≡ length l.items.items) × IsLayout layout × IsIndexed layout l.starts l.plans l.codes.items × (length l.items.items ≤ 512) };
+    ghost invariant = { λ l. let layout : Contents = record { reports = l.reports.items; numbered = l.numbered; items = l.items.items; entries = l.lists.entries; paths = l.lists.paths } in (length l.lists.paths ≡ length l.items.items) × IsLayout layout × IsIndexed layout l.plans l.codes.items × (length l.items.items ≤ MAX_ITEMS) };
 }
 
 impl Layout {
@@ -87,7 +86,7 @@ impl Layout {
         requires { item < length self.now.items }
         ensures { slice_get self.now.entries item ≡ Some result.now }
     {
-        self.entries.get(item)
+        self.lists.entries(item)
     }
 
     /// The bytes of a report, with its ID where there are IDs.
@@ -104,7 +103,7 @@ impl Layout {
         requires { item < length self.now.items }
         ensures { result ≡ usage_of self.now item index }
     {
-        usage_by_starts(self.entries.get(item), self.starts.get(item), index)
+        usage_by_starts(self.lists.entries(item), self.lists.starts(item), index)
     }
 
     /// A data field of a listed item; none of padding, and none past the last.
@@ -120,7 +119,7 @@ impl Layout {
         requires { item < length self.now.items }
         ensures { slice_get self.now.paths item ≡ Some result.now }
     {
-        self.paths.get(item)
+        self.lists.path(item)
     }
 }
 
@@ -130,7 +129,7 @@ impl Layout {
         requires { item < length self.now.items }
         ensures { slice_get (map starts_of self.now.entries) item ≡ Some result.now }
     {
-        self.starts.get(item)
+        self.lists.starts(item)
     }
 
     /// The places of a report's items among the listed items, in order.
@@ -171,7 +170,7 @@ impl Layout {
     {
         let main = &self.items[item];
         if self.is_input(main) {
-            main.controls(self.entries.get(item), &self.codes[item])
+            main.controls(self.lists.entries(item), &self.codes[item])
         } else {
             Controls::None
         }
@@ -186,7 +185,8 @@ impl Layout {
         }
         let main = &self.items[id.item];
         if self.is_input(main) {
-            main.control(self.entries.get(id.item), id.index)
+            let entries = self.lists.entries(id.item);
+            main.control(entries, self.lists.starts(id.item), id.index)
         } else {
             None
         }
@@ -234,8 +234,8 @@ impl Layout {
         ensures least { IfSome result (λ j. (i : ℕ) → i < j → shown_in (form_at (items_of self.now) item) i ≡ Some usage → ⊥) }
         ensures none { IfNone result ((i : ℕ) → shown_in (form_at (items_of self.now) item) i ≡ Some usage → ⊥) }
     {
-        let entries = self.entries.get(item);
-        let starts = self.starts.get(item);
+        let entries = self.lists.entries(item);
+        let starts = self.lists.starts(item);
         for i in 0..entries.len() {
             let entry = &entries[i];
             if holds(entry, usage) {
@@ -307,22 +307,14 @@ fn lay_out(alloc: Global, kept: KeptFields, numbered: bool) -> Result<Layout, Al
     ensures { IfOk result (λ layout. (fs : List Field) → AreKept fs kept → layout ≡ contents_of fs numbered) }
 {
     let items = items_of(alloc, &kept.reports.list, &kept.list)?;
-    let KeptFields {
-        entries,
-        paths,
-        reports,
-        ..
-    } = kept;
-    let starts = all_starts(alloc, &entries)?;
+    let KeptFields { lists, reports, .. } = kept;
     let plans = all_plans(alloc, reports.list.len(), &items)?;
-    let codes = all_codes(alloc, &items, &entries)?;
+    let codes = all_codes(alloc, &items, &lists)?;
     Ok(Layout {
         reports: reports.list,
         numbered,
         items,
-        entries,
-        paths,
-        starts,
+        lists,
         plans,
         codes,
     })
@@ -337,10 +329,10 @@ impl Layout {
         // Memory was wanting, or this is the one refusal.
         ensures err { IfErr result (λ f. Explains descriptor.now f.cause f.at) }
     {
-        if descriptor.len() > 4096 {
+        if descriptor.len() > MAX_DESCRIPTOR {
             return Err(LayoutFault {
                 cause: Cause::TooLong,
-                at: 4096,
+                at: MAX_DESCRIPTOR,
             });
         }
         let parser = match parse_items(alloc, descriptor) {

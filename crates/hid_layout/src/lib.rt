@@ -38,19 +38,22 @@ mod field;
 mod flags;
 mod globals;
 mod index;
+mod item_lists;
 mod kept;
 pub mod laws;
 mod layout;
-mod lists;
+mod limits;
 mod locals;
 mod main_item;
 mod parse;
 mod parser;
 mod path;
+mod plans;
 mod prefix;
 mod report;
 mod search;
 mod sent;
+mod span;
 mod totals;
 mod usage;
 mod values;
@@ -61,9 +64,13 @@ pub use controls::{usage_at, usage_count};
 pub use fault::{Cause, LayoutFault};
 pub use flags::MainFlags;
 pub use layout::Layout;
+pub use limits::{
+    MAX_DESCRIPTOR, MAX_ELEMENTS, MAX_ENTRIES, MAX_ITEMS, MAX_KEYS, MAX_OPEN_COLLECTIONS,
+    MAX_OPEN_PUSHES, MAX_REPORT_BYTES, MAX_REPORT_IDS, MAX_WIDTH,
+};
 pub use main_item::{Element, MainItem, Shape};
 pub use report::{Report, ReportKind};
-pub use sent::{Codes, MAX_KEYS};
+pub use sent::Codes;
 pub use usage::Usage;
 
 #[cfg(test)]

@@ -1,6 +1,6 @@
 //! The usages behind the last main item.
 
-ghost use Rattle.std.specs.Prelude.{◌≡◌, ◌≢◌, ℕ, List, [], ◌∷◌, ◌++◌, true, false, OnOk, IfOk, map, slice_get, vec_len, ◌==◌};
+ghost use Rattle.std.specs.Prelude.{◌≡◌, ◌≢◌, ℕ, List, [], ◌∷◌, ◌++◌, true, false, OnOk, IfOk, map, slice_get, length, ◌==◌};
 ghost use Rattle.std.specs.Option.{option_map};
 ghost use Rattle.hid_items.specs.Spelling.{prefix_of};
 ghost use Rattle.hid_items.specs.Reading.{IsShort};
@@ -11,10 +11,14 @@ ghost use Rattle.hid_layout.specs.Locals.{entry_on_page};
 use crate::prefix;
 use crate::usage::Usage;
 use hid_items::Item;
+use smallvec::SmallVec;
 use std::alloc::{AllocError, Global};
 
+/// The entries for which room is made at first.
+const FIRST_ENTRIES: usize = 8;
+
 /// A usage as an item names it: with a page of its own, or to be put on the Usage Page in force.
-#[derive(Clone, Copy, Debug)]
+#[derive(Clone, Copy, Debug, Default)]
 pub(crate) struct NamedUsage {
     pub(crate) page: Option<u16>,
     pub(crate) id: u16,
@@ -51,7 +55,7 @@ impl NamedUsage {
     }
 }
 
-fn entry_on_page(entry: &(NamedUsage, NamedUsage), page: u16) -> (Usage, Usage)
+pub(crate) fn entry_on_page(entry: &(NamedUsage, NamedUsage), page: u16) -> (Usage, Usage)
     ensures { result ≡ entry_on_page page entry.now }
 {
     (entry.0.on_page(page), entry.1.on_page(page))
@@ -63,42 +67,41 @@ fn usage_at(usages: &[NamedUsage], n: usize) -> Option<NamedUsage>
     usages.get(n).copied()
 }
 
-/// The usages of a main item.
-#[derive(Debug, Drop)]
-pub(crate) struct ItemUsages {
-    /// The ranges from a first to a last usage.
-    pub(crate) entries: Vec<(Usage, Usage)>,
-    /// Whether each Usage Minimum has its Usage Maximum.
-    pub(crate) paired: bool,
-}
-
 /// The local items that count, since the last main item.
 #[derive(Debug, Drop)]
 pub(crate) struct Locals {
+    /// The ranges from a first to a last usage.
     pub(crate) entries: Vec<(NamedUsage, NamedUsage)>,
-    pub(crate) minima: Vec<NamedUsage>,
-    pub(crate) maxima: Vec<NamedUsage>,
+    pub(crate) minima: SmallVec<NamedUsage, 1>,
+    pub(crate) maxima: SmallVec<NamedUsage, 1>,
 }
 
 impl Locals {
     ghost use Rattle.hid_layout.specs.Locals.{AreLocals, AddsLocal};
 
-    pub(crate) fn new(alloc: Global) -> Locals
-        ensures { AreLocals [] result }
+    pub(crate) fn new(alloc: Global) -> Result<Locals, AllocError>
+        ensures { IfOk result (AreLocals []) }
     {
-        Locals {
-            entries: Vec::new(alloc),
-            minima: Vec::new(alloc),
-            maxima: Vec::new(alloc),
-        }
+        Ok(Locals {
+            entries: Vec::with_capacity(alloc, FIRST_ENTRIES)?,
+            minima: SmallVec::new(alloc),
+            maxima: SmallVec::new(alloc),
+        })
+    }
+
+    /// Whether each Usage Minimum has its Usage Maximum.
+    pub(crate) fn are_paired(&self) -> bool
+        ensures { result ≡ (length self.now.minima.items == length self.now.maxima.items) }
+    {
+        self.minima.len() == self.maxima.len()
     }
 
     fn add_minimum(&mut self, low: NamedUsage) -> Result<(), AllocError>
         ensures minima { OnOk result (self.new.minima.items ≡ self.old.minima.items ++ low ∷ []) }
         ensures maxima { self.new.maxima.items ≡ self.old.maxima.items }
-        ensures entries { OnOk result (self.new.entries.items ≡ self.old.entries.items ++ to_list (option_map (λ high. (low, high)) (slice_get self.old.maxima.items (vec_len self.old.minima)))) }
+        ensures entries { OnOk result (self.new.entries.items ≡ self.old.entries.items ++ to_list (option_map (λ high. (low, high)) (slice_get self.old.maxima.items (length self.old.minima.items)))) }
     {
-        if let Some(high) = usage_at(&self.maxima, self.minima.len()) {
+        if let Some(high) = usage_at(self.maxima.as_slice(), self.minima.len()) {
             self.entries.push((low, high))?;
         }
         self.minima.push(low)?;
@@ -108,9 +111,9 @@ impl Locals {
     fn add_maximum(&mut self, high: NamedUsage) -> Result<(), AllocError>
         ensures maxima { OnOk result (self.new.maxima.items ≡ self.old.maxima.items ++ high ∷ []) }
         ensures minima { self.new.minima.items ≡ self.old.minima.items }
-        ensures entries { OnOk result (self.new.entries.items ≡ self.old.entries.items ++ to_list (option_map (λ low. (low, high)) (slice_get self.old.minima.items (vec_len self.old.maxima)))) }
+        ensures entries { OnOk result (self.new.entries.items ≡ self.old.entries.items ++ to_list (option_map (λ low. (low, high)) (slice_get self.old.minima.items (length self.old.maxima.items)))) }
     {
-        if let Some(low) = usage_at(&self.minima, self.maxima.len()) {
+        if let Some(low) = usage_at(self.minima.as_slice(), self.maxima.len()) {
             self.entries.push((low, high))?;
         }
         self.maxima.push(high)?;
@@ -138,19 +141,6 @@ impl Locals {
         ensures { OnOk result ((before : List Spelled) → is_main item.now.bytes.now ≡ false → AreLocals before self.old → AreLocals (item.now.bytes.now ∷ before) self.new) }
     {
         self.add(prefix, NamedUsage::of(item))
-    }
-
-    /// The usages of a main item at which this page is in force.
-    pub(crate) fn usages_on(&self, page: u16, usages: &mut ItemUsages) -> Result<(), AllocError>
-        ensures entries { OnOk result (usages.new.entries.items ≡ map (entry_on_page page) self.now.entries.items) }
-        ensures paired { OnOk result (usages.new.paired ≡ (vec_len self.now.minima == vec_len self.now.maxima)) }
-    {
-        usages.paired = self.minima.len() == self.maxima.len();
-        usages.entries.clear();
-        for entry in &self.entries {
-            usages.entries.push(entry_on_page(entry, page))?;
-        }
-        Ok(())
     }
 
     /// Ends the locals, at a main item.

@@ -4,6 +4,7 @@ ghost use Rattle.std.specs.Prelude.{◌≡◌, ◌+◌, ◌*◌, ◌≤◌};
 ghost use Rattle.hid_layout.specs.Reports.{field_at, element_in};
 
 use crate::flags::MainFlags;
+use crate::limits::MAX_REPORT_BYTES;
 
 /// What the fields of a main item are.
 #[derive(Clone, Copy, Debug, PartialEq, Eq)]
@@ -53,7 +54,7 @@ pub struct Element {
 impl MainItem {
     /// The field at a place.
     fn field(&self, j: u32) -> Element
-        requires { self.now.offset + (j + 1) * self.now.size ≤ 512 }
+        requires { self.now.offset + (j + 1) * self.now.size ≤ 8 * MAX_REPORT_BYTES }
         ensures { result ≡ field_at self.now j }
     {
         Element {
@@ -67,7 +68,7 @@ impl MainItem {
 
     /// The data field at a place; none of padding, and none past the last.
     pub(crate) fn element(&self, j: usize) -> Option<Element>
-        requires { self.now.offset + self.now.size * self.now.count ≤ 512 }
+        requires { self.now.offset + self.now.size * self.now.count ≤ 8 * MAX_REPORT_BYTES }
         ensures { result ≡ element_in self.now j }
     {
         if j >= self.count as usize {

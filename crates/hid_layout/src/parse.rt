@@ -6,6 +6,7 @@ ghost use Rattle.hid_layout.specs.Faults.{Reaches, Explains};
 ghost use Rattle.hid_layout.specs.Parser.{StandsAt, told_place, place_of};
 
 use crate::fault::{Cause, LayoutFault};
+use crate::limits::MAX_DESCRIPTOR;
 use crate::parser::Parser;
 use hid_items::{Item, ItemFault, Items};
 use std::alloc::Global;
@@ -29,13 +30,13 @@ fn truncated_at(e: ItemFault) -> usize
     }
 }
 
-/// The parser behind all items.
-pub(crate) fn parse_items(alloc: Global, descriptor: &[u8]) -> Result<Parser, LayoutFault>
-    requires { length descriptor.now ≤ 4096 }
+/// The parser behind all items, from one that has taken none.
+fn take_items(mut parser: Parser, descriptor: &[u8]) -> Result<Parser, LayoutFault>
+    requires short { length descriptor.now ≤ MAX_DESCRIPTOR }
+    requires fresh { StandsAt [] parser }
     ensures ok { IfOk result (λ parser. (before : List Spelled) × Reaches descriptor.now (length descriptor.now) before × StandsAt before parser) }
     ensures err { IfErr result (λ f. Explains descriptor.now f.cause f.at) }
 {
-    let mut parser = Parser::new(alloc);
     for next in Items::new(descriptor) {
         match next {
             Ok(item) => {
@@ -48,4 +49,19 @@ pub(crate) fn parse_items(alloc: Global, descriptor: &[u8]) -> Result<Parser, La
         }
     }
     Ok(parser)
+}
+
+/// The parser behind all items.
+pub(crate) fn parse_items(alloc: Global, descriptor: &[u8]) -> Result<Parser, LayoutFault>
+    requires { length descriptor.now ≤ MAX_DESCRIPTOR }
+    ensures ok { IfOk result (λ parser. (before : List Spelled) × Reaches descriptor.now (length descriptor.now) before × StandsAt before parser) }
+    ensures err { IfErr result (λ f. Explains descriptor.now f.cause f.at) }
+{
+    match Parser::new(alloc) {
+        Ok(parser) => take_items(parser, descriptor),
+        Err(_) => Err(LayoutFault {
+            cause: Cause::Memory,
+            at: 0,
+        }),
+    }
 }

@@ -1,30 +1,30 @@
 //! One item at a time: what is in force, what is open, and the fields so far.
 
-ghost use Rattle.std.specs.Prelude.{◌≡◌, ◌≢◌, ℕ, List, [], ◌∷◌, ◌<◌, ◌≤◌, true, false};
+ghost use Rattle.std.specs.Prelude.{◌≡◌, ◌≢◌, ℕ, List, [], ◌∷◌, ◌<◌, ◌≤◌, true, false, map, IfOk};
 ghost use Rattle.hid_items.specs.Spelling.{prefix_of, IsSpelling};
 ghost use Rattle.hid_items.specs.Reading.{IsShort, kind_of as spelled_kind};
 ghost use Rattle.hid_layout.specs.Items.{Item as Spelled, is_field, is_main, INPUT, OUTPUT, FEATURE, COLLECTION, END_COLLECTION, PUSH, POP, REPORT_ID, DELIMITER};
 ghost use Rattle.hid_layout.specs.Fields.{kind_of};
+ghost use Rattle.hid_layout.specs.Locals.{entry_on_page};
 
 use crate::fault::Cause;
 use crate::field::{KeptField, shape_of, shown_entries};
 use crate::flags::MainFlags;
 use crate::globals::SavedGlobals;
 use crate::kept::KeptFields;
-use crate::locals::{ItemUsages, Locals};
+use crate::limits::{MAX_ENTRIES, MAX_OPEN_COLLECTIONS, MAX_OPEN_PUSHES};
+use crate::locals::Locals;
 use crate::path::OpenCollections;
 use crate::prefix;
 use crate::report::ReportKind;
 use hid_items::{Item, ItemKind};
-use std::alloc::Global;
+use std::alloc::{AllocError, Global};
 
 /// What the items so far leave in force, open and listed.
 #[derive(Debug, Drop)]
 pub(crate) struct Parser {
     pub(crate) globals: SavedGlobals,
     pub(crate) locals: Locals,
-    /// The usages of the last main item.
-    pub(crate) usages: ItemUsages,
     pub(crate) collections: OpenCollections,
     pub(crate) fields: KeptFields,
     pub(crate) numbered: bool,
@@ -33,26 +33,22 @@ pub(crate) struct Parser {
 impl Parser {
     ghost use Rattle.hid_layout.specs.Parser.{StandsAt, Took};
 
-    pub(crate) fn new(alloc: Global) -> Parser
-        ensures { StandsAt [] result }
+    pub(crate) fn new(alloc: Global) -> Result<Parser, AllocError>
+        ensures { IfOk result (StandsAt []) }
     {
-        Parser {
+        Ok(Parser {
             globals: SavedGlobals::new(alloc),
-            locals: Locals::new(alloc),
-            usages: ItemUsages {
-                entries: Vec::new(alloc),
-                paired: true,
-            },
-            collections: OpenCollections::new(alloc),
-            fields: KeptFields::new(alloc),
+            locals: Locals::new(alloc)?,
+            collections: OpenCollections::new(),
+            fields: KeptFields::new(alloc)?,
             numbered: false,
-        }
+        })
     }
 
     fn take_push(&mut self) -> Result<(), Cause>
         ensures { (before : List Spelled) (item : Spelled) → prefix_of item ≡ PUSH → StandsAt before self.old → Took before item result self.new }
     {
-        if self.globals.saved.len() >= 8 {
+        if self.globals.saved.len() >= MAX_OPEN_PUSHES {
             return Err(Cause::PushDepth);
         }
         self.globals.push()?;
@@ -96,12 +92,11 @@ impl Parser {
         requires { IsShort item.now }
         ensures { (before : List Spelled) → prefix_of item.now.bytes.now ≡ COLLECTION → StandsAt before self.old → Took before item.now.bytes.now result self.new }
     {
-        if self.collections.open.len() >= 16 {
+        if self.collections.open.len() >= MAX_OPEN_COLLECTIONS {
             return Err(Cause::CollectionDepth);
         }
-        self.locals
-            .usages_on(self.globals.now.page, &mut self.usages)?;
-        self.collections.begin(item, &self.usages.entries)?;
+        self.collections
+            .begin(item, &self.locals.entries, self.globals.now.page);
         self.locals.clear();
         Ok(())
     }
@@ -132,7 +127,7 @@ impl Parser {
     /// The fields that an Input, Output or Feature item describes, by the globals in force and its usages.
     fn described(&self, kind: ReportKind, item: &Item) -> KeptField
         requires { IsShort item.now }
-        ensures { IsDescribed kind item.now.bytes.now self.now.globals.now self.now.fields.reports.list.items self.now.usages.entries.items result }
+        ensures { (page : ℕ) → IsDescribed kind item.now.bytes.now self.now.globals.now self.now.fields.reports.list.items (map (entry_on_page page) self.now.locals.entries.items) result }
     {
         let globals = &self.globals.now;
         let flags = MainFlags::of(item);
@@ -145,7 +140,7 @@ impl Parser {
             flags,
             min: globals.minimum,
             max: globals.maximum(),
-            shape: shape_of(flags, globals.count, &self.usages.entries),
+            shape: shape_of(flags, globals.count, &self.locals.entries),
         }
     }
 
@@ -154,31 +149,39 @@ impl Parser {
         requires { IsShort item.now }
         ensures { (before : List Spelled) → is_field item.now.bytes.now ≡ true → kind ≡ kind_of item.now.bytes.now → StandsAt before self.old → Took before item.now.bytes.now result self.new }
     {
-        self.locals
-            .usages_on(self.globals.now.page, &mut self.usages)?;
-        self.locals.clear();
         let field = self.described(kind, item);
-        match field.check_values(&self.usages) {
-            Ok(()) => self.list_field(&field),
-            Err(cause) => Err(cause),
+        match field.check_values(&self.locals, self.globals.now.page) {
+            Ok(()) => {}
+            Err(cause) => return Err(cause),
         }
+        match self.list_field(&field) {
+            Ok(()) => {}
+            Err(cause) => return Err(cause),
+        }
+        self.locals.clear();
+        Ok(())
     }
 
     /// Lists the fields of an item whose values are right, where they have bits.
     fn list_field(&mut self, field: &KeptField) -> Result<(), Cause>
         requires { field.now.offset ≡ bits_in field.now.kind field.now.id self.old.fields.reports.list.items }
-        ensures fields { (fs : List Field) → AreKept fs self.old.fields → Lists fs (whole_field field.now (shown_entries field.now.shape self.old.usages.entries.items) self.old.collections.open.items) result self.new.fields }
+        ensures fields { (fs : List Field) → AreKept fs self.old.fields → Lists fs (whole_field field.now (shown_entries field.now.shape (map (entry_on_page self.old.globals.now.page) self.old.locals.entries.items)) self.old.collections.open.items) result self.new.fields }
         ensures others { self.new ≡ record self.old { fields = self.new.fields } }
     {
         if field.is_too_long() {
             return Err(Cause::ReportTooLong);
         }
-        let entries = shown_entries(field.shape, &self.usages.entries);
-        if entries.len() > 64 {
+        let entries = shown_entries(field.shape, &self.locals.entries);
+        if entries.len() > MAX_ENTRIES {
             return Err(Cause::TooMany);
         }
         if field.size * field.count != 0 {
-            return self.fields.keep(field, entries, &self.collections.open);
+            return self.fields.keep(
+                field,
+                entries,
+                self.globals.now.page,
+                &self.collections.open,
+            );
         }
         if self.fields.are_too_many() {
             return Err(Cause::TooMany);

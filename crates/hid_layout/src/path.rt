@@ -7,19 +7,22 @@ ghost use Rattle.hid_items.specs.Reading.{IsShort};
 ghost use Rattle.hid_layout.specs.Items.{Item as Spelled, COLLECTION, END_COLLECTION};
 ghost use Rattle.hid_layout.specs.Usages.{usage_list, entries};
 ghost use Rattle.hid_layout.specs.Path.{path};
+ghost use Rattle.hid_layout.specs.Locals.{entry_on_page};
 
 use crate::collection::Collection;
+use crate::limits::MAX_OPEN_COLLECTIONS;
+use crate::locals::NamedUsage;
 use crate::usage::Usage;
+use arrayvec::ArrayVec;
 use hid_items::Item;
-use std::alloc::{AllocError, Global};
 
-/// The first usage of the entries written out.
-pub(crate) fn first_usage(entries: &[(Usage, Usage)]) -> Option<Usage>
-    ensures { result ≡ slice_get (usage_list entries.now) 0 }
+/// The first usage of the entries written out, with this page in force.
+fn first_usage(entries: &[(NamedUsage, NamedUsage)], page: u16) -> Option<Usage>
+    ensures { result ≡ slice_get (usage_list (map (entry_on_page page) entries.now)) 0 }
 {
     for e in entries {
         if e.0.id <= e.1.id {
-            return Some(e.0);
+            return Some(e.0.on_page(page));
         }
     }
     None
@@ -27,29 +30,29 @@ pub(crate) fn first_usage(entries: &[(Usage, Usage)]) -> Option<Usage>
 
 #[derive(Debug, Drop)]
 pub(crate) struct OpenCollections {
-    pub(crate) open: Vec<Collection>,
+    pub(crate) open: ArrayVec<Collection, MAX_OPEN_COLLECTIONS>,
 }
 
 impl OpenCollections {
-    pub(crate) fn new(alloc: Global) -> OpenCollections
+    pub(crate) fn new() -> OpenCollections
         ensures { result.open.items ≡ path [] }
     {
         OpenCollections {
-            open: Vec::new(alloc),
+            open: ArrayVec::new(),
         }
     }
 
-    /// Takes a Collection with its usages.
-    pub(crate) fn begin(&mut self, item: &Item, usages: &[(Usage, Usage)]) -> Result<(), AllocError>
-        requires { IsShort item.now }
-        ensures { OnOk result ((before : List Spelled) → prefix_of item.now.bytes.now ≡ COLLECTION → usages.now ≡ entries before → self.old.open.items ≡ path before → self.new.open.items ≡ path (item.now.bytes.now ∷ before)) }
+    /// Takes a Collection with its usages, and with the page in force.
+    pub(crate) fn begin(&mut self, item: &Item, usages: &[(NamedUsage, NamedUsage)], page: u16)
+        requires short { IsShort item.now }
+        requires room { length self.old.open.items < MAX_OPEN_COLLECTIONS }
+        ensures { (before : List Spelled) → prefix_of item.now.bytes.now ≡ COLLECTION → map (entry_on_page page) usages.now ≡ entries before → self.old.open.items ≡ path before → self.new.open.items ≡ path (item.now.bytes.now ∷ before) }
     {
         let collection = Collection {
             kind: (item.unsigned() % 0x100) as u8,
-            usage: first_usage(usages),
+            usage: first_usage(usages, page),
         };
-        self.open.push(collection)?;
-        Ok(())
+        self.open.push(collection);
     }
 
     /// Takes an End Collection, and says whether a Collection matches it.

@@ -52,6 +52,18 @@ pub(crate) fn usage_by_starts(
     }
 }
 
+/// How many usages there are in the ranges, by where the last of them begins.
+pub(crate) fn count_by_starts(entries: &[(Usage, Usage)], starts: &[u32]) -> usize
+    requires { starts.now ≡ starts_of entries.now }
+    ensures { result ≡ length (usage_list entries.now) }
+{
+    let ranges = entries.len();
+    if ranges == 0 {
+        return 0;
+    }
+    starts[ranges - 1] as usize + entry_count(&entries[ranges - 1])
+}
+
 /// Whether a usage is one of a range.
 pub(crate) fn holds(entry: &(Usage, Usage), usage: Usage) -> bool
     ensures { result ≡ holds entry.now usage }

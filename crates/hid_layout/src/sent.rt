@@ -13,6 +13,7 @@ ghost use Rattle.hid_layout.specs.Stretches.{RollsOverAt, RollsOverIn, IsFirst, 
 ghost use Rattle.hid_layout.specs.Sent.{AreCodes, names_nothing as names_nothing_at, number_of, empty_number, null_number, rollover_number};
 
 use crate::controls::entry_count;
+use crate::limits::{MAX_ENTRIES, MAX_KEYS};
 use crate::main_item::MainItem;
 use crate::usage::Usage;
 use crate::values::{greatest_value, least_value};
@@ -26,9 +27,6 @@ const ERROR_ROLL_OVER: u16 = 0x01;
 
 /// The first usage ID of that page that is a key.
 const FIRST_KEY: u16 = 0x04;
-
-/// No key of an array stands at this place of its usage list or behind it (our choice).
-pub const MAX_KEYS: usize = 65_536;
 
 /// The numbers by which elements tell what no key and no value tells; where an item has no such number, none.
 #[derive(Clone, Copy, Debug, PartialEq, Eq)]
@@ -89,7 +87,7 @@ impl Stretch {
 
 /// The first place of a usage list from one on, also behind its end, that names neither a key nor an error.
 fn first_nothing(entries: &[(Usage, Usage)], from: usize) -> usize
-    requires few { length entries.now ≤ 64 }
+    requires few { length entries.now ≤ MAX_ENTRIES }
     requires small { from ≤ 2 ^ 34 }
     ensures first { IsFirst (usage_list entries.now) from result }
     ensures small { result ≤ 2 ^ 35 }
@@ -143,7 +141,7 @@ fn number_at(item: &MainItem, place: usize) -> i64
 /// The least number from the first on by which an element names neither a key nor an error: it may be over the end.
 fn unnamed_number(item: &MainItem, entries: &[(Usage, Usage)], numbers: &Numbers) -> i64
     requires elements { HasElements item.now }
-    requires few { length entries.now ≤ 64 }
+    requires few { length entries.now ≤ MAX_ENTRIES }
     requires low { least_value item.now.min item.now.size ≤ℤ numbers.now.first }
     requires high { numbers.now.end ≤ℤ (greatest_value item.now.min item.now.size +ℤ pos 1) }
     requires some { numbers.now.first <ℤ numbers.now.end }
@@ -165,7 +163,7 @@ fn unnamed_number(item: &MainItem, entries: &[(Usage, Usage)], numbers: &Numbers
 /// The least of some numbers that an element of an array can carry and by which it names neither a key nor an error.
 fn least_nothing(item: &MainItem, entries: &[(Usage, Usage)], numbers: &Numbers) -> Option<i64>
     requires elements { HasElements item.now }
-    requires few { length entries.now ≤ 64 }
+    requires few { length entries.now ≤ MAX_ENTRIES }
     requires low { least_value item.now.min item.now.size ≤ℤ numbers.now.first }
     requires high { numbers.now.end ≤ℤ (greatest_value item.now.min item.now.size +ℤ pos 1) }
     requires some { numbers.now.first <ℤ numbers.now.end }
@@ -215,7 +213,7 @@ fn below_zero(item: &MainItem) -> Numbers
 /// Patterns from 0 up stand for the numbers from 0 up, and the rest for those below 0.
 fn empty_number(item: &MainItem, entries: &[(Usage, Usage)]) -> Option<i64>
     requires elements { HasElements item.now }
-    requires few { length entries.now ≤ 64 }
+    requires few { length entries.now ≤ MAX_ENTRIES }
     ensures { result ≡ empty_number item.now (usage_list entries.now) }
 {
     let found = least_nothing(item, entries, &from_zero(item));
@@ -251,7 +249,7 @@ fn null_number(item: &MainItem) -> Option<i64>
 
 /// The place of ErrorRollOver among the usages of an entry that begins at a place.
 fn error_place(entry: &(Usage, Usage), start: usize) -> Option<usize>
-    requires { start ≤ 64 * 65536 }
+    requires { start ≤ MAX_ENTRIES * 2 ^ 16 }
     ensures { RollsOverAt entry.now start result }
 {
     let (low, high) = *entry;
@@ -275,7 +273,7 @@ pub(crate) fn is_encodable(item: &MainItem, place: usize) -> bool
 /// The same, where an element can carry the number by which it names the place.
 fn rollover_in(item: &MainItem, entry: &(Usage, Usage), start: usize) -> Option<usize>
     requires elements { HasElements item.now }
-    requires small { start ≤ 64 * 65536 }
+    requires small { start ≤ MAX_ENTRIES * 2 ^ 16 }
     ensures place { (us : List Named) → RollsOverIn item.now entry.now start us result }
     ensures small { IfSome result (λ place. place ≤ 2 ^ 35) }
 {
@@ -292,7 +290,7 @@ fn rollover_in(item: &MainItem, entry: &(Usage, Usage), start: usize) -> Option<
 /// The least place of ErrorRollOver that an element can name.
 fn rollover_place(item: &MainItem, entries: &[(Usage, Usage)]) -> Option<usize>
     requires elements { HasElements item.now }
-    requires few { length entries.now ≤ 64 }
+    requires few { length entries.now ≤ MAX_ENTRIES }
     ensures place { result ≡ rollover_from item.now 0 (usage_list entries.now) }
     ensures small { IfSome result (λ place. place ≤ 2 ^ 35) }
 {
@@ -310,7 +308,7 @@ fn rollover_place(item: &MainItem, entries: &[(Usage, Usage)]) -> Option<usize>
 /// The number by which every element of an array tells that it rolled over.
 fn rollover_number(item: &MainItem, entries: &[(Usage, Usage)]) -> Option<i64>
     requires elements { HasElements item.now }
-    requires few { length entries.now ≤ 64 }
+    requires few { length entries.now ≤ MAX_ENTRIES }
     ensures { result ≡ rollover_number item.now (usage_list entries.now) }
 {
     match rollover_place(item, entries) {
@@ -322,7 +320,7 @@ fn rollover_number(item: &MainItem, entries: &[(Usage, Usage)]) -> Option<i64>
 /// The codes of an item with these usages.
 pub(crate) fn codes_of(item: &MainItem, entries: &[(Usage, Usage)]) -> Codes
     requires elements { HasElements item.now }
-    requires few { length entries.now ≤ 64 }
+    requires few { length entries.now ≤ MAX_ENTRIES }
     ensures { AreCodes item.now (usage_list entries.now) result }
 {
     Codes {

@@ -1,6 +1,6 @@
 //! The bits of each report so far, and the report IDs so far.
 
-ghost use Rattle.std.specs.Prelude.{◌≡◌, ◌<◌, ◌≤◌, ◌+◌, ◌^◌, [], length, slice_get, OnOk};
+ghost use Rattle.std.specs.Prelude.{◌≡◌, ◌<◌, ◌≤◌, ◌+◌, ◌^◌, [], length, slice_get, IfOk, OnOk};
 ghost use Rattle.hid_layout.specs.Totals.{bits_in, with_bits, with_id, comes_before, is_report, has_report, place_for};
 
 use crate::report::{Report, ReportKind};
@@ -22,6 +22,9 @@ impl Report {
     }
 }
 
+/// The reports for which room is made at first.
+const FIRST_REPORTS: usize = 4;
+
 /// The reports that have bits so far, by kind and then by ID.
 #[derive(Debug, Drop)]
 pub(crate) struct ReportTotals {
@@ -29,12 +32,12 @@ pub(crate) struct ReportTotals {
 }
 
 impl ReportTotals {
-    pub(crate) fn new(alloc: Global) -> ReportTotals
-        ensures { result.list.items ≡ [] }
+    pub(crate) fn new(alloc: Global) -> Result<ReportTotals, AllocError>
+        ensures { IfOk result (λ reports. reports.list.items ≡ []) }
     {
-        ReportTotals {
-            list: Vec::new(alloc),
-        }
+        Ok(ReportTotals {
+            list: Vec::with_capacity(alloc, FIRST_REPORTS)?,
+        })
     }
 
     /// The bits so far of the report of a kind with an ID.

@@ -3,8 +3,10 @@
 ghost use Rattle.std.specs.Prelude.{◌≡◌, ◌≤◌, ◌<◌, ◌^◌, pos};
 ghost use Rattle.hid_layout.specs.Faults.{least_value, greatest_value};
 
+use crate::limits::MAX_WIDTH;
+
 fn power_of_two(n: u32) -> i64
-    requires { n ≤ 32 }
+    requires { n ≤ MAX_WIDTH }
     ensures { result ≡ pos (2 ^ n) }
 {
     (1u64 << n) as i64
@@ -13,7 +15,7 @@ fn power_of_two(n: u32) -> i64
 /// The least value of a field of this width, in two's complement where the minimum is negative.
 pub(crate) fn least_value(min: i64, width: u32) -> i64
     requires positive { 0 < width }
-    requires narrow { width ≤ 32 }
+    requires narrow { width ≤ MAX_WIDTH }
     ensures { result ≡ least_value min width }
 {
     if min < 0 { -power_of_two(width - 1) } else { 0 }
@@ -22,7 +24,7 @@ pub(crate) fn least_value(min: i64, width: u32) -> i64
 /// The greatest value of a field of this width, in two's complement where the minimum is negative.
 pub(crate) fn greatest_value(min: i64, width: u32) -> i64
     requires positive { 0 < width }
-    requires narrow { width ≤ 32 }
+    requires narrow { width ≤ MAX_WIDTH }
     ensures { result ≡ greatest_value min width }
 {
     if min < 0 {

@@ -1,8 +1,11 @@
 pub mod OutputLemmas
 pub mod TextLemmas
 pub mod WordLemmas
+pub mod NumberLemmas
 pub mod ValueLemmas
+pub mod PollLemmas
 pub mod PlaceLemmas
 pub mod SessionLemmas
+pub mod RepeatLemmas
 pub mod TellingLemmas
 mod Vectors

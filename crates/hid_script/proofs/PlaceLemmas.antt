@@ -14,8 +14,12 @@ use Rattle.hid_script.specs.declared.fault.ScriptFault.{ScriptFault}
 use Rattle.hid_script.specs.declared.fault.Summary.{Summary}
 use Rattle.hid_script.specs.Words.{words_of}
 use Rattle.hid_script.specs.Meaning.{meaning_of, words_said}
-use Rattle.hid_script.specs.Session.{Session, Outcome, LineTells, Means, refused, at_first}
-use Rattle.hid_script.specs.Run.{Ending, Refusal, Cut, Silence, ending_of, EndsAs, Ends, FirstTells, AllTell, RunsTo, AppendsScript}
+use Rattle.hid_script.specs.declared.fault.Options.{Options}
+use Rattle.hid_script.specs.Session.{Session, Outcome, accepted, refused, at_first}
+use Rattle.hid_script.specs.declared.line.Line.{Line}
+use Rattle.hid_script.specs.Session.{Repeats}
+use Rattle.hid_script.specs.Telling.{LineTells, LineBegins, BeginsMeant, Means}
+use Rattle.hid_script.specs.Run.{Ending, Refusal, Want, Cut, Silence, ending_of, EndsAs, Ends, FirstTells, FirstBegins, AllTell, RunsTo, AppendsScript}
 use Rattle.hid_script.specs.Place.{Place, IsUnbroken, lines_at, Writes, Advances, RunsFrom, Takes}
 
 -- ---- lines
@@ -76,38 +80,32 @@ all_more session middle last (line ∷ first) more text rest h k =
     (h.0, h.1, h.2 ++ rest, h.3, all_more h.1 middle last first more h.2 rest h.4 k, after_both h.0 h.2 [] text rest h.5)
 
 -- one line
-one_tells : (session next : Session) (line text : List ℕ) → LineTells session line (record { text = text; end = Ok next }) → AllTell session (line ∷ []) text next
+one_tells : (session next : Session) (line text : List ℕ) → LineTells session line (accepted text next) → AllTell session (line ∷ []) text next
 one_tells session next line text h = (text, next, [], h, (refl, refl), sym (append-nil text))
-
--- what the end leaves of a line is what it leaves of that line before others
-ends_first : (ending : Ending) (Tells Others : Outcome → Type 0) (part : List ℕ) (cause : Cause) → ((o : Outcome) → Tells o → Others o) → EndsAs ending Tells part cause → EndsAs ending Others part cause
-ends_first Refusal Tells Others part cause f h = f (record { text = part; end = Err cause }) h
-ends_first Cut Tells Others part cause f h = (h.0, f h.0 h.1, h.2)
-ends_first Silence Tells Others part cause f h = h
 
 -- ---- pieces
 
 pub advances_nothing : (p : Place) → Advances p [] [] p
-advances_nothing p = record { ended = []; told = (refl, refl); count = omega arith; split = λ more. refl }
+advances_nothing p = record { ended = []; all = (refl, refl); count = omega arith; split = λ more. refl }
 
 pub advances_more : (p q r : Place) (a b v w : List ℕ) → Advances p a v q → Advances q b w r → Advances p (a ++ b) (v ++ w) r
 advances_more p q r a b v w h k = record {
   ended = h.ended ++ k.ended;
-  told = all_more p.session q.session r.session h.ended k.ended v w h.told k.told;
+  all = all_more p.session q.session r.session h.ended k.ended v w h.all k.all;
   count = omega (arith, h.count, k.count, length-append h.ended k.ended);
   split = λ more. ap (lines_at p) (append_assoc a b more) ∙ h.split (b ++ more) ∙ ap (λ l. h.ended ++ l) (k.split more) ∙ sym (append_assoc h.ended k.ended (lines_at r more));
 }
 
 -- a byte that ends no line
 pub advances_byte : (session : Session) (begun : List ℕ) (n b : ℕ) → Advances (record { session = session; begun = begun; lines = n }) (b ∷ []) [] (record { session = session; begun = begun ++ b ∷ []; lines = n })
-advances_byte session begun n b = record { ended = []; told = (refl, refl); count = omega arith; split = λ more. ap lines (sym (append_assoc begun (b ∷ []) more)) }
+advances_byte session begun n b = record { ended = []; all = (refl, refl); count = omega arith; split = λ more. ap lines (sym (append_assoc begun (b ∷ []) more)) }
 
 -- a line feed, where the line was told whole
-pub advances_line : (session next : Session) (begun line : List ℕ) (n : ℕ) (written : List ℕ) → IsUnbroken begun → line ≡ strip_carriage_return begun → LineTells session line (record { text = written; end = Ok next })
+pub advances_line : (session next : Session) (begun line : List ℕ) (n : ℕ) (written : List ℕ) → IsUnbroken begun → line ≡ strip_carriage_return begun → LineTells session line (accepted written next)
     → Advances (record { session = session; begun = begun; lines = n }) (10 ∷ []) written (record { session = next; begun = []; lines = n + 1 })
 advances_line session next begun line n written whole same told = record {
   ended = line ∷ [];
-  told = one_tells session next line written told;
+  all = one_tells session next line written told;
   count = omega arith;
   split = λ more. lines_first begun more whole ∙ ap (λ l. l ∷ lines more) (sym same);
 }
@@ -116,7 +114,7 @@ advances_line session next begun line n written whole same told = record {
 
 -- a run that ended in its first line
 line_stops : (session : Session) (script others : List (List ℕ)) (before : ℕ) (line part : List ℕ) (cause : Cause) (fault : ScriptFault) → script ≡ line ∷ others → fault.line ≡ before + 1 → fault.cause ≡ cause
-    → Ends (LineTells session line) part cause → RunsTo session script before part (Err fault)
+    → Ends (LineTells session line) (LineBegins session line) part cause → RunsTo session script before part (Err fault)
 line_stops session script others before line part cause fault e at is h = record {
   first = [];
   others = line ∷ others;
@@ -124,9 +122,9 @@ line_stops session script others before line part cause fault e at is h = record
   line = omega (arith, at);
   text = [];
   now = session;
-  told = (refl, refl);
+  all = (refl, refl);
   part = part;
-  ends = subst (λ c. Ends (FirstTells session (line ∷ others)) part c) (sym is) h;
+  ends = subst (λ c. Ends (FirstTells session (line ∷ others)) (FirstBegins session (line ∷ others)) part c) (sym is) h;
   whole = refl;
 }
 
@@ -135,7 +133,7 @@ runs_more : (session middle : Session) (first others : List (List ℕ)) (before 
     → RunsTo middle others after rest result → RunsTo session (first ++ others) before (text ++ rest) result
 runs_more session middle first others before after text rest (Ok summary) h at k = record {
   last = k.last;
-  told = all_more session middle k.last first others text rest h k.told;
+  all = all_more session middle k.last first others text rest h k.all;
   lines = omega (arith, k.lines, length-append first others);
   events = k.events;
 }
@@ -146,7 +144,7 @@ runs_more session middle first others before after text rest (Err fault) h at k 
   line = omega (arith, k.line, length-append first k.first);
   text = text ++ k.text;
   now = k.now;
-  told = all_more session middle k.now first k.first text k.text h k.told;
+  all = all_more session middle k.now first k.first text k.text h k.all;
   part = k.part;
   ends = k.ends;
   whole = ap (λ l. text ++ l) k.whole ∙ sym (append_assoc text k.text k.part);
@@ -156,7 +154,7 @@ runs_more session middle first others before after text rest (Err fault) h at k 
 pub runs_after : (p q : Place) (bytes more written text : List ℕ) (result : Result Summary ScriptFault) → Advances p bytes written q → RunsFrom q more text result → RunsFrom p (bytes ++ more) (written ++ text) result
 runs_after p q bytes more written text result h k =
     subst (λ script. RunsTo p.session script p.lines (written ++ text) result) (sym (h.split more))
-    (runs_more p.session q.session h.ended (lines_at q more) p.lines q.lines written text result h.told h.count k)
+    (runs_more p.session q.session h.ended (lines_at q more) p.lines q.lines written text result h.all h.count k)
 
 -- a line that is too long ends the run
 pub long_stops : (place : Place) (b : ℕ) (more : List ℕ) (fault : ScriptFault) → IsUnbroken place.begun → nat_eq b 10 ≡ false → 1025 ≤ length place.begun → fault.line ≡ place.lines + 1 → fault.cause ≡ causes.LineTooLong
@@ -170,7 +168,7 @@ long_stops place b more fault whole apart long at is =
 
 -- a line that ended the run at its line feed
 pub line_feed_stops : (place : Place) (next : Session) (line more written : List ℕ) (cause : Cause) (fault : ScriptFault) → IsUnbroken place.begun → line ≡ strip_carriage_return place.begun
-    → Writes (LineTells place.session line) written (Err cause) next → fault.line ≡ place.lines + 1 → fault.cause ≡ cause → RunsFrom place (10 ∷ more) written (Err fault)
+    → Writes (LineTells place.session line) (LineBegins place.session line) written (Err cause) next → fault.line ≡ place.lines + 1 → fault.cause ≡ cause → RunsFrom place (10 ∷ more) written (Err fault)
 line_feed_stops place next line more written cause fault whole same told at is =
     line_stops place.session (lines_at place (10 ∷ more)) (lines more) place.lines line written cause fault (lines_first place.begun more whole ∙ ap (λ l. l ∷ lines more) (sym same)) at is told
 
@@ -201,9 +199,9 @@ outside_stops place more fault is at = record {
   line = omega (arith, at);
   text = [];
   now = place.session;
-  told = (refl, refl);
+  all = (refl, refl);
   part = [];
-  ends = subst (λ e. EndsAs e (FirstTells place.session (lines_at place more)) [] fault.cause) (sym is) refl;
+  ends = subst (λ e. EndsAs e (FirstTells place.session (lines_at place more)) (FirstBegins place.session (lines_at place more)) [] fault.cause) (sym is) refl;
   whole = refl;
 }
 
@@ -217,55 +215,90 @@ known_rest (Some xs) (Some ys) read P h f = subst P (sym h) (f ys)
 last_line : (place : Place) → IsUnbroken place.begun → 0 < length place.begun → lines_at place [] ≡ place.begun ∷ []
 last_line place whole some = ap lines (append-nil place.begun) ∙ lines_last place.begun whole ∙ cond-false _ _ _ (ne_eqb (length place.begun) 0 (λ none. omega arith))
 
-pub last_line_told : (place : Place) (next : Session) (written : List ℕ) (summary : Summary) → IsUnbroken place.begun → 0 < length place.begun → LineTells place.session place.begun (record { text = written; end = Ok next })
-    → summary.lines ≡ place.lines + 1 → summary.events ≡ 0 → RunsFrom place [] written (Ok summary)
+pub last_line_told : (place : Place) (next : Session) (written : List ℕ) (summary : Summary) → IsUnbroken place.begun → 0 < length place.begun → LineTells place.session place.begun (accepted written next)
+    → summary.lines ≡ place.lines + 1 → summary.events ≡ next.events → RunsFrom place [] written (Ok summary)
 last_line_told place next written summary whole some told lines' events' =
-    rw (last_line place whole some) (record { last = next; told = one_tells place.session next place.begun written told; lines = omega (arith, lines'); events = events' })
+    rw (last_line place whole some) (record { last = next; all = one_tells place.session next place.begun written told; lines = omega (arith, lines'); events = events' })
 
-pub last_line_stops : (place : Place) (next : Session) (written : List ℕ) (cause : Cause) (fault : ScriptFault) → IsUnbroken place.begun → 0 < length place.begun → Writes (LineTells place.session place.begun) written (Err cause) next
+pub last_line_stops : (place : Place) (next : Session) (written : List ℕ) (cause : Cause) (fault : ScriptFault) → IsUnbroken place.begun → 0 < length place.begun → Writes (LineTells place.session place.begun) (LineBegins place.session place.begun) written (Err cause) next
     → fault.line ≡ place.lines + 1 → fault.cause ≡ cause → RunsFrom place [] written (Err fault)
 last_line_stops place next written cause fault whole some told at is =
     line_stops place.session (lines_at place []) [] place.lines place.begun written cause fault (last_line place whole some) at is told
 
-pub no_last_line : (place : Place) (summary : Summary) → place.begun ≡ [] → summary.lines ≡ place.lines → summary.events ≡ 0 → RunsFrom place [] [] (Ok summary)
+pub no_last_line : (place : Place) (summary : Summary) → place.begun ≡ [] → summary.lines ≡ place.lines → summary.events ≡ place.session.events → RunsFrom place [] [] (Ok summary)
 no_last_line place summary none lines' events' =
     let all : lines_at place [] ≡ [] = ap (λ bytes. lines (bytes ++ [])) none in
-    rw all (record { last = place.session; told = (refl, refl); lines = omega (arith, lines'); events = events' })
+    rw all (record { last = place.session; all = (refl, refl); lines = omega (arith, lines'); events = events' })
 
 -- nothing has come
-abbrev pub start : Place
-start = record { session = at_first; begun = []; lines = 0 }
+abbrev pub start : Options → Place
+start options = record { session = at_first options; begun = []; lines = 0 }
 
 -- all that there was has come
-pub whole_run : (a b c d e f : Option (List ℕ)) (read written text none : List ℕ) (now : Place) (result : Result Summary ScriptFault)
-    → Consumes a b read → Appends c d written → Advances start read written now → Consumes b e none → none ≡ [] → IsAtEnd e → Appends d f text → RunsFrom now [] text result
-    → AppendsScript a c f result
-whole_run a b c d e f read written text none now result from grew taken more nothing end last runs =
+pub whole_run : (options : Options) (a b c d e f : Option (List ℕ)) (read written text none : List ℕ) (now : Place) (result : Result Summary ScriptFault)
+    → Consumes a b read → Appends c d written → Advances (start options) read written now → Consumes b e none → none ≡ [] → IsAtEnd e → Appends d f text → RunsFrom now [] text result
+    → AppendsScript options a c f result
+whole_run options a b c d e f read written text none now result from grew taken more nothing end last runs =
     Consumes-whole a e (read ++ none) _ (Consumes-trans a b e read none from more) end
-    (written ++ text, Appends-trans c d f written text grew last, rw nothing (runs_after start now read [] written text result taken runs))
+    (written ++ text, Appends-trans c d f written text grew last, rw nothing (runs_after (start options) now read [] written text result taken runs))
 
 -- the run broke off
-broken_run : (a b c d f : Option (List ℕ)) (read written text : List ℕ) (now : Place) (result : Result Summary ScriptFault)
-    → Consumes a b read → Appends c d written → Advances start read written now → Appends d f text → ((more : List ℕ) → RunsFrom now more text result)
-    → AppendsScript a c f result
-broken_run a b c d f read written text now result from grew taken last stops =
-    known_rest a b read _ from (λ more. (written ++ text, Appends-trans c d f written text grew last, runs_after start now read more written text result taken (stops more)))
+broken_run : (options : Options) (a b c d f : Option (List ℕ)) (read written text : List ℕ) (now : Place) (result : Result Summary ScriptFault)
+    → Consumes a b read → Appends c d written → Advances (start options) read written now → Appends d f text → ((more : List ℕ) → RunsFrom now more text result)
+    → AppendsScript options a c f result
+broken_run options a b c d f read written text now result from grew taken last stops =
+    known_rest a b read _ from (λ more. (written ++ text, Appends-trans c d f written text grew last, runs_after (start options) now read more written text result taken (stops more)))
 
 -- nothing more is written at a fault from outside
-pub outside_run : (a b c d : Option (List ℕ)) (read written : List ℕ) (now : Place) (fault : ScriptFault) → Consumes a b read → Appends c d written → Advances start read written now
-    → ending_of fault.cause ≡ Silence → fault.line ≡ now.lines + 1 → AppendsScript a c d (Err fault)
-outside_run a b c d read written now fault from grew taken is at =
-    broken_run a b c d d read written [] now (Err fault) from grew taken (Appends-nil d) (λ more. outside_stops now more fault is at)
+pub outside_run : (options : Options) (a b c d : Option (List ℕ)) (read written : List ℕ) (now : Place) (fault : ScriptFault) → Consumes a b read → Appends c d written → Advances (start options) read written now
+    → ending_of fault.cause ≡ Silence → fault.line ≡ now.lines + 1 → AppendsScript options a c d (Err fault)
+outside_run options a b c d read written now fault from grew taken is at =
+    broken_run options a b c d d read written [] now (Err fault) from grew taken (Appends-nil d) (λ more. outside_stops now more fault is at)
 
 -- the piece that was read ended the run
-pub piece_stops : (a b e c d f : Option (List ℕ)) (read written text piece : List ℕ) (now : Place) (fault : ScriptFault) (result : Result Summary ScriptFault)
-    → Consumes a b read → Appends c d written → Advances start read written now → Consumes b e piece → Appends d f text
-    → ((more : List ℕ) → RunsFrom now (piece ++ more) text (Err fault)) → IsErrAnd result (λ x. x ≡ fault) → AppendsScript a c f result
-piece_stops a b e c d f read written text piece now fault (Ok u) from grew taken more last stops is = absurd is
-piece_stops a b e c d f read written text piece now fault (Err x) from grew taken more last stops is =
+pub piece_stops : (options : Options) (a b e c d f : Option (List ℕ)) (read written text piece : List ℕ) (now : Place) (fault : ScriptFault) (result : Result Summary ScriptFault)
+    → Consumes a b read → Appends c d written → Advances (start options) read written now → Consumes b e piece → Appends d f text
+    → ((more : List ℕ) → RunsFrom now (piece ++ more) text (Err fault)) → IsErrAnd result (λ x. x ≡ fault) → AppendsScript options a c f result
+piece_stops options a b e c d f read written text piece now fault (Ok u) from grew taken more last stops is = absurd is
+piece_stops options a b e c d f read written text piece now fault (Err x) from grew taken more last stops is =
     known_rest a e (read ++ piece) _ (Consumes-trans a b e read piece from more) (λ after. (
       written ++ text,
       Appends-trans c d f written text grew last,
-      rw is (subst (λ all. RunsFrom start all (written ++ text) (Err fault)) (sym (append_assoc read piece after))
-          (runs_after start now read (piece ++ after) written text (Err fault) taken (stops after))),
+      rw is (subst (λ all. RunsFrom (start options) all (written ++ text) (Err fault)) (sym (append_assoc read piece after))
+          (runs_after (start options) now read (piece ++ after) written text (Err fault) taken (stops after))),
     ))
+
+-- ---- a run that doesn't begin
+
+begins_meant : (session : Session) (meaning : Result Line Cause) → BeginsMeant session meaning []
+unfolding Repeats
+begins_meant session (Ok said) = (0, session, omega arith, refl)
+begins_meant session (Err cause) = refl
+
+pub begins_nothing : (session : Session) (line : List ℕ) → LineBegins session line []
+unfolding LineBegins
+begins_nothing session line = begins_meant session (meaning_of line)
+
+first_begins : (session : Session) (script : List (List ℕ)) → FirstBegins session script []
+first_begins session [] = refl
+first_begins session (line ∷ more) = begins_nothing session line
+
+no_line_run : (options : Options) (script : List ℕ) (fault : ScriptFault) → fault.line ≡ 1 → fault.cause ≡ causes.Memory → RunsTo (at_first options) (lines script) 0 [] (Err fault)
+unfolding ending_of
+no_line_run options script fault at is = record {
+  first = [];
+  others = lines script;
+  split = refl;
+  line = omega (arith, at);
+  text = [];
+  now = at_first options;
+  all = (refl, refl);
+  part = [];
+  ends = subst (λ c. Ends (FirstTells (at_first options) (lines script)) (FirstBegins (at_first options) (lines script)) [] c) (sym is) (first_begins (at_first options) (lines script));
+  whole = refl;
+}
+
+-- memory for the devices was wanting before the first read
+pub never_begun : (options : Options) (a c : Option (List ℕ)) (fault : ScriptFault) → fault.line ≡ 1 → fault.cause ≡ causes.Memory → AppendsScript options a c c (Err fault)
+never_begun options None c fault at is = tt
+never_begun options (Some script) c fault at is = ([], Appends-nil c, no_line_run options script fault at is)

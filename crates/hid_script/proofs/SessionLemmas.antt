@@ -1,86 +1,118 @@
 -- What was written of a line.
-use Rattle.std.proofs.Common.{◌≡◌, ◌⊎◌, ℕ, ◌≤◌, Bool, true, false, nat_lt, cond, List, [], length, refl, sym, ap, ◌∙◌, subst, inl, inr, Result, Ok, Err, Option, None, Some, OnOk, IfErr, IsErrAnd}
+use Rattle.std.proofs.Common.{◌≡◌, ◌⊎◌, ℕ, ◌+◌, ◌≤◌, Bool, true, false, nat_lt, cond, List, [], ◌∷◌, ◌++◌, ◌-◌, length, refl, sym, ap, ◌∙◌, subst, inl, inr, Result, Ok, Err, Option, None, Some, OnOk, IfErr, IsErrAnd, arith}
+use Rattle.std.specs.Prelude.{position, if◌then◌else◌, slice_get}
 use Rattle.std.specs.Io.KnownBytes.{Appends}
 use Rattle.std.proofs.KnownBytes.{Appends-nil}
-use Rattle.std.proofs.lemmas.Bool.{ltb-false}
+use Rattle.std.proofs.lemmas.Bool.{ltb-false, cond-false, ne_eqb}
 use Rattle.hid_layout.specs.declared.fault.Cause as layouts
 use Rattle.hid_layout.specs.declared.fault.Cause.TheVariants as whys
 use Rattle.hid_layout.specs.declared.fault.LayoutFault.{LayoutFault}
+use Rattle.hid_layout.specs.declared.usage.Usage.{Usage}
+use Rattle.hid_layout.specs.declared.control.ControlId.{ControlId}
 use Rattle.hid_layout.specs.Items.{Item}
 use Rattle.hid_layout.specs.Layout.{Contents, layout_of}
 use Rattle.hid_layout.specs.Reports.{report_bytes}
 use Rattle.hid_layout.specs.Faults.{Accepts, Explains}
+use Rattle.hid_cells.specs.declared.fault.ReportFault.{ReportFault}
+use Rattle.hid_cells.specs.declared.fault.ReportFault.TheVariants.{Short}
+use Rattle.hid_usages.specs.Reading.{first_byte, is_input_with, whole_report, report_named}
+use Rattle.hid_device.specs.declared.config.Boot.{Boot}
+use Rattle.hid_stack.specs.declared.fault.StackFault.{StackFault}
+use Rattle.hid_stack.specs.declared.fault.StackFault.TheVariants as stack
+use Rattle.hid_stack.specs.declared.step.Step.{Step}
+use Rattle.hid_stack.specs.declared.step.Step.TheVariants.{Change}
+use Rattle.hid_stack.specs.declared.step.Told.{Told}
+use Rattle.hid_stack.specs.declared.step.Delivered.{Delivered}
+use Rattle.hid_stack.specs.declared.rig.TheConstants.{MAX_DEVICES}
+use Rattle.hid_stack.specs.Members.{Member, fresh_member, member_at, refusal, IsRefusal, bus_after, delivered_at}
+use Rattle.hid_stack.specs.Tells.{Tells}
+use Rattle.hid_stack.specs.Attaching.{Attaches, Finds}
 use Rattle.hid_script.specs.declared.fault.Cause.{Cause}
 use Rattle.hid_script.specs.declared.fault.Cause.TheVariants as causes
 use Rattle.hid_script.specs.declared.fault.StepFault.TheVariants as faults
 use Rattle.hid_script.specs.declared.line.Line.{Line}
+use Rattle.hid_script.specs.declared.wanted.Wanted.{Wanted}
 use Rattle.hid_script.specs.Meaning.{meaning_of}
-use Rattle.hid_script.specs.Session.{Session, Outcome, CarriesOut, LineTells, TellsLayout, TellsValues, valued, read_report, Means, refused, cause_from, cause_of}
 use Rattle.hid_script.specs.LayoutText.{layout_text}
 use Rattle.hid_script.specs.ValuesText.{values_text}
-use Rattle.hid_script.specs.declared.report.ReportFault.TheVariants.{Short}
-use Rattle.hid_script.specs.Report.{report_id, input_with, long_enough, report_from, input_report}
+use Rattle.hid_script.specs.StepText.{step_text}
+use Rattle.hid_script.specs.Session.{Session, Outcome, accepted, refused}
+use Rattle.hid_script.specs.Steps.{TellsLayout, TellsValues, TellsDevice, TellsStep, TellsFound, TellsChange, lays_out, valued, read_report, refuses_step, config_of, attaches, counted, stepped, change_of}
+use Rattle.hid_script.specs.Telling.{Begins, BeginsMeant, LineTells, LineBegins, Means, CarriesOut, cause_from, cause_of, stack_cause}
 use Rattle.hid_script.specs.Output.{AppendsFront}
-use Rattle.hid_script.specs.Run.{Ending, Refusal, Cut, Silence, ending_of, EndsAs, Ends}
-use Rattle.hid_script.specs.Place.{AppendsTold}
+use Rattle.hid_script.specs.Run.{Ending, Refusal, Want, Cut, Silence, ending_of, EndsAs, Ends}
+use Rattle.hid_script.specs.Place.{AppendsTold, AppendsOnce, OnceEndsAs, IsBegun}
+use Rattle.hid_script.proofs.PlaceLemmas.{begins_nothing}
+
+-- ---- a part that is told once
 
 -- a want of memory writes nothing
-pub memory_ends : (old : Option (List ℕ)) (Tells : Outcome → Type 0) (r : Result (Unit {0}) Cause) (next : Session) → IsErrAnd r (λ e. e ≡ causes.Memory) → AppendsTold old old Tells r next
+pub memory_ends : (old : Option (List ℕ)) (Tells : Outcome → Type 0) (r : Result (Unit {0}) Cause) (next : Session) → IsErrAnd r (λ e. e ≡ causes.Memory) → AppendsOnce old old Tells r next
 unfolding ending_of
 memory_ends old Tells (Ok u) next is = absurd is
-memory_ends old Tells (Err e) next is = ([], Appends-nil old, subst (λ c. Ends Tells [] c) (sym is) refl)
+memory_ends old Tells (Err e) next is = ([], Appends-nil old, subst (λ c. OnceEndsAs (ending_of c) Tells [] c) (sym is) (inl refl))
 
-refusal_left : (ending : Ending) (Tells : Outcome → Type 0) (cause : Cause) → Tells (refused cause) → EndsAs ending Tells [] cause
-refusal_left Refusal Tells cause h = h
-refusal_left Cut Tells cause h = (refused cause, h, ([], refl))
-refusal_left Silence Tells cause h = refl
-
--- a line that is refused writes nothing
-pub refusal_ends : (old : Option (List ℕ)) (Tells : Outcome → Type 0) (r : Result (Unit {0}) Cause) (cause : Cause) (next : Session) → IsErrAnd r (λ e. e ≡ cause) → Tells (refused cause) → AppendsTold old old Tells r next
-refusal_ends old Tells (Ok u) cause next is h = absurd is
-refusal_ends old Tells (Err e) cause next is h = ([], Appends-nil old, subst (λ c. Ends Tells [] c) (sym is) (refusal_left (ending_of cause) Tells cause h))
+-- a part that is refused writes nothing
+pub refusal_ends : (old : Option (List ℕ)) (Tells : Outcome → Type 0) (r : Result (Unit {0}) Cause) (cause : Cause) (next : Session) → IsErrAnd r (λ e. e ≡ cause) → ending_of cause ≡ Refusal → Tells (refused cause) → AppendsOnce old old Tells r next
+refusal_ends old Tells (Ok u) cause next is kind h = absurd is
+refusal_ends old Tells (Err e) cause next is kind h =
+    ([], Appends-nil old, subst (λ c. OnceEndsAs (ending_of c) Tells [] c) (sym is) (subst (λ k. OnceEndsAs k Tells [] cause) (sym kind) h))
 
 -- a text that was told is written, or a front of it
-pub text_written : (old new : Option (List ℕ)) (Tells : Outcome → Type 0) (text : List ℕ) (r : Result (Unit {0}) Cause) (next : Session) → Tells (record { text = text; end = Ok next })
-    → OnOk r (Appends old new text) → IfErr r (λ cause. cause ≡ causes.Write) → AppendsFront old new text → AppendsTold old new Tells r next
+pub text_written : (old new : Option (List ℕ)) (Tells : Outcome → Type 0) (text : List ℕ) (r : Result (Unit {0}) Cause) (next : Session) → Tells (accepted text next)
+    → OnOk r (Appends old new text) → IfErr r (λ cause. cause ≡ causes.Write) → AppendsFront old new text → AppendsOnce old new Tells r next
 unfolding ending_of
 text_written old new Tells text (Ok u) next told ok cause front = (text, ok, told)
 text_written old new Tells text (Err e) next told ok cause front =
-    (front.0, front.2, subst (λ c. Ends Tells front.0 c) (sym cause) (record { text = text; end = Ok next }, told, front.1))
+    (front.0, front.2, subst (λ c. OnceEndsAs (ending_of c) Tells front.0 c) (sym cause) (text, inr (next, told), front.1))
+
+-- ---- lines
 
 -- what is written of what a line says is written of the line
 pub line_written : (old new : Option (List ℕ)) (session : Session) (bytes : List ℕ) (line : Line) (r : Result (Unit {0}) Cause) (next : Session) → meaning_of bytes ≡ Ok line
-    → AppendsTold old new (CarriesOut session line) r next → AppendsTold old new (LineTells session bytes) r next
-unfolding LineTells
-line_written old new session bytes line r next means h = subst (λ m. AppendsTold old new (Means session m) r next) (sym means) h
+    → AppendsTold old new (CarriesOut session line) (BeginsMeant session (Ok line)) r next → AppendsTold old new (LineTells session bytes) (LineBegins session bytes) r next
+unfolding LineTells LineBegins
+line_written old new session bytes line r next means h = subst (λ m. AppendsTold old new (Means session m) (BeginsMeant session m) r next) (sym means) h
+
+refusal_left : (ending : Ending) (Tells : Outcome → Type 0) (Begun : List ℕ → Type 0) (cause : Cause) → Begun [] → Tells (refused cause) → EndsAs ending Tells Begun [] cause
+refusal_left Refusal Tells Begun cause begun h = h
+refusal_left Want Tells Begun cause begun h = begun
+refusal_left Cut Tells Begun cause begun h = ([], begun, ([], refl))
+refusal_left Silence Tells Begun cause begun h = refl
 
 -- a line that isn't understood
 pub line_refused : (old : Option (List ℕ)) (session : Session) (bytes : List ℕ) (cause : Cause) (r : Result (Unit {0}) Cause) (next : Session) → (cause ≡ causes.Memory) ⊎ (meaning_of bytes ≡ Err cause) → IsErrAnd r (λ e. e ≡ cause)
-    → AppendsTold old old (LineTells session bytes) r next
-unfolding LineTells
-line_refused old session bytes cause r next (inl e) is = memory_ends old (LineTells session bytes) r next (subst (λ c. IsErrAnd r (λ x. x ≡ c)) e is)
-line_refused old session bytes cause r next (inr e) is = refusal_ends old (LineTells session bytes) r cause next is (subst (λ m. Means session m (refused cause)) (sym e) refl)
+    → AppendsTold old old (LineTells session bytes) (LineBegins session bytes) r next
+unfolding LineTells ending_of
+line_refused old session bytes cause (Ok u) next why is = absurd is
+line_refused old session bytes cause (Err e) next (inl memory) is = ([], Appends-nil old, subst (λ c. Ends (LineTells session bytes) (LineBegins session bytes) [] c) (sym (is ∙ memory)) (begins_nothing session bytes))
+line_refused old session bytes cause (Err e) next (inr meant) is = (
+  [],
+  Appends-nil old,
+  subst (λ c. Ends (LineTells session bytes) (LineBegins session bytes) [] c) (sym is)
+      (refusal_left (ending_of cause) (LineTells session bytes) (LineBegins session bytes) cause (begins_nothing session bytes) (subst (λ m. Means session m (refused cause)) (sym meant) refl)),
+)
 
 -- ---- layouts
 
 -- a descriptor that gives no layout is refused, or memory was wanting
-layout_ends : (old : Option (List ℕ)) (bytes : List ℕ) (why : layouts.Cause) (at : ℕ) (r : Result (Unit {0}) Cause) (next : Session) → Explains bytes why at → IsErrAnd r (λ c. c ≡ cause_from why (record { cause = why; at = at }))
-    → AppendsTold old old (TellsLayout bytes) r next
-layout_ends old bytes whys.Memory at r next told is = memory_ends old (TellsLayout bytes) r next is
-layout_ends old bytes why at r next told is =
-    refusal_ends old (TellsLayout bytes) r (causes.Step (faults.Layout (record { cause = why; at = at }))) next is (inr (record { cause = why; at = at }, (told, refl)))
+layout_ends : (old : Option (List ℕ)) (bytes : List ℕ) (session : Session) (why : layouts.Cause) (at : ℕ) (r : Result (Unit {0}) Cause) (next : Session) → Explains bytes why at → IsErrAnd r (λ c. c ≡ cause_from why (record { cause = why; at = at }))
+    → AppendsOnce old old (TellsLayout bytes session) r next
+unfolding ending_of
+layout_ends old bytes session whys.Memory at r next told is = memory_ends old (TellsLayout bytes session) r next is
+layout_ends old bytes session why at r next told is =
+    refusal_ends old (TellsLayout bytes session) r (causes.Step (faults.Layout (record { cause = why; at = at }))) next is refl (inr (record { cause = why; at = at }, (told, refl)))
 
-pub layout_refused : (old : Option (List ℕ)) (bytes : List ℕ) (fault : LayoutFault) (r : Result (Unit {0}) Cause) (next : Session) → Explains bytes fault.cause fault.at → IsErrAnd r (λ c. c ≡ cause_of fault)
-    → AppendsTold old old (TellsLayout bytes) r next
-layout_refused old bytes fault r next told is = layout_ends old bytes fault.cause fault.at r next told is
+pub layout_refused : (old : Option (List ℕ)) (bytes : List ℕ) (session : Session) (fault : LayoutFault) (r : Result (Unit {0}) Cause) (next : Session) → Explains bytes fault.cause fault.at → IsErrAnd r (λ c. c ≡ cause_of fault)
+    → AppendsOnce old old (TellsLayout bytes session) r next
+layout_refused old bytes session fault r next told is = layout_ends old bytes session fault.cause fault.at r next told is
 
 -- a layout that was printed
-pub layout_written : (old new : Option (List ℕ)) (bytes : List ℕ) (layout : Contents) (text : List ℕ) (r : Result (Unit {0}) Cause) → ((items : List Item) × Accepts bytes items × (layout ≡ layout_of items)) → text ≡ layout_text layout
-    → OnOk r (Appends old new text) → IfErr r (λ cause. cause ≡ causes.Write) → AppendsFront old new text → AppendsTold old new (TellsLayout bytes) r (record { layout = Some layout })
-layout_written old new bytes layout text r told said ok cause front =
-    let outcome = λ (l : Contents). let o : Outcome = record { text = layout_text l; end = Ok (record { layout = Some l }) } in o in
-    let shown : (◌≡◌ {A = Outcome} (record { text = text; end = Ok (record { layout = Some layout }) }) (outcome (layout_of told.0))) = rw said (ap outcome told.2) in
-    text_written old new (TellsLayout bytes) text r (record { layout = Some layout }) (inl (told.0, (told.1, shown))) ok cause front
+pub layout_written : (old new : Option (List ℕ)) (bytes : List ℕ) (session : Session) (layout : Contents) (text : List ℕ) (r : Result (Unit {0}) Cause) → ((items : List Item) × Accepts bytes items × (layout ≡ layout_of items)) → text ≡ layout_text layout
+    → OnOk r (Appends old new text) → IfErr r (λ cause. cause ≡ causes.Write) → AppendsFront old new text → AppendsOnce old new (TellsLayout bytes session) r (record session { layout = Some layout })
+layout_written old new bytes session layout text r told said ok cause front =
+    let shown : (accepted text (record session { layout = Some layout })) ≡ lays_out session (layout_of told.0) = rw said (ap (lays_out session) told.2) in
+    text_written old new (TellsLayout bytes session) text r (record session { layout = Some layout }) (inl (told.0, (told.1, shown))) ok cause front
 
 -- ---- values
 
@@ -89,23 +121,142 @@ not_short : (b : Bool) (at r : ℕ) → cond b (Err Short) (Ok at) ≡ Ok r → 
 not_short true at r e = cc
 not_short false at r e = (refl, cc)
 
-long_enough_found : (layout : Contents) (bytes : List ℕ) (found : Option ℕ) (r : ℕ) → long_enough layout bytes found ≡ Ok r → report_bytes layout r ≤ length bytes
-long_enough_found layout bytes None r e = cc
-long_enough_found layout bytes (Some at) r e =
-    let found = not_short (nat_lt (length bytes) (report_bytes layout at)) at r e in
-    subst (λ n. report_bytes layout n ≤ length bytes) found.1 (ltb-false (length bytes) (report_bytes layout at) found.0)
+pub long_enough_report : (layout : Contents) (bytes : List ℕ) (r : ℕ) → Ok r ≡ report_named layout bytes → report_bytes layout r ≤ length bytes
+long_enough_report layout bytes r e = by_numbered layout.numbered (sym e)
+  where
+    of_found : (found : Option ℕ) → whole_report layout bytes found ≡ Ok r → report_bytes layout r ≤ length bytes
+    of_found None k = absurd (cc)
+    of_found (Some at) k =
+        let found = not_short (nat_lt (length bytes) (report_bytes layout at)) at r k in
+        subst (λ n. report_bytes layout n ≤ length bytes) found.1 (ltb-false (length bytes) (report_bytes layout at) found.0)
 
-report_from_found : (layout : Contents) (bytes : List ℕ) (id : Option ℕ) (r : ℕ) → report_from layout bytes id ≡ Ok r → report_bytes layout r ≤ length bytes
-report_from_found layout bytes None r e = cc
-report_from_found layout bytes (Some id) r e = long_enough_found layout bytes (input_with layout id) r e
+    of_byte : (o : Option ℕ) → elim o as (λ _. Result ℕ ReportFault) [ None ↦ Err Short | Some id ↦ whole_report layout bytes (position (is_input_with id) layout.reports) ] ≡ Ok r → report_bytes layout r ≤ length bytes
+    of_byte None k = absurd (cc)
+    of_byte (Some id) k = of_found (position (is_input_with id) layout.reports) k
 
-pub long_enough_report : (layout : Contents) (bytes : List ℕ) (r : ℕ) → Ok r ≡ input_report layout bytes → report_bytes layout r ≤ length bytes
-unfolding input_report
-long_enough_report layout bytes r e = report_from_found layout bytes (report_id layout bytes) r (sym e)
+    by_numbered : (b : Bool) → cond b (elim (first_byte bytes) as (λ _. Result ℕ ReportFault) [ None ↦ Err Short | Some id ↦ whole_report layout bytes (position (is_input_with id) layout.reports) ]) (whole_report layout bytes (position (is_input_with 0) layout.reports)) ≡ Ok r → report_bytes layout r ≤ length bytes
+    by_numbered true k = of_byte (first_byte bytes) k
+    by_numbered false k = of_found (position (is_input_with 0) layout.reports) k
 
 -- values that were printed
-pub values_written : (old new : Option (List ℕ)) (session : Session) (bytes : List ℕ) (layout : Contents) (report : ℕ) (text : List ℕ) (r : Result (Unit {0}) Cause) → session.layout ≡ Some layout → Ok report ≡ input_report layout bytes
-    → text ≡ values_text layout report bytes → OnOk r (Appends old new text) → IfErr r (λ cause. cause ≡ causes.Write) → AppendsFront old new text → AppendsTold old new (TellsValues session bytes) r session
+pub values_written : (old new : Option (List ℕ)) (session : Session) (bytes : List ℕ) (layout : Contents) (report : ℕ) (text : List ℕ) (r : Result (Unit {0}) Cause) → session.layout ≡ Some layout → Ok report ≡ report_named layout bytes
+    → text ≡ values_text layout report bytes → OnOk r (Appends old new text) → IfErr r (λ cause. cause ≡ causes.Write) → AppendsFront old new text → AppendsOnce old new (TellsValues bytes session) r session
 values_written old new session bytes layout report text r stands found said ok cause front =
-    let told : TellsValues session bytes (record { text = text; end = Ok session }) = rw said (sym (ap (valued session bytes) stands ∙ ap (read_report session layout bytes) (sym found))) in
-    text_written old new (TellsValues session bytes) text r session told ok cause front
+    let told : TellsValues bytes session (accepted text session) = rw said (sym (ap (valued session bytes) stands ∙ ap (read_report session layout bytes) (sym found))) in
+    text_written old new (TellsValues bytes session) text r session told ok cause front
+
+-- bytes that are no Input report
+pub report_refused : (old : Option (List ℕ)) (session : Session) (bytes : List ℕ) (layout : Contents) (fault : ReportFault) (r : Result (Unit {0}) Cause) (next : Session) → session.layout ≡ Some layout → Err fault ≡ report_named layout bytes
+    → IsErrAnd r (λ c. c ≡ causes.Step (faults.Report fault)) → AppendsOnce old old (TellsValues bytes session) r next
+unfolding ending_of
+report_refused old session bytes layout fault r next stands found is =
+    refusal_ends old (TellsValues bytes session) r (causes.Step (faults.Report fault)) next is refl (sym (ap (valued session bytes) stands ∙ ap (read_report session layout bytes) (sym found)))
+
+-- no layout stands
+pub no_layout : (old : Option (List ℕ)) (session : Session) (bytes : List ℕ) (next : Session) → session.layout ≡ None → AppendsOnce old old (TellsValues bytes session) (Err causes.NoLayout) next
+unfolding ending_of
+no_layout old session bytes next none = refusal_ends old (TellsValues bytes session) (Err causes.NoLayout) causes.NoLayout next refl refl (sym (ap (valued session bytes) none))
+
+-- ---- steps of the bus
+
+not_refused : (o : Option StackFault) (r : Result Told StackFault) (shown : Told) → ((e : StackFault) → o ≡ Some e → r ≡ Err e) → r ≡ Ok shown → o ≡ None
+not_refused None r shown h e = refl
+not_refused (Some fault) r shown h e = let refused = h fault refl in cc
+
+-- a fault of the stack is told, or memory was wanting
+fault_ends : (old : Option (List ℕ)) (Tells : Outcome → Type 0) (fault : StackFault) (r : Result (Unit {0}) Cause) (next : Session) → IsErrAnd r (λ c. c ≡ stack_cause fault) → (fault ≡ stack.Memory) ⊎ Tells (refuses_step fault) → AppendsOnce old old Tells r next
+unfolding ending_of
+fault_ends old Tells stack.Memory r next is told = memory_ends old Tells r next is
+fault_ends old Tells fault r next is (inl e) = absurd (cc)
+fault_ends old Tells fault r next is (inr told) = refusal_ends old Tells r (causes.Step (faults.Stack fault)) next is refl told
+
+-- a step that is refused
+pub step_refused : (old : Option (List ℕ)) (session : Session) (step : Step) (fault : StackFault) (r : Result (Unit {0}) Cause) (next : Session) → IsRefusal session.members step fault → IsErrAnd r (λ c. c ≡ stack_cause fault)
+    → AppendsOnce old old (TellsStep step session) r next
+step_refused old session step fault r next (inl e) is = fault_ends old (TellsStep step session) fault r next is (inr (inr (fault, e, refl)))
+step_refused old session step fault r next (inr none) is = fault_ends old (TellsStep step session) fault r next is (inl none.1)
+
+-- a step that is taken
+pub step_written : (old new : Option (List ℕ)) (session : Session) (step : Step) (shown : Told) (answer : Result Told StackFault) (delivered : List Delivered) (members : List Member) (events : ℕ) (text : List ℕ) (r : Result (Unit {0}) Cause)
+    → ((e : StackFault) → refusal session.members step ≡ Some e → answer ≡ Err e) → answer ≡ Ok shown → Tells session.members step shown
+    → members ≡ bus_after session.members step → delivered ≡ delivered_at session.members step
+    → text ≡ step_text session.options.trace step shown delivered → events ≡ counted session.events (length delivered)
+    → OnOk r (Appends old new text) → IfErr r (λ cause. cause ≡ causes.Write) → AppendsFront old new text
+    → AppendsOnce old new (TellsStep step session) r (record session { members = members; events = events })
+step_written old new session step shown answer delivered members events text r refuses is told after gave said counts ok cause front =
+    let outcome : (accepted text (record session { members = members; events = events })) ≡ stepped session step shown = rw (said, counts, after, gave) refl in
+    text_written old new (TellsStep step session) text r (record session { members = members; events = events }) (inl (shown, not_refused (refusal session.members step) answer shown refuses is, told, outcome)) ok cause front
+
+-- ---- changes
+
+-- no control has the usage, or there is no such device
+pub not_found : (old : Option (List ℕ)) (session : Session) (dev : ℕ) (usage : Usage) (wanted : Wanted) (fault : StackFault) (r : Result (Unit {0}) Cause) (next : Session) → Finds session.members dev usage (Err fault) → IsErrAnd r (λ c. c ≡ stack_cause fault)
+    → AppendsOnce old old (TellsChange dev usage wanted session) r next
+not_found old session dev usage wanted fault r next found is = fault_ends old (TellsChange dev usage wanted session) fault r next is (inr (Err fault, found, refl))
+
+begun_so : (P Q : Outcome → Type 0) (text : List ℕ) → ((o : Outcome) → P o → Q o) → IsBegun P text → IsBegun Q text
+begun_so P Q text f (inl none) = inl none
+begun_so P Q text f (inr told) = inr (told.0, f (accepted text told.0) told.1)
+
+ends_so : (ending : Ending) (P Q : Outcome → Type 0) (written : List ℕ) (cause : Cause) → ((o : Outcome) → P o → Q o) → OnceEndsAs ending P written cause → OnceEndsAs ending Q written cause
+ends_so Refusal P Q written cause f h = f (record { text = written; end = Err cause }) h
+ends_so Want P Q written cause f h = begun_so P Q written f h
+ends_so Cut P Q written cause f h = (h.0, begun_so P Q h.0 f h.1, h.2)
+ends_so Silence P Q written cause f h = h
+
+-- what is told of one part is told of another
+pub told_so : (old new : Option (List ℕ)) (P Q : Outcome → Type 0) (r : Result (Unit {0}) Cause) (next : Session) → ((o : Outcome) → P o → Q o) → AppendsOnce old new P r next → AppendsOnce old new Q r next
+told_so old new P Q (Ok u) next f h = (h.0, h.1, f (accepted h.0 next) h.2)
+told_so old new P Q (Err cause) next f h = (h.0, h.1, ends_so (ending_of cause) P Q h.0 cause f h.2)
+
+-- the control that was found changes
+pub found_written : (old new : Option (List ℕ)) (session : Session) (dev : ℕ) (usage : Usage) (wanted : Wanted) (control : ControlId) (r : Result (Unit {0}) Cause) (next : Session) → Finds session.members dev usage (Ok control)
+    → AppendsOnce old new (TellsStep (Change dev (change_of wanted control)) session) r next → AppendsOnce old new (TellsChange dev usage wanted session) r next
+found_written old new session dev usage wanted control r next found h =
+    told_so old new (TellsStep (Change dev (change_of wanted control)) session) (TellsChange dev usage wanted session) r next (λ o told. (Ok control, found, told)) h
+
+-- ---- devices
+
+-- a device that is refused
+pub device_refused : (old : Option (List ℕ)) (session : Session) (boot : Boot) (bytes : List ℕ) (fault : StackFault) (after : List Member) (r : Result (Unit {0}) Cause) (next : Session) → Attaches MAX_DEVICES (config_of boot) bytes session.members (Err fault) after
+    → IsErrAnd r (λ c. c ≡ stack_cause fault) → AppendsOnce old old (TellsDevice boot bytes session) r next
+device_refused old session boot bytes stack.Memory after r next h is = fault_ends old (TellsDevice boot bytes session) stack.Memory r next is (inl refl)
+device_refused old session boot bytes fault after r next h is = fault_ends old (TellsDevice boot bytes session) fault r next is (inr (inr (fault, after, h, (λ memory. cc), refl)))
+
+-- a device that is attached, where no layout is asked for
+pub device_quiet : (old : Option (List ℕ)) (session : Session) (boot : Boot) (bytes : List ℕ) (dev : ℕ) (after : List Member) → session.options.layout ≡ false → Attaches MAX_DEVICES (config_of boot) bytes session.members (Ok dev) after
+    → AppendsOnce old old (TellsDevice boot bytes session) (Ok tt) (record session { members = after })
+device_quiet old session boot bytes dev after quiet h =
+    let outcome : (accepted [] (record session { members = after })) ≡ attaches session h.2.0 after = rw quiet refl in
+    ([], Appends-nil old, inl (dev, h.2.0, after, h, h.2.2, outcome))
+
+at_last : (members : List Member) (m : Member) → slice_get (members ++ m ∷ []) (length members) ≡ Some m
+at_last [] m = refl
+at_last (x ∷ members) m = at_last members m
+
+last_member : (members : List Member) (m : Member) → member_at (members ++ m ∷ []) (length members + 1) ≡ Some m
+last_member members m =
+    let back : length members + 1 - 1 ≡ length members = omega arith in
+    cond-false _ _ _ (ne_eqb (length members + 1) 0 (λ none. omega arith)) ∙ ap (slice_get (members ++ m ∷ [])) back ∙ at_last members m
+
+-- a device that is attached is there
+device_there : (members after : List Member) (boot : Boot) (bytes : List ℕ) (dev : ℕ) (h : Attaches MAX_DEVICES (config_of boot) bytes members (Ok dev) after) → member_at after dev ≡ Some (fresh_member dev h.2.0)
+device_there members after boot bytes dev h =
+    subst (λ d. member_at after d ≡ Some (fresh_member dev h.2.0)) (sym h.1) (subst (λ ms. member_at ms (length members + 1) ≡ Some (fresh_member dev h.2.0)) (sym h.2.2) (last_member members (fresh_member dev h.2.0)))
+
+pub device_missing : (members after : List Member) (boot : Boot) (bytes : List ℕ) (dev : ℕ) → Attaches MAX_DEVICES (config_of boot) bytes members (Ok dev) after → member_at after dev ≡ None → ⊥
+device_missing members after boot bytes dev h none = let there = device_there members after boot bytes dev h in cc
+
+-- its layout is printed
+pub device_written : (old new : Option (List ℕ)) (session : Session) (boot : Boot) (bytes : List ℕ) (dev : ℕ) (after : List Member) (layout : Contents) (text : List ℕ) (r : Result (Unit {0}) Cause) → session.options.layout ≡ true
+    → Attaches MAX_DEVICES (config_of boot) bytes session.members (Ok dev) after → (m : Member) → member_at after dev ≡ Some m → layout ≡ m.layout → text ≡ layout_text layout
+    → OnOk r (Appends old new text) → IfErr r (λ cause. cause ≡ causes.Write) → AppendsFront old new text → AppendsOnce old new (TellsDevice boot bytes session) r (record session { members = after })
+device_written old new session boot bytes dev after layout text r asked h m there shows said ok cause front =
+    let found = device_there session.members after boot bytes dev h in
+    let same : m ≡ fresh_member dev h.2.0 = some_same m (fresh_member dev h.2.0) (sym there ∙ found) in
+    let laid : layout ≡ h.2.0 = shows ∙ ap (λ (x : Member). x.layout) same in
+    let outcome : (accepted text (record session { members = after })) ≡ attaches session h.2.0 after = rw (asked, said, laid) refl in
+    text_written old new (TellsDevice boot bytes session) text r (record session { members = after }) (inl (dev, h.2.0, after, h, h.2.2, outcome)) ok cause front
+  where
+    some_same : (a b : Member) → (let o : Option Member = Some a in o) ≡ Some b → a ≡ b
+    some_same a b e = cc

@@ -1,51 +1,172 @@
--- A line tells one thing.
-use Rattle.std.proofs.Common.{◌≡◌, ℕ, List, [], ◌∷◌, ◌++◌, sym, ap, ◌∙◌, subst, inl, inr, Result, Ok, Err}
+-- A line tells one thing, and begins with a front of it.
+use Rattle.std.proofs.Common.{◌≡◌, ℕ, zero, suc, ◌≤◌, List, [], ◌∷◌, ◌++◌, length, refl, sym, ap, ◌∙◌, subst, inl, inr, arith, append_assoc, Option, None, Some, Result, Ok, Err}
+use Rattle.std.specs.Prelude.{slice_get}
 use Rattle.hid_layout.specs.declared.fault.LayoutFault.{LayoutFault}
-use Rattle.hid_layout.specs.Layout.{layout_of}
+use Rattle.hid_layout.specs.declared.usage.Usage.{Usage}
+use Rattle.hid_layout.specs.declared.control.ControlId.{ControlId}
+use Rattle.hid_layout.specs.Layout.{Contents, layout_of}
 use Rattle.hid_layout.specs.Laws.{HasOneReading, AcceptsNoRefused, HasOneCause, HasOnePlace}
+use Rattle.hid_device.specs.declared.config.Boot.{Boot}
+use Rattle.hid_stack.specs.declared.fault.StackFault.{StackFault}
+use Rattle.hid_stack.specs.declared.fault.StackFault.TheVariants as stack
+use Rattle.hid_stack.specs.declared.step.Step.{Step}
+use Rattle.hid_stack.specs.declared.step.Step.TheVariants.{Change}
+use Rattle.hid_stack.specs.declared.step.Step.TheVariants as step
+use Rattle.hid_stack.specs.Members.{Member, fresh_member, refusal}
 use Rattle.hid_script.specs.declared.fault.Cause.{Cause}
+use Rattle.hid_script.specs.declared.wanted.Wanted.{Wanted}
+use Rattle.hid_script.specs.declared.wanted.Wanted.TheVariants as wanted
 use Rattle.hid_script.specs.declared.line.Line.{Line}
 use Rattle.hid_script.specs.declared.line.Line.TheVariants as line
 use Rattle.hid_script.specs.Meaning.{meaning_of}
-use Rattle.hid_script.specs.Session.{Session, Outcome, refuses_layout, lays_out, TellsLayout, CarriesOut, Means, LineTells}
+use Rattle.hid_script.specs.Output.{IsFront}
+use Rattle.hid_script.specs.Session.{Session, Outcome, accepted, after_text, Joins, Repeats}
+use Rattle.hid_script.specs.Steps.{TellsLayout, TellsDevice, TellsStep, TellsFound, TellsChange, lays_out, refuses_layout, attaches, stepped, refuses_step, config_of, change_of}
+use Rattle.hid_script.specs.Telling.{Once, times, Means, LineTells, LineBegins, BeginsMeant, Begins}
 use Rattle.hid_script.specs.Run.{AllTell}
-use Rattle.hid_script.specs.Laws.{LineTellsOneThing, LinesTellOneText}
+use Rattle.hid_script.specs.Laws.{StackAnswersOneThing, LineTellsOneThing, LinesTellOneText, BeginsWithFronts}
+
+-- a part tells one outcome at most
+abbrev IsOne : (Session → Outcome → Type 0) → Type 0
+IsOne Part = (session : Session) (o other : Outcome) → Part session o → Part session other → o ≡ other
+
+-- ---- layouts
 
 same_fault : (f g : LayoutFault) → f.cause ≡ g.cause → f.at ≡ g.at → f ≡ g
 same_fault f g cause at = ap (λ c. record f { cause = c }) cause ∙ ap (λ a. record g { at = a }) at
 
-one_layout : HasOneReading → AcceptsNoRefused → HasOneCause → HasOnePlace → (bytes : List ℕ) (o other : Outcome) → TellsLayout bytes o → TellsLayout bytes other → o ≡ other
-one_layout reading apart cause place bytes o other (inl h) (inl k) = h.1.1 ∙ ap (λ items. lays_out (layout_of items)) (reading bytes h.0 k.0 h.1.0 k.1.0) ∙ sym k.1.1
-one_layout reading apart cause place bytes o other (inl h) (inr k) = absurd (apart bytes h.0 k.0.cause k.0.at h.1.0 k.1.0)
-one_layout reading apart cause place bytes o other (inr h) (inl k) = absurd (apart bytes k.0 h.0.cause h.0.at k.1.0 h.1.0)
-one_layout reading apart cause place bytes o other (inr h) (inr k) =
+one_layout : HasOneReading → AcceptsNoRefused → HasOneCause → HasOnePlace → (bytes : List ℕ) → IsOne (TellsLayout bytes)
+one_layout reading apart cause place bytes session o other (inl h) (inl k) = h.1.1 ∙ ap (λ items. lays_out session (layout_of items)) (reading bytes h.0 k.0 h.1.0 k.1.0) ∙ sym k.1.1
+one_layout reading apart cause place bytes session o other (inl h) (inr k) = absurd (apart bytes h.0 k.0.cause k.0.at h.1.0 k.1.0)
+one_layout reading apart cause place bytes session o other (inr h) (inl k) = absurd (apart bytes k.0 h.0.cause h.0.at k.1.0 h.1.0)
+one_layout reading apart cause place bytes session o other (inr h) (inr k) =
     h.1.1 ∙ ap refuses_layout (same_fault h.0 k.0 (cause bytes h.0.cause k.0.cause h.0.at k.0.at h.1.0 k.1.0) (place bytes h.0.cause k.0.cause h.0.at k.0.at h.1.0 k.1.0)) ∙ sym k.1.1
 
-one_carried_out : HasOneReading → AcceptsNoRefused → HasOneCause → HasOnePlace → (session : Session) (said : Line) (o other : Outcome) → CarriesOut session said o → CarriesOut session said other → o ≡ other
-unfolding CarriesOut
-one_carried_out reading apart cause place session line.Nothing o other h k = h ∙ sym k
-one_carried_out reading apart cause place session (line.Layout bytes) o other h k = one_layout reading apart cause place bytes.items o other h k
-one_carried_out reading apart cause place session (line.Values bytes) o other h k = h ∙ sym k
+-- ---- steps
 
-one_meant : HasOneReading → AcceptsNoRefused → HasOneCause → HasOnePlace → (session : Session) (meaning : Result Line Cause) (o other : Outcome) → Means session meaning o → Means session meaning other → o ≡ other
-one_meant reading apart cause place session (Ok said) o other h k = one_carried_out reading apart cause place session said o other h k
-one_meant reading apart cause place session (Err why) o other h k = h ∙ sym k
+one_step : StackAnswersOneThing → (step : Step) → IsOne (TellsStep step)
+one_step one step session o other (inl h) (inl k) = h.3 ∙ ap (stepped session step) (one.tells session.members step h.0 k.0 h.2 k.2) ∙ sym k.3
+one_step one step session o other (inl h) (inr k) = let taken = h.1 in let refused = k.1 in absurd (cc)
+one_step one step session o other (inr h) (inl k) = let refused = h.1 in let taken = k.1 in absurd (cc)
+one_step one step session o other (inr h) (inr k) = let first = h.1 in let second = k.1 in let same : h.0 ≡ k.0 = cc in h.2 ∙ ap refuses_step same ∙ sym k.2
 
-pub one_outcome : HasOneReading → AcceptsNoRefused → HasOneCause → HasOnePlace → LineTellsOneThing
+one_found : StackAnswersOneThing → (dev : ℕ) (wanted : Wanted) (found : Result ControlId StackFault) → IsOne (TellsFound dev wanted found)
+one_found one dev wanted (Ok control) session o other h k = one_step one (Change dev (change_of wanted control)) session o other h k
+one_found one dev wanted (Err fault) session o other h k = h ∙ sym k
+
+one_change : StackAnswersOneThing → (dev : ℕ) (usage : Usage) (wanted : Wanted) → IsOne (TellsChange dev usage wanted)
+one_change one dev usage wanted session o other h k =
+    let same = one.finds session.members dev usage h.0 k.0 h.1 k.1 in
+    one_found one dev wanted k.0 session o other (subst (λ found. TellsFound dev wanted found session o) same h.2) k.2
+
+-- ---- devices
+
+at_last : (members : List Member) (m : Member) → slice_get (members ++ m ∷ []) (length members) ≡ Some m
+at_last [] m = refl
+at_last (x ∷ members) m = at_last members m
+
+one_fresh : (members : List Member) (dev other : ℕ) (layout next : Contents) → members ++ fresh_member dev layout ∷ [] ≡ members ++ fresh_member other next ∷ [] → layout ≡ next
+one_fresh members dev other layout next e =
+    let same : (let a : Option Member = Some (fresh_member dev layout) in a) ≡ Some (fresh_member other next) = sym (at_last members (fresh_member dev layout)) ∙ ap (λ ms. slice_get ms (length members)) e ∙ at_last members (fresh_member other next) in
+    let fresh : fresh_member dev layout ≡ fresh_member other next = cc in
+    ap (λ (m : Member). m.layout) fresh
+
+one_device : StackAnswersOneThing → (boot : Boot) (bytes : List ℕ) → IsOne (TellsDevice boot bytes)
+one_device one boot bytes session o other (inl h) (inl k) =
+    let same = one.attaches session.members (config_of boot) bytes (Ok h.0) (Ok k.0) h.2 k.2 h.3 k.3 (λ e. cc) (λ e. cc) in
+    let layout = one_fresh session.members h.0 k.0 h.1 k.1 (sym h.4 ∙ same.1 ∙ k.4) in
+    h.5 ∙ ap (λ l. attaches session l h.2) layout ∙ ap (attaches session k.1) same.1 ∙ sym k.5
+one_device one boot bytes session o other (inl h) (inr k) =
+    let same = (one.attaches session.members (config_of boot) bytes (Ok h.0) (Err k.0) h.2 k.1 h.3 k.2 (λ e. cc) (λ e. k.3 (cc))).0 in absurd (cc)
+one_device one boot bytes session o other (inr h) (inl k) =
+    let same = (one.attaches session.members (config_of boot) bytes (Err h.0) (Ok k.0) h.1 k.2 h.2 k.3 (λ e. h.3 (cc)) (λ e. cc)).0 in absurd (cc)
+one_device one boot bytes session o other (inr h) (inr k) =
+    let same = (one.attaches session.members (config_of boot) bytes (Err h.0) (Err k.0) h.1 k.1 h.2 k.2 (λ e. h.3 (cc)) (λ e. k.3 (cc))).0 in
+    let fault : h.0 ≡ k.0 = cc in
+    h.4 ∙ ap refuses_step fault ∙ sym k.4
+
+-- ---- lines
+
+one_once : HasOneReading → AcceptsNoRefused → HasOneCause → HasOnePlace → StackAnswersOneThing → (said : Line) → IsOne (Once said)
+unfolding Once
+one_once reading apart cause place one line.Nothing session o other h k = h ∙ sym k
+one_once reading apart cause place one (line.Layout bytes) session o other h k = one_layout reading apart cause place bytes.items session o other h k
+one_once reading apart cause place one (line.Values bytes) session o other h k = h ∙ sym k
+one_once reading apart cause place one (line.Device start boot bytes) session o other h k = one_device one boot bytes.items session o other h k
+one_once reading apart cause place one (line.Press dev usage) session o other h k = one_change one dev usage wanted.Press session o other h k
+one_once reading apart cause place one (line.Release dev usage) session o other h k = one_change one dev usage wanted.Release session o other h k
+one_once reading apart cause place one (line.Null dev usage) session o other h k = one_change one dev usage wanted.Null session o other h k
+one_once reading apart cause place one (line.Set dev usage value) session o other h k = one_change one dev usage (wanted.Set value) session o other h k
+one_once reading apart cause place one (line.Move dev usage by) session o other h k = one_change one dev usage (wanted.Move by) session o other h k
+one_once reading apart cause place one (line.Frame count) session o other h k = one_step one step.Frame session o other h k
+one_once reading apart cause place one (line.Poll dev fate count) session o other h k = one_step one (step.Poll dev fate) session o other h k
+
+session_in : Session → Result Session Cause → Session
+session_in d (Ok session) = session
+session_in d (Err cause) = d
+
+same_session : (text other : List ℕ) (a b : Session) → accepted text a ≡ accepted other b → a ≡ b
+unfolding session_in
+same_session text other a b e = ap (λ (o : Outcome). session_in a o.end) e
+
+one_join : (First : Outcome → Type 0) (Next : Session → Outcome → Type 0) → ((o other : Outcome) → First o → First other → o ≡ other) → IsOne Next → (o other : Outcome) → Joins First Next o → Joins First Next other → o ≡ other
+one_join First Next first next o other (inl h) (inl k) =
+    let same = first (accepted h.0 h.1) (accepted k.0 k.1) h.3 k.3 in
+    let session = same_session h.0 k.0 h.1 k.1 same in
+    let rest = next k.1 h.2 k.2 (subst (λ s. Next s h.2) session h.4) k.4 in
+    h.5 ∙ ap (λ t. after_text t h.2) (ap (λ (p : Outcome). p.text) same) ∙ ap (after_text k.0) rest ∙ sym k.5
+one_join First Next first next o other (inl h) (inr k) =
+    let ends = ap (λ (p : Outcome). p.end) (first (accepted h.0 h.1) (record { text = k.0; end = Err k.1 }) h.3 k.2) in absurd (cc)
+one_join First Next first next o other (inr h) (inl k) =
+    let ends = ap (λ (p : Outcome). p.end) (first (record { text = h.0; end = Err h.1 }) (accepted k.0 k.1) h.2 k.3) in absurd (cc)
+one_join First Next first next o other (inr h) (inr k) = h.3 ∙ first (record { text = h.0; end = Err h.1 }) (record { text = k.0; end = Err k.1 }) h.2 k.2 ∙ sym k.3
+
+one_repeated : (Part : Session → Outcome → Type 0) → IsOne Part → (n : ℕ) → IsOne (Repeats n Part)
+unfolding Repeats
+one_repeated Part one zero session o other h k = h ∙ sym k
+one_repeated Part one (suc n) session o other h k = one_join (Part session) (Repeats n Part) (one session) (one_repeated Part one n) o other h k
+
+one_meant : HasOneReading → AcceptsNoRefused → HasOneCause → HasOnePlace → StackAnswersOneThing → (session : Session) (meaning : Result Line Cause) (o other : Outcome) → Means session meaning o → Means session meaning other → o ≡ other
+one_meant reading apart cause place one session (Ok said) o other h k = one_repeated (Once said) (one_once reading apart cause place one said) (times said) session o other h k
+one_meant reading apart cause place one session (Err why) o other h k = h ∙ sym k
+
+pub one_outcome : HasOneReading → AcceptsNoRefused → HasOneCause → HasOnePlace → StackAnswersOneThing → LineTellsOneThing
 unfolding LineTells
-one_outcome reading apart cause place session bytes o other h k = one_meant reading apart cause place session (meaning_of bytes) o other h k
-
-accepted_session : Session → Result Session Cause → Session
-accepted_session d (Ok session) = session
-accepted_session d (Err cause) = d
+one_outcome reading apart cause place one session bytes o other h k = one_meant reading apart cause place one session (meaning_of bytes) o other h k
 
 pub one_text : LineTellsOneThing → LinesTellOneText
-unfolding accepted_session
 one_text one session [] text other last end h k = (h.0 ∙ sym k.0, h.1 ∙ sym k.1)
 one_text one session (bytes ∷ more) text other last end h k =
-    let same = one session bytes (record { text = h.0; end = Ok h.1 }) (record { text = k.0; end = Ok k.1 }) h.3 k.3 in
-    let next : h.1 ≡ k.1 = ap (λ (o : Outcome). accepted_session session o.end) same in
+    let same = one session bytes (accepted h.0 h.1) (accepted k.0 k.1) h.3 k.3 in
+    let next = same_session h.0 k.0 h.1 k.1 same in
     let rest = one_text one k.1 more h.2 k.2 last end (subst (λ s. AllTell s more h.2 last) next h.4) k.4 in (
       h.5 ∙ ap (λ t. t ++ h.2) (ap (λ (o : Outcome). o.text) same) ∙ ap (λ t. k.0 ++ t) rest.0 ∙ sym k.5,
       rest.1,
     )
+
+-- ---- fronts
+
+front_repeated : (Part : Session → Outcome → Type 0) → IsOne Part → (n count : ℕ) (session next : Session) (text : List ℕ) (o : Outcome) → n ≤ count → Repeats n Part session (accepted text next) → Repeats count Part session o → IsFront text o.text
+unfolding Repeats
+front_repeated Part one zero count session next text o below h k = let none : text ≡ [] = ap (λ (p : Outcome). p.text) h in rw none (o.text, refl)
+front_repeated Part one (suc n) zero session next text o below h k = absurd (omega arith)
+front_repeated Part one (suc n) (suc count) session next text o below (inr h) k = let ends : (let r : Result Session Cause = Ok next in r) ≡ Err h.1 = ap (λ (p : Outcome). p.end) h.3 in absurd (cc)
+front_repeated Part one (suc n) (suc count) session next text o below (inl h) (inr k) =
+    let ends = ap (λ (p : Outcome). p.end) (one session (accepted h.0 h.1) (record { text = k.0; end = Err k.1 }) h.3 k.2) in absurd (cc)
+front_repeated Part one (suc n) (suc count) session next text o below (inl h) (inl k) =
+    let same = one session (accepted h.0 h.1) (accepted k.0 k.1) h.3 k.3 in
+    let now = same_session h.0 k.0 h.1 k.1 same in
+    let end : (let r : Result Session Cause = Ok next in r) ≡ h.2.end = ap (λ (p : Outcome). p.end) h.5 in
+    let rest : Repeats n Part k.1 (accepted h.2.text next) = subst (λ s. Repeats n Part s (accepted h.2.text next)) now (subst (λ e. Repeats n Part h.1 (record { text = h.2.text; end = e })) (sym end) h.4) in
+    let front = front_repeated Part one n count k.1 next h.2.text k.2 (omega arith) rest k.4 in
+    let first : h.0 ≡ k.0 = ap (λ (p : Outcome). p.text) same in
+    let whole : text ≡ k.0 ++ h.2.text = ap (λ (p : Outcome). p.text) h.5 ∙ ap (λ t. t ++ h.2.text) first in
+    (front.0, ap (λ (p : Outcome). p.text) k.5 ∙ ap (λ t. k.0 ++ t) front.1 ∙ sym (append_assoc k.0 h.2.text front.0) ∙ ap (λ t. t ++ front.0) (sym whole))
+
+front_meant : HasOneReading → AcceptsNoRefused → HasOneCause → HasOnePlace → StackAnswersOneThing → (session : Session) (meaning : Result Line Cause) (text : List ℕ) (o : Outcome) → BeginsMeant session meaning text → Means session meaning o → IsFront text o.text
+front_meant reading apart cause place one session (Ok said) text o h k = front_repeated (Once said) (one_once reading apart cause place one said) h.0 (times said) session h.1 text o h.2 h.3 k
+front_meant reading apart cause place one session (Err why) text o h k = rw h (o.text, refl)
+
+pub fronts : HasOneReading → AcceptsNoRefused → HasOneCause → HasOnePlace → StackAnswersOneThing → BeginsWithFronts
+unfolding LineTells LineBegins
+fronts reading apart cause place one session bytes text o h k = front_meant reading apart cause place one session (meaning_of bytes) text o h k

@@ -8,7 +8,7 @@ use Rattle.hid_layout.specs.declared.main_item.Shape.TheVariants.{Variable}
 use Rattle.hid_layout.specs.declared.fault.Cause.TheVariants as layouts
 use Rattle.hid_script.specs.declared.fault.Cause.TheVariants as causes
 use Rattle.hid_script.specs.declared.fault.StepFault.TheVariants as faults
-use Rattle.hid_script.specs.declared.report.ReportFault.TheVariants.{Short}
+use Rattle.hid_cells.specs.declared.fault.ReportFault.TheVariants.{Short}
 use Rattle.hid_script.specs.Words.{words_of}
 use Rattle.hid_script.specs.Text.{hex_text, usage_text, range_text}
 use Rattle.hid_script.specs.LayoutText.{item_head, item_line}

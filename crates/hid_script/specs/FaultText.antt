@@ -2,22 +2,19 @@
 use Rattle.std.specs.Prelude.{ℕ, List, [], ◌∷◌, ◌++◌, codes}
 use Rattle.std.specs.Fmt.{decimal}
 use Rattle.hid_layout.specs.Codes.{fault_text as layout_fault_text}
-use Rattle.hid_script.specs.declared.report.ReportFault.{ReportFault}
-use Rattle.hid_script.specs.declared.report.ReportFault.TheVariants.{Short, UnknownReport}
+use Rattle.hid_usages.specs.Faults.{report_code}
+use Rattle.hid_stack.specs.Faults.{stack_text}
 use Rattle.hid_script.specs.declared.fault.StepFault.{StepFault}
-use Rattle.hid_script.specs.declared.fault.StepFault.TheVariants.{Layout, Report}
+use Rattle.hid_script.specs.declared.fault.StepFault.TheVariants.{Layout, Report, Stack}
 use Rattle.hid_script.specs.declared.fault.Cause.{Cause}
 use Rattle.hid_script.specs.declared.fault.Cause.TheVariants.{Syntax, LineTooLong, BadHex, Step, Read, Write, Memory, TooManyReads, NoLayout}
 use Rattle.hid_script.specs.declared.fault.ScriptFault.{ScriptFault}
-
-abbrev pub report_code : ReportFault → List ℕ
-report_code Short = codes "U8"
-report_code UnknownReport = codes "U9"
 
 -- a descriptor's cause is printed with its place
 abbrev pub step_text : StepFault → List ℕ
 step_text (Layout fault) = layout_fault_text fault
 step_text (Report fault) = report_code fault
+step_text (Stack fault) = stack_text fault
 
 -- the codes from the outermost to the innermost
 abbrev pub cause_text : Cause → List ℕ

@@ -3,4 +3,4 @@ use Rattle.hid_script.specs.declared.interpreter.Interpreter.{Interpreter}
 use Rattle.hid_script.specs.Session.{Session}
 
 abbrev pub session_of : Interpreter → Session
-session_of i = record { layout = i.layout }
+session_of i = record { options = i.options; layout = i.layout; members = i.rig; events = i.events }

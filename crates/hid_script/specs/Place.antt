@@ -1,21 +1,40 @@
 -- A script of which some bytes have come: for proofs.
-use Rattle.std.specs.Prelude.{◌≡◌, ◌==◌, ℕ, ◌+◌, false, List, [], ◌++◌, length, All, Option, Result, Ok, Err}
+use Rattle.std.specs.Prelude.{◌≡◌, ◌⊎◌, ◌==◌, ℕ, ◌+◌, false, List, [], ◌++◌, length, All, Option, Result, Ok, Err}
 use Rattle.std.specs.Str.Lines.{lines}
 use Rattle.std.specs.Io.KnownBytes.{Appends}
 use Rattle.hid_script.specs.declared.fault.Cause.{Cause}
 use Rattle.hid_script.specs.declared.fault.ScriptFault.{ScriptFault}
 use Rattle.hid_script.specs.declared.fault.Summary.{Summary}
-use Rattle.hid_script.specs.Session.{Session, Outcome}
-use Rattle.hid_script.specs.Run.{AllTell, Ends, RunsTo}
+use Rattle.hid_script.specs.Session.{Session, Outcome, accepted}
+use Rattle.hid_script.specs.Output.{IsFront}
+use Rattle.hid_script.specs.Run.{Ending, Refusal, Want, Cut, Silence, ending_of, AllTell, Ends, RunsTo}
 
 -- what was written of a line: all that it tells, or what its end leaves of that
-abbrev pub Writes : (Outcome → Type 0) → List ℕ → Result (Unit {0}) Cause → Session → Type 0
-Writes Tells written (Ok _) next = Tells (record { text = written; end = Ok next })
-Writes Tells written (Err cause) next = Ends Tells written cause
+abbrev pub Writes : (Outcome → Type 0) → (List ℕ → Type 0) → List ℕ → Result (Unit {0}) Cause → Session → Type 0
+Writes Tells Begun written (Ok _) next = Tells (accepted written next)
+Writes Tells Begun written (Err cause) next = Ends Tells Begun written cause
 
 -- known bytes grew by what was written of a line
-abbrev pub AppendsTold : Option (List ℕ) → Option (List ℕ) → (Outcome → Type 0) → Result (Unit {0}) Cause → Session → Type 0
-AppendsTold old new Tells result next = (written : List ℕ) × Appends old new written × Writes Tells written result next
+abbrev pub AppendsTold : Option (List ℕ) → Option (List ℕ) → (Outcome → Type 0) → (List ℕ → Type 0) → Result (Unit {0}) Cause → Session → Type 0
+AppendsTold old new Tells Begun result next = (written : List ℕ) × Appends old new written × Writes Tells Begun written result next
+
+-- of a part that is told once: nothing, or all
+abbrev pub IsBegun : (Outcome → Type 0) → List ℕ → Type 0
+IsBegun Tells text = (text ≡ []) ⊎ ((next : Session) × Tells (accepted text next))
+
+-- what the end of such a part leaves of it; a read that failed doesn't end one
+abbrev pub OnceEndsAs : Ending → (Outcome → Type 0) → List ℕ → Cause → Type 0
+OnceEndsAs Refusal Tells written cause = Tells (record { text = written; end = Err cause })
+OnceEndsAs Want Tells written cause = IsBegun Tells written
+OnceEndsAs Cut Tells written cause = (text : List ℕ) × IsBegun Tells text × IsFront written text
+OnceEndsAs Silence Tells written cause = ⊥
+
+abbrev pub WritesOnce : (Outcome → Type 0) → List ℕ → Result (Unit {0}) Cause → Session → Type 0
+WritesOnce Tells written (Ok _) next = Tells (accepted written next)
+WritesOnce Tells written (Err cause) next = OnceEndsAs (ending_of cause) Tells written cause
+
+abbrev pub AppendsOnce : Option (List ℕ) → Option (List ℕ) → (Outcome → Type 0) → Result (Unit {0}) Cause → Session → Type 0
+AppendsOnce old new Tells result next = (written : List ℕ) × Appends old new written × WritesOnce Tells written result next
 
 -- the session, the line that has begun, and how many lines came before it
 pub record Place : Type 0 where
@@ -34,7 +53,7 @@ lines_at place more = lines (place.begun ++ more)
 -- Some bytes came and a text was written: whatever comes then, these lines come first, and the text is theirs.
 pub record Advances (old : Place) (bytes written : List ℕ) (new : Place) : Type 0 where
   pub ended : List (List ℕ)
-  pub told : AllTell old.session ended written new.session
+  pub all : AllTell old.session ended written new.session
   pub count : new.lines ≡ old.lines + length ended
   pub split : (more : List ℕ) → lines_at old (bytes ++ more) ≡ ended ++ lines_at new more
 

@@ -1,50 +1,41 @@
 -- The values of a report as they are printed (HID 1.11, 5.8 and 6.2.2.5; the text: our choice, docs/SCRIPT.md).
-use Rattle.std.specs.Prelude.{ℕ, ◌+◌, ◌-◌, List, [], ◌∷◌, ◌++◌, ◌==◌, ◌&&◌, length, min, if◌then◌else◌, Option, None, Some, slice_get, codes, ℤ, unsigned_abs, int_le, ◌-ℤ◌}
+use Rattle.std.specs.Prelude.{ℕ, ◌-◌, List, [], ◌∷◌, ◌++◌, ◌==◌, length, min, if◌then◌else◌, Option, None, Some, slice_get, codes, ℤ}
 use Rattle.std.specs.Fmt.{decimal, signed_decimal}
-use Rattle.hid_fields.specs.Field.{pattern_of}
-use Rattle.hid_fields.specs.Value.{value_of}
 use Rattle.hid_layout.specs.declared.usage.Usage.{Usage}
 use Rattle.hid_layout.specs.declared.main_item.MainItem.{MainItem}
 use Rattle.hid_layout.specs.declared.main_item.Shape.{Shape}
 use Rattle.hid_layout.specs.declared.main_item.Shape.TheVariants.{Padding, Variable, Array}
 use Rattle.hid_layout.specs.Layout.{Contents}
 use Rattle.hid_layout.specs.declared.main_item.Element.{Element}
-use Rattle.hid_layout.specs.Reports.{first_bit, element_in}
+use Rattle.hid_layout.specs.Reports.{element_in}
 use Rattle.hid_layout.specs.Usages.{Entry, usage_list}
+use Rattle.hid_usages.specs.Reading.{usage_named, element_number}
 use Rattle.hid_script.specs.Text.{usage_or_dash, joined_below}
-
--- the pattern of an element, as a number
-unfoldable pub number_at : Contents → List ℕ → Element → ℤ
-number_at layout bytes element = value_of (pattern_of bytes (first_bit layout + element.bit) element.width) element.width element.signed
 
 -- a variable item has a usage for each element, and where it has fewer the last one is for the rest (HID 1.11, 6.2.2.8)
 unfoldable pub usage_of_element : List Usage → ℕ → Option Usage
 usage_of_element usages j = slice_get usages (min j (length usages - 1))
 
--- an element of an array names the usage at the place that its number has from the minimum on, where it is in the range (HID 1.11, 6.2.2.5)
-unfoldable pub usage_of_number : List Usage → Element → ℤ → Option Usage
-usage_of_number usages element number =
-    if int_le element.min number && int_le number element.max then slice_get usages (unsigned_abs (number -ℤ element.min)) else None
-
-abbrev pub usage_shown : Shape → List Usage → Element → ℕ → ℤ → Option Usage
-usage_shown Padding usages element j number = None
-usage_shown Variable usages element j number = usage_of_element usages j
-usage_shown Array usages element j number = usage_of_number usages element number
+-- of an array the usage that the number names, where it names one (HID 1.11, 6.2.2.5)
+abbrev pub usage_shown : Shape → MainItem → List Usage → ℕ → ℤ → Option Usage
+usage_shown Padding item usages j number = None
+usage_shown Variable item usages j number = usage_of_element usages j
+usage_shown Array item usages j number = usage_named item usages number
 
 -- value ITEM.ELEMENT N U
 unfoldable pub value_line : ℕ → ℕ → ℤ → Option Usage → List ℕ
 value_line i j number usage = codes "value " ++ decimal i ++ 46 ∷ decimal j ++ 32 ∷ signed_decimal number ++ 32 ∷ usage_or_dash usage ++ 10 ∷ []
 
 -- the line of an element of an item
-abbrev pub element_line : Contents → List ℕ → ℕ → ℕ → Shape → List Usage → Option Element → List ℕ
-element_line layout bytes i j shape usages None = []
-element_line layout bytes i j shape usages (Some element) =
-    let number = number_at layout bytes element in
-    value_line i j number (usage_shown shape usages element j number)
+abbrev pub element_line : Contents → List ℕ → ℕ → ℕ → MainItem → List Usage → Option Element → List ℕ
+element_line layout bytes i j item usages None = []
+element_line layout bytes i j item usages (Some element) =
+    let number = element_number layout bytes element in
+    value_line i j number (usage_shown item.shape item usages j number)
 
 -- the line of the element j of the item i, where it is a data element
 abbrev pub value_in : Contents → List ℕ → ℕ → ℕ → Option MainItem → Option (List Entry) → List ℕ
-value_in layout bytes i j (Some item) (Some entries) = element_line layout bytes i j item.shape (usage_list entries) (element_in item j)
+value_in layout bytes i j (Some item) (Some entries) = element_line layout bytes i j item (usage_list entries) (element_in item j)
 value_in layout bytes i j _ _ = []
 
 unfoldable pub value_at : Contents → List ℕ → ℕ → ℕ → List ℕ

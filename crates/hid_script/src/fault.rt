@@ -2,17 +2,27 @@
 
 ghost use Rattle.std.specs.Prelude.{◌≡◌};
 
-use crate::report::ReportFault;
 use hid_layout::LayoutFault;
+use hid_stack::StackFault;
+use hid_usages::ReportFault;
 use std::alloc::AllocError;
 use thiserror::Error;
+
+/// What is printed beside what the lines tell.
+#[derive(Clone, Copy, Debug, PartialEq, Eq)]
+pub struct Options {
+    /// The layout of each device that is attached.
+    pub layout: bool,
+    /// A line for each poll.
+    pub trace: bool,
+}
 
 /// What was run.
 #[derive(Clone, Copy, Debug, PartialEq, Eq)]
 pub struct Summary {
     /// All lines, empty ones and comments too.
     pub lines: u64,
-    /// The events delivered: none, since no line of today polls a device.
+    /// The events that polls delivered. The count stops at the greatest `u64`.
     pub events: u64,
 }
 
@@ -23,6 +33,8 @@ pub enum StepFault {
     Layout(LayoutFault),
     /// U8, U9: the bytes of a `values` line are no Input report of the layout.
     Report(ReportFault),
+    /// S1 to S7: a line of devices.
+    Stack(StackFault),
 }
 
 /// Why a run ends early, in the order in which a line is looked at. It is printed as its codes.
@@ -34,7 +46,7 @@ pub enum Cause {
     LineTooLong,
     /// X3: a word of hex with a bad digit, or with an odd number of digits.
     BadHex,
-    /// X4: the descriptor or the report is refused.
+    /// X4: the descriptor, the report or the step is refused.
     Step(StepFault),
     /// X5: the reader failed.
     Read,
@@ -49,7 +61,7 @@ pub enum Cause {
 }
 
 impl From<LayoutFault> for Cause {
-    ghost use Rattle.hid_script.specs.Session.{cause_of};
+    ghost use Rattle.hid_script.specs.Telling.{cause_of};
 
     ghost from_gives = { λ fault cause. cause ≡ cause_of fault };
 
@@ -69,6 +81,19 @@ impl From<ReportFault> for Cause {
 
     fn from(fault: ReportFault) -> Cause {
         Cause::Step(StepFault::Report(fault))
+    }
+}
+
+impl From<StackFault> for Cause {
+    ghost use Rattle.hid_script.specs.Telling.{stack_cause};
+
+    ghost from_gives = { λ fault cause. cause ≡ stack_cause fault };
+
+    fn from(fault: StackFault) -> Cause {
+        match fault {
+            StackFault::Memory => Cause::Memory,
+            _ => Cause::Step(StepFault::Stack(fault)),
+        }
     }
 }
 

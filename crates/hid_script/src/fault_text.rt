@@ -1,23 +1,11 @@
 //! The line that names a fault, and its codes.
 
 ghost use Rattle.std.specs.Prelude.{◌≡◌, Some, IfOk, IfErr};
-ghost use Rattle.hid_script.specs.FaultText.{report_code, step_text, cause_text, fault_text};
+ghost use Rattle.hid_script.specs.FaultText.{step_text, cause_text, fault_text};
 
 use super::fault::{Cause, ScriptFault, StepFault};
-use super::report::ReportFault;
 use std::alloc::{AllocError, Global};
 use std::fmt;
-
-impl fmt::Display for ReportFault {
-    ghost output = { λ fault. Some (report_code fault) };
-
-    fn fmt<W: fmt::Write>(&self, f: &mut fmt::Formatter<W>) -> fmt::Result {
-        match self {
-            ReportFault::Short => write!(f, "U8"),
-            ReportFault::UnknownReport => write!(f, "U9"),
-        }
-    }
-}
 
 impl fmt::Display for StepFault {
     ghost output = { λ fault. Some (step_text fault) };
@@ -26,6 +14,7 @@ impl fmt::Display for StepFault {
         match self {
             StepFault::Layout(fault) => write!(f, "{fault}"),
             StepFault::Report(fault) => write!(f, "{fault}"),
+            StepFault::Stack(fault) => write!(f, "{fault}"),
         }
     }
 }

@@ -1,61 +1,151 @@
 //! A session: what stands between two lines, and how a line is carried out.
 
-ghost use Rattle.hid_script.specs.Session.{at_first, TellsLayout, TellsValues, CarriesOut, LineTells};
-ghost use Rattle.hid_script.specs.Place.{AppendsTold};
+ghost use Rattle.std.specs.Prelude.{◌≡◌};
+ghost use Rattle.hid_script.specs.Session.{at_first};
+ghost use Rattle.hid_script.specs.Steps.{TellsLayout, TellsValues, TellsDevice, TellsStep, TellsChange};
+ghost use Rattle.hid_script.specs.Telling.{Once, times, CarriesOut, Begins, LineTells, LineBegins};
+ghost use Rattle.hid_script.specs.Place.{AppendsTold, AppendsOnce};
 
-use super::fault::Cause;
+use super::fault::{Cause, Options};
 use super::layout_text::print_layout;
 use super::line::{Line, parse_line};
 use super::output::write_text;
-use super::report::input_report;
+use super::step_text::print_step;
 use super::values_text::print_values;
-use hid_layout::Layout;
+use super::wanted::{Wanted, change_of};
+use hid_device::{Boot, Config};
+use hid_layout::{Layout, Usage};
+use hid_stack::{Delivered, Rig, Start, Step};
+use hid_usages::input_report;
 use std::alloc::Global;
 use std::io::Write;
 
-/// The last layout that was accepted, and the text of a line, whose room is used again for the next.
+/// idVendor of a script's devices (USB 2.0, 9.6.1; our choice).
+const VENDOR: u16 = 0xFFFF;
+
+/// idProduct of a script's devices.
+const PRODUCT: u16 = 0x0001;
+
+/// bInterval of a script's devices, in frames (USB 2.0, 9.6.6).
+const INTERVAL: u8 = 10;
+
+/// The devices with their hosts and the last layout that was accepted, and room that is used again: for what a step
+/// delivers, and for what is printed.
 #[derive(Drop)]
 pub struct Interpreter {
     alloc: Global,
+    options: Options,
+    rig: Rig,
     layout: Option<Layout>,
+    events: u64,
+    delivered: Vec<Delivered>,
     text: String,
 }
 
+/// How many times a line is carried out.
+#[tactic(auto, unfolding(crate::specs::Telling::times))]
+fn times(line: &Line) -> u16
+    ensures { result ≡ times line.now }
+{
+    match line {
+        Line::Frame { count } => *count,
+        Line::Poll { count, .. } => *count,
+        Line::Nothing
+        | Line::Layout { .. }
+        | Line::Values { .. }
+        | Line::Device { .. }
+        | Line::Press { .. }
+        | Line::Release { .. }
+        | Line::Null { .. }
+        | Line::Set { .. }
+        | Line::Move { .. } => 1,
+    }
+}
+
 impl Interpreter {
-    ghost use Rattle.std.specs.Prelude.{◌≡◌};
+    ghost use Rattle.std.specs.Prelude.{IfOk, IfErr};
     ghost use Rattle.hid_script.specs.Interpreter.{session_of};
 
-    pub fn new(alloc: Global) -> Self
-        ensures { session_of result ≡ at_first }
+    pub fn new(alloc: Global, options: Options) -> Result<Self, Cause>
+        ensures new { IfOk result (λ interpreter. session_of interpreter ≡ at_first options) }
+        ensures memory { IfErr result (λ cause. cause ≡ Cause.Memory) }
     {
-        Interpreter {
+        let Ok(rig) = Rig::new(alloc) else {
+            return Err(Cause::Memory);
+        };
+        Ok(Interpreter {
             alloc,
+            options,
+            rig,
             layout: None,
+            events: 0,
+            delivered: Vec::new(alloc),
             text: String::new(alloc),
-        }
+        })
+    }
+
+    /// How many events were delivered.
+    pub fn events(&self) -> u64
+        ensures { result ≡ (session_of self.now).events }
+    {
+        self.events
     }
 
     /// Carries out a line, without its end.
     pub fn line<W: Write>(&mut self, line: &[u8], writer: &mut W) -> Result<(), Cause>
-        ensures { AppendsTold (W.contents writer.old) (W.contents writer.new) (LineTells (session_of self.old) line.now) result (session_of self.new) }
+        ensures { AppendsTold (W.contents writer.old) (W.contents writer.new) (LineTells (session_of self.old) line.now) (LineBegins (session_of self.old) line.now) result (session_of self.new) }
     {
         let line = parse_line(self.alloc, line)?;
         self.carry_out(&line, writer)
     }
 
+    /// Carries out a line as often as it says, up to the first time that it is refused. What it tells each time is written
+    /// before the next.
     fn carry_out<W: Write>(&mut self, line: &Line, writer: &mut W) -> Result<(), Cause>
-        ensures { AppendsTold (W.contents writer.old) (W.contents writer.new) (CarriesOut (session_of self.old) line.now) result (session_of self.new) }
+        ensures { AppendsTold (W.contents writer.old) (W.contents writer.new) (CarriesOut (session_of self.old) line.now) (Begins (times line.now) (Once line.now) (session_of self.old)) result (session_of self.new) }
+    {
+        for _ in 0..times(line) {
+            self.carry_out_once(line, writer)?;
+        }
+        Ok(())
+    }
+
+    /// What a line tells each time.
+    #[tactic(auto, unfolding(crate::specs::Telling::Once))]
+    fn carry_out_once<W: Write>(&mut self, line: &Line, writer: &mut W) -> Result<(), Cause>
+        ensures { AppendsOnce (W.contents writer.old) (W.contents writer.new) (Once line.now (session_of self.old)) result (session_of self.new) }
     {
         match line {
             Line::Nothing => Ok(()),
             Line::Layout { bytes } => self.lay_out(bytes.as_slice(), writer),
             Line::Values { bytes } => self.tell_values(bytes.as_slice(), writer),
+            Line::Device { start, boot, bytes } => self.attach(
+                *start,
+                *boot,
+                bytes.as_slice(),
+                writer,
+            ),
+            Line::Press { dev, usage } => self.change(*dev, *usage, Wanted::Press, writer),
+            Line::Release { dev, usage } => self.change(*dev, *usage, Wanted::Release, writer),
+            Line::Null { dev, usage } => self.change(*dev, *usage, Wanted::Null, writer),
+            Line::Set { dev, usage, value } => self.change(
+                *dev,
+                *usage,
+                Wanted::Set(*value),
+                writer,
+            ),
+            Line::Move { dev, usage, by } => self.change(*dev, *usage, Wanted::Move(*by), writer),
+            Line::Frame { .. } => self.step(&Step::Frame, writer),
+            Line::Poll { dev, fate, .. } => {
+                let (dev, fate) = (*dev, *fate);
+                self.step(&Step::Poll { dev, fate }, writer)
+            }
         }
     }
 
     /// Prints the layout that a descriptor gives, and keeps it.
     fn lay_out<W: Write>(&mut self, descriptor: &[u8], writer: &mut W) -> Result<(), Cause>
-        ensures { AppendsTold (W.contents writer.old) (W.contents writer.new) (TellsLayout descriptor.now) result (session_of self.new) }
+        ensures { AppendsOnce (W.contents writer.old) (W.contents writer.new) (TellsLayout descriptor.now (session_of self.old)) result (session_of self.new) }
     {
         let layout = Layout::parse(self.alloc, descriptor)?;
         self.text.clear();
@@ -66,7 +156,7 @@ impl Interpreter {
 
     /// Prints the values of a report of the layout that is kept.
     fn tell_values<W: Write>(&mut self, bytes: &[u8], writer: &mut W) -> Result<(), Cause>
-        ensures { AppendsTold (W.contents writer.old) (W.contents writer.new) (TellsValues (session_of self.old) bytes.now) result (session_of self.new) }
+        ensures { AppendsOnce (W.contents writer.old) (W.contents writer.new) (TellsValues bytes.now (session_of self.old)) result (session_of self.new) }
     {
         let Some(layout) = &self.layout else {
             return Err(Cause::NoLayout);
@@ -74,6 +164,60 @@ impl Interpreter {
         let report = input_report(layout, bytes)?;
         self.text.clear();
         print_values(&mut self.text, layout, report, bytes)?;
+        write_text(writer, self.text.as_bytes())
+    }
+
+    /// Attaches a device, and prints its layout where layouts are asked for.
+    fn attach<W: Write>(
+        &mut self,
+        start: Start,
+        boot: Boot,
+        descriptor: &[u8],
+        writer: &mut W,
+    ) -> Result<(), Cause>
+        ensures { AppendsOnce (W.contents writer.old) (W.contents writer.new) (TellsDevice boot descriptor.now (session_of self.old)) result (session_of self.new) }
+    {
+        let config = Config {
+            vendor: VENDOR,
+            product: PRODUCT,
+            interval: INTERVAL,
+            boot,
+        };
+        let dev = self.rig.attach(&config, descriptor, start)?;
+        if !self.options.layout {
+            return Ok(());
+        }
+        let device = self.rig.device(dev)?;
+        self.text.clear();
+        print_layout(&mut self.text, device.layout())?;
+        write_text(writer, self.text.as_bytes())
+    }
+
+    /// Changes the least control with a usage.
+    fn change<W: Write>(
+        &mut self,
+        dev: u8,
+        usage: Usage,
+        wanted: Wanted,
+        writer: &mut W,
+    ) -> Result<(), Cause>
+        ensures { AppendsOnce (W.contents writer.old) (W.contents writer.new) (TellsChange dev usage wanted (session_of self.old)) result (session_of self.new) }
+    {
+        let control = self.rig.find(dev, usage)?;
+        let change = change_of(wanted, control);
+        self.step(&Step::Change { dev, change }, writer)
+    }
+
+    /// Takes a step of the bus, and prints what it tells.
+    fn step<W: Write>(&mut self, step: &Step, writer: &mut W) -> Result<(), Cause>
+        ensures { AppendsOnce (W.contents writer.old) (W.contents writer.new) (TellsStep step.now (session_of self.old)) result (session_of self.new) }
+    {
+        self.delivered.clear();
+        let told = self.rig.step(step, &mut self.delivered)?;
+        self.text.clear();
+        let delivered = self.delivered.as_slice();
+        print_step(&mut self.text, self.options.trace, step, &told, delivered)?;
+        self.events = self.events.saturating_add(delivered.len() as u64);
         write_text(writer, self.text.as_bytes())
     }
 }

@@ -1,12 +1,12 @@
 //! Laws of the definitions that the contract of `run` cites: they pin what it writes, up to where it ends.
 
-ghost use Rattle.hid_script.specs.Laws.{LineTellsOneThing, LinesTellOneText};
+ghost use Rattle.hid_script.specs.Laws.{StackAnswersOneThing, LineTellsOneThing, LinesTellOneText, BeginsWithFronts};
 
 use hid_layout::laws::{accepted_or_refused, one_reading, one_refusal};
 
 /// A line tells one text at most, with one end: it is accepted or refused, and for one cause.
 pub fn one_outcome()
-    ensures { LineTellsOneThing }
+    ensures { StackAnswersOneThing → LineTellsOneThing }
 {
     one_reading();
     accepted_or_refused();
@@ -15,7 +15,16 @@ pub fn one_outcome()
 
 /// Lines that are all accepted tell one text at most, and leave one session.
 pub fn one_text()
-    ensures { LinesTellOneText }
+    ensures { StackAnswersOneThing → LinesTellOneText }
 {
     one_outcome();
+}
+
+/// What a want of memory or the writer leaves of a line's text is a front of it.
+pub fn fronts()
+    ensures { StackAnswersOneThing → BeginsWithFronts }
+{
+    one_reading();
+    accepted_or_refused();
+    one_refusal();
 }

@@ -2,12 +2,19 @@
 
 ghost use Rattle.std.specs.Prelude.{◌≡◌, ◌≤◌, map};
 ghost use Rattle.hid_script.specs.Words.{total_length};
-ghost use Rattle.hid_script.specs.Meaning.{Gives, keyword_of, meaning_of, words_said};
+ghost use Rattle.hid_script.specs.Meaning.{Gives, keyword_of, meaning_of, words_said, said_by, device_said};
 
+use super::arguments::{
+    read_boot, read_control, read_frame, read_move, read_poll, read_set, read_start,
+};
 use super::fault::Cause;
 use super::words::{look_up, read_hex, words_of_line};
 use arrayvec::ArrayVec;
+use hid_device::Boot;
+use hid_layout::Usage;
+use hid_stack::Start;
 use std::alloc::Global;
+use usb_transact::Fate;
 
 /// The most bytes of a line, without its end.
 pub const LINE_LIMIT: usize = 1024;
@@ -15,28 +22,94 @@ pub const LINE_LIMIT: usize = 1024;
 /// The most bytes that the hex words of a line spell.
 pub const HEX_LIMIT: usize = 512;
 
-/// What a line says, with its words as values.
+/// What a line says, with its words as values. A device is numbered from 1, and a usage names the least control that has it.
 #[derive(Drop)]
 pub enum Line {
     /// An empty line, or a comment.
     Nothing,
     /// `layout HEX`: a report descriptor.
-    Layout { bytes: ArrayVec<u8, HEX_LIMIT> },
+    Layout {
+        bytes: ArrayVec<u8, HEX_LIMIT>,
+    },
     /// `values HEX`: the bytes of an Input report, with its ID byte where reports are numbered.
-    Values { bytes: ArrayVec<u8, HEX_LIMIT> },
+    Values {
+        bytes: ArrayVec<u8, HEX_LIMIT>,
+    },
+    /// `device START KIND HEX`: a device, with its report descriptor.
+    Device {
+        start: Start,
+        boot: Boot,
+        bytes: ArrayVec<u8, HEX_LIMIT>,
+    },
+    /// `press D U`
+    Press {
+        dev: u8,
+        usage: Usage,
+    },
+    /// `release D U`
+    Release {
+        dev: u8,
+        usage: Usage,
+    },
+    /// `null D U`
+    Null {
+        dev: u8,
+        usage: Usage,
+    },
+    /// `set D U N`
+    Set {
+        dev: u8,
+        usage: Usage,
+        value: i64,
+    },
+    /// `move D U N`
+    Move {
+        dev: u8,
+        usage: Usage,
+        by: i32,
+    },
+    /// `frame [COUNT]`: so many frames, 1 to 10,000.
+    Frame {
+        count: u16,
+    },
+    /// `poll D [FATE [COUNT]]`: so many polls, 1 to 10,000.
+    Poll {
+        dev: u8,
+        fate: Fate,
+        count: u16,
+    },
 }
 
 #[derive(Clone, Copy, Debug)]
 enum Keyword {
     Layout,
     Values,
+    Device,
+    Press,
+    Release,
+    Null,
+    Set,
+    Move,
+    Frame,
+    Poll,
 }
 
 fn read_keyword(word: &[u8]) -> Option<Keyword>
     ensures { result ≡ keyword_of word.now }
 {
     look_up(
-        &[(b"layout", Keyword::Layout), (b"values", Keyword::Values)],
+        &[
+            (b"layout", Keyword::Layout),
+            (b"values", Keyword::Values),
+            (b"device", Keyword::Device),
+            (b"press", Keyword::Press),
+            (b"release", Keyword::Release),
+            (b"null", Keyword::Null),
+            (b"set", Keyword::Set),
+            (b"move", Keyword::Move),
+            (b"frame", Keyword::Frame),
+            (b"poll", Keyword::Poll),
+        ],
         word,
     )
 }
@@ -66,13 +139,67 @@ fn read_words(words: &[&[u8]]) -> Result<Line, Cause>
     }
     match read_keyword(first) {
         None => Err(Cause::Syntax),
-        Some(Keyword::Layout) => {
-            let bytes = read_hex(rest)?;
+        Some(keyword) => read_arguments(keyword, rest),
+    }
+}
+
+#[tactic(auto, unfolding(crate::specs::Meaning::said_by))]
+fn read_arguments(keyword: Keyword, words: &[&[u8]]) -> Result<Line, Cause>
+    requires { total_length (map (λ word. word.now) words.now) ≤ 1024 }
+    ensures { result ≡ said_by keyword (map (λ word. word.now) words.now) }
+{
+    match keyword {
+        Keyword::Layout => {
+            let bytes = read_hex(words)?;
             Ok(Line::Layout { bytes })
         }
-        Some(Keyword::Values) => {
-            let bytes = read_hex(rest)?;
+        Keyword::Values => {
+            let bytes = read_hex(words)?;
             Ok(Line::Values { bytes })
         }
+        Keyword::Device => read_attachment(words),
+        Keyword::Press => {
+            let (dev, usage) = read_control(words).ok_or(Cause::Syntax)?;
+            Ok(Line::Press { dev, usage })
+        }
+        Keyword::Release => {
+            let (dev, usage) = read_control(words).ok_or(Cause::Syntax)?;
+            Ok(Line::Release { dev, usage })
+        }
+        Keyword::Null => {
+            let (dev, usage) = read_control(words).ok_or(Cause::Syntax)?;
+            Ok(Line::Null { dev, usage })
+        }
+        Keyword::Set => {
+            let (dev, usage, value) = read_set(words).ok_or(Cause::Syntax)?;
+            Ok(Line::Set { dev, usage, value })
+        }
+        Keyword::Move => {
+            let (dev, usage, by) = read_move(words).ok_or(Cause::Syntax)?;
+            Ok(Line::Move { dev, usage, by })
+        }
+        Keyword::Frame => {
+            let count = read_frame(words).ok_or(Cause::Syntax)?;
+            Ok(Line::Frame { count })
+        }
+        Keyword::Poll => {
+            let (dev, fate, count) = read_poll(words).ok_or(Cause::Syntax)?;
+            Ok(Line::Poll { dev, fate, count })
+        }
     }
+}
+
+/// `START KIND HEX`: a device, with its report descriptor.
+#[tactic(auto, unfolding(crate::specs::Meaning::device_said))]
+fn read_attachment(words: &[&[u8]]) -> Result<Line, Cause>
+    requires { total_length (map (λ word. word.now) words.now) ≤ 1024 }
+    ensures { result ≡ device_said (map (λ word. word.now) words.now) }
+{
+    let [start, kind, hex @ ..] = words else {
+        return Err(Cause::Syntax);
+    };
+    let start = read_start(start).ok_or(Cause::Syntax)?;
+    let boot = read_boot(kind).ok_or(Cause::Syntax)?;
+    let bytes = read_hex(hex)?;
+    Ok(Line::Device { start, boot, bytes })
 }

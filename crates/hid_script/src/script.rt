@@ -96,11 +96,11 @@ impl Script {
 
     fn summary(&self) -> Summary
         ensures lines { result.lines ≡ self.now.lines }
-        ensures events { result.events ≡ 0 }
+        ensures events { result.events ≡ (session_of self.now.interpreter).events }
     {
         Summary {
             lines: self.lines,
-            events: 0,
+            events: self.interpreter.events(),
         }
     }
 

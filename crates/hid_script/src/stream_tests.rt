@@ -1,24 +1,59 @@
 //! Readers and writers that give and take little, or fail; long lines, and codes. Worked out by hand from docs/SCRIPT.md.
 
-use crate::{Cause, Line, ReportFault, ScriptFault, StepFault, fault_line, parse_line, run};
+use crate::{
+    Cause, Line, Options, ReportFault, ScriptFault, StepFault, fault_line, parse_line, run,
+};
+use hid_device::{Boot, DeviceCause, DeviceFault};
+use hid_layout::Usage;
+use hid_stack::{DescriptorFault, StackFault, Start};
+use hid_usages::ChangeFault;
 use std::alloc::{AllocError, Global};
 use std::io;
 use std::io::{ErrorKind, Read, Write};
 use std::test::Fail;
+use usb_transact::Fate;
 
-/// Two layouts with their values, 110 bytes of script in 5 lines, with both kinds of line ends.
-const SCRIPT: &str =
-    "layout 05 01 09 30 25 7F 75 08 95 01 81 02\r\nvalues 05\n# 9\nlayout 05 09 09 01 25 01 75 01 95 02 81 02\nvalues 02";
+const QUIET: Options = Options {
+    layout: false,
+    trace: false,
+};
 
-/// What that script prints.
-const TEXT: &str =
-    "report input 0 bytes 1\nitem 0 input 0 at 0 8x1 variable 0..127 01:30\nvalue 0.0 5 01:30\nreport input 0 bytes 1\nitem 0 input 0 at 0 1x2 variable 0..1 09:01\nvalue 0.0 0 09:01\nvalue 0.1 1 09:01\n";
+const TRACED: Options = Options {
+    layout: false,
+    trace: true,
+};
 
-/// Where the text of each line of that script ends.
-const ENDS: [usize; 5] = [69, 87, 87, 154, 190];
+/// A script in five lines, the last without its end.
+#[derive(Clone, Copy)]
+struct Sample {
+    options: Options,
+    script: &'static str,
+    /// What it prints.
+    text: &'static str,
+    /// Where the text of each of its lines ends.
+    ends: [usize; 5],
+    /// Where its text begins, and where the text of each line ends that a line feed ends.
+    breaks: [usize; 5],
+}
 
-/// Where its text begins, and where the text of each line ends that a line feed ends.
-const BREAKS: [usize; 5] = [0, 69, 87, 87, 154];
+/// Two layouts with their values, with both kinds of line ends; and a keyboard whose first report is acknowledged in vain.
+#[rattlefmt::skip]
+const SAMPLES: [Sample; 2] = [
+    Sample {
+        options: QUIET,
+        script: "layout 05 01 09 30 25 7F 75 08 95 01 81 02\r\nvalues 05\n# 9\nlayout 05 09 09 01 25 01 75 01 95 02 81 02\nvalues 02",
+        text: "report input 0 bytes 1\nitem 0 input 0 at 0 8x1 variable 0..127 01:30\nvalue 0.0 5 01:30\nreport input 0 bytes 1\nitem 0 input 0 at 0 1x2 variable 0..1 09:01\nvalue 0.0 0 09:01\nvalue 0.1 1 09:01\n",
+        ends: [69, 87, 87, 154, 190],
+        breaks: [0, 69, 87, 87, 154],
+    },
+    Sample {
+        options: TRACED,
+        script: "device ready keyboard 05 01 09 06 A1 01 05 07 19 E0 29 E7 15 00 25 01 75 01 95 08 81 02 95 01 75 08 81 01 95 05 75 01 05 08 19 01 29 05 91 02 95 01 75 03 91 01 95 06 75 08 15 00 25 65 05 07 19 00 29 65 81 00 C0\npress 1 07:04\npoll 1 ack\npress 1 07:05\npoll 1 clean 2",
+        text: "1 poll DATA0 00 00 04 00 00 00 00 00 fresh\n1 down 07:04\n1 poll DATA0 00 00 04 00 00 00 00 00 again\n1 poll DATA1 00 00 04 05 00 00 00 00 fresh\n1 down 07:05\n",
+        ends: [0, 0, 56, 56, 155],
+        breaks: [0, 0, 0, 56, 56],
+    },
+];
 
 /// Gives a byte at a time, and an error in place of the byte behind so many.
 #[derive(Drop)]
@@ -91,77 +126,91 @@ impl Read for Endless {
 
 #[test]
 fn a_byte_at_a_time_at_both_ends_gives_the_same_text(rt: HostRuntime) -> Result<(), Fail> {
-    let mut reader = Trickle {
-        bytes: SCRIPT.as_bytes(),
-        left: usize::MAX,
-    };
-    let mut writer = Narrow {
-        taken: Vec::new(rt.alloc()),
-        room: usize::MAX,
-        fails: true,
-    };
-    let summary = run(rt.alloc(), &mut reader, &mut writer)?;
-    assert_eq!(rt; summary.lines, 5);
-    assert_eq!(rt; writer.taken.as_slice(), TEXT.as_bytes());
+    for sample in SAMPLES {
+        let mut reader = Trickle {
+            bytes: sample.script.as_bytes(),
+            left: usize::MAX,
+        };
+        let mut writer = Narrow {
+            taken: Vec::new(rt.alloc()),
+            room: usize::MAX,
+            fails: true,
+        };
+        let summary = run(rt.alloc(), &mut reader, &mut writer, sample.options)?;
+        assert_eq!(rt; summary.lines, 5);
+        assert_eq!(rt; writer.taken.as_slice(), sample.text.as_bytes());
+    }
     Ok(())
 }
 
 #[test]
 fn a_read_that_fails_leaves_the_text_of_the_lines_before(rt: HostRuntime) -> Result<(), Fail> {
-    for left in 0..=SCRIPT.len() {
-        let mut reader = Trickle {
-            bytes: SCRIPT.as_bytes(),
-            left,
-        };
-        let mut written = Vec::new(rt.alloc());
-        let fault = run(rt.alloc(), &mut reader, &mut written).expect_err(&rt, "a fault");
-        // As many lines have ended as line feeds were read.
-        let ended = SCRIPT
-            .as_bytes()
-            .iter()
-            .take(left)
-            .filter(|b| **b == b'\n')
-            .count();
-        let text = BREAKS.get(ended).copied();
-        assert_eq!(rt;
-            fault,
-            ScriptFault {
-                line: ended as u64 + 1,
-                cause: Cause::Read
-            },
-            "{left}"
-        );
-        assert_eq!(rt; Some(written.len()), text, "{left}");
-        assert!(rt; TEXT.as_bytes().starts_with(written.as_slice()), "{left}");
+    for sample in SAMPLES {
+        for left in 0..=sample.script.len() {
+            let mut reader = Trickle {
+                bytes: sample.script.as_bytes(),
+                left,
+            };
+            let mut written = Vec::new(rt.alloc());
+            let fault = run(rt.alloc(), &mut reader, &mut written, sample.options).expect_err(
+                &rt, "a fault",
+            );
+            // As many lines have ended as line feeds were read.
+            let ended = sample
+                .script
+                .as_bytes()
+                .iter()
+                .take(left)
+                .filter(|b| **b == b'\n')
+                .count();
+            let text = sample.breaks.get(ended).copied();
+            assert_eq!(rt;
+                fault,
+                ScriptFault {
+                    line: ended as u64 + 1,
+                    cause: Cause::Read
+                },
+                "{left}"
+            );
+            assert_eq!(rt; Some(written.len()), text, "{left}");
+            assert!(rt;
+                sample.text.as_bytes().starts_with(written.as_slice()),
+                "{left}"
+            );
+        }
     }
     Ok(())
 }
 
 #[test]
 fn a_write_that_fails_leaves_what_was_taken(rt: HostRuntime) -> Result<(), Fail> {
-    for fails in [true, false] {
-        for room in 0..TEXT.len() {
-            let mut reader = SCRIPT.as_bytes();
-            let mut writer = Narrow {
-                taken: Vec::new(rt.alloc()),
-                room,
-                fails,
-            };
-            let fault = run(rt.alloc(), &mut reader, &mut writer).expect_err(&rt, "a fault");
-            let ended = ENDS.iter().filter(|end| **end <= room).count();
-            assert_eq!(rt;
-                fault,
-                ScriptFault {
-                    line: ended as u64 + 1,
-                    cause: Cause::Write
-                },
-                "{room}"
-            );
-            assert_eq!(rt; writer.taken.len(), room, "{room}");
-            assert!(rt;
-                TEXT.as_bytes().starts_with(writer.taken.as_slice()),
-                "{room}"
-            );
+    for sample in SAMPLES {
+        for fails in [true, false] {
+            for room in 0..sample.text.len() {
+                let mut reader = sample.script.as_bytes();
+                let mut writer = Narrow {
+                    taken: Vec::new(rt.alloc()),
+                    room,
+                    fails,
+                };
+                let fault = run(rt.alloc(), &mut reader, &mut writer, sample.options).expect_err(
+                    &rt, "a fault",
+                );
+                let ended = sample.ends.iter().filter(|end| **end <= room).count();
+                assert_eq!(rt;
+                    fault,
+                    ScriptFault {
+                        line: ended as u64 + 1,
+                        cause: Cause::Write
+                    },
+                    "{room}"
+                );
+                assert_eq!(rt; writer.taken.len(), room, "{room}");
+                assert!(rt;
+                    sample.text.as_bytes().starts_with(writer.taken.as_slice()),
+                    "{room}"
+                );
+            }
         }
     }
     Ok(())
@@ -170,7 +219,7 @@ fn a_write_that_fails_leaves_what_was_taken(rt: HostRuntime) -> Result<(), Fail>
 #[test]
 fn a_script_without_end_is_given_up(rt: HostRuntime) {
     let mut written = Vec::new(rt.alloc());
-    let result = run(rt.alloc(), &mut Endless, &mut written);
+    let result = run(rt.alloc(), &mut Endless, &mut written, QUIET);
     let fault = ScriptFault {
         line: 1_000_001,
         cause: Cause::TooManyReads,
@@ -208,7 +257,7 @@ fn a_line_has_1024_bytes_without_its_end(rt: HostRuntime) -> Result<(), Fail> {
         let script = long_line(rt.alloc(), length, end)?;
         let mut reader = script.as_slice();
         let mut written = Vec::new(rt.alloc());
-        let result = run(rt.alloc(), &mut reader, &mut written);
+        let result = run(rt.alloc(), &mut reader, &mut written, QUIET);
         match result {
             Ok(summary) => assert!(rt; !long && summary.lines == 1, "{name}"),
             Err(fault) => {
@@ -240,14 +289,86 @@ fn a_line_says_its_bytes(rt: HostRuntime) -> Result<(), Fail> {
     Ok(())
 }
 
+#[test]
+fn a_line_says_its_words(rt: HostRuntime) -> Result<(), Fail> {
+    match parse_line(rt.alloc(), b"device ready keyboard 05 01")? {
+        Line::Device { start, boot, bytes } => {
+            assert!(rt; start == Start::Ready && boot == Boot::Keyboard);
+            assert_eq!(rt; bytes.as_slice(), [0x05, 0x01].as_slice());
+        }
+        _ => assert!(rt; false, "device"),
+    }
+    match parse_line(rt.alloc(), b"press 1 07:04")? {
+        Line::Press { dev, usage } => assert!(rt;
+            dev == 1 && usage == Usage { page: 7, id: 4 },
+            "press"
+        ),
+        _ => assert!(rt; false, "press"),
+    }
+    match parse_line(rt.alloc(), b"set 7 fF00:1 -999999999999999999")? {
+        Line::Set { dev, usage, value } => {
+            let named = Usage {
+                page: 0xFF00,
+                id: 1,
+            };
+            assert!(rt;
+                dev == 7 && usage == named && value == -999_999_999_999_999_999,
+                "set"
+            );
+        }
+        _ => assert!(rt; false, "set"),
+    }
+    match parse_line(rt.alloc(), b"move 1 01:30 -2147483648")? {
+        Line::Move { by, .. } => assert_eq!(rt; by, i32::MIN),
+        _ => assert!(rt; false, "move"),
+    }
+    match parse_line(rt.alloc(), b"poll 1")? {
+        Line::Poll { dev, fate, count } => assert!(rt;
+            dev == 1 && fate == Fate::Clean && count == 1,
+            "poll"
+        ),
+        _ => assert!(rt; false, "poll"),
+    }
+    match parse_line(rt.alloc(), b"poll 2 ack 00010000")? {
+        Line::Poll { dev, fate, count } => assert!(rt;
+            dev == 2 && fate == Fate::AckLost && count == 10_000,
+            "polls"
+        ),
+        _ => assert!(rt; false, "polls"),
+    }
+    Ok(())
+}
+
+/// Lines that are none of the script's.
+#[rattlefmt::skip]
+const NO_LINES: [&str; 26] = [
+    "press", "press 1", "press 0 07:04", "press 8 07:04", "press 11 07:04", "press 1 07:04 1",
+    "press 1 0704", "press 1 :04", "press 1 07:", "press 1 00007:04", "press 1 07:04:05", "press 1 0G:04",
+    "set 1 01:39", "set 1 01:39 -", "set 1 01:39 +1", "set 1 01:39 1234567890123456789",
+    "move 1 01:30 2147483648", "move 1 01:30 -2147483649",
+    "frame 0", "frame 10001", "frame 1 1", "poll 1 Clean", "poll 1 clean 0", "poll 1 clean 1 1",
+    "device cold keyboard 0G", "device ready pad 0G",
+];
+
+#[test]
+fn other_words_are_no_line(rt: HostRuntime) {
+    for line in NO_LINES {
+        let result = parse_line(rt.alloc(), line.as_bytes());
+        assert!(rt; matches!(result, Err(Cause::Syntax)), "{line}");
+    }
+}
+
 /// Causes with their codes.
 #[rattlefmt::skip]
-const CODES: [(Cause, &str); 10] = [
+const CODES: [(Cause, &str); 13] = [
     (Cause::Syntax,                                              "line 7: X1\n"),
     (Cause::LineTooLong,                                         "line 7: X2\n"),
     (Cause::BadHex,                                              "line 7: X3\n"),
     (Cause::Step(StepFault::Report(ReportFault::Short)),         "line 7: X4 U8\n"),
     (Cause::Step(StepFault::Report(ReportFault::UnknownReport)), "line 7: X4 U9\n"),
+    (Cause::Step(StepFault::Stack(StackFault::NoDevice)),        "line 7: X4 S1\n"),
+    (Cause::Step(StepFault::Stack(StackFault::Refused(ChangeFault::MotionFull))), "line 7: X4 S3 U6\n"),
+    (Cause::Step(StepFault::Stack(StackFault::BadDescriptor(DescriptorFault::Device(DeviceFault { cause: DeviceCause::NoEmptyCode, at: 0 })))), "line 7: X4 S5 V18\n"),
     (Cause::Read,                                                "line 7: X5\n"),
     (Cause::Write,                                               "line 7: X6\n"),
     (Cause::Memory,                                              "line 7: X7\n"),

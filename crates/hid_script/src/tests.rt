@@ -2,8 +2,13 @@
 //! The keyboard and the mouse are those of HID 1.11, appendix E.6 and E.10; the other descriptors, and every expected
 //! text, were worked out by hand from docs/FORMATS.md and docs/SCRIPT.md.
 
-use crate::{Summary, fault_line, run};
+use crate::{Options, Summary, fault_line, run};
 use std::test::Fail;
+
+const QUIET: Options = Options {
+    layout: false,
+    trace: false,
+};
 
 /// Scripts that run to their end.
 #[rattlefmt::skip]
@@ -209,7 +214,7 @@ fn an_accepted_script_prints_its_text(rt: HostRuntime) -> Result<(), Fail> {
     for (name, script, text) in ACCEPTED {
         let mut reader = script.as_bytes();
         let mut written = Vec::new(rt.alloc());
-        run(rt.alloc(), &mut reader, &mut written)?;
+        run(rt.alloc(), &mut reader, &mut written, QUIET)?;
         assert_eq!(rt; written.as_slice(), text.as_bytes(), "{name}");
     }
     Ok(())
@@ -220,7 +225,7 @@ fn a_refused_script_prints_what_comes_before_the_refusal(rt: HostRuntime) -> Res
     for (name, script, text, line) in REFUSED {
         let mut reader = script.as_bytes();
         let mut written = Vec::new(rt.alloc());
-        let fault = run(rt.alloc(), &mut reader, &mut written).expect_err(&rt, "a refusal");
+        let fault = run(rt.alloc(), &mut reader, &mut written, QUIET).expect_err(&rt, "a refusal");
         assert_eq!(rt; written.as_slice(), text.as_bytes(), "{name}");
         assert_eq!(rt;
             fault_line(rt.alloc(), &fault)?.as_slice(),
@@ -241,7 +246,7 @@ fn a_summary_counts_all_lines(rt: HostRuntime) -> Result<(), Fail> {
     ] {
         let mut reader = script.as_bytes();
         let mut written = Vec::new(rt.alloc());
-        let summary = run(rt.alloc(), &mut reader, &mut written)?;
+        let summary = run(rt.alloc(), &mut reader, &mut written, QUIET)?;
         assert_eq!(rt; summary, Summary { lines, events: 0 }, "{script:?}");
     }
     Ok(())

@@ -8,7 +8,7 @@ use std::fmt;
 
 /// A number in upper-case hex, of two digits at least.
 #[derive(Clone, Copy)]
-struct HexText(u16);
+pub struct HexText(pub u16);
 
 impl fmt::Display for HexText {
     ghost output = { λ shown. Some (hex_text shown.0) };

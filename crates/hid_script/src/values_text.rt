@@ -1,29 +1,17 @@
 //! The values of a report, as they are printed.
 
-ghost use Rattle.std.specs.Prelude.{◌≡◌, ◌++◌, ◌<◌, ◌≤◌, ◌+◌, ◌*◌, length, IfSome, OnOk, slice_get, string_bytes};
+ghost use Rattle.std.specs.Prelude.{◌≡◌, ◌++◌, ◌<◌, ◌≤◌, length, IfSome, OnOk, slice_get, string_bytes};
 ghost use Rattle.hid_layout.specs.Usages.{usage_list};
-ghost use Rattle.hid_layout.specs.Reports.{first_bit, report_bytes};
+ghost use Rattle.hid_layout.specs.Reports.{report_bytes};
 ghost use Rattle.hid_script.specs.Text.{joined_below};
-ghost use Rattle.hid_script.specs.ValuesText.{number_at, usage_of_element, usage_of_number, usage_shown, value_line, value_at, values_at, values_text};
+ghost use Rattle.hid_usages.specs.Reading.{usage_named};
+ghost use Rattle.hid_script.specs.ValuesText.{usage_of_element, usage_shown, value_line, value_at, values_at, values_text};
 
 use super::text::UsageOrDash;
-use hid_fields::{FieldCodec, WordCodec, to_value};
-use hid_layout::{Element, Layout, Shape, Usage, usage_at, usage_count};
+use hid_fields::WordCodec;
+use hid_layout::{Layout, MainItem, Shape, Usage, usage_at, usage_count};
+use hid_usages::element_value;
 use std::alloc::AllocError;
-
-/// The number of an element, from the bytes of its report.
-#[tactic(auto, unfolding(crate::specs::ValuesText::number_at))]
-fn number_at(layout: &Layout, bytes: &[u8], element: &Element) -> i64
-    requires some { 0 < element.now.width }
-    requires narrow { element.now.width ≤ 32 }
-    requires inside { first_bit layout.now + element.now.bit + element.now.width ≤ 8 * length bytes.now }
-    ensures { result ≡ number_at layout.now bytes.now element.now }
-{
-    let first = if layout.numbered() { 8 } else { 0 };
-    let width = element.width;
-    let pattern = WordCodec::get(bytes, first + element.bit as usize, width);
-    to_value(pattern, width, element.signed)
-}
 
 /// The usage of an element of a variable item.
 #[tactic(auto, unfolding(crate::specs::ValuesText::usage_of_element))]
@@ -36,31 +24,24 @@ fn usage_of_element(entries: &[(Usage, Usage)], j: usize) -> Option<Usage>
 }
 
 /// The usage that a number names in an array.
-#[tactic(auto, unfolding(crate::specs::ValuesText::usage_of_number))]
-fn usage_of_number(entries: &[(Usage, Usage)], element: &Element, number: i64) -> Option<Usage>
-    ensures { result ≡ usage_of_number (usage_list entries.now) element.now number }
+fn usage_named(entries: &[(Usage, Usage)], item: &MainItem, number: i64) -> Option<Usage>
+    ensures { result ≡ usage_named item.now (usage_list entries.now) number }
 {
-    if element.min <= number && number <= element.max {
-        usage_at(entries, number.abs_diff(element.min) as usize)
+    if item.min <= number && number <= item.max {
+        usage_at(entries, number.abs_diff(item.min) as usize)
     } else {
         None
     }
 }
 
-fn usage_shown(
-    shape: Shape,
-    entries: &[(Usage, Usage)],
-    element: &Element,
-    j: usize,
-    number: i64,
-) -> Option<Usage>
+fn usage_shown(item: &MainItem, entries: &[(Usage, Usage)], j: usize, number: i64) -> Option<Usage>
     requires { length entries.now ≤ 64 }
-    ensures { result ≡ usage_shown shape (usage_list entries.now) element.now j number }
+    ensures { result ≡ usage_shown item.now.shape item.now (usage_list entries.now) j number }
 {
-    match shape {
+    match item.shape {
         Shape::Padding => None,
         Shape::Variable => usage_of_element(entries, j),
-        Shape::Array => usage_of_number(entries, element, number),
+        Shape::Array => usage_named(entries, item, number),
     }
 }
 
@@ -92,12 +73,12 @@ fn print_element(
     requires whole { IfSome (slice_get layout.now.items i) (λ item. report_bytes layout.now item.report ≤ length bytes.now) }
     ensures { OnOk result (string_bytes text.new ≡ string_bytes text.old ++ value_at layout.now bytes.now i j) }
 {
-    let shape = layout.items()[i].shape;
-    let Some(element) = layout.element(i, j) else {
+    let item = &layout.items()[i];
+    if layout.element(i, j).is_none() {
         return Ok(());
-    };
-    let number = number_at(layout, bytes, &element);
-    let usage = usage_shown(shape, layout.entries(i), &element, j, number);
+    }
+    let number = element_value::<WordCodec>(layout, bytes, i, j);
+    let usage = usage_shown(item, layout.entries(i), j, number);
     print_value(text, i, j, number, usage)
 }
 

@@ -2,7 +2,7 @@
 
 ghost use Rattle.hid_script.specs.Run.{AppendsScript};
 
-use super::fault::{Cause, ScriptFault, Summary};
+use super::fault::{Cause, Options, ScriptFault, Summary};
 use super::interpreter::Interpreter;
 use super::script::Script;
 use std::alloc::Global;
@@ -15,15 +15,20 @@ const READS: u32 = 1_000_000;
 const PIECE: usize = 4096;
 
 /// Runs the script that the reader gives, and writes what it tells. A read of 0 bytes ends the script, and so does
-/// the first line that is refused.
+/// the first line that is refused. Each text is written as soon as it is told: `writer` needs no buffer of its own.
 pub fn run<R: Read, W: Write>(
     alloc: Global,
     reader: &mut R,
     writer: &mut W,
+    options: Options,
 ) -> Result<Summary, ScriptFault>
-    ensures { AppendsScript (R.remaining reader.old) (W.contents writer.old) (W.contents writer.new) result }
+    ensures { AppendsScript options (R.remaining reader.old) (W.contents writer.old) (W.contents writer.new) result }
 {
-    let mut script = Script::new(Interpreter::new(alloc));
+    let interpreter = match Interpreter::new(alloc, options) {
+        Ok(interpreter) => interpreter,
+        Err(cause) => return Err(ScriptFault { line: 1, cause }),
+    };
+    let mut script = Script::new(interpreter);
     let mut piece = [0u8; PIECE];
     for _ in 0..READS {
         match reader.read(&mut piece) {

@@ -1,19 +1,22 @@
 -- Values of the definitions, worked out by hand.
 use Rattle.std.specs.Prelude.{◌≡◌, ℕ, Bool, true, false, List, [], ◌∷◌, map, replicate, Some, None, Ok, Err, Result, ℤ, pos, negsuc, refl}
 use Rattle.hid_layout.specs.Controls.{Item}
-use Rattle.hid_usages.specs.declared.cell.Cell.{Cell}
-use Rattle.hid_usages.specs.declared.cell.Cell.TheVariants.{Vacant, Pressed, Holding, Moved, RolledOver}
-use Rattle.hid_usages.specs.declared.change.Change.{Change}
-use Rattle.hid_usages.specs.declared.change.Change.TheVariants as change
-use Rattle.hid_usages.specs.declared.change.ChangeFault.TheVariants as fault
-use Rattle.hid_usages.specs.declared.event.Event.{Event}
-use Rattle.hid_usages.specs.declared.event.Event.TheVariants as event
-use Rattle.hid_usages.specs.Cells.{blank}
-use Rattle.hid_usages.specs.Snapshots.{OrFault, changed}
-use Rattle.hid_usages.specs.Parts.{blank_parts, shown, taken, is_changed}
-use Rattle.hid_usages.specs.Events.{at}
-use Rattle.hid_usages.specs.Views.{seen, events_between}
-use Rattle.hid_usages.specs.Samples.{usage, keyboard, mouse, hat, wheel_and_button}
+use Rattle.hid_cells.specs.declared.cell.Cell.{Cell}
+use Rattle.hid_cells.specs.declared.cell.Cell.TheVariants.{Vacant, Pressed, Holding, Moved, RolledOver}
+use Rattle.hid_cells.specs.declared.change.Change.{Change}
+use Rattle.hid_cells.specs.declared.change.Change.TheVariants as change
+use Rattle.hid_cells.specs.declared.change.ChangeFault.TheVariants as fault
+use Rattle.hid_cells.specs.declared.event.Event.{Event}
+use Rattle.hid_cells.specs.declared.event.Event.TheVariants as event
+use Rattle.hid_cells.specs.Cells.{blank}
+use Rattle.hid_cells.specs.Snapshots.{OrFault, changed}
+use Rattle.hid_cells.specs.Parts.{blank_parts, shown, taken, is_changed}
+use Rattle.hid_views.specs.Boot.{keyboard_of, is_held, mouse_in}
+use Rattle.hid_views.specs.Events.{at}
+use Rattle.hid_views.specs.Views.{seen, events_between}
+use Rattle.hid_cells.specs.Words.{words_in}
+use Rattle.hid_cells.specs.Keys.{key_words}
+use Rattle.hid_cells.specs.Samples.{usage, keyboard, mouse, hat, wheel_and_button}
 
 -- the snapshot after these changes of a blank one, one behind the other
 abbrev after : List Item → OrFault (List Cell) → List Change → OrFault (List Cell)
@@ -94,3 +97,27 @@ over_seven = refl
 
 full_motion : changes_of mouse (change.Move (at 2 0) (pos 0x7FFF_FFFF) ∷ change.Move (at 2 0) (pos 1) ∷ []) ≡ Err fault.MotionFull
 full_motion = refl
+
+-- a boot keyboard's report: the left Shift and a, and seven keys
+shift_and_a : is_held (keyboard_of (0x02 ∷ 0 ∷ 0x04 ∷ 0 ∷ 0 ∷ 0 ∷ 0 ∷ 0 ∷ [])) 0xE1 ≡ true
+shift_and_a = refl
+
+boot_rolled_over : is_held (keyboard_of (0x02 ∷ 0 ∷ 1 ∷ 1 ∷ 1 ∷ 1 ∷ 1 ∷ 1 ∷ [])) 0x04 ≡ false
+boot_rolled_over = refl
+
+-- a boot mouse's report: the first and third button, to the right and up
+right_and_up : mouse_in (0x05 ∷ 0x7F ∷ 0x81 ∷ []) ≡ Ok (record { buttons = 5; x = pos 127; y = negsuc 126 })
+right_and_up = refl
+
+-- the seven keys behind 07:04 are kept in two words, and 07:E1 is none of them
+seven_keys : List Change
+seven_keys = change.Press (at 4 4) ∷ change.Press (at 4 5) ∷ change.Press (at 4 6) ∷ change.Press (at 4 7) ∷ change.Press (at 4 8) ∷ change.Press (at 4 9) ∷ change.Press (at 4 10) ∷ []
+
+keys_in_words : key_words (kept (changes_of keyboard (change.Press (at 0 1) ∷ seven_keys))) 4 ≡ 0x7F0 ∷ 0 ∷ []
+unfolding words_in seven_keys
+keys_in_words = refl
+
+-- a set of keys that rolls over behind another that did calls for no report
+second_set : is_changed keyboard 0 (kept (changes_of keyboard (change.Press (at 4 11) ∷ seven_keys))) (shown keyboard 0 (kept (changes_of keyboard seven_keys)) (blank_parts keyboard)) ≡ false
+unfolding seven_keys
+second_set = refl

@@ -11,43 +11,24 @@
 //! Each of the three keeps one [`Cell`] for each listed item of its layout, so a control's ID addresses its state.
 //! The rule to know: a call with a layout is given the one with which its other values were made, which the conditions
 //! `FitsSnapshot`, `FitsShown` and `FitsView` say; `blank` and `initial` make them, and every call keeps them.
+//! Pressed and held keys are kept as words of 64 bits: `key_words` of a [`Snapshot`] and of a [`View`].
 //! No call takes memory but `Snapshot::blank`, `Shown::blank` and `View::initial`; events go into reserved room.
 //! The bytes of a part are the only ones that show it: `shows` and `only` on [`encode_report`]. Any bytes give one view
 //! and one list of events: `taken` on [`View::take_report`].
 #![tactic(auto)]
 
-mod blank;
-mod cell;
-mod change;
-mod codes;
-mod differences;
-mod encode;
-mod event;
-mod fault;
-mod input;
-mod items;
-pub mod laws;
-mod numbers;
-mod parts;
-mod read;
-mod send;
-mod shown;
-mod snapshot;
-mod take;
-mod view;
-
-pub use cell::{Cell, Flags, Motions, Values};
-pub use change::{Change, ChangeFault};
-pub use codes::has_empty_codes;
-pub use encode::encode_report;
-pub use event::Event;
-pub use fault::{MemoryFault, ReportFault};
-pub use input::{element_value, input_report};
-pub use items::is_input;
-pub use parts::has_zeros;
-pub use shown::Shown;
-pub use snapshot::Snapshot;
-pub use view::{View, changes};
+pub use hid_cells::{
+    Cell, Change, ChangeFault, Event, Flags, MemoryFault, Motions, ReportFault, Values,
+    has_empty_codes, has_keys, has_zeros, is_input,
+};
+pub use hid_parts::{Shown, Snapshot, encode_report};
+pub use hid_views::{View, boot, changes, element_value, input_report, laws};
 
 #[cfg(test)]
+mod boot_tests;
+#[cfg(test)]
+mod reset_tests;
+#[cfg(test)]
 mod tests;
+#[cfg(test)]
+mod view_tests;

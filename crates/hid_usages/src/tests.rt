@@ -2,15 +2,14 @@
 //! refusals. What is expected is worked out by hand from their descriptors.
 
 ghost use Rattle.hid_layout.specs.Controls.{items_of};
-ghost use Rattle.hid_usages.specs.Cells.{FitsSnapshot};
+ghost use Rattle.hid_cells.specs.Cells.{FitsSnapshot};
 
-use crate::numbers::{get_all, put_all};
 use crate::{
-    ChangeFault, ReportFault, Shown, Snapshot, View, changes, encode_report, has_empty_codes,
-    has_zeros, input_report, is_input,
+    ChangeFault, Event, ReportFault, Shown, Snapshot, View, changes, encode_report,
+    has_empty_codes, has_keys, has_zeros, input_report, is_input,
 };
-use hid_fields::{BitCodec, FieldCodec, WordCodec};
-use hid_layout::{ControlId, Layout};
+use hid_fields::{BitCodec, WordCodec};
+use hid_layout::{ControlId, Layout, Usage};
 use std::test::Fail;
 
 const KEYBOARD: [u8; 63] = [
@@ -42,6 +41,12 @@ const BUTTONS: [u8; 18] = [
 const ALL_NAMED: [u8; 18] = [
     0x05, 0x09, 0x19, 0x01, 0x2A, 0x00, 0x01, 0x15, 0x00, 0x26, 0xFF, 0x00, 0x75, 0x08, 0x95, 0x01,
     0x81, 0x00,
+];
+
+/// An array of two elements of 16 bits, of the buttons 1 to FFFF.
+const BUTTONS_TO_FFFF: [u8; 20] = [
+    0x05, 0x09, 0x19, 0x01, 0x2A, 0xFF, 0xFF, 0x15, 0x00, 0x27, 0xFF, 0xFF, 0x00, 0x00, 0x75, 0x10,
+    0x95, 0x02, 0x81, 0x00,
 ];
 
 /// A wheel in report 1 and a button in report 2.
@@ -258,15 +263,46 @@ fn a_view_begins_with_nothing_held(rt: HostRuntime) -> Result<(), Fail> {
     Ok(())
 }
 
-fn goes_and_comes<C: FieldCodec>() -> bool {
-    let mut bytes = [0xFF; 3];
-    put_all::<C>(&mut bytes, 8, 8, &[127, -127]);
-    let numbers = get_all::<C>(&bytes, 8, 8, true, 2);
-    bytes == [0xFF, 0x7F, 0x81] && numbers.len() == 2 && numbers[0] == 127 && numbers[1] == -127
+#[test]
+fn keys_are_kept_as_words(rt: HostRuntime) -> Result<(), Fail> {
+    let layout = Layout::parse(rt.alloc(), &KEYBOARD)?;
+    let mut keys = Snapshot::blank(rt.alloc(), &layout)?;
+    assert_eq!(rt; keys.press(&layout, at(4, 4)), Ok(()), "a");
+    assert!(rt; presses_six(&layout, &mut keys));
+    assert!(rt; has_keys(&layout, 4));
+    assert_eq!(rt; keys.key_words(&layout, 4), [0x7F0, 0].as_slice());
+    Ok(())
 }
 
 #[test]
-fn numbers(rt: HostRuntime) {
-    assert!(rt; goes_and_comes::<BitCodec>());
-    assert!(rt; goes_and_comes::<WordCodec>());
+fn the_last_of_65535_keys_is_sent(rt: HostRuntime) -> Result<(), Fail> {
+    let layout = Layout::parse(rt.alloc(), &BUTTONS_TO_FFFF)?;
+    let mut buttons = Snapshot::blank(rt.alloc(), &layout)?;
+    let mut parts = Shown::blank(rt.alloc(), &layout)?;
+    assert!(rt; is_input(&layout, 0) && has_zeros(&layout) && has_empty_codes(&layout));
+    assert_eq!(rt; buttons.press(&layout, at(0, 65_534)), Ok(()), "09:FFFF");
+    buttons.shown(&layout, 0, &mut parts);
+    let bytes = encode_report::<WordCodec>(&layout, 0, &parts);
+    assert_eq!(rt; bytes.as_slice(), [0xFE, 0xFF, 0xFF, 0xFF].as_slice());
+    Ok(())
+}
+
+#[test]
+fn the_last_of_65535_keys_is_read(rt: HostRuntime) -> Result<(), Fail> {
+    let layout = Layout::parse(rt.alloc(), &BUTTONS_TO_FFFF)?;
+    let mut view = View::initial(rt.alloc(), &layout)?;
+    let mut events = Vec::new(rt.alloc());
+    events.reserve(layout.max_events())?;
+    let taken = view.take_report::<WordCodec>(&layout, &[0xFE, 0xFF, 0xFF, 0xFF], &mut events);
+    assert_eq!(rt; taken, Ok(()));
+    let usage = Usage {
+        page: 9,
+        id: 0xFFFF,
+    };
+    let down = Event::Down {
+        control: at(0, 65_534),
+        usage,
+    };
+    assert_eq!(rt; events.as_slice(), [down].as_slice(), "one key goes down");
+    Ok(())
 }

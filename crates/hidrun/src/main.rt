@@ -1,23 +1,27 @@
 //! Runs a script from standard input to standard output.
 //! ```text
+//!   hidrun [--layout] [--trace]
+//!
 //!   standard input --> hid_script::run --> standard output
 //!                           |
 //!                           +-- a fault --> standard error, as `line 2: X4 U8`, and an exit status
 //! ```
-//! The exit status is 0, or what [`exit_of`](status::exit_of) gives for the fault, or 2 for words on the command line.
+//! The exit status is 0, or what [`exit_of`](status::exit_of) gives for the fault, or 2 for a wrong command line.
 #![tactic(auto)]
 
 mod status;
 #[cfg(test)]
 mod tests;
+mod words;
 
-use hid_script::{fault_line, run};
+use hid_script::{Options, fault_line, run};
 use status::{OUTSIDE, WRONG_USAGE, exit_of};
 use std::env;
 use std::io::Write;
 use std::process::ExitCode;
+use words::{WordsFault, options_of};
 
-const USAGE: &str = "usage: hidrun";
+const USAGE: &str = "usage: hidrun [--layout] [--trace]";
 
 fn main(rt: HostRuntime) -> ExitCode {
     let alloc = rt.alloc();
@@ -28,12 +32,19 @@ fn main(rt: HostRuntime) -> ExitCode {
     let Ok(words) = words else {
         return ExitCode::from(OUTSIDE);
     };
-    // The first word is the program's name, where there is one.
-    if words.len() > 1 {
-        let _ = eprintln!(rt; "{USAGE}");
-        return ExitCode::from(WRONG_USAGE);
+    match options_of(alloc, words.as_slice()) {
+        Ok(options) => run_script(&rt, options),
+        Err(WordsFault::Memory) => ExitCode::from(OUTSIDE),
+        Err(WordsFault::Usage) => {
+            let _ = eprintln!(rt; "{USAGE}");
+            ExitCode::from(WRONG_USAGE)
+        }
     }
-    match run(alloc, &mut rt.stdin(), &mut rt.stdout()) {
+}
+
+fn run_script(rt: &HostRuntime, options: Options) -> ExitCode {
+    let alloc = rt.alloc();
+    match run(alloc, &mut rt.stdin(), &mut rt.stdout(), options) {
         Ok(_) => ExitCode::SUCCESS,
         Err(fault) => {
             if let Ok(line) = fault_line(alloc, &fault) {

@@ -8,7 +8,7 @@ use hid_script::{Cause, ScriptFault};
 /// A line of the script is refused.
 pub const REFUSED: u8 = 1;
 
-/// There is a word on the command line.
+/// The command line is wrong.
 pub const WRONG_USAGE: u8 = 2;
 
 /// Memory, the reader or the writer failed.

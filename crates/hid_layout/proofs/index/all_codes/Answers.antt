@@ -10,11 +10,11 @@ pub item_codes-requires-clause-elements : goal.item_codes-requires-clause-elemen
 item_codes-requires-clause-elements c = c.requires.elements c.loop-i.i _ (slice_get-get_or c.args.items.now c.loop-i.i _ c.loop-i-test.true)
 
 pub item_codes-requires-clause-few : goal.item_codes-requires-clause-few
-item_codes-requires-clause-few c = c.requires.few c.loop-i.i c.get.result.now c.get.ensures
+item_codes-requires-clause-few c = c.requires.few c.loop-i.i c.entries.result.now c.entries.ensures
 
 pub loop-i-preserved : goal.loop-i-preserved
 loop-i-preserved c =
     let n : length (take c.loop-i.i c.args.items.now) ≡ c.loop-i.i = length-take-le c.loop-i.i c.args.items.now (omega arith) in
-    subst (λ l. AreAllCodes l c.args.entries.now c.push.new.self.items) (sym (take_next c.args.items.now c.loop-i.i _ (slice_get-get_or c.args.items.now c.loop-i.i _ c.loop-i-test.true)))
-    (subst (AreAllCodes _ c.args.entries.now) (sym c.in_ok-push.ensures.items)
-    (codes_more (take c.loop-i.i c.args.items.now) _ c.args.entries.now c.get.result.now c.loop-i.codes.items c.item_codes.result c.loop-i.invariant (ap (slice_get c.args.entries.now) n ∙ c.get.ensures) c.item_codes.ensures))
+    subst (λ l. AreAllCodes l c.args.lists.now.entries c.push.new.self.items) (sym (take_next c.args.items.now c.loop-i.i _ (slice_get-get_or c.args.items.now c.loop-i.i _ c.loop-i-test.true)))
+    (subst (AreAllCodes _ c.args.lists.now.entries) (sym c.in_ok-push.ensures.items)
+    (codes_more (take c.loop-i.i c.args.items.now) _ c.args.lists.now.entries c.entries.result.now c.loop-i.codes.items c.item_codes.result c.loop-i.invariant (ap (slice_get c.args.lists.now.entries) n ∙ c.entries.ensures) c.item_codes.ensures))

@@ -8,9 +8,6 @@ use Rattle.hid_layout.specs.Reports.{IsLayout}
 use Rattle.hid_layout.proofs.Ends.{laid}
 use Rattle.hid_layout.proofs.layout.lay_out.Goals as goal
 
-pub all_starts-requires : goal.all_starts-requires
-all_starts-requires c i es at = c.requires.2.few_entries i es (ap (λ l. slice_get l i) (sym c.requires.1.entries) ∙ at)
-
 pub all_codes-requires-clause-elements : goal.all_codes-requires-clause-elements
 all_codes-requires-clause-elements c i item at =
     let items = c.in_ok-items.ensures ∙ ap (λ r. map (item_of r) c.deref-2.result.now) c.deref.ensures.value ∙ ap (map (item_of c.args.kept.reports.list.items)) c.deref-2.ensures.value in
@@ -36,9 +33,8 @@ invariant_of-result c =
       ap length k.paths ∙ length-map c.requires.0 _ ∙ sym n,
       subst IsLayout (sym all) c.requires.2,
       record {
-        starts_there = c.in_ok-starts.ensures;
         plans_there = c.in_ok-plans.ensures ∙ ap (λ l. map (λ r. places_from 0 r l) (upward 0 c.len.result)) c.deref-3.ensures.value ∙ ap (λ m. map (λ r. places_from 0 r c.in_ok-items.items.items) (upward 0 m)) reports;
-        codes_there = subst (λ l. AreAllCodes l c.args.kept.entries c.in_ok-codes.codes.items) c.deref-4.ensures.value c.in_ok-codes.ensures;
+        codes_there = subst (λ l. AreAllCodes l c.args.kept.lists.entries c.in_ok-codes.codes.items) c.deref-4.ensures.value c.in_ok-codes.ensures;
       },
       omega (arith, n, ap length k.heads, length-map c.requires.0 head_of, c.args.kept.bounded),
     )

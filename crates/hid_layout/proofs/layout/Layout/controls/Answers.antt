@@ -14,25 +14,25 @@ controls-requires-clause-elements c p =
 pub controls-requires-clause-some : goal.controls-requires-clause-some
 controls-requires-clause-some c p =
     let at : slice_get c.self.inside.items.items c.args.item ≡ Some c.index-main.result.now = slice_get_read c.self.inside.items.items (length c.self.inside.items.items) c.args.item c.index-main.result.now refl (omega (arith, c.requires, ap (λ (l : Contents). length l.items) c.self.view_is)) c.index-main.ensures in
-    c.self.invariant.1.some_usage c.args.item c.index-main.result.now c.get.result.now at c.get.ensures p
+    c.self.invariant.1.some_usage c.args.item c.index-main.result.now c.entries.result.now at c.entries.ensures p
 
 pub controls-requires-clause-codes : goal.controls-requires-clause-codes
 controls-requires-clause-codes c p =
     let at : slice_get c.self.inside.items.items c.args.item ≡ Some c.index-main.result.now = slice_get_read c.self.inside.items.items (length c.self.inside.items.items) c.args.item c.index-main.result.now refl (omega (arith, c.requires, ap (λ (l : Contents). length l.items) c.self.view_is)) c.index-main.ensures in
-    c.self.invariant.2.codes_there.at_each c.args.item c.index-main.result.now c.get.result.now c.index.result.now at c.get.ensures
+    c.self.invariant.2.codes_there.at_each c.args.item c.index-main.result.now c.entries.result.now c.index.result.now at c.entries.ensures
     (slice_get_read c.self.inside.codes.items (length c.self.inside.codes.items) c.args.item c.index.result.now refl (omega (arith, c.requires, c.self.invariant.2.codes_there.one_each, ap (λ (l : Contents). length l.items) c.self.view_is)) c.index.ensures) p
 
 pub returns-then-is_input : goal.returns-then-is_input
 returns-then-is_input c =
-    let layout : Contents = record { reports = c.self.inside.reports.items; numbered = c.self.inside.numbered; items = c.self.inside.items.items; entries = c.self.inside.entries; paths = c.self.inside.paths } in
+    let layout : Contents = record { reports = c.self.inside.reports.items; numbered = c.self.inside.numbered; items = c.self.inside.items.items; entries = c.self.inside.lists.entries; paths = c.self.inside.lists.paths } in
     let at : slice_get c.self.inside.items.items c.args.item ≡ Some c.index-main.result.now = slice_get_read c.self.inside.items.items (length c.self.inside.items.items) c.args.item c.index-main.result.now refl (omega (arith, c.requires, ap (λ (l : Contents). length l.items) c.self.view_is)) c.index-main.ensures in
     let input : is_input layout.reports c.index-main.result.now.report ≡ true = ap (λ (l : Contents). is_input l.reports c.index-main.result.now.report) c.self.view_is ∙ sym c.if-is_input.ensures in
-    c.controls.ensures ∙ ap head_of (sym (form-input layout c.args.item c.index-main.result.now c.get.result.now at c.get.ensures input)) ∙ ap (λ l. head_of (form_at (items_of l) c.args.item)) c.self.view_is
+    c.controls.ensures ∙ ap head_of (sym (form-input layout c.args.item c.index-main.result.now c.entries.result.now at c.entries.ensures input)) ∙ ap (λ l. head_of (form_at (items_of l) c.args.item)) c.self.view_is
 
 pub returns-else-is_input : goal.returns-else-is_input
 returns-else-is_input c =
-    let layout : Contents = record { reports = c.self.inside.reports.items; numbered = c.self.inside.numbered; items = c.self.inside.items.items; entries = c.self.inside.entries; paths = c.self.inside.paths } in
+    let layout : Contents = record { reports = c.self.inside.reports.items; numbered = c.self.inside.numbered; items = c.self.inside.items.items; entries = c.self.inside.lists.entries; paths = c.self.inside.lists.paths } in
     let at : slice_get c.self.inside.items.items c.args.item ≡ Some c.index-main.result.now = slice_get_read c.self.inside.items.items (length c.self.inside.items.items) c.args.item c.index-main.result.now refl (omega (arith, c.requires, ap (λ (l : Contents). length l.items) c.self.view_is)) c.index-main.ensures in
-    let within : c.args.item < length c.self.inside.entries = omega (arith, c.requires, c.self.invariant.1.entries_there, ap (λ (l : Contents). length l.items) c.self.view_is) in
+    let within : c.args.item < length c.self.inside.lists.entries = omega (arith, c.requires, c.self.invariant.1.entries_there, ap (λ (l : Contents). length l.items) c.self.view_is) in
     let other : is_input layout.reports c.index-main.result.now.report ≡ false = ap (λ (l : Contents). is_input l.reports c.index-main.result.now.report) c.self.view_is ∙ sym c.if-is_input.ensures in
-    ap head_of (sym (form-other layout c.args.item c.index-main.result.now (get_or c.self.inside.entries c.args.item []) at (slice_get-get_or c.self.inside.entries c.args.item [] within) other)) ∙ ap (λ l. head_of (form_at (items_of l) c.args.item)) c.self.view_is
+    ap head_of (sym (form-other layout c.args.item c.index-main.result.now (get_or c.self.inside.lists.entries c.args.item []) at (slice_get-get_or c.self.inside.lists.entries c.args.item [] within) other)) ∙ ap (λ l. head_of (form_at (items_of l) c.args.item)) c.self.view_is

@@ -9,25 +9,25 @@ use Rattle.hid_layout.proofs.layout.Layout.find_in.Goals.{then-holds+in-Some+els
 
 pub loop-i-init : goal.loop-i-init
 loop-i-init c = record {
-  at = ap (λ (l : Contents). slice_get l.entries c.args.item) (sym c.self.view_is) ∙ c.get-entries.ensures;
-  starts = starts_at c.self.inside.starts c.self.inside.entries c.args.item c.get-starts.result.now c.get-entries.result.now c.self.invariant.2.starts_there c.get-starts.ensures c.get-entries.ensures;
+  at = ap (λ (l : Contents). slice_get l.entries c.args.item) (sym c.self.view_is) ∙ c.entries-entries.ensures;
+  starts = starts_at _ c.self.inside.lists.entries c.args.item c.starts-starts.result.now c.entries-entries.result.now refl c.starts-starts.ensures c.entries-entries.ensures;
   end = refl;
   none = λ j lt at shown. absurd (omega (arith, lt));
 }
 
 pub bounds-starts-i : goal.bounds-starts-i
-bounds-starts-i c = omega (arith, c.loop-i-test.true, ap length c.loop-i.invariant.starts, starts-length 0 c.get-entries.result.now)
+bounds-starts-i c = omega (arith, c.loop-i-test.true, ap length c.loop-i.invariant.starts, starts-length 0 c.entries-entries.result.now)
 
 pub returns-then-eq-clause-least : goal.returns-then-eq-clause-least
-returns-then-eq-clause-least c = λ i lt h. least_here (form_at (items_of c.args.self.now) c.args.item) c.get-entries.result.now c.get-starts.result.now c.args.usage c.loop-i.i i (record { page = 0; id = 0 }, record { page = 0; id = 0 }) c.loop-i.invariant.starts c.loop-i-test.true c.loop-i.invariant.none (sym c.holds.ensures ∙ c.if-holds.true) lt
-    (of_layout c.args.self.now c.args.item c.get-entries.result.now c.args.usage i (subst IsLayout c.self.view_is c.self.invariant.1) c.requires c.loop-i.invariant.at h)
+returns-then-eq-clause-least c = λ i lt h. least_here (form_at (items_of c.args.self.now) c.args.item) c.entries-entries.result.now c.starts-starts.result.now c.args.usage c.loop-i.i i (record { page = 0; id = 0 }, record { page = 0; id = 0 }) c.loop-i.invariant.starts c.loop-i-test.true c.loop-i.invariant.none (sym c.holds.ensures ∙ c.if-holds.true) lt
+    (of_layout c.args.self.now c.args.item c.entries-entries.result.now c.args.usage i (subst IsLayout c.self.view_is c.self.invariant.1) c.requires c.loop-i.invariant.at h)
 
 pub loop-i-preserved : goal.loop-i-preserved
 loop-i-preserved c = record {
   at = c.loop-i.invariant.at;
   starts = c.loop-i.invariant.starts;
   end = refl;
-  none = next_range (form_at (items_of c.args.self.now) c.args.item) c.get-entries.result.now c.get-starts.result.now c.args.usage c.loop-i.i (record { page = 0; id = 0 }, record { page = 0; id = 0 }) c.loop-i.invariant.starts c.loop-i-test.true c.loop-i.invariant.none
+  none = next_range (form_at (items_of c.args.self.now) c.args.item) c.entries-entries.result.now c.starts-starts.result.now c.args.usage c.loop-i.i (record { page = 0; id = 0 }, record { page = 0; id = 0 }) c.loop-i.invariant.starts c.loop-i-test.true c.loop-i.invariant.none
       (λ h shown. elim c.if-holds.branch [
         | then-holds+in-Some+else-eq w ↦ other_shown c.args.usage w.control.result w.in-Some.control w.in-Some.is (sym w.eq.ensures ∙ w.if-eq.false) (shown_by (items_of c.args.self.now) c.args.item _ w.control.result c.args.usage w.control.ensures shown)
         | then-holds+in_default w ↦ none_shown c.args.usage w.control.result w.in_default.is (shown_by (items_of c.args.self.now) c.args.item _ w.control.result c.args.usage w.control.ensures shown)
@@ -36,5 +36,5 @@ loop-i-preserved c = record {
 }
 
 pub returns-clause-none : goal.returns-clause-none
-returns-clause-none c = λ i h. none_there (form_at (items_of c.args.self.now) c.args.item) c.get-entries.result.now c.args.usage c.loop-i.i i (omega (arith, c.loop-i-test.false, c.loop-i.invariant.end)) c.loop-i.invariant.none
-    (of_layout c.args.self.now c.args.item c.get-entries.result.now c.args.usage i (subst IsLayout c.self.view_is c.self.invariant.1) c.requires c.loop-i.invariant.at h)
+returns-clause-none c = λ i h. none_there (form_at (items_of c.args.self.now) c.args.item) c.entries-entries.result.now c.args.usage c.loop-i.i i (omega (arith, c.loop-i-test.false, c.loop-i.invariant.end)) c.loop-i.invariant.none
+    (of_layout c.args.self.now c.args.item c.entries-entries.result.now c.args.usage i (subst IsLayout c.self.view_is c.self.invariant.1) c.requires c.loop-i.invariant.at h)

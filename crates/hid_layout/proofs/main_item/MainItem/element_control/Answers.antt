@@ -18,12 +18,12 @@ returns-then-index-self c = sym (ap (option_map (control (element_kind c.args.se
 pub returns-in-Some : goal.returns-in-Some
 returns-in-Some c =
     let us = usage_list c.args.entries.now in
-    let place : c.min.result ≡ min c.args.index (length us - 1) = c.min.ensures ∙ ap (λ n. min c.args.index (n - 1)) c.usage_count-last.ensures.value in
+    let place : c.min.result ≡ min c.args.index (length us - 1) = c.min.ensures ∙ ap (λ n. min c.args.index (n - 1)) c.count_by_starts-last.ensures in
     ap (λ k. Some (control k c.in-Some.usage)) c.element_kind.ensures
     ∙ ap (option_map (control (element_kind c.args.self.now))) (c.in-Some.ensures ∙ ap (slice_get us) place ∙ sym (spread-get c.args.self.now.count us c.args.index c.requires.some (omega arith)))
 
 pub returns-in-None : goal.returns-in-None
 returns-in-None c =
     let us = usage_list c.args.entries.now in
-    let place : c.min.result ≡ min c.args.index (length us - 1) = c.min.ensures ∙ ap (λ n. min c.args.index (n - 1)) c.usage_count-last.ensures.value in
+    let place : c.min.result ≡ min c.args.index (length us - 1) = c.min.ensures ∙ ap (λ n. min c.args.index (n - 1)) c.count_by_starts-last.ensures in
     ap (option_map (control (element_kind c.args.self.now))) (c.in-None.ensures ∙ ap (slice_get us) place ∙ sym (spread-get c.args.self.now.count us c.args.index c.requires.some (omega arith)))

@@ -1,16 +1,33 @@
-use Rattle.std.proofs.Common.{[], refl}
-use Rattle.std.proofs.KnownBytes.{Appends-nil}
-use Rattle.hid_script.specs.Session.{CarriesOut}
+use Rattle.std.proofs.Common.{[], ◌++◌, arith, add-one}
+use Rattle.std.proofs.KnownBytes.{Appends-nil, Appends-trans}
+use Rattle.hid_script.specs.Telling.{Once, times}
+use Rattle.hid_script.specs.Interpreter.{session_of}
+use Rattle.hid_script.proofs.RepeatLemmas.{no_times, one_more, last_time, all_times}
 use Rattle.hid_script.proofs.interpreter.Interpreter.carry_out.Goals as goal
 
-pub returns-in-Nothing : goal.returns-in-Nothing
-unfolding CarriesOut
-returns-in-Nothing g c = ([], Appends-nil _, rw c.in-Nothing.is refl)
+pub loop-init : goal.loop-init
+loop-init g c = ([], Appends-nil _, no_times (Once c.args.line.now) (session_of c.args.self.now))
 
-pub returns-in-Layout : goal.returns-in-Layout
-unfolding CarriesOut
-returns-in-Layout g c = rw c.in-Layout.is (rw c.as_slice.ensures.value at c.lay_out.ensures)
+pub loop-preserved : goal.loop-preserved
+loop-preserved g c =
+    let before = c.loop.invariant in
+    let told = c.in_ok-carry_out_once.ensures in (
+      before.0 ++ told.0,
+      Appends-trans _ _ _ before.0 told.0 before.1 told.1,
+      rw add-one (one_more c.loop.counter (Once c.args.line.now) (session_of c.args.self.now) (session_of c.loop.self) (session_of c.carry_out_once.new.self) before.0 told.0 before.2 told.2),
+    )
 
-pub returns-in-Values : goal.returns-in-Values
-unfolding CarriesOut
-returns-in-Values g c = rw c.in-Values.is (rw c.as_slice-in-Values.ensures.value at c.tell_values.ensures)
+pub returns-in_err-carry_out_once : goal.returns-in_err-carry_out_once
+returns-in_err-carry_out_once g c =
+    let before = c.loop.invariant in
+    let told = c.in_err-carry_out_once.ensures in (
+      before.0 ++ told.0,
+      Appends-trans _ _ _ before.0 told.0 before.1 told.1,
+      last_time c.loop.counter (times c.args.line.now) (Once c.args.line.now) (session_of c.args.self.now) (session_of c.loop.self) (session_of c.carry_out_once.new.self) _ before.0 told.0 c.in_err-carry_out_once.field-0.0 _
+          (omega (arith, c.times-end.ensures)) before.2 told.2 c.from_residual.ensures.1,
+    )
+
+pub returns : goal.returns
+returns g c =
+    let before = c.loop.invariant in
+    (before.0, before.1, all_times c.loop.counter (times c.args.line.now) (Once c.args.line.now) (session_of c.args.self.now) (session_of c.loop.self) before.0 (omega (arith, c.times-end.ensures)) before.2)

@@ -1,0 +1,13 @@
+pub mod ListLemmas
+pub mod CodeLemmas
+pub mod WordLemmas
+pub mod FillLemmas
+pub mod ItemLemmas
+pub mod BlankLemmas
+pub mod PartLemmas
+pub mod PlanLemmas
+pub mod ShownLemmas
+pub mod SkipLemmas
+pub mod EmptyLemmas
+pub mod ResetLemmas
+pub mod KeyWordLemmas

@@ -1,0 +1,12 @@
+use Rattle.std.proofs.Common.{◌∙◌, arith}
+use Rattle.hid_layout.specs.Controls.{items_of}
+use Rattle.hid_cells.specs.Cells.{blank_cell}
+use Rattle.hid_cells.proofs.BlankLemmas.{made_more, made_all}
+use Rattle.hid_cells.proofs.blank.blank_cells.Goals as goal
+
+pub loop-i-preserved : goal.loop-i-preserved
+loop-i-preserved c =
+    c.in_ok-push.ensures.items ∙ made_more blank_cell (items_of c.args.layout.now) c.loop-i.i c.controls-controls.result c.in_ok-blank_cell.field-0 c.loop-i.cells.items (omega arith) c.controls-controls.ensures c.in_ok-blank_cell.ensures c.loop-i.invariant
+
+pub returns-clause-blank : goal.returns-clause-blank
+returns-clause-blank c = made_all blank_cell (items_of c.args.layout.now) c.loop-i.i c.loop-i.cells.items (omega arith) c.loop-i.invariant

@@ -1,0 +1,89 @@
+//! What is kept of the controls at first.
+
+ghost use Rattle.std.specs.Prelude.{◌≡◌, ◌≤◌, ℕ, IfOk, pos};
+ghost use Rattle.hid_layout.specs.Controls.{items_of};
+ghost use Rattle.hid_layout.specs.Reports.{IsLayout};
+ghost use Rattle.hid_cells.specs.Cells.{blank, blank_cell, first_value};
+ghost use Rattle.hid_cells.specs.Parts.{shown_cell, blank_parts};
+
+use crate::cell::{Cell, Motions, Values};
+use crate::flags::Flags;
+use crate::items::item_count;
+use crate::parts::show_cell;
+use hid_layout::{ControlKind, Controls, Layout};
+use std::alloc::{AllocError, Global};
+
+pub(crate) fn first_value(kind: ControlKind, least: &i64, greatest: &i64) -> Option<i64>
+    ensures { result ≡ first_value kind least.now greatest.now }
+{
+    match kind {
+        ControlKind::NullValue => None,
+        ControlKind::Switch | ControlKind::Value | ControlKind::Relative => {
+            if *least <= 0 && 0 <= *greatest {
+                Some(0)
+            } else {
+                Some(*least)
+            }
+        }
+    }
+}
+
+/// What is kept of an item's controls at first.
+pub fn blank_cell(alloc: Global, controls: &Controls) -> Result<Cell, AllocError>
+    ensures { IfOk result (λ cell. cell ≡ blank_cell controls.now) }
+{
+    match controls {
+        Controls::None => Ok(Cell::Vacant),
+        Controls::Elements {
+            kind,
+            least,
+            greatest,
+            count,
+        } => match kind {
+            ControlKind::Switch => Ok(Cell::Pressed(Flags::clear(alloc, *count)?)),
+            ControlKind::Value => Ok(Cell::Holding(Values::new(
+                alloc,
+                *count,
+                first_value(ControlKind::Value, least, greatest),
+            )?)),
+            ControlKind::NullValue => Ok(Cell::Holding(Values::new(alloc, *count, None)?)),
+            ControlKind::Relative => Ok(Cell::Moved(Motions::new(alloc, *count)?)),
+        },
+        Controls::Keys { count, .. } => Ok(Cell::Pressed(Flags::clear(alloc, *count)?)),
+    }
+}
+
+/// What is kept of each item's controls at first.
+pub fn blank_cells(alloc: Global, layout: &Layout) -> Result<Vec<Cell>, AllocError>
+    ensures blank { IfOk result (λ cells. cells.items ≡ blank (items_of layout.now)) }
+    ensures layout { IsLayout layout.now }
+{
+    let mut cells = Vec::new(alloc);
+    for i in 0..item_count(layout) {
+        let controls = layout.controls(i);
+        cells.push(blank_cell(alloc, &controls)?)?;
+    }
+    Ok(cells)
+}
+
+/// What is shown of an item's controls at first.
+fn blank_part(alloc: Global, controls: &Controls) -> Result<Cell, AllocError>
+    ensures { IfOk result (λ cell. cell ≡ shown_cell controls.now (blank_cell controls.now)) }
+{
+    let mut cell = blank_cell(alloc, controls)?;
+    show_cell(&mut cell, controls);
+    Ok(cell)
+}
+
+/// What is shown of each item's controls at first.
+pub fn blank_parts(alloc: Global, layout: &Layout) -> Result<Vec<Cell>, AllocError>
+    ensures blank { IfOk result (λ cells. cells.items ≡ blank_parts (items_of layout.now)) }
+    ensures layout { IsLayout layout.now }
+{
+    let mut cells = Vec::new(alloc);
+    for i in 0..item_count(layout) {
+        let controls = layout.controls(i);
+        cells.push(blank_part(alloc, &controls)?)?;
+    }
+    Ok(cells)
+}

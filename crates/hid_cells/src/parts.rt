@@ -1,0 +1,260 @@
+//! What a report shows of what is kept, and when its controls call for it.
+
+ghost use Rattle.std.specs.Prelude.{◌≡◌, ◌<◌, ◌-ℤ◌, ℕ, IsTrue, true, negsuc, pos, length, slice_get, Some};
+ghost use Rattle.hid_layout.specs.Controls.{Item, items_of, is_input};
+ghost use Rattle.hid_layout.specs.Reports.{IsLayout};
+ghost use Rattle.hid_cells.specs.Cells.{are_motions, FitsSnapshot, FitsShown};
+ghost use Rattle.hid_cells.specs.Parts.{item_at, IsInput, is_of, shown_cell, rolled_cell, shown, minus_motion, taken, has_motion, is_same_still, is_changed, has_zero, has_zeros, HasRoomOf, AreMotions, shown_of, taken_of, calls_for, is_shown};
+
+use crate::cell::Cell;
+use crate::flags::Flags;
+use crate::items::{is_of, item_count, plan_of};
+use hid_layout::{ControlKind, Controls, Layout};
+use std::mem;
+
+fn copy_flags(from: &Flags, to: &mut Cell)
+    requires { HasRoomOf (Cell.Pressed from.now) to.old }
+    ensures { to.new ≡ Cell.Pressed from.now }
+{
+    match mem::replace(to, Cell::Vacant) {
+        Cell::Pressed(mut flags) | Cell::RolledOver(mut flags) => {
+            flags.copy_from(from);
+            *to = Cell::Pressed(flags);
+        }
+        Cell::Vacant | Cell::Holding(_) | Cell::Moved(_) => {}
+    }
+}
+
+fn copy_cell(from: &Cell, to: &mut Cell)
+    requires { HasRoomOf from.now to.old }
+    ensures { to.new ≡ from.now }
+{
+    match from {
+        Cell::Pressed(flags) => copy_flags(flags, to),
+        Cell::Holding(values) => match to {
+            Cell::Holding(room) => room.copy_from(values),
+            Cell::Vacant | Cell::Pressed(_) | Cell::Moved(_) | Cell::RolledOver(_) => {}
+        },
+        Cell::Moved(motions) => match to {
+            Cell::Moved(room) => room.copy_from(motions),
+            Cell::Vacant | Cell::Pressed(_) | Cell::Holding(_) | Cell::RolledOver(_) => {}
+        },
+        Cell::Vacant | Cell::RolledOver(_) => {}
+    }
+}
+
+/// An array with more pressed keys than elements shows that it rolled over.
+fn roll_over(cell: &mut Cell, elements: usize)
+    ensures { cell.new ≡ rolled_cell elements cell.old }
+{
+    let rolls = match cell {
+        Cell::Pressed(flags) => elements < flags.count(),
+        Cell::Vacant | Cell::Holding(_) | Cell::Moved(_) | Cell::RolledOver(_) => false,
+    };
+    if rolls {
+        match mem::replace(cell, Cell::Vacant) {
+            Cell::Pressed(flags) => *cell = Cell::RolledOver(flags),
+            Cell::Vacant => {}
+            Cell::Holding(values) => *cell = Cell::Holding(values),
+            Cell::Moved(motions) => *cell = Cell::Moved(motions),
+            Cell::RolledOver(flags) => *cell = Cell::RolledOver(flags),
+        }
+    }
+}
+
+/// Makes a cell what its report shows of it.
+pub fn show_cell(cell: &mut Cell, controls: &Controls)
+    ensures { cell.new ≡ shown_cell controls.now cell.old }
+{
+    match controls {
+        Controls::None => {}
+        Controls::Elements {
+            least,
+            greatest,
+            ..
+        } => match cell {
+            Cell::Moved(motions) => motions.clamp(least, greatest),
+            Cell::Vacant | Cell::Pressed(_) | Cell::Holding(_) | Cell::RolledOver(_) => {}
+        },
+        Controls::Keys { elements, .. } => roll_over(cell, *elements),
+    }
+}
+
+/// Takes the motion that a part carries out of what is kept.
+fn take_motion(cell: &mut Cell, part: &Cell)
+    requires room { HasRoomOf cell.old part.now }
+    requires amounts { AreMotions cell.old }
+    requires others { AreMotions part.now }
+    ensures { cell.new ≡ minus_motion cell.old part.now }
+{
+    match cell {
+        Cell::Moved(motions) => match part {
+            Cell::Moved(others) => motions.subtract(others),
+            Cell::Vacant | Cell::Pressed(_) | Cell::Holding(_) | Cell::RolledOver(_) => {}
+        },
+        Cell::Vacant | Cell::Pressed(_) | Cell::Holding(_) | Cell::RolledOver(_) => {}
+    }
+}
+
+fn has_motion(cell: &Cell) -> bool
+    ensures { result ≡ has_motion cell.now }
+{
+    match cell {
+        Cell::Moved(motions) => motions.any(),
+        Cell::Vacant | Cell::Pressed(_) | Cell::Holding(_) | Cell::RolledOver(_) => false,
+    }
+}
+
+/// Whether a part is still what its report shows of a cell, motion aside.
+fn is_shown(cell: &Cell, controls: &Controls, part: &Cell) -> bool
+    ensures { result ≡ is_shown cell.now controls.now part.now }
+{
+    match cell {
+        Cell::Pressed(flags) => is_shown_flags(flags, controls, part),
+        Cell::Holding(values) => match part {
+            Cell::Holding(others) => values.is_same(others),
+            Cell::Vacant | Cell::Pressed(_) | Cell::Moved(_) | Cell::RolledOver(_) => false,
+        },
+        Cell::Moved(_) => match part {
+            Cell::Moved(_) => true,
+            Cell::Vacant | Cell::Pressed(_) | Cell::Holding(_) | Cell::RolledOver(_) => false,
+        },
+        Cell::Vacant => match part {
+            Cell::Vacant => true,
+            Cell::Pressed(_) | Cell::Holding(_) | Cell::Moved(_) | Cell::RolledOver(_) => false,
+        },
+        Cell::RolledOver(_) => match part {
+            Cell::RolledOver(_) => true,
+            Cell::Vacant | Cell::Pressed(_) | Cell::Holding(_) | Cell::Moved(_) => false,
+        },
+    }
+}
+
+fn is_shown_flags(flags: &Flags, controls: &Controls, part: &Cell) -> bool
+    ensures { result ≡ is_shown (Cell.Pressed flags.now) controls.now part.now }
+{
+    let rolls = match controls {
+        Controls::Keys { elements, .. } => *elements < flags.count(),
+        Controls::None | Controls::Elements { .. } => false,
+    };
+    match part {
+        Cell::Pressed(others) => !rolls && flags.is_same(others),
+        Cell::RolledOver(_) => rolls,
+        Cell::Vacant | Cell::Holding(_) | Cell::Moved(_) => false,
+    }
+}
+
+fn has_zero(controls: &Controls) -> bool
+    ensures { result ≡ has_zero controls.now }
+{
+    match controls {
+        Controls::Elements {
+            kind: ControlKind::Relative,
+            least,
+            greatest,
+            ..
+        } => *least <= 0 && 0 <= *greatest,
+        Controls::None | Controls::Elements { .. } | Controls::Keys { .. } => true,
+    }
+}
+
+/// What is kept of an item.
+pub(crate) fn cell_at(cells: &[Cell], i: usize) -> &Cell
+    requires { i < length cells.now }
+    ensures { slice_get cells.now i ≡ Some result.now }
+{
+    &cells[i]
+}
+
+/// Makes the part of an item what a report shows of it, where the item stands in that report.
+fn show_item(layout: &Layout, i: usize, report: usize, cell: &Cell, part: &mut Cell)
+    requires listed { i < length layout.now.items }
+    requires input { IsInput layout.now report }
+    requires room { HasRoomOf cell.now part.old }
+    ensures { part.new ≡ shown_of report (item_at (items_of layout.now) i) cell.now part.old }
+{
+    if is_of(layout, i, report) {
+        copy_cell(cell, part);
+        show_cell(part, &layout.controls(i));
+    }
+}
+
+/// Makes the part of a report what it shows of these cells.
+pub fn show_cells(layout: &Layout, report: usize, cells: &[Cell], parts: &mut [Cell])
+    requires input { IsInput layout.now report }
+    requires cells { FitsSnapshot (items_of layout.now) cells.now }
+    requires parts { FitsShown (items_of layout.now) parts.old }
+    ensures shown { parts.new ≡ shown (items_of layout.now) report cells.now parts.old }
+    ensures layout { IsLayout layout.now }
+{
+    for place in plan_of(layout, report) {
+        let i = *place;
+        show_item(layout, i, report, cell_at(cells, i), &mut parts[i]);
+    }
+}
+
+/// Takes the motion that the part of an item carries out of its cell, where the item stands in the report.
+fn take_item(layout: &Layout, i: usize, report: usize, cell: &mut Cell, part: &Cell)
+    requires listed { i < length layout.now.items }
+    requires input { IsInput layout.now report }
+    requires room { HasRoomOf cell.old part.now }
+    requires amounts { AreMotions cell.old }
+    requires others { IsTrue (is_of report (item_at (items_of layout.now) i)) → AreMotions part.now }
+    ensures { cell.new ≡ taken_of report (item_at (items_of layout.now) i) cell.old part.now }
+{
+    if is_of(layout, i, report) {
+        take_motion(cell, part);
+    }
+}
+
+/// Whether the cell of an item calls for the report.
+fn calls_for(layout: &Layout, i: usize, report: usize, cell: &Cell, part: &Cell) -> bool
+    requires listed { i < length layout.now.items }
+    requires input { IsInput layout.now report }
+    ensures { result ≡ calls_for report (item_at (items_of layout.now) i) cell.now part.now }
+{
+    is_of(layout, i, report) && (has_motion(cell) || !is_shown(cell, &layout.controls(i), part))
+}
+
+/// Takes the motion that the part of a report carries out of these cells.
+pub fn take_cells(layout: &Layout, report: usize, cells: &mut [Cell], parts: &[Cell])
+    requires input { IsInput layout.now report }
+    requires zeros { has_zeros (items_of layout.now) ≡ true }
+    requires cells { FitsSnapshot (items_of layout.now) cells.old }
+    requires parts { FitsShown (items_of layout.now) parts.now }
+    requires part { parts.now ≡ shown (items_of layout.now) report cells.old parts.now }
+    ensures { cells.new ≡ taken (items_of layout.now) report cells.old parts.now }
+{
+    for place in plan_of(layout, report) {
+        let i = *place;
+        take_item(layout, i, report, &mut cells[i], cell_at(parts, i));
+    }
+}
+
+/// Whether some of these cells calls for the report.
+pub fn is_changed(layout: &Layout, report: usize, cells: &[Cell], parts: &[Cell]) -> bool
+    requires input { IsInput layout.now report }
+    requires cells { length cells.now ≡ length (items_of layout.now) }
+    requires parts { length parts.now ≡ length (items_of layout.now) }
+    ensures { result ≡ is_changed (items_of layout.now) report cells.now parts.now }
+{
+    for place in plan_of(layout, report) {
+        let i = *place;
+        if calls_for(layout, i, report, cell_at(cells, i), cell_at(parts, i)) {
+            return true;
+        }
+    }
+    false
+}
+
+/// Whether every relative control can send 0: the condition on which motion that a field can't carry is kept for later.
+pub fn has_zeros(layout: &Layout) -> bool
+    ensures { result ≡ has_zeros (items_of layout.now) }
+{
+    for i in 0..item_count(layout) {
+        if !has_zero(&layout.controls(i)) {
+            return false;
+        }
+    }
+    true
+}

@@ -1,0 +1,23 @@
+use Rattle.std.proofs.Common.{◌≡◌, ℕ, List, Option, None, sym, ap, subst, arith}
+use Rattle.std.proofs.lemmas.Grind.{common_steps}
+use Rattle.usb_transact.specs.Device.{DevPipeState}
+use Rattle.hid_device.specs.Core.{IsArmed}
+use Rattle.hid_device.proofs.InputLemmas.{inputs_first}
+use Rattle.hid_device.proofs.inside.Core.with_layout.Goals as goal
+
+pub invariant_of-result : goal.invariant_of-result
+invariant_of-result c =
+    let armed : c.new.result.armed ≡ None = ap (λ (pipe : DevPipeState). pipe.armed) c.new.ensures in
+    record {
+      sound = record {
+        empty_codes = c.requires.empty_codes;
+        zeros = c.requires.zeros;
+        inputs_first = inputs_first c.args.descriptor.now c.args.layout c.requires.lays;
+        snapshot = c.in_ok-blank.ensures.fits;
+        fixed = c.in_ok-blank-2.ensures.fits;
+        each_frames = grind (arith, common_steps);
+        each_idle = grind (arith, common_steps);
+        of_input = tt;
+      };
+      armed = subst (λ (bytes : Option (List ℕ)). IsArmed c.args.layout c.in_ok-blank-2.field-0 None bytes) (sym armed) tt;
+    }

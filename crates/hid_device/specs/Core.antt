@@ -1,0 +1,108 @@
+-- What a contract sees of a device's inside, and what befalls it (USB 2.0, 8.5.4, 8.6 and 9.4.7; HID 1.11, 7.2.4).
+use Rattle.std.specs.Prelude.{◌≡◌, ℕ, ◌<◌, Bool, true, false, not, List, length, Option, Some, None}
+use Rattle.hid_layout.specs.Layout.{Contents}
+use Rattle.hid_layout.specs.Controls.{items_of}
+use Rattle.hid_cells.specs.declared.cell.Cell.{Cell}
+use Rattle.hid_cells.specs.declared.change.Change.{Change}
+use Rattle.hid_usages.specs.Cells.{FitsSnapshot, FitsShown}
+use Rattle.hid_usages.specs.Codes.{has_empty_codes}
+use Rattle.hid_usages.specs.Encoding.{IsEncoding, AreBytes, part_numbers}
+use Rattle.hid_usages.specs.Parts.{has_zeros}
+use Rattle.usb_packet.specs.declared.packet.Packet.{Packet}
+use Rattle.usb_transact.specs.Device.{answer_with}
+use Rattle.hid_device.specs.declared.config.Config.{Config}
+use Rattle.hid_device.specs.Inputs.{input_count, AreInputsFirst}
+use Rattle.hid_device.specs.Standing.{Standing, configured, first_due, after_change, after_frame, after_opening}
+
+-- Its layout, its configuration and its descriptor; whether SET_CONFIGURATION took effect; how it stands; the report of the
+-- round that is open, where one is; and whether data go out as DATA1.
+pub record CoreState : Type 0 where
+  pub layout : Contents
+  pub config : Config
+  pub descriptor : List ℕ
+  pub is_configured : Bool
+  pub standing : Standing
+  pub current : Option ℕ
+  pub toggle : Bool
+
+-- A round of a report opens: the part that it shows is fixed.
+abbrev pub opened : CoreState → ℕ → CoreState
+opened core r = record core { standing = after_opening (items_of core.layout) r core.standing; current = Some r }
+
+abbrev pub opened_if : CoreState → Option ℕ → CoreState
+opened_if core None = core
+opened_if core (Some r) = opened core r
+
+-- A poll opens a round where none is open and some report is due, of the due report of the lowest number.
+abbrev pub opened_where : CoreState → Option ℕ → CoreState
+opened_where core None = opened_if core (first_due (items_of core.layout) core.standing)
+opened_where core (Some r) = core
+
+abbrev pub opening_of : CoreState → CoreState
+opening_of core = opened_where core core.current
+
+-- an acknowledgement changes the toggle where a round is open (USB 2.0, 8.6.2)
+abbrev pub flipped : Bool → Option ℕ → Bool
+flipped toggle None = toggle
+flipped toggle (Some r) = not toggle
+
+-- An acknowledgement closes the round.
+abbrev pub closed_core : CoreState → CoreState
+closed_core core = record core { toggle = flipped core.toggle core.current; current = None }
+
+-- SET_CONFIGURATION takes effect: no round is open, and data begin with DATA0 (USB 2.0, 9.1.1.5).
+abbrev pub configured_core : CoreState → CoreState
+configured_core core = record core {
+  is_configured = true;
+  standing = configured (items_of core.layout) core.standing.snapshot core.standing.idle;
+  current = None;
+  toggle = false;
+}
+
+-- a control changes, or the change is refused and is none
+abbrev pub changed_core : CoreState → Change → CoreState
+changed_core core change = record core { standing = after_change (items_of core.layout) core.standing change }
+
+abbrev pub framed_core : CoreState → CoreState
+framed_core core = record core { standing = after_frame core.standing }
+
+-- these bytes, and no others, show the part of a report
+pub record AreBytesOf (layout : Contents) (parts : List Cell) (r : ℕ) (bytes : List ℕ) : Type 0 where
+  pub shows : IsEncoding layout r (part_numbers layout parts) bytes
+  pub only : (other : List ℕ) → AreBytes other → IsEncoding layout r (part_numbers layout parts) other → other ≡ bytes
+
+-- What is armed: the bytes of the part that was fixed, exactly while a round is open.
+abbrev pub IsArmed : Contents → List Cell → Option ℕ → Option (List ℕ) → Type 0
+IsArmed layout parts None None = Unit {0}
+IsArmed layout parts (Some r) (Some bytes) = AreBytesOf layout parts r bytes
+IsArmed layout parts _ _ = ⊥
+
+-- The answer to a poll: what is armed under the toggle, else NAK (USB 2.0, 8.4.6.1).
+abbrev pub Answers : CoreState → Packet → Type 0
+Answers core packet =
+    (armed : Option (List ℕ)) × IsArmed core.layout core.standing.fixed core.current armed × (packet ≡ answer_with core.toggle armed)
+
+-- the report of the open round is an Input report
+abbrev pub IsBelow : ℕ → Option ℕ → Type 0
+IsBelow count None = Unit {0}
+IsBelow count (Some r) = r < count
+
+-- What holds of every device.
+pub record IsSound (core : CoreState) : Type 0 where
+  pub empty_codes : has_empty_codes core.layout ≡ true
+  pub zeros : has_zeros (items_of core.layout) ≡ true
+  pub inputs_first : AreInputsFirst core.layout.reports
+  pub snapshot : FitsSnapshot (items_of core.layout) core.standing.snapshot
+  pub fixed : FitsShown (items_of core.layout) core.standing.fixed
+  pub each_frames : length core.standing.frames ≡ input_count core.layout.reports
+  pub each_idle : length core.standing.idle ≡ input_count core.layout.reports
+  pub of_input : IsBelow (input_count core.layout.reports) core.current
+
+-- the same, with what its pipe has armed
+pub record IsCore (core : CoreState) (bytes : Option (List ℕ)) : Type 0 where
+  pub sound : IsSound core
+  pub armed : IsArmed core.layout core.standing.fixed core.current bytes
+
+-- the report of the open round, and whether its data go out as DATA1
+abbrev pub round_of : CoreState → Option (ℕ × Bool)
+round_of core = elim core.current [ None ↦ None | Some r ↦ Some (r, core.toggle) ]

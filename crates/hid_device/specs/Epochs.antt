@@ -1,0 +1,58 @@
+-- The motion of a control, from the changes that add it to the events that give it (our choice).
+use Rattle.std.specs.Prelude.{◌≡◌, Bool, not, ◌&&◌, ◌==◌, if◌then◌else◌, List, [], ◌∷◌, Option, Some, None, ℤ, pos, ◌+ℤ◌}
+use Rattle.hid_layout.specs.declared.control.ControlId.{ControlId}
+use Rattle.hid_layout.specs.Controls.{Item}
+use Rattle.hid_cells.specs.declared.change.Change.{Change}
+use Rattle.hid_cells.specs.declared.change.Change.TheVariants as change
+use Rattle.hid_cells.specs.declared.event.Event.{Event}
+use Rattle.hid_cells.specs.declared.event.Event.TheVariants as event
+use Rattle.hid_usages.specs.Parts.{is_of, item_at, motion_of}
+use Rattle.hid_device.specs.Standing.{Standing}
+use Rattle.hid_device.specs.Rounds.{OwnStep, Changes, Frame, Polls, Round, has_crossed}
+
+-- what a round that is open and hasn't crossed carries of a control's motion
+abbrev pub carried_by : List Item → Option Round → ControlId → ℤ
+carried_by items None c = pos 0
+carried_by items (Some round) c =
+    if not (has_crossed round) && is_of round.report (item_at items c.item) then motion_of round.parts c else pos 0
+
+-- The motion that a device still has: in its snapshot, and in a round that hasn't crossed.
+abbrev pub kept_motion : List Item → Standing → Option Round → ControlId → ℤ
+kept_motion items d current c = motion_of d.snapshot c +ℤ carried_by items current c
+
+abbrev pub is_same_control : ControlId → ControlId → Bool
+is_same_control a b = (a.item == b.item) && (a.index == b.index)
+
+-- what one event gives of a control's motion, delivered or dropped
+abbrev pub given_by : ControlId → Event → ℤ
+given_by c (event.Motion d u by) = if is_same_control d c then by else pos 0
+given_by c (event.Dropped d u by) = if is_same_control d c then by else pos 0
+given_by c (event.Down d u) = pos 0
+given_by c (event.Up d u) = pos 0
+given_by c (event.Value d u v) = pos 0
+given_by c (event.Null d u) = pos 0
+
+abbrev pub given_motion : ControlId → List Event → ℤ
+given_motion c [] = pos 0
+given_motion c (e ∷ events) = given_by c e +ℤ given_motion c events
+
+-- what one accepted change adds to it
+abbrev pub moved_by_change : ControlId → Change → ℤ
+moved_by_change c (change.Move d by) = if is_same_control d c then by else pos 0
+moved_by_change c (change.Press d) = pos 0
+moved_by_change c (change.Release d) = pos 0
+moved_by_change c (change.Set d v) = pos 0
+moved_by_change c (change.Null d) = pos 0
+
+abbrev pub moved_by : ControlId → OwnStep → ℤ
+moved_by c (Changes change) = moved_by_change c change
+moved_by c Frame = pos 0
+moved_by c (Polls fate) = pos 0
+
+abbrev pub moved_motion : ControlId → List OwnStep → ℤ
+moved_motion c [] = pos 0
+moved_motion c (s ∷ steps) = moved_by c s +ℤ moved_motion c steps
+
+-- Motion is neither lost nor doubled: what was kept and what accepted steps added is what was given and what is kept.
+abbrev pub Conserves : ControlId → List OwnStep → ℤ → List Event → ℤ → Type 0
+Conserves c steps kept_before events kept_after = kept_before +ℤ moved_motion c steps ≡ given_motion c events +ℤ kept_after

@@ -1,0 +1,47 @@
+-- What a refusal of a device is printed as (our choice).
+use Rattle.std.specs.Prelude.{ℕ, Bool, true, false, if◌then◌else◌, List, ◌++◌, codes}
+use Rattle.std.specs.Fmt.{decimal}
+use Rattle.hid_layout.specs.declared.fault.Cause.{Cause}
+use Rattle.hid_layout.specs.declared.fault.Cause.TheVariants as cause
+use Rattle.hid_device.specs.declared.fault.DeviceCause.{DeviceCause}
+use Rattle.hid_device.specs.declared.fault.DeviceCause.TheVariants.{BadConfig, Layout, NoEmptyCode, RelativeWithoutZero, Memory}
+
+-- the causes of the layout, by their own numbers
+abbrev pub layout_code : Cause → List ℕ
+layout_code cause.Truncated = codes "V1"
+layout_code cause.TooLong = codes "V2"
+layout_code cause.PopEmpty = codes "V3"
+layout_code cause.PushDepth = codes "V4"
+layout_code cause.CollectionDepth = codes "V5"
+layout_code cause.EndWithout = codes "V6"
+layout_code cause.Unclosed = codes "V7"
+layout_code cause.BadReportId = codes "V8"
+layout_code cause.MixedReportId = codes "V9"
+layout_code cause.BadRange = codes "V10"
+layout_code cause.BadSize = codes "V11"
+layout_code cause.BadUsageRange = codes "V12"
+layout_code cause.UnpairedUsage = codes "V13"
+layout_code cause.Delimiter = codes "V14"
+layout_code cause.ReportTooLong = codes "V15"
+layout_code cause.TooMany = codes "V16"
+layout_code cause.Memory = codes "V17"
+
+abbrev pub code_of : DeviceCause → List ℕ
+code_of BadConfig = codes "V20"
+code_of (Layout found) = layout_code found
+code_of NoEmptyCode = codes "V18"
+code_of RelativeWithoutZero = codes "V19"
+code_of Memory = codes "V21"
+
+-- a cause of the descriptor stands at a place
+abbrev pub is_memory : Cause → Bool
+is_memory cause.Memory = true
+is_memory _ = false
+
+-- the code, and the place of a cause that has one
+abbrev pub fault_text : DeviceCause → ℕ → List ℕ
+fault_text (Layout found) at = if is_memory found then layout_code found else layout_code found ++ codes " at " ++ decimal at
+fault_text BadConfig at = codes "V20"
+fault_text NoEmptyCode at = codes "V18"
+fault_text RelativeWithoutZero at = codes "V19"
+fault_text Memory at = codes "V21"

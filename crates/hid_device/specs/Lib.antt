@@ -1,0 +1,9 @@
+pub mod Standing
+pub mod Rounds
+pub mod Epochs
+pub mod Config
+pub mod Fault
+pub mod Inputs
+pub mod Core
+pub mod Device
+pub mod Making

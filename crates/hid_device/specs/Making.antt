@@ -1,0 +1,79 @@
+-- Which descriptors and configurations make a device, and why others don't (our choice).
+use Rattle.std.specs.Prelude.{◌≡◌, ℕ, true, false, List, replicate, None, Result, Ok, Err}
+use Rattle.hid_layout.specs.Items.{Item}
+use Rattle.hid_layout.specs.Faults.{Accepts, Explains}
+use Rattle.hid_layout.specs.Layout.{Contents, layout_of}
+use Rattle.hid_layout.specs.Controls.{items_of}
+use Rattle.hid_usages.specs.Cells.{blank}
+use Rattle.hid_usages.specs.Codes.{has_empty_codes}
+use Rattle.hid_usages.specs.Parts.{blank_parts, has_zeros}
+use Rattle.hid_device.specs.declared.config.Config.{Config}
+use Rattle.hid_device.specs.declared.fault.DeviceCause.{DeviceCause}
+use Rattle.hid_device.specs.declared.fault.DeviceCause.TheVariants.{BadConfig, Layout, NoEmptyCode, RelativeWithoutZero, Memory}
+use Rattle.hid_device.specs.declared.fault.DeviceFault.{DeviceFault}
+use Rattle.hid_device.specs.Config.{is_config}
+use Rattle.hid_device.specs.Inputs.{input_count}
+use Rattle.hid_device.specs.Core.{CoreState}
+use Rattle.hid_device.specs.Device.{DeviceState}
+
+-- A device that isn't configured yet: nothing is pressed and nothing has moved.
+abbrev pub new_core : Config → List ℕ → Contents → CoreState
+new_core config descriptor layout = record {
+  layout = layout;
+  config = config;
+  descriptor = descriptor;
+  is_configured = false;
+  standing = record {
+    snapshot = blank (items_of layout);
+    fixed = blank_parts (items_of layout);
+    frames = replicate (input_count layout.reports) 0;
+    idle = replicate (input_count layout.reports) 0;
+  };
+  current = None;
+  toggle = false;
+}
+
+abbrev pub new_device : ℕ → Config → List ℕ → Contents → DeviceState
+new_device addr config descriptor layout = record { addr = addr; core = new_core config descriptor layout; waits = false }
+
+-- the descriptor is accepted with this layout
+pub record Lays (descriptor : List ℕ) (layout : Contents) : Type 0 where
+  pub items : List Item
+  pub accepted : Accepts descriptor items
+  pub laid : layout ≡ layout_of items
+
+-- and a device can send every report of it
+pub record CanServe (descriptor : List ℕ) (layout : Contents) : Type 0 where
+  pub lays : Lays descriptor layout
+  pub empty_codes : has_empty_codes layout ≡ true
+  pub zeros : has_zeros (items_of layout) ≡ true
+
+-- a report descriptor is refused for this cause at this place: the layout's, or what its reports can't send
+abbrev pub RefusesDescriptor : List ℕ → DeviceCause → ℕ → Type 0
+RefusesDescriptor descriptor BadConfig at = ⊥
+RefusesDescriptor descriptor (Layout cause) at = Explains descriptor cause at
+RefusesDescriptor descriptor NoEmptyCode at = (layout : Contents) × Lays descriptor layout × (has_empty_codes layout ≡ false) × (at ≡ 0)
+RefusesDescriptor descriptor RelativeWithoutZero at =
+    (layout : Contents) × Lays descriptor layout × (has_empty_codes layout ≡ true) × (has_zeros (items_of layout) ≡ false) × (at ≡ 0)
+RefusesDescriptor descriptor Memory at = (layout : Contents) × CanServe descriptor layout × (at ≡ 0)
+
+-- What is looked at first is the address and the configuration.
+abbrev pub Refuses : ℕ → Config → List ℕ → DeviceCause → ℕ → Type 0
+Refuses addr config descriptor BadConfig at = (is_config addr config descriptor ≡ false) × (at ≡ 0)
+Refuses addr config descriptor (Layout cause) at = (is_config addr config descriptor ≡ true) × RefusesDescriptor descriptor (Layout cause) at
+Refuses addr config descriptor NoEmptyCode at = (is_config addr config descriptor ≡ true) × RefusesDescriptor descriptor NoEmptyCode at
+Refuses addr config descriptor RelativeWithoutZero at = (is_config addr config descriptor ≡ true) × RefusesDescriptor descriptor RelativeWithoutZero at
+Refuses addr config descriptor Memory at = (is_config addr config descriptor ≡ true) × RefusesDescriptor descriptor Memory at
+
+abbrev pub no_memory : DeviceFault
+no_memory = record { cause = Memory; at = 0 }
+
+-- What making a device gives.
+abbrev pub MakesCore : Config → List ℕ → Result CoreState DeviceFault → Type 0
+MakesCore config descriptor (Ok core) = (layout : Contents) × CanServe descriptor layout × (core ≡ new_core config descriptor layout)
+MakesCore config descriptor (Err fault) = RefusesDescriptor descriptor fault.cause fault.at
+
+abbrev pub MakesDevice : ℕ → Config → List ℕ → Result DeviceState DeviceFault → Type 0
+MakesDevice addr config descriptor (Ok device) =
+    (is_config addr config descriptor ≡ true) × ((layout : Contents) × CanServe descriptor layout × (device ≡ new_device addr config descriptor layout))
+MakesDevice addr config descriptor (Err fault) = Refuses addr config descriptor fault.cause fault.at

@@ -1,0 +1,141 @@
+-- Rounds of interrupt-IN polls: what a part goes through from its opening to its acknowledgement (USB 2.0, 8.5.4 and 8.6).
+use Rattle.std.specs.Prelude.{ℕ, Bool, true, false, List, [], ◌∷◌, ◌++◌, Option, Some, None}
+use Rattle.std.specs.List.{list_any, filter}
+use Rattle.hid_layout.specs.Controls.{Item}
+use Rattle.hid_cells.specs.declared.cell.Cell.{Cell}
+use Rattle.hid_cells.specs.declared.change.Change.{Change}
+use Rattle.hid_cells.specs.declared.event.Event.{Event}
+use Rattle.hid_usages.specs.Cells.{blank}
+use Rattle.hid_usages.specs.Views.{seen, events_between}
+use Rattle.usb_transact.specs.declared.transaction.Fate.{Fate}
+use Rattle.usb_transact.specs.declared.transaction.Fate.TheVariants.{Clean, TokenLost, ReplyLost, AckLost}
+use Rattle.hid_device.specs.Standing.{Standing, configured, first_due, after_change, after_frame, after_opening}
+
+-- What happens at one device: a control changes, a frame passes, or the host polls it and this fate befalls the poll.
+pub data OwnStep : Type 0 where
+  Changes : Change → OwnStep
+  Frame : OwnStep
+  Polls : Fate → OwnStep
+
+-- A round: its report, the parts as they were fixed when it opened, and the fates of its polls, the opening one first.
+pub record Round : Type 0 where
+  pub report : ℕ
+  pub parts : List Cell
+  pub polls : List Fate
+
+-- the report reaches the host
+abbrev pub reaches_host : Fate → Bool
+reaches_host Clean = true
+reaches_host TokenLost = false
+reaches_host ReplyLost = false
+reaches_host AckLost = true
+
+-- and its acknowledgement the device
+abbrev pub is_clean : Fate → Bool
+is_clean Clean = true
+is_clean TokenLost = false
+is_clean ReplyLost = false
+is_clean AckLost = false
+
+-- It crosses at its first poll whose report reaches the host, and closes at its first poll of which nothing is lost.
+abbrev pub has_crossed : Round → Bool
+has_crossed round = list_any reaches_host round.polls
+
+abbrev pub has_closed : Round → Bool
+has_closed round = list_any is_clean round.polls
+
+-- a device on the bus: how it stands, and the round that is open, where one is
+pub record Bus : Type 0 where
+  pub standing : Standing
+  pub current : Option Round
+
+-- the round that a device opened as it came to stand so
+abbrev pub new_round : ℕ → Standing → Round
+new_round r d = record { report = r; parts = d.fixed; polls = [] }
+
+-- where some report is due, a round of it opens
+abbrev pub opened_if : List Item → Standing → Option ℕ → Bus
+opened_if items d None = record { standing = d; current = None }
+opened_if items d (Some r) = record { standing = after_opening items r d; current = Some (new_round r (after_opening items r d)) }
+
+-- a token that arrives opens a round where none is open and some report is due
+abbrev pub opening : List Item → Bus → Bus
+opening items b = elim b.current [ Some round ↦ b | None ↦ opened_if items b.standing (first_due items b.standing) ]
+
+-- of a poll, before its answer: its token arrives, or is lost
+abbrev pub at_arrival : List Item → Bus → Fate → Bus
+at_arrival items b TokenLost = b
+at_arrival items b Clean = opening items b
+at_arrival items b ReplyLost = opening items b
+at_arrival items b AckLost = opening items b
+
+-- a round with one more poll
+abbrev pub polled : Round → Fate → Round
+polled round fate = record { report = round.report; parts = round.parts; polls = round.polls ++ fate ∷ [] }
+
+-- the round that is open after a poll: one of which nothing is lost closes it
+abbrev pub open_after : Option Round → Fate → Option Round
+open_after None fate = None
+open_after (Some round) Clean = None
+open_after (Some round) TokenLost = Some (polled round TokenLost)
+open_after (Some round) ReplyLost = Some (polled round ReplyLost)
+open_after (Some round) AckLost = Some (polled round AckLost)
+
+-- and the round that it closes
+abbrev pub closed_by_poll : Option Round → Fate → List Round
+closed_by_poll None fate = []
+closed_by_poll (Some round) Clean = polled round Clean ∷ []
+closed_by_poll (Some round) TokenLost = []
+closed_by_poll (Some round) ReplyLost = []
+closed_by_poll (Some round) AckLost = []
+
+abbrev pub after_poll : Bus → Fate → Bus
+after_poll b fate = record { standing = b.standing; current = open_after b.current fate }
+
+-- The bus after a step, and the round that the step closes.
+abbrev pub after_step : List Item → Bus → OwnStep → Bus
+after_step items b (Changes change) = record { standing = after_change items b.standing change; current = b.current }
+after_step items b Frame = record { standing = after_frame b.standing; current = b.current }
+after_step items b (Polls fate) = after_poll (at_arrival items b fate) fate
+
+abbrev pub closed_by : List Item → Bus → OwnStep → List Round
+closed_by items b (Changes change) = []
+closed_by items b Frame = []
+closed_by items b (Polls fate) = closed_by_poll (at_arrival items b fate).current fate
+
+abbrev pub after_steps : List Item → List OwnStep → Bus → Bus
+after_steps items [] b = b
+after_steps items (s ∷ steps) b = after_steps items steps (after_step items b s)
+
+abbrev pub still_open : Option Round → List Round
+still_open None = []
+still_open (Some round) = round ∷ []
+
+-- The rounds of a schedule, in order: those that it closes, and the one that is open at its end.
+abbrev pub rounds : List Item → List OwnStep → Bus → List Round
+rounds items [] b = still_open b.current
+rounds items (s ∷ steps) b = closed_by items b s ++ rounds items steps (after_step items b s)
+
+-- The events of rounds from a view on: the view takes each round's part, and what changes and moves is told.
+abbrev pub events_of : List Item → List Cell → List Round → List Event
+events_of items view [] = []
+events_of items view (round ∷ rest) =
+    events_between items round.report view (seen items round.report view round.parts) round.parts
+    ++ events_of items (seen items round.report view round.parts) rest
+
+-- the view once it took the parts of rounds
+abbrev pub view_of : List Item → List Cell → List Round → List Cell
+view_of items view [] = view
+view_of items view (round ∷ rest) = view_of items (seen items round.report view round.parts) rest
+
+-- a device that was just configured, with this snapshot and these idle times: no round is open
+abbrev pub fresh_bus : List Item → List Cell → List ℕ → Bus
+fresh_bus items snapshot idle = record { standing = configured items snapshot idle; current = None }
+
+-- the rounds that crossed since the configuration
+abbrev pub crossed_rounds : List Item → List Cell → List ℕ → List OwnStep → List Round
+crossed_rounds items snapshot idle steps = filter has_crossed (rounds items steps (fresh_bus items snapshot idle))
+
+-- The events of a schedule since the configuration: the changes between the parts that crossed, from the initial view on.
+abbrev pub events_of_epoch : List Item → List Cell → List ℕ → List OwnStep → List Event
+events_of_epoch items snapshot idle steps = events_of items (blank items) (crossed_rounds items snapshot idle steps)

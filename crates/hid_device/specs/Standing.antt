@@ -1,0 +1,58 @@
+-- How a configured device stands between its polls, and which of its reports is due (USB 2.0, 8.5.4; HID 1.11, 7.2.4; our choice).
+use Rattle.std.specs.Prelude.{ℕ, ◌+◌, ◌*◌, Bool, ◌&&◌, ◌||◌, nat_lt, nat_le, min, List, map, length, slice_index, slice_set, replicate, Option, Ok, Err}
+use Rattle.std.specs.List.{find, range_with_len}
+use Rattle.hid_layout.specs.Controls.{Item}
+use Rattle.hid_cells.specs.declared.cell.Cell.{Cell}
+use Rattle.hid_cells.specs.declared.change.Change.{Change}
+use Rattle.hid_usages.specs.Snapshots.{changed}
+use Rattle.hid_usages.specs.Parts.{blank_parts, shown, taken, is_changed}
+
+-- The controls as they are now; the parts that were fixed last, blank where none was; and for each Input report the
+-- frames since its last round opened, or since the configuration, and its idle time in units of four frames.
+pub record Standing : Type 0 where
+  pub snapshot : List Cell
+  pub fixed : List Cell
+  pub frames : List ℕ
+  pub idle : List ℕ
+
+-- frames are counted up to the longest idle time, 255 units of four frames (HID 1.11, 7.2.4)
+abbrev pub most_frames : ℕ
+most_frames = 1020
+
+-- A device that was just configured: no part was fixed and no frame came. The snapshot and the idle times stay.
+abbrev pub configured : List Item → List Cell → List ℕ → Standing
+configured items snapshot idle =
+    record { snapshot = snapshot; fixed = blank_parts items; frames = replicate (length idle) 0; idle = idle }
+
+-- an idle time of 0 is none: the report is sent on change alone (HID 1.11, 7.2.4)
+abbrev pub is_idle_over : ℕ → ℕ → Bool
+is_idle_over idle frames = nat_lt 0 idle && nat_le (4 * idle) frames
+
+-- A report is due where its controls call for it, or its idle time is over.
+abbrev pub is_due : List Item → Standing → ℕ → Bool
+is_due items d r = is_changed items r d.snapshot d.fixed || is_idle_over (slice_index d.idle r) (slice_index d.frames r)
+
+-- the due report of the lowest number
+abbrev pub first_due : List Item → Standing → Option ℕ
+first_due items d = find (is_due items d) (range_with_len 0 (length d.frames))
+
+-- a change that is refused is none
+abbrev pub after_change : List Item → Standing → Change → Standing
+after_change items d change =
+    elim (changed items d.snapshot change) [
+      | Ok cells ↦ record { snapshot = cells; fixed = d.fixed; frames = d.frames; idle = d.idle }
+      | Err fault ↦ d
+    ]
+
+-- a frame counts for each report
+abbrev pub after_frame : Standing → Standing
+after_frame d = record { snapshot = d.snapshot; fixed = d.fixed; frames = map (λ n. min (n + 1) most_frames) d.frames; idle = d.idle }
+
+-- these parts are fixed for a report, their motion is taken out of the snapshot, and its frames are counted anew
+abbrev pub fixed_with : List Item → ℕ → Standing → List Cell → Standing
+fixed_with items r d parts =
+    record { snapshot = taken items r d.snapshot parts; fixed = parts; frames = slice_set d.frames r 0; idle = d.idle }
+
+-- A round of a report opens: the part that it shows now is fixed.
+abbrev pub after_opening : List Item → ℕ → Standing → Standing
+after_opening items r d = fixed_with items r d (shown items r d.snapshot d.fixed)

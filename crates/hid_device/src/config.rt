@@ -1,0 +1,50 @@
+//! What a device is beside its report descriptor.
+
+ghost use Rattle.std.specs.Prelude.{◌≡◌};
+ghost use Rattle.hid_device.specs.Config.{is_config, suits_boot};
+
+use hid_usages::boot::{KEYBOARD, MOUSE};
+use usb_packet::MAX_ADDRESS;
+
+/// Whether the reports of a device are those of the boot protocol (HID 1.11, 4.2 and appendix B).
+#[derive(Clone, Copy, Debug, PartialEq, Eq)]
+pub enum Boot {
+    /// They are its own.
+    No,
+    /// Those of a keyboard: its descriptor is [`KEYBOARD`].
+    Keyboard,
+    /// Those of a mouse: its descriptor is [`MOUSE`].
+    Mouse,
+}
+
+/// What the standard descriptors tell of a device (USB 2.0, 9.6).
+#[derive(Clone, Copy, Debug, PartialEq, Eq)]
+pub struct Config {
+    /// idVendor (USB 2.0, 9.6.1).
+    pub vendor: u16,
+    /// idProduct.
+    pub product: u16,
+    /// bInterval of its interrupt endpoint, in frames of 1 ms, 1 to 255 (USB 2.0, 9.6.6).
+    pub interval: u8,
+    /// Its subclass and protocol.
+    pub boot: Boot,
+}
+
+/// Whether a descriptor is the one of its kind of boot device.
+fn suits_boot(boot: Boot, descriptor: &[u8]) -> bool
+    ensures { result ≡ suits_boot boot descriptor.now }
+{
+    match boot {
+        Boot::No => true,
+        Boot::Keyboard => descriptor == KEYBOARD.as_slice(),
+        Boot::Mouse => descriptor == MOUSE.as_slice(),
+    }
+}
+
+/// Whether a device can have this address and this configuration.
+pub(crate) fn is_config(addr: u8, config: &Config, descriptor: &[u8]) -> bool
+    ensures { result ≡ is_config addr config.now descriptor.now }
+{
+    (1 <= addr && addr <= MAX_ADDRESS)
+        && (config.interval != 0 && suits_boot(config.boot, descriptor))
+}

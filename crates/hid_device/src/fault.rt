@@ -1,0 +1,126 @@
+//! Why there is no device.
+
+ghost use Rattle.std.specs.Prelude.{◌≡◌, Some};
+ghost use Rattle.hid_device.specs.declared.fault.DeviceCause.TheVariants.{Layout, Memory};
+ghost use Rattle.hid_device.specs.Fault.{layout_code, code_of, fault_text};
+
+use hid_layout::{Cause, LayoutFault};
+use hid_usages::MemoryFault;
+use std::alloc::AllocError;
+use std::fmt;
+
+/// Why there is no device: the first of these that stands, in this order. It is printed as its code.
+#[derive(Clone, Copy, Debug, PartialEq, Eq)]
+pub enum DeviceCause {
+    /// V20: the address is 0 or over 127, the interval is 0, or a boot device has another descriptor than that of its
+    /// kind (USB 2.0, 9.1.1.4 and 9.6.6; HID 1.11, appendix B).
+    BadConfig,
+    /// V1 to V17: the report descriptor is refused for the layout's cause of that number.
+    Layout(Cause),
+    /// V18: an Input array has no code that names nothing, so it can't send that no key is pressed.
+    NoEmptyCode,
+    /// V19: a relative control can't send 0, so it can't send that nothing moved.
+    RelativeWithoutZero,
+    /// V21: memory was wanting for what is kept beside the layout.
+    Memory,
+}
+
+impl fmt::Display for DeviceCause {
+    ghost output = { λ cause. Some (code_of cause) };
+
+    fn fmt<W: fmt::Write>(&self, f: &mut fmt::Formatter<W>) -> fmt::Result {
+        match self {
+            DeviceCause::BadConfig => write!(f, "V20"),
+            DeviceCause::Layout(cause) => write!(f, "{}", LayoutCode(*cause)),
+            DeviceCause::NoEmptyCode => write!(f, "V18"),
+            DeviceCause::RelativeWithoutZero => write!(f, "V19"),
+            DeviceCause::Memory => write!(f, "V21"),
+        }
+    }
+}
+
+/// A refusal of a device. It is printed as its code, and behind V1 to V16 with the place, as in `V3 at 0`.
+#[derive(Clone, Copy, Debug, PartialEq, Eq)]
+pub struct DeviceFault {
+    pub cause: DeviceCause,
+    /// Of V1 to V16 the layout's place in the descriptor, else 0.
+    pub at: usize,
+}
+
+impl fmt::Display for DeviceFault {
+    ghost output = { λ fault. Some (fault_text fault.cause fault.at) };
+
+    fn fmt<W: fmt::Write>(&self, f: &mut fmt::Formatter<W>) -> fmt::Result {
+        let DeviceFault { cause, at } = *self;
+        match cause {
+            DeviceCause::Layout(found) => match found {
+                Cause::Memory => write!(f, "V17"),
+                _ => write!(f, "{cause} at {at}"),
+            },
+            _ => write!(f, "{cause}"),
+        }
+    }
+}
+
+impl From<LayoutFault> for DeviceFault {
+    ghost from_gives = { λ found fault. fault ≡ record { cause = Layout found.cause; at = found.at } };
+
+    fn from(found: LayoutFault) -> DeviceFault {
+        DeviceFault {
+            cause: DeviceCause::Layout(found.cause),
+            at: found.at,
+        }
+    }
+}
+
+impl From<MemoryFault> for DeviceFault {
+    ghost from_gives = { λ _ fault. fault ≡ record { cause = Memory; at = 0 } };
+
+    fn from(_: MemoryFault) -> DeviceFault {
+        DeviceFault {
+            cause: DeviceCause::Memory,
+            at: 0,
+        }
+    }
+}
+
+impl From<AllocError> for DeviceFault {
+    ghost from_gives = { λ _ fault. fault ≡ record { cause = Memory; at = 0 } };
+
+    fn from(_: AllocError) -> DeviceFault {
+        DeviceFault {
+            cause: DeviceCause::Memory,
+            at: 0,
+        }
+    }
+}
+
+/// The code of a layout's cause, as a device tells it.
+#[derive(Clone, Copy)]
+struct LayoutCode(Cause);
+
+impl fmt::Display for LayoutCode {
+    ghost output = { λ code. Some (layout_code code.0) };
+
+    fn fmt<W: fmt::Write>(&self, f: &mut fmt::Formatter<W>) -> fmt::Result {
+        match self.0 {
+            Cause::Truncated => write!(f, "V1"),
+            Cause::TooLong => write!(f, "V2"),
+            Cause::PopEmpty => write!(f, "V3"),
+            Cause::PushDepth => write!(f, "V4"),
+            Cause::CollectionDepth => write!(f, "V5"),
+            Cause::EndWithout => write!(f, "V6"),
+            Cause::Unclosed => write!(f, "V7"),
+            Cause::BadReportId => write!(f, "V8"),
+            Cause::MixedReportId => write!(f, "V9"),
+            Cause::BadRange => write!(f, "V10"),
+            Cause::BadSize => write!(f, "V11"),
+            Cause::BadUsageRange => write!(f, "V12"),
+            Cause::UnpairedUsage => write!(f, "V13"),
+            Cause::Delimiter => write!(f, "V14"),
+            Cause::ReportTooLong => write!(f, "V15"),
+            Cause::TooMany => write!(f, "V16"),
+            Cause::Memory => write!(f, "V17"),
+        }
+    }
+}

@@ -1,0 +1,282 @@
+//! The inside of a device: all that endpoint 0 reads and writes, and the pipe of its Input reports.
+
+ghost use Rattle.std.specs.Prelude.{◌≡◌, ◌<◌, length, None, IfSome, IfOk, IfErr};
+ghost use Rattle.hid_layout.specs.Controls.{items_of};
+ghost use Rattle.hid_usages.specs.Cells.{FitsSnapshot};
+ghost use Rattle.hid_usages.specs.Snapshots.{Changes};
+ghost use Rattle.usb_packet.specs.Spelling.{Fits};
+ghost use Rattle.hid_device.specs.Standing.{is_due, first_due};
+ghost use Rattle.hid_device.specs.Core.{IsSound, IsArmed, Answers, opened, opening_of, closed_core, configured_core, changed_core, framed_core, round_of};
+ghost use Rattle.hid_device.specs.Making.{no_memory, new_core, CanServe, RefusesDescriptor, MakesCore};
+
+use crate::config::Config;
+use crate::fault::{DeviceCause, DeviceFault};
+use crate::frames::{count_frame, is_idle_over};
+use crate::inputs::input_count;
+use hid_fields::WordCodec;
+use hid_layout::Layout;
+use hid_usages::{Change, ChangeFault, Shown, Snapshot, encode_report, has_empty_codes, has_zeros};
+use std::alloc::Global;
+use std::marker::Model;
+use usb_packet::Packet;
+use usb_transact::DevPipe;
+
+/// The inside of a device.
+#[derive(Drop)]
+pub struct Core {
+    layout: Layout,
+    config: Config,
+    /// The bytes of the report descriptor.
+    descriptor: Vec<u8>,
+    /// Whether SET_CONFIGURATION took effect.
+    is_configured: bool,
+    snapshot: Snapshot,
+    /// The parts that were fixed last, blank where none was since the configuration.
+    fixed: Shown,
+    /// For each Input report, the frames since its last round opened, or since the configuration, up to 1,020.
+    frames: Vec<u16>,
+    /// For each Input report, its idle time in units of four frames; 0 is none.
+    idle: Vec<u8>,
+    pipe: DevPipe,
+    /// The report of the open round.
+    current: Option<usize>,
+}
+
+impl Model for Core {
+    ghost use Rattle.hid_device.specs.Core.{CoreState, IsCore};
+
+    ghost Value = { CoreState };
+
+    ghost view = { λ c. record {
+      layout = c.layout;
+      config = c.config;
+      descriptor = c.descriptor.items;
+      is_configured = c.is_configured;
+      standing = record { snapshot = c.snapshot; fixed = c.fixed; frames = c.frames.items; idle = c.idle.items };
+      current = c.current;
+      toggle = c.pipe.toggle;
+    } };
+
+    // What is armed is the part that was fixed, exactly while a round is open.
+    ghost invariant = { λ c. IsCore (record {
+      layout = c.layout;
+      config = c.config;
+      descriptor = c.descriptor.items;
+      is_configured = c.is_configured;
+      standing = record { snapshot = c.snapshot; fixed = c.fixed; frames = c.frames.items; idle = c.idle.items };
+      current = c.current;
+      toggle = c.pipe.toggle;
+    }) c.pipe.armed };
+}
+
+/// The layout of a descriptor, of which a device can send every report.
+fn served_layout(alloc: Global, descriptor: &[u8]) -> Result<Layout, DeviceFault>
+    ensures served { IfOk result (λ layout. CanServe descriptor.now layout) }
+    ensures refused { IfErr result (λ fault. RefusesDescriptor descriptor.now fault.cause fault.at) }
+{
+    let layout = match Layout::parse(alloc, descriptor) {
+        Ok(layout) => layout,
+        Err(fault) => return Err(DeviceFault::from(fault)),
+    };
+    if !has_empty_codes(&layout) {
+        return Err(DeviceFault {
+            cause: DeviceCause::NoEmptyCode,
+            at: 0,
+        });
+    }
+    if !has_zeros(&layout) {
+        return Err(DeviceFault {
+            cause: DeviceCause::RelativeWithoutZero,
+            at: 0,
+        });
+    }
+    Ok(layout)
+}
+
+impl Core {
+    /// The inside of a device with this layout that isn't configured yet. All room is made here.
+    #[tactic(auto, using(crate::proofs::InputLemmas::inputs_first))]
+    fn with_layout(
+        alloc: Global,
+        layout: Layout,
+        config: &Config,
+        descriptor: &[u8],
+    ) -> Result<Core, DeviceFault>
+        requires { CanServe descriptor.now layout }
+        ensures made { IfOk result (λ core. core ≡ new_core config.now descriptor.now layout) }
+        ensures wanting { IfErr result (λ fault. fault ≡ no_memory) }
+    {
+        let count = input_count(&layout);
+        Ok(Core {
+            config: *config,
+            descriptor: Vec::from_slice(alloc, descriptor)?,
+            is_configured: false,
+            snapshot: Snapshot::blank(alloc, &layout)?,
+            fixed: Shown::blank(alloc, &layout)?,
+            frames: vec![in alloc; 0; count]?,
+            idle: vec![in alloc; 0; count]?,
+            pipe: DevPipe::new(),
+            current: None,
+            layout,
+        })
+    }
+
+    /// The inside of a device that isn't configured yet.
+    pub(crate) fn new(
+        alloc: Global,
+        config: &Config,
+        descriptor: &[u8],
+    ) -> Result<Core, DeviceFault>
+        ensures { MakesCore config.now descriptor.now result }
+    {
+        match served_layout(alloc, descriptor) {
+            Ok(layout) => Core::with_layout(alloc, layout, config, descriptor),
+            Err(fault) => Err(fault),
+        }
+    }
+
+    pub(crate) fn layout(&self) -> &Layout
+        ensures layout { result.now ≡ self.now.layout }
+        ensures sound { IsSound self.now }
+    {
+        &self.layout
+    }
+
+    pub(crate) fn fixed(&self) -> &Shown
+        ensures { result.now ≡ self.now.standing.fixed }
+    {
+        &self.fixed
+    }
+
+    pub(crate) fn pipe(&self) -> &DevPipe
+        ensures toggle { result.now.toggle ≡ self.now.toggle }
+        ensures armed { IsArmed self.now.layout self.now.standing.fixed self.now.current result.now.armed }
+    {
+        &self.pipe
+    }
+
+    pub(crate) fn is_configured(&self) -> bool
+        ensures { result ≡ self.now.is_configured }
+    {
+        self.is_configured
+    }
+
+    /// The report of the open round, and whether its data go out as DATA1.
+    pub(crate) fn open_round(&self) -> Option<(usize, bool)>
+        ensures { result ≡ round_of self.now }
+    {
+        match self.current {
+            Some(report) => Some((report, self.pipe.toggle())),
+            None => None,
+        }
+    }
+
+    /// Changes a control.
+    pub(crate) fn change(&mut self, change: Change) -> Result<(), ChangeFault>
+        ensures changes { Changes (items_of self.old.layout) self.old.standing.snapshot change result self.new.standing.snapshot }
+        ensures core { self.new ≡ changed_core self.old change }
+    {
+        change_snapshot(&mut self.snapshot, &self.layout, change)
+    }
+
+    /// Counts a frame for each report.
+    pub(crate) fn frame(&mut self)
+        ensures { self.new ≡ framed_core self.old }
+    {
+        count_frame(&mut self.frames);
+    }
+
+    /// SET_CONFIGURATION takes effect.
+    pub(crate) fn configure(&mut self)
+        ensures { self.new ≡ configured_core self.old }
+    {
+        self.is_configured = true;
+        self.fixed.reset(&self.layout);
+        self.frames.fill(0);
+        self.pipe.restart();
+        self.current = None;
+    }
+
+    /// Opens a round where none is open and some report is due.
+    pub(crate) fn open_if_due(&mut self)
+        ensures { self.new ≡ opening_of self.old }
+    {
+        if self.current.is_none() {
+            if let Some(report) = self.first_due() {
+                self.open(report);
+            }
+        }
+    }
+
+    /// The answer to a poll: what is armed under the toggle, else NAK (USB 2.0, 8.4.6.1).
+    pub(crate) fn answer(&self) -> Packet
+        ensures answer { Answers self.now result }
+        ensures fits { Fits result }
+        ensures sound { IsSound self.now }
+    {
+        self.pipe.answer()
+    }
+
+    /// An acknowledgement has arrived: the round is closed (USB 2.0, 8.6.2).
+    pub(crate) fn acknowledged(&mut self)
+        ensures { self.new ≡ closed_core self.old }
+    {
+        self.pipe.acknowledged();
+        self.current = None;
+    }
+
+    /// Whether a report is due: its controls call for it, or its idle time is over.
+    fn is_due(&self, report: usize) -> bool
+        requires { report < length self.now.standing.frames }
+        ensures { result ≡ is_due (items_of self.now.layout) self.now.standing report }
+    {
+        self.snapshot.due(&self.layout, report, &self.fixed)
+            || is_idle_over(self.idle[report], self.frames[report])
+    }
+
+    /// The due report of the lowest number.
+    fn first_due(&self) -> Option<usize>
+        ensures due { result ≡ first_due (items_of self.now.layout) self.now.standing }
+        ensures input { IfSome result (λ report. report < length self.now.standing.frames) }
+    {
+        for report in 0..self.frames.len() {
+            if self.is_due(report) {
+                return Some(report);
+            }
+        }
+        None
+    }
+
+    /// Opens a round of a report: fixes its part, takes the part's motion out of the snapshot, counts its frames anew, and
+    /// arms its bytes.
+    fn open(&mut self, report: usize)
+        requires input { report < length self.old.standing.frames }
+        requires none { self.old.current ≡ None }
+        ensures { self.new ≡ opened self.old report }
+    {
+        self.snapshot.shown(&self.layout, report, &mut self.fixed);
+        self.snapshot.take_motion(&self.layout, report, &self.fixed);
+        self.frames[report] = 0;
+        let bytes = encode_report::<WordCodec>(&self.layout, report, &self.fixed);
+        self.pipe.arm(&bytes);
+        self.current = Some(report);
+    }
+}
+
+fn change_snapshot(
+    snapshot: &mut Snapshot,
+    layout: &Layout,
+    change: Change,
+) -> Result<(), ChangeFault>
+    requires { FitsSnapshot (items_of layout.now) snapshot.old }
+    ensures changes { Changes (items_of layout.now) snapshot.old change result snapshot.new }
+    ensures fits { FitsSnapshot (items_of layout.now) snapshot.new }
+{
+    match change {
+        Change::Press(control) => snapshot.press(layout, control),
+        Change::Release(control) => snapshot.release(layout, control),
+        Change::Set(control, value) => snapshot.set(layout, control, value),
+        Change::Null(control) => snapshot.set_null(layout, control),
+        Change::Move(control, by) => snapshot.shift(layout, control, by),
+    }
+}

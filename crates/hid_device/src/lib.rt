@@ -1,0 +1,49 @@
+//! A virtual human interface device at the far end of the bus (USB 2.0, 8.4.6.1, 8.5.4 and 8.6; HID 1.11, 5 to 8).
+//! ```text
+//!   host                 Device::on_packet                                  Core
+//!   IN 69 81 00 ------>  no round open: the lowest due report? -------->  Snapshot::due, idle times
+//!                            its part is fixed                             Snapshot::shown -> fixed
+//!                            its motion is taken out                       Snapshot::take_motion
+//!                            its frames are counted anew                   frames
+//!                            its bytes are armed                           encode_report -> DevPipe::arm
+//!              <-------  what is armed under the toggle, else NAK          DevPipe::answer
+//!   ACK 0xD2 --------->  directly behind data: the round is closed         DevPipe::acknowledged
+//!
+//!   Device::change       the snapshot alone; the open round stays as it was fixed
+//!   Device::frame        a frame more for each report, up to 1,020
+//!   Device::configure    DATA0, nothing armed, no round, blank parts, no frames; the snapshot stays
+//! ```
+//! The rule to know: a round's part is fixed when the round opens, and goes out again and again, the same bytes under the
+//! same toggle, until its acknowledgement arrives. What changes meanwhile goes into a later round, and motion that its
+//! field can't carry stays in the snapshot for one.
+//!
+//! A new device isn't configured and answers nothing. All that endpoint 0 will read and write stands in `Core`, beside the
+//! address and the wait for an ACK.
+//!
+//! The promise: a device is made exactly where no cause of [`DeviceCause`] stands ([`Device::new`]); a packet does to it
+//! what `device_after` says, and is answered as `DeviceAnswers` says (`device` and `answer` on [`Device::on_packet`]), of
+//! which `specs/Rounds.antt` makes rounds and their events; something is armed exactly while a round is open, and it is the
+//! bytes of the part that was fixed for it (`armed` on [`Device::pipe`]). No call takes memory but [`Device::new`].
+//! ```text
+//!   let mut mouse = Device::new(alloc, 1, &config, &MOUSE)?;         // or Err, printed as `V10 at 12`
+//!   mouse.configure();
+//!   mouse.change(Change::Press(ControlId { item: 0, index: 0 }));    // Ok(())
+//!   mouse.on_packet(&token);                                         // DATA0 01 00 00, of the round (0, false)
+//!   mouse.on_packet(&Packet::Ack);                                   // no answer, and no round is open
+//! ```
+#![tactic(auto)]
+
+mod config;
+mod device;
+mod fault;
+mod frames;
+mod inputs;
+mod inside;
+
+pub use config::{Boot, Config};
+pub use device::{Device, ENDPOINT};
+pub use fault::{DeviceCause, DeviceFault};
+pub use hid_usages::boot::{KEYBOARD, MOUSE};
+
+#[cfg(test)]
+mod tests;

@@ -1,0 +1,39 @@
+-- Runs of fields.
+use Rattle.std.proofs.Common.{◌≡◌, ℕ, zero, suc, ◌+◌, ◌*◌, ◌<◌, ◌≤◌, Bool, ℤ, List, [], ◌∷◌, ◌++◌, length, length-append, get_or, take, refl, sym, ◌∙◌, add-one, inl, inr, arith}
+use Rattle.std.proofs.lemmas.Grind.{common_steps}
+use Rattle.hid_fields.specs.Field.{bit_of, pattern_of, IsOutside}
+use Rattle.hid_parts.specs.Numbers.{number_at, numbers_in}
+
+pub numbers_in-length : (bytes : List ℕ) (at w : ℕ) (signed : Bool) (n : ℕ) → length (numbers_in bytes at w signed n) ≡ n
+numbers_in-length bytes at w signed zero = refl
+numbers_in-length bytes at w signed (suc n) = grind (arith, length-append, numbers_in-length bytes at w signed n)
+
+pub numbers_in-next : (bytes : List ℕ) (at w : ℕ) (signed : Bool) (n : ℕ) → numbers_in bytes at w signed n ++ number_at bytes (at + w * n) w signed ∷ [] ≡ numbers_in bytes at w signed (n + 1)
+numbers_in-next bytes at w signed n = rw add-one refl
+
+-- a field's pattern is that of its bits
+pub pattern_of-agree : (xs ys : List ℕ) (at w : ℕ) → ((n : ℕ) → at ≤ n → n < at + w → bit_of xs n ≡ bit_of ys n) → pattern_of xs at w ≡ pattern_of ys at w
+pattern_of-agree xs ys at zero same = refl
+pattern_of-agree xs ys at (suc w) same = rw (pattern_of-agree xs ys at w (λ n a b. same n a (omega arith)), same (at + w) (omega arith) (omega arith)) refl
+
+pub numbers_in-agree : (xs ys : List ℕ) (at w : ℕ) (signed : Bool) (n : ℕ) → ((m : ℕ) → at ≤ m → m < at + w * n → bit_of xs m ≡ bit_of ys m) → numbers_in xs at w signed n ≡ numbers_in ys at w signed n
+numbers_in-agree xs ys at w signed zero same = refl
+numbers_in-agree xs ys at w signed (suc n) same =
+    let e : w * suc n ≡ w * n + w = omega arith in
+    rw (numbers_in-agree xs ys at w signed n (λ m a b. same m a (omega arith)), pattern_of-agree xs ys (at + w * n) w (λ m a b. same m (omega arith) (omega arith))) refl
+
+-- one more number is written behind those that stand
+pub written : (xs ys : List ℕ) (at w : ℕ) (signed : Bool) (n : ℕ) (numbers : List ℤ) (v d : ℤ) → n < length numbers → get_or numbers n d ≡ v
+    → ((m : ℕ) → IsOutside (at + w * n) w m → bit_of ys m ≡ bit_of xs m)
+    → number_at ys (at + w * n) w signed ≡ v
+    → numbers_in xs at w signed n ≡ take n numbers → numbers_in ys at w signed (n + 1) ≡ take (n + 1) numbers
+written xs ys at w signed n numbers v d within is others there so_far =
+    sym (numbers_in-next ys at w signed n)
+    ∙ rw (numbers_in-agree ys xs at w signed n (λ m a b. others m (inl b)), so_far, there, ← is) (grind (arith, common_steps))
+
+pub others_written : (xs ys zs : List ℕ) (at w n m : ℕ) → ((k : ℕ) → IsOutside (at + w * n) w k → bit_of zs k ≡ bit_of ys k)
+    → ((k : ℕ) → IsOutside at (w * n) k → bit_of ys k ≡ bit_of xs k) → IsOutside at (w * (n + 1)) m → bit_of zs m ≡ bit_of xs m
+others_written xs ys zs at w n m last before (inl below) = last m (inl (omega arith)) ∙ before m (inl below)
+others_written xs ys zs at w n m last before (inr above) =
+    let e : w * (n + 1) ≡ w * n + w = omega arith in
+    last m (inr (omega arith)) ∙ before m (inr (omega arith))

@@ -1,0 +1,217 @@
+-- The parts of a report can be sent, and one list of bytes alone shows them.
+use Rattle.std.proofs.Common.{◌≡◌, ℕ, zero, suc, ◌+◌, ◌-◌, ◌*◌, ◌/◌, ◌%◌, ◌<◌, ◌≤◌, ◌⊎◌, inl, inr, not, ◌&&◌, ◌==◌, Bool, true, false, cond, List, [], ◌∷◌, ◌++◌, length, replicate, Option, Some, None, get_or, ℤ, refl, sym, ap, ◌∙◌, subst, arith}
+use Rattle.std.specs.List.{slice_get}
+use Rattle.std.proofs.lemmas.Option.{slice_get_within}
+use Rattle.hid_layout.specs.declared.main_item.MainItem.{MainItem}
+use Rattle.hid_layout.specs.declared.report.Report.{Report}
+use Rattle.hid_layout.specs.Usages.{Entry, usage_list}
+use Rattle.hid_layout.specs.Fields.{is_padding, same_kind}
+use Rattle.hid_layout.specs.Layout.{Contents}
+use Rattle.hid_layout.specs.Reports.{IsLayout, HasElements}
+use Rattle.hid_layout.specs.declared.report.ReportKind.TheVariants.{Input}
+use Rattle.hid_layout.specs.Controls.{Form, NoControls, Item, items_of, item_of, form_of, head_of, is_input}
+use Rattle.hid_cells.specs.declared.cell.Cell.{Cell}
+use Rattle.hid_cells.specs.declared.cell.Cell.TheVariants.{Vacant, Pressed, Holding, Moved, RolledOver}
+use Rattle.hid_cells.specs.Cells.{HasRoom, InPart, Suits}
+use Rattle.hid_cells.specs.Parts.{IsInput}
+use Rattle.hid_parts.specs.Sending.{sent}
+use Rattle.hid_parts.specs.Encoding.{IsData, CanSendAll, HasFewPlaces, sent_at, place, AreBytes, IsEncoding}
+use Rattle.std.specs.Int.{bit_at}
+use Rattle.std.proofs.lemmas.Grind.{same_number_lists}
+use Rattle.std.proofs.Math.Nat.{mul-le-mul_left}
+use Rattle.std.proofs.lemmas.Bool.{cases_lt}
+use Rattle.hid_fields.specs.Field.{bit_of, pattern_of, IsOutside}
+use Rattle.hid_fields.specs.Value.{is_negative}
+use Rattle.hid_fields.proofs.FieldLemmas.{pattern_of-lt, pattern_of-same}
+use Rattle.hid_fields.proofs.ValueLemmas.{pattern_for-only}
+use Rattle.hid_fields.proofs.WordLemmas.{bit_at-pattern_of, pattern_of-byte}
+use Rattle.hid_parts.specs.Numbers.{number_at, numbers_in}
+use Rattle.hid_parts.proofs.NumberLemmas.{numbers_in-length}
+use Rattle.hid_parts.proofs.EncodingLemmas.{cell_numbers, data_if, no_data_if}
+use Rattle.hid_cells.proofs.ItemLemmas.{items_from-at, items_of-length, got}
+use Rattle.hid_parts.proofs.SendLemmas.{can_send, few_places}
+
+-- the numbers of a listed item
+pub sent_at-is : (layout : Contents) (i : ℕ) (m : MainItem) (es : List Entry) (cell : Cell) → slice_get layout.items i ≡ Some m → slice_get layout.entries i ≡ Some es
+    → sent_at layout i cell ≡ sent m (usage_list es) (form_of m (usage_list es) m.shape) cell
+sent_at-is layout i m es cell h k =
+    ap (λ (o : Option MainItem). elim o as (λ _. List ℤ) [ None ↦ [] | Some item ↦ elim (slice_get layout.entries i) as (λ _. List ℤ) [ None ↦ [] | Some fs ↦ sent item (usage_list fs) (form_of item (usage_list fs) item.shape) cell ] ]) h
+    ∙ ap (λ (o : Option (List Entry)). elim o as (λ _. List ℤ) [ None ↦ [] | Some fs ↦ sent m (usage_list fs) (form_of m (usage_list fs) m.shape) cell ]) k
+
+-- an item of an Input report has the controls of its form
+pub form_in_input : (layout : Contents) (r : ℕ) (m : MainItem) (es : List Entry) → IsInput layout r → m.report ≡ r → (item_of layout.reports m es).form ≡ form_of m (usage_list es) m.shape
+form_in_input layout r m es input at_r =
+    let in_it : is_input layout.reports m.report ≡ true = ap (is_input layout.reports) at_r ∙ input in
+    rw in_it refl
+
+item_room : (layout : Contents) (m : MainItem) (es : List Entry) (cell : Cell) → (is_padding m.shape ≡ false → HasElements m) → (is_padding m.shape ≡ false → 0 < length (usage_list es))
+    → HasRoom (head_of (item_of layout.reports m es).form) cell → HasFewPlaces cell
+item_room layout m es cell has some room = by_input (is_input layout.reports m.report) room
+  where
+    vacant : (cell : Cell) → HasRoom (head_of NoControls) cell → HasFewPlaces cell
+    vacant Vacant h = tt
+    vacant (Pressed ps) h = absurd h
+    vacant (Holding ps) h = absurd h
+    vacant (Moved ps) h = absurd h
+    vacant (RolledOver ps) h = absurd h
+
+    by_input : (b : Bool) → HasRoom (head_of (let a : Item = record { report = Some m.report; form = form_of m (usage_list es) m.shape } in let z : Item = record { report = None; form = NoControls } in cond b a z).form) cell → HasFewPlaces cell
+    by_input true h = few_places m (usage_list es) m.shape cell has some h
+    by_input false h = vacant cell h
+
+-- The parts of an Input report can be sent.
+pub can_send_all : (layout : Contents) (r : ℕ) (parts : List Cell) → IsLayout layout → IsInput layout r → Suits InPart (items_of layout) parts → CanSendAll layout r parts
+can_send_all layout r parts laid input fits = record {
+  all_there = fits.one_each ∙ items_of-length layout laid;
+  each_item = λ i m d.
+      let es = got layout.entries i (omega (arith, laid.entries_there, slice_get_within layout.items i m d.listed)) in
+      let cell = got parts i (omega (arith, fits.one_each, items_of-length layout laid, slice_get_within layout.items i m d.listed)) in
+      let item = items_from-at layout.reports layout.items layout.entries i m es.0 d.listed es.1 in
+      let room = fits.room i (item_of layout.reports m es.0) cell.0 item cell.1 in
+      let ok = fits.suits i (item_of layout.reports m es.0) cell.0 item cell.1 in
+      let form = form_in_input layout r m es.0 input d.in_report in
+      rw (cell_numbers layout parts i cell.0 cell.1, sent_at-is layout i m es.0 cell.0 d.listed es.1)
+      (can_send m (usage_list es.0) m.shape cell.0 d.no_padding (laid.elements i m d.listed d.no_padding) (laid.some_usage i m es.0 d.listed es.1 d.no_padding)
+      (subst (λ (f : Form). HasRoom (head_of f) cell.0) form room) (subst (λ (f : Form). InPart f cell.0) form ok));
+  few_places = λ i cell h.
+      let within : i < length layout.items = omega (arith, fits.one_each, items_of-length layout laid, slice_get_within parts i cell h) in
+      let m = got layout.items i within in
+      let es = got layout.entries i (omega (arith, laid.entries_there)) in
+      let item = items_from-at layout.reports layout.items layout.entries i m.0 es.0 m.1 es.1 in
+      item_room layout m.0 es.0 cell (laid.elements i m.0 m.1) (laid.some_usage i m.0 es.0 m.1 es.1) (fits.room i (item_of layout.reports m.0 es.0) cell item h);
+}
+
+get-front : {A : Type 0} (xs ys : List A) (j : ℕ) → j < length xs → slice_get (xs ++ ys) j ≡ slice_get xs j
+get-front [] ys j h = absurd (omega arith)
+get-front (x ∷ xs) ys zero h = refl
+get-front (x ∷ xs) ys (suc j) h = get-front xs ys j (omega arith)
+
+get-last : {A : Type 0} (xs : List A) (y : A) (j : ℕ) → length xs ≡ j → slice_get (xs ++ y ∷ []) j ≡ Some y
+get-last [] y zero h = refl
+get-last [] y (suc j) h = absurd (omega arith)
+get-last (x ∷ xs) y zero h = absurd (omega arith)
+get-last (x ∷ xs) y (suc j) h = get-last xs y j (omega arith)
+
+-- the number of an element, of all that are read
+numbers_in-at : (bytes : List ℕ) (at w : ℕ) (signed : Bool) (n j : ℕ) → j < n → slice_get (numbers_in bytes at w signed n) j ≡ Some (number_at bytes (at + w * j) w signed)
+numbers_in-at bytes at w signed zero j h = absurd (omega arith)
+numbers_in-at bytes at w signed (suc n) j h = elim (cases_lt j n) [
+  | inl lt ↦ get-front (numbers_in bytes at w signed n) _ j (omega (arith, numbers_in-length bytes at w signed n)) ∙ numbers_in-at bytes at w signed n j lt
+  | inr ge ↦ let e : j ≡ n = omega arith in rw e (get-last (numbers_in bytes at w signed n) _ n (numbers_in-length bytes at w signed n))
+]
+
+-- two lists of bytes with the same numbers have the same bits there
+same_bits : (xs ys : List ℕ) (at w : ℕ) (signed : Bool) (n m : ℕ) → 0 < w → numbers_in xs at w signed n ≡ numbers_in ys at w signed n → at ≤ m → m < at + w * n → bit_of xs m ≡ bit_of ys m
+same_bits xs ys at w signed n m some same low high =
+    let d = m - at in
+    let j = d / w in
+    let k = d % w in
+    let split : w * j + k ≡ d = omega arith in
+    let small : k < w = omega arith in
+    let within : j < n = below j n k (omega arith) in
+    let here : Some (number_at xs (at + w * j) w signed) ≡ Some (number_at ys (at + w * j) w signed) =
+    sym (numbers_in-at xs at w signed n j within) ∙ ap (λ (l : List ℤ). slice_get l j) same ∙ numbers_in-at ys at w signed n j within
+    in
+    let number : number_at xs (at + w * j) w signed ≡ number_at ys (at + w * j) w signed = cc in
+    let pattern : pattern_of xs (at + w * j) w ≡ pattern_of ys (at + w * j) w =
+    sym (pattern_for-only _ w signed (pattern_of xs (at + w * j) w) some (pattern_of-lt xs (at + w * j) w) refl)
+    ∙ pattern_for-only _ w signed (pattern_of ys (at + w * j) w) some (pattern_of-lt ys (at + w * j) w) (sym number)
+    in
+    let bit : bit_of xs ((at + w * j) + k) ≡ bit_of ys ((at + w * j) + k) =
+    sym (bit_at-pattern_of xs (at + w * j) w k small) ∙ ap (λ (p : ℕ). bit_at p k) pattern ∙ bit_at-pattern_of ys (at + w * j) w k small
+    in
+    let place : (at + w * j) + k ≡ m = omega arith in
+    rw place at bit
+  where
+    below : (j n k : ℕ) → w * j + k < w * n → j < n
+    below j n k h = elim (cases_lt j n) [ inl lt ↦ lt | inr ge ↦ let more = mul-le-mul_left w ge in absurd (omega arith) ]
+
+-- a bit that a data element of the report covers
+record Covers (layout : Contents) (r k n : ℕ) : Type 0 where
+  index : ℕ
+  item : MainItem
+  below : index < k
+  is_data : IsData layout r index item
+  low : place layout item ≤ n
+  high : n < place layout item + item.size * item.count
+
+AreOutside : Contents → ℕ → ℕ → ℕ → Type 0
+AreOutside layout r k n = (i : ℕ) (m : MainItem) → i < k → IsData layout r i m → IsOutside (place layout m) (m.size * m.count) n
+
+one_item_more : (layout : Contents) (r k n : ℕ) (m : MainItem) → slice_get layout.items k ≡ Some m → AreOutside layout r k n → IsOutside (place layout m) (m.size * m.count) n → AreOutside layout r (suc k) n
+unfolding AreOutside
+one_item_more layout r k n m there before here = λ i a h d.
+    elim (cases_lt i k) [
+      | inl lt ↦ before i a lt d
+      | inr ge ↦
+          let e : i ≡ k = omega arith in
+          let P : ℕ → Type 0 = λ j. slice_get layout.items j ≡ Some a in
+          let same : a ≡ m = same_place layout.items k a m (subst P e d.listed) there in
+          rw same here
+    ]
+  where
+    same_place : (xs : List MainItem) (j : ℕ) (a b : MainItem) → slice_get xs j ≡ Some a → slice_get xs j ≡ Some b → a ≡ b
+    same_place xs j a b h g = cc
+
+no_item_more : (layout : Contents) (r k n : ℕ) → ((m : MainItem) → IsData layout r k m → ⊥) → AreOutside layout r k n → AreOutside layout r (suc k) n
+unfolding AreOutside
+no_item_more layout r k n none before = λ i a h d.
+    elim (cases_lt i k) [
+      | inl lt ↦ before i a lt d
+      | inr ge ↦ let e : i ≡ k = omega arith in let P : ℕ → Type 0 = λ j. IsData layout r j a in absurd (none a (subst P e d))
+    ]
+
+covered_or_not : (layout : Contents) (r k n : ℕ) → k ≤ length layout.items → Covers layout r k n ⊎ AreOutside layout r k n
+unfolding AreOutside
+covered_or_not layout r zero n h = inr (λ i m lt d. absurd (omega arith))
+covered_or_not layout r (suc k) n h = by_before (covered_or_not layout r k n (omega arith)) (got layout.items k (omega arith))
+  where
+    by_bits : (m : MainItem) → slice_get layout.items k ≡ Some m → AreOutside layout r k n → IsData layout r k m → Covers layout r (suc k) n ⊎ AreOutside layout r (suc k) n
+    by_bits m there before d = elim (cases_lt n (place layout m)) [
+      | inl under ↦ inr (one_item_more layout r k n m there before (inl under))
+      | inr low ↦ elim (cases_lt n (place layout m + m.size * m.count)) [
+        | inl high ↦ inl (record { index = k; item = m; below = omega arith; is_data = d; low = low; high = high })
+        | inr over ↦ inr (one_item_more layout r k n m there before (inr over))
+      ]
+    ]
+
+    by_test : (m : MainItem) → slice_get layout.items k ≡ Some m → AreOutside layout r k n → (b : Bool) → (m.report == r && not (is_padding m.shape)) ≡ b → Covers layout r (suc k) n ⊎ AreOutside layout r (suc k) n
+    by_test m there before true e = by_bits m there before (data_if layout r k m there e)
+    by_test m there before false e = inr (no_item_more layout r k n (no_data_if layout r k m there e) before)
+
+    by_before : Covers layout r k n ⊎ AreOutside layout r k n → (m : MainItem) × (slice_get layout.items k ≡ Some m) → Covers layout r (suc k) n ⊎ AreOutside layout r (suc k) n
+    by_before (inl c) m = inl (record { index = c.index; item = c.item; below = (let b = c.below in omega arith); is_data = c.is_data; low = c.low; high = c.high })
+    by_before (inr out) m = by_test m.0 m.1 out (m.0.report == r && not (is_padding m.0.shape)) refl
+
+-- One list of bytes alone shows these numbers.
+pub only_one : (layout : Contents) (r : ℕ) (numbers : ℕ → List ℤ) (a b : List ℕ) → IsLayout layout → AreBytes a → AreBytes b → IsEncoding layout r numbers a → IsEncoding layout r numbers b → a ≡ b
+unfolding AreOutside
+only_one layout r numbers a b laid bytes_a bytes_b is_a is_b = same_number_lists a b (is_a.whole ∙ sym is_b.whole) byte
+  where
+    bit : (n : ℕ) → bit_of a n ≡ bit_of b n
+    bit n = elim (covered_or_not layout r (length layout.items) n (omega arith)) [
+      | inl c ↦
+          let d = c.is_data in
+          let has = laid.elements c.index c.item d.listed d.no_padding in
+          same_bits a b (place layout c.item) c.item.size (is_negative c.item.min) c.item.count n has.some_bits
+          (is_a.shows.elements c.index c.item c.below d ∙ sym (is_b.shows.elements c.index c.item c.below d)) c.low c.high
+      | inr out ↦ is_a.shows.others n out ∙ sym (is_b.shows.others n out)
+    ]
+
+    byte : (i : ℕ) → i < length a → get_or a i 0 ≡ get_or b i 0
+    byte i h =
+        let h' : i < length b = omega (arith, is_a.whole, is_b.whole) in
+        sym (pattern_of-byte a i (bytes_a i 0 h)) ∙ pattern_of-same a b (8 * i) (8 * i) 8 (λ k lt. bit (8 * i + k)) ∙ pattern_of-byte b i (bytes_b i 0 h')
+
+all_zeros : (n k d : ℕ) → (let zeros : List ℕ = replicate n 0 in k < length zeros → get_or zeros k d < 256)
+all_zeros zero k d h = absurd (omega arith)
+all_zeros (suc n) zero d h = omega arith
+all_zeros (suc n) (suc k) d h = all_zeros n k d (omega arith)
+
+-- an ID and zeros are bytes
+pub byte_then_zeros : (id n : ℕ) (before one bytes : List ℕ) → before ≡ [] → one ≡ before ++ id ∷ [] → bytes ≡ one ++ replicate n 0 → id < 256 → AreBytes bytes
+byte_then_zeros id n before one bytes none some is small = rw (is, some, none) at
+  where
+    at : (k d : ℕ) → (let zeros : List ℕ = id ∷ replicate n 0 in k < length zeros → get_or zeros k d < 256)
+    at zero d h = small
+    at (suc k) d h = all_zeros n k d (omega arith)

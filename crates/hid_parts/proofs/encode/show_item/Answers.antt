@@ -1,0 +1,31 @@
+use Rattle.std.proofs.Common.{◌∙◌, sym}
+use Rattle.hid_parts.specs.Encoding.{IsData, part_numbers}
+use Rattle.hid_parts.proofs.EncodingLemmas.{data_if, no_data_if, place_inside, shows_passed, shows_next, cell_numbers}
+use Rattle.hid_parts.proofs.encode.show_item.Goals as goal
+
+pub write_item-requires-clause-elements : goal.write_item-requires-clause-elements
+write_item-requires-clause-elements g c =
+    let d : IsData c.args.layout.now c.args.report c.args.i c.item_at-item.result.now = data_if c.args.layout.now c.args.report c.args.i c.item_at-item.result.now c.item_at-item.ensures.item (sym c.is_data.ensures ∙ c.if-is_data.true) in
+    c.requires.layout.elements c.args.i c.item_at-item.result.now d.listed d.no_padding
+
+pub write_item-requires-clause-can : goal.write_item-requires-clause-can
+write_item-requires-clause-can g c =
+    let d : IsData c.args.layout.now c.args.report c.args.i c.item_at-item.result.now = data_if c.args.layout.now c.args.report c.args.i c.item_at-item.result.now c.item_at-item.ensures.item (sym c.is_data.ensures ∙ c.if-is_data.true) in
+    rw (← cell_numbers c.args.layout.now c.args.shown.now c.args.i c.cell_at.result.now c.cell_at.ensures) (c.requires.part.each_item c.args.i c.item_at-item.result.now d)
+
+pub write_item-requires-clause-room : goal.write_item-requires-clause-room
+write_item-requires-clause-room g c =
+    let d : IsData c.args.layout.now c.args.report c.args.i c.item_at-item.result.now = data_if c.args.layout.now c.args.report c.args.i c.item_at-item.result.now c.item_at-item.ensures.item (sym c.is_data.ensures ∙ c.if-is_data.true) in
+    rw c.requires.whole (place_inside c.args.layout.now c.args.report c.args.i c.item_at-item.result.now c.requires.layout d)
+
+pub returns-then-is_data-clause-shows : goal.returns-then-is_data-clause-shows
+returns-then-is_data-clause-shows g c = λ before s.
+    let d : IsData c.args.layout.now c.args.report c.args.i c.item_at-item.result.now = data_if c.args.layout.now c.args.report c.args.i c.item_at-item.result.now c.item_at-item.ensures.item (sym c.is_data.ensures ∙ c.if-is_data.true) in
+    shows_next c.args.layout.now c.args.report (part_numbers c.args.layout.now c.args.shown.now) c.args.i c.item_at-item.result.now before c.args.bytes.now c.write_item.new.bytes c.requires.layout d
+    (c.write_item.ensures.written ∙ sym (cell_numbers c.args.layout.now c.args.shown.now c.args.i c.cell_at.result.now c.cell_at.ensures))
+    c.write_item.ensures.others s
+
+pub returns-else-is_data-clause-shows : goal.returns-else-is_data-clause-shows
+returns-else-is_data-clause-shows g c = λ before s.
+    shows_passed c.args.layout.now c.args.report (part_numbers c.args.layout.now c.args.shown.now) c.args.i before c.args.bytes.now
+    (no_data_if c.args.layout.now c.args.report c.args.i c.item_at-item.result.now c.item_at-item.ensures.item (sym c.is_data.ensures ∙ c.if-is_data.false)) s

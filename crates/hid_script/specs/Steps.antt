@@ -1,0 +1,116 @@
+-- What the parts of a script tell: layouts, values, devices, and steps of the bus.
+use Rattle.std.specs.Prelude.{◌≡◌, ◌≢◌, ◌⊎◌, ◌∷◌, ◌++◌, ℕ, ◌+◌, ◌-◌, ◌^◌, min, Bool, List, [], length, if◌then◌else◌, Option, None, Some, Result, Ok, Err}
+use Rattle.hid_layout.specs.Items.{Item}
+use Rattle.hid_layout.specs.Layout.{Contents, layout_of}
+use Rattle.hid_layout.specs.Faults.{Accepts, Refuses}
+use Rattle.hid_layout.specs.declared.fault.LayoutFault.{LayoutFault}
+use Rattle.hid_layout.specs.declared.usage.Usage.{Usage}
+use Rattle.hid_layout.specs.declared.control.ControlId.{ControlId}
+use Rattle.hid_cells.specs.declared.fault.ReportFault.{ReportFault}
+use Rattle.hid_cells.specs.declared.change.Change.{Change as OneChange}
+use Rattle.hid_cells.specs.declared.change.Change.TheVariants as changes
+use Rattle.hid_usages.specs.Reading.{report_named}
+use Rattle.hid_device.specs.declared.config.Boot.{Boot}
+use Rattle.hid_device.specs.declared.config.Config.{Config}
+use Rattle.hid_stack.specs.declared.fault.StackFault.{StackFault}
+use Rattle.hid_stack.specs.declared.step.Step.{Step}
+use Rattle.hid_stack.specs.declared.step.Step.TheVariants.{Change}
+use Rattle.hid_stack.specs.declared.step.Told.{Told}
+use Rattle.hid_stack.specs.Members.{Member, fresh_member, refusal, bus_after, delivered_at}
+use Rattle.hid_stack.specs.Tells.{Tells}
+use Rattle.hid_stack.specs.declared.rig.TheConstants.{MAX_DEVICES}
+use Rattle.hid_stack.specs.declared.fault.StackFault.TheVariants as stack
+use Rattle.hid_stack.specs.Attaching.{Attaches, Finds}
+use Rattle.hid_script.specs.declared.fault.Cause.{Cause}
+use Rattle.hid_script.specs.declared.fault.Cause.TheVariants as causes
+use Rattle.hid_script.specs.declared.fault.StepFault.TheVariants as faults
+use Rattle.hid_script.specs.declared.wanted.Wanted.{Wanted}
+use Rattle.hid_script.specs.declared.wanted.Wanted.TheVariants.{Press, Release, Null, Set, Move}
+use Rattle.hid_script.specs.LayoutText.{layout_text}
+use Rattle.hid_script.specs.ValuesText.{values_text}
+use Rattle.hid_script.specs.StepText.{step_text}
+use Rattle.hid_script.specs.Session.{Session, Outcome, accepted, refused}
+
+-- ---- layout and values
+
+-- an accepted layout is printed, and stands from now on
+abbrev pub lays_out : Session → Contents → Outcome
+lays_out session layout = accepted (layout_text layout) (record session { layout = Some layout })
+
+abbrev pub refuses_layout : LayoutFault → Outcome
+refuses_layout fault = refused (causes.Step (faults.Layout fault))
+
+-- the descriptor is accepted, with these items, or it is refused
+abbrev pub TellsLayout : List ℕ → Session → Outcome → Type 0
+TellsLayout bytes session o =
+    ((items : List Item) × (Accepts bytes items × (o ≡ lays_out session (layout_of items))))
+    ⊎ ((fault : LayoutFault) × (Refuses bytes fault.cause fault.at × (o ≡ refuses_layout fault)))
+
+-- the values of a report, or why the bytes are none
+abbrev pub read_report : Session → Contents → List ℕ → Result ℕ ReportFault → Outcome
+read_report session layout bytes (Ok r) = accepted (values_text layout r bytes) session
+read_report session layout bytes (Err fault) = refused (causes.Step (faults.Report fault))
+
+-- the values of an Input report of the layout that stands
+abbrev pub valued : Session → List ℕ → Option Contents → Outcome
+valued session bytes None = refused causes.NoLayout
+valued session bytes (Some layout) = read_report session layout bytes (report_named layout bytes)
+
+abbrev pub TellsValues : List ℕ → Session → Outcome → Type 0
+TellsValues bytes session o = o ≡ valued session bytes session.layout
+
+-- ---- devices
+
+-- what the standard descriptors of a script's devices tell (our choice)
+abbrev pub config_of : Boot → Config
+config_of boot = record { vendor = 0xFFFF; product = 0x0001; interval = 10; boot = boot }
+
+abbrev pub refuses_step : StackFault → Outcome
+refuses_step fault = refused (causes.Step (faults.Stack fault))
+
+-- a device is attached, and its layout is printed where layouts are asked for
+abbrev pub attaches : Session → Contents → List Member → Outcome
+attaches session layout members = accepted (if session.options.layout then layout_text layout else []) (record session { members = members })
+
+-- The next number is the device's, and its descriptor suits; or there is no such device, and want of memory is no reason.
+abbrev pub TellsDevice : Boot → List ℕ → Session → Outcome → Type 0
+TellsDevice boot bytes session o =
+    ((dev : ℕ) × (layout : Contents) × (after : List Member)
+    × Attaches MAX_DEVICES (config_of boot) bytes session.members (Ok dev) after
+    × (after ≡ session.members ++ fresh_member dev layout ∷ []) × (o ≡ attaches session layout after))
+    ⊎ ((fault : StackFault) × (after : List Member)
+    × Attaches MAX_DEVICES (config_of boot) bytes session.members (Err fault) after × (fault ≢ stack.Memory) × (o ≡ refuses_step fault))
+
+-- ---- steps of the bus
+
+-- a count stops at the greatest number of 64 bits
+abbrev pub counted : ℕ → ℕ → ℕ
+counted events more = min (events + more) (2 ^ 64 - 1)
+
+-- what a step prints, and the session behind it
+abbrev pub stepped : Session → Step → Told → Outcome
+stepped session step shown = accepted
+    (step_text session.options.trace step shown (delivered_at session.members step))
+    (record session { members = bus_after session.members step; events = counted session.events (length (delivered_at session.members step)) })
+
+-- a step is taken, or it is refused
+abbrev pub TellsStep : Step → Session → Outcome → Type 0
+TellsStep step session o =
+    ((shown : Told) × (refusal session.members step ≡ None) × Tells session.members step shown × (o ≡ stepped session step shown))
+    ⊎ ((fault : StackFault) × (refusal session.members step ≡ Some fault) × (o ≡ refuses_step fault))
+
+-- the change that is wanted of a control
+abbrev pub change_of : Wanted → ControlId → OneChange
+change_of Press control = changes.Press control
+change_of Release control = changes.Release control
+change_of Null control = changes.Null control
+change_of (Set value) control = changes.Set control value
+change_of (Move by) control = changes.Move control by
+
+abbrev pub TellsFound : ℕ → Wanted → Result ControlId StackFault → Session → Outcome → Type 0
+TellsFound dev wanted (Ok control) session o = TellsStep (Change dev (change_of wanted control)) session o
+TellsFound dev wanted (Err fault) session o = o ≡ refuses_step fault
+
+-- the least control with the usage changes, if there is one
+abbrev pub TellsChange : ℕ → Usage → Wanted → Session → Outcome → Type 0
+TellsChange dev usage wanted session o = (found : Result ControlId StackFault) × Finds session.members dev usage found × TellsFound dev wanted found session o

@@ -1,0 +1,74 @@
+-- What a line of a script tells.
+use Rattle.std.specs.Prelude.{◌≡◌, ℕ, ◌≤◌, List, [], Result, Ok, Err}
+use Rattle.hid_layout.specs.declared.fault.LayoutFault.{LayoutFault}
+use Rattle.hid_layout.specs.declared.fault.Cause as layouts
+use Rattle.hid_layout.specs.declared.fault.Cause.TheVariants as causes_of
+use Rattle.hid_stack.specs.declared.fault.StackFault.{StackFault}
+use Rattle.hid_stack.specs.declared.fault.StackFault.TheVariants as stack
+use Rattle.hid_stack.specs.declared.step.Step.TheVariants as step
+use Rattle.hid_script.specs.declared.fault.Cause.{Cause}
+use Rattle.hid_script.specs.declared.fault.Cause.TheVariants as causes
+use Rattle.hid_script.specs.declared.fault.StepFault.TheVariants as faults
+use Rattle.hid_script.specs.declared.wanted.Wanted.TheVariants as wanted
+use Rattle.hid_script.specs.declared.line.Line.{Line}
+use Rattle.hid_script.specs.declared.line.Line.TheVariants as line
+use Rattle.hid_script.specs.Meaning.{meaning_of}
+use Rattle.hid_script.specs.Session.{Session, Outcome, accepted, refused, Repeats}
+use Rattle.hid_script.specs.Steps.{TellsLayout, TellsValues, TellsDevice, TellsChange, TellsStep}
+
+-- what a line tells each time that it is carried out
+unfoldable pub Once : Line → Session → Outcome → Type 0
+Once line.Nothing session o = o ≡ accepted [] session
+Once (line.Layout bytes) session o = TellsLayout bytes.items session o
+Once (line.Values bytes) session o = TellsValues bytes.items session o
+Once (line.Device start kind bytes) session o = TellsDevice kind bytes.items session o
+Once (line.Press dev usage) session o = TellsChange dev usage wanted.Press session o
+Once (line.Release dev usage) session o = TellsChange dev usage wanted.Release session o
+Once (line.Null dev usage) session o = TellsChange dev usage wanted.Null session o
+Once (line.Set dev usage value) session o = TellsChange dev usage (wanted.Set value) session o
+Once (line.Move dev usage by) session o = TellsChange dev usage (wanted.Move by) session o
+Once (line.Frame count) session o = TellsStep step.Frame session o
+Once (line.Poll dev fate count) session o = TellsStep (step.Poll dev fate) session o
+
+-- and how many times it is
+unfoldable pub times : Line → ℕ
+times (line.Frame count) = count
+times (line.Poll dev fate count) = count
+times _ = 1
+
+-- what a line that was understood tells
+abbrev pub CarriesOut : Session → Line → Outcome → Type 0
+CarriesOut session said o = Repeats (times said) (Once said) session o
+
+-- a line tells what it says
+abbrev pub Means : Session → Result Line Cause → Outcome → Type 0
+Means session (Ok said) o = CarriesOut session said o
+Means session (Err cause) o = o ≡ refused cause
+
+unfoldable pub LineTells : Session → List ℕ → Outcome → Type 0
+LineTells session bytes o = Means session (meaning_of bytes) o
+
+-- what a part tells up to some of its times
+abbrev pub Begins : ℕ → (Session → Outcome → Type 0) → Session → List ℕ → Type 0
+Begins count Part session text = (n : ℕ) × (next : Session) × (n ≤ count) × Repeats n Part session (accepted text next)
+
+abbrev pub BeginsMeant : Session → Result Line Cause → List ℕ → Type 0
+BeginsMeant session (Ok said) text = Begins (times said) (Once said) session text
+BeginsMeant session (Err cause) text = text ≡ []
+
+-- the text of the first times of a line, which a want of memory or the writer may leave
+unfoldable pub LineBegins : Session → List ℕ → List ℕ → Type 0
+LineBegins session bytes text = BeginsMeant session (meaning_of bytes) text
+
+-- a descriptor's fault is the script's, but a want of memory is told as the script's own
+abbrev pub cause_from : layouts.Cause → LayoutFault → Cause
+cause_from causes_of.Memory fault = causes.Memory
+cause_from _ fault = causes.Step (faults.Layout fault)
+
+abbrev pub cause_of : LayoutFault → Cause
+cause_of fault = cause_from fault.cause fault
+
+-- and so is the stack's
+abbrev pub stack_cause : StackFault → Cause
+stack_cause stack.Memory = causes.Memory
+stack_cause fault = causes.Step (faults.Stack fault)

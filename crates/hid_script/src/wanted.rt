@@ -1,0 +1,30 @@
+//! What a line wants of a control.
+
+ghost use Rattle.std.specs.Prelude.{◌≡◌};
+ghost use Rattle.hid_script.specs.Steps.{change_of};
+
+use hid_layout::ControlId;
+use hid_usages::Change;
+
+/// A change, without the control that changes.
+#[derive(Clone, Copy, Debug)]
+pub enum Wanted {
+    Press,
+    Release,
+    Null,
+    Set(i64),
+    Move(i32),
+}
+
+/// The change of this control.
+pub fn change_of(wanted: Wanted, control: ControlId) -> Change
+    ensures { result ≡ change_of wanted control }
+{
+    match wanted {
+        Wanted::Press => Change::Press(control),
+        Wanted::Release => Change::Release(control),
+        Wanted::Null => Change::Null(control),
+        Wanted::Set(value) => Change::Set(control, value),
+        Wanted::Move(by) => Change::Move(control, by),
+    }
+}

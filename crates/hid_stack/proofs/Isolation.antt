@@ -1,0 +1,213 @@
+-- Each device of a bus by itself, and one more step of a run.
+use Rattle.std.proofs.Common.{◌≡◌, ◌++◌, ℕ, zero, suc, ◌+◌, ◌-◌, ◌<◌, Bool, true, false, List, [], ◌∷◌, Option, Some, None, length, cond, get_or, take, map, set, eqb, refl, sym, ap, ◌∙◌, subst, inl, inr, ◌⊎◌, arith, append_assoc, append-nil}
+use Rattle.std.specs.Prelude.{slice_get, slice_set}
+use Rattle.std.specs.List.{cons_option}
+use Rattle.std.specs.Option.{option_map}
+use Rattle.std.proofs.lemmas.List.{take_more}
+use Rattle.std.proofs.lemmas.Option.{slice_get-map}
+use Rattle.std.proofs.lemmas.Bool.Decides.{nat_tests}
+use Rattle.hid_layout.specs.Controls.{items_of}
+use Rattle.hid_layout.specs.Layout.{Contents}
+use Rattle.hid_cells.specs.declared.cell.Cell.{Cell}
+use Rattle.hid_cells.specs.declared.event.Event.{Event}
+use Rattle.hid_device.specs.Rounds.{OwnStep, Changes, Polls, events_of_epoch}
+use Rattle.hid_device.specs.Rounds as own_steps
+use Rattle.hid_stack.specs.declared.step.Step.{Step}
+use Rattle.hid_stack.specs.declared.step.Step.TheVariants.{Change, Frame, Poll}
+use Rattle.hid_stack.specs.declared.step.Delivered.{Delivered}
+use Rattle.hid_stack.specs.Stations.{Station, fresh, after, after_all, events_at, events_in}
+use Rattle.hid_stack.specs.Members.{Member, member_after, member_after_all, member_at, with_member, one_after, bus_after, tagged, one_delivers, delivered_at, bus_after_all, delivered_in, own_step, own, own_event, from_device, IsIsolated}
+use Rattle.hid_stack.proofs.Delivery.{delivers_epoch}
+
+slice_get_set_same : {X : Type 0} (xs : List X) (i : ℕ) (y x : X) → slice_get xs i ≡ Some x → slice_get (slice_set xs i y) i ≡ Some y
+slice_get_set_same [] i y x h = cc
+slice_get_set_same (a ∷ xs) zero y x h = refl
+slice_get_set_same (a ∷ xs) (suc i) y x h = slice_get_set_same xs i y x h
+
+slice_get_set_other : {X : Type 0} (xs : List X) (i j : ℕ) (y : X) → (i ≡ j → ⊥) → slice_get (slice_set xs i y) j ≡ slice_get xs j
+slice_get_set_other [] i j y ne = refl
+slice_get_set_other (a ∷ xs) zero zero y ne = absurd (ne refl)
+slice_get_set_other (a ∷ xs) zero (suc j) y ne = refl
+slice_get_set_other (a ∷ xs) (suc i) zero y ne = refl
+slice_get_set_other (a ∷ xs) (suc i) (suc j) y ne = slice_get_set_other xs i j y (λ e. ne (ap suc e))
+
+bool_cases : (b : Bool) → (b ≡ true) ⊎ (b ≡ false)
+bool_cases true = inl refl
+bool_cases false = inr refl
+
+same_places : (d e : ℕ) → eqb d 0 ≡ false → eqb e 0 ≡ false → d - 1 ≡ e - 1 → d ≡ e
+same_places d e some_d some_e same = grind (arith, nat_tests)
+
+-- a device's number is not 0
+no_zero : (members : List Member) (dev : ℕ) (m : Member) → member_at members dev ≡ Some m → eqb dev 0 ≡ false
+no_zero members dev m h = elim (bool_cases (eqb dev 0)) [
+  | inl z ↦ let none : None ≡ Some m = sym (ap (λ (b : Bool). cond b None (slice_get members (dev - 1))) z) ∙ h in cc
+  | inr some ↦ some
+]
+
+at_place : (members : List Member) (dev : ℕ) → eqb dev 0 ≡ false → member_at members dev ≡ slice_get members (dev - 1)
+at_place members dev some = ap (λ (b : Bool). cond b None (slice_get members (dev - 1))) some
+
+with_same : (members : List Member) (dev : ℕ) (m n : Member) → member_at members dev ≡ Some m → member_at (with_member members dev n) dev ≡ Some n
+with_same members dev m n h =
+    let some = no_zero members dev m h in
+    at_place (with_member members dev n) dev some ∙ slice_get_set_same members (dev - 1) n m (sym (at_place members dev some) ∙ h)
+
+with_other : (members : List Member) (d dev : ℕ) (m k n : Member) → (d ≡ dev → ⊥) → member_at members d ≡ Some k → member_at members dev ≡ Some m → member_at (with_member members d n) dev ≡ Some m
+with_other members d dev m k n ne g h =
+    let some = no_zero members dev m h in
+    let some_d = no_zero members d k g in
+    let apart : d - 1 ≡ dev - 1 → ⊥ = λ e. ne (same_places d dev some_d some e) in
+    at_place (with_member members d n) dev some ∙ slice_get_set_other members (d - 1) (dev - 1) n apart ∙ sym (at_place members dev some) ∙ h
+
+-- one step of the bus, at one device
+abbrev after_own : Member → Option OwnStep → Member
+after_own m None = m
+after_own m (Some x) = member_after m x
+
+abbrev own_events : Member → Option OwnStep → List Event
+own_events m None = []
+own_events m (Some x) = events_at (items_of m.layout) m.station x
+
+same_or_not : (d device : ℕ) → ((d ≡ device) × (eqb d device ≡ true)) ⊎ ((d ≡ device → ⊥) × (eqb d device ≡ false))
+same_or_not d device = grind (arith, nat_tests)
+
+state_same : (device : ℕ) (members : List Member) (m : Member) (y : OwnStep) → member_at members device ≡ Some m → member_at (one_after members device y) device ≡ Some (member_after m y)
+state_same device members m y h =
+    ap (λ (o : Option Member). member_at (elim o as (λ _. List Member) [ None ↦ members | Some t ↦ with_member members device (member_after t y) ]) device) h
+    ∙ with_same members device m (member_after m y) h
+
+state_other : (d device : ℕ) (members : List Member) (m : Member) (y : OwnStep) → (d ≡ device → ⊥) → member_at members device ≡ Some m → member_at (one_after members d y) device ≡ Some m
+state_other d device members m y ne h =
+    elim (member_at members d) as (λ (o : Option Member). member_at members d ≡ o → member_at (elim o as (λ _. List Member) [ None ↦ members | Some t ↦ with_member members d (member_after t y) ]) device ≡ Some m)
+    [ None ↦ λ g. h | Some t ↦ λ g. with_other members d device m t (member_after t y) ne g h ] refl
+
+-- a step that names a device
+abbrev if_own : ℕ → ℕ → OwnStep → Option OwnStep
+if_own d device y = cond (eqb d device) (Some y) None
+
+one_state : (d device : ℕ) (members : List Member) (m : Member) (y : OwnStep) → member_at members device ≡ Some m → member_at (one_after members d y) device ≡ Some (after_own m (if_own d device y))
+one_state d device members m y h = elim (same_or_not d device) [
+  | inl same ↦
+      let hit : eqb device device ≡ true = subst (λ (n : ℕ). eqb n device ≡ true) same.0 same.1 in
+      subst (λ (n : ℕ). member_at (one_after members n y) device ≡ Some (after_own m (if_own n device y))) (sym same.0)
+      (state_same device members m y h ∙ sym (ap (λ (b : Bool). Some (after_own m (cond b (Some y) None))) hit))
+  | inr other ↦ state_other d device members m y other.0 h ∙ sym (ap (λ (b : Bool). Some (after_own m (cond b (Some y) None))) other.1)
+]
+
+member_at-map : (f : Member → Member) (members : List Member) (device : ℕ) (m : Member) → member_at members device ≡ Some m → member_at (map f members) device ≡ Some (f m)
+member_at-map f members device m h =
+    let some = no_zero members device m h in
+    at_place (map f members) device some ∙ slice_get-map f members (device - 1) ∙ ap (option_map f) (sym (at_place members device some) ∙ h)
+
+step_state : (device : ℕ) (members : List Member) (m : Member) (x : Step) → member_at members device ≡ Some m → member_at (bus_after members x) device ≡ Some (after_own m (own_step device x))
+step_state device members m (Change d change) h = one_state d device members m (Changes change) h
+step_state device members m Frame h = member_at-map (λ (n : Member). member_after n own_steps.Frame) members device m h
+step_state device members m (Poll d fate) h = one_state d device members m (Polls fate) h
+
+-- what one step delivers of one device
+from_append : (device : ℕ) (xs ys : List Delivered) → from_device device (xs ++ ys) ≡ from_device device xs ++ from_device device ys
+from_append device [] ys = refl
+from_append device (x ∷ xs) ys = elim (own_event device x) as (λ (o : Option Event). cons_option o (from_device device (xs ++ ys)) ≡ cons_option o (from_device device xs) ++ from_device device ys)
+    [ None ↦ from_append device xs ys | Some e ↦ ap (λ (es : List Event). e ∷ es) (from_append device xs ys) ]
+
+from_tagged_same : (device : ℕ) (es : List Event) → eqb device device ≡ true → from_device device (map (tagged device) es) ≡ es
+from_tagged_same device [] h = refl
+from_tagged_same device (e ∷ es) h = rw h (ap (λ (es : List Event). e ∷ es) (from_tagged_same device es h))
+
+from_tagged_other : (d device : ℕ) (es : List Event) → eqb d device ≡ false → from_device device (map (tagged d) es) ≡ []
+from_tagged_other d device [] h = refl
+from_tagged_other d device (e ∷ es) h = rw h (from_tagged_other d device es h)
+
+events_same : (device : ℕ) (members : List Member) (m : Member) (y : OwnStep) → eqb device device ≡ true → member_at members device ≡ Some m → from_device device (one_delivers members device y) ≡ events_at (items_of m.layout) m.station y
+events_same device members m y hit h =
+    ap (λ (o : Option Member). from_device device (elim o as (λ _. List Delivered) [ None ↦ [] | Some t ↦ map (tagged device) (events_at (items_of t.layout) t.station y) ])) h
+    ∙ from_tagged_same device (events_at (items_of m.layout) m.station y) hit
+
+events_other : (d device : ℕ) (members : List Member) (y : OwnStep) → eqb d device ≡ false → from_device device (one_delivers members d y) ≡ []
+events_other d device members y miss =
+    elim (member_at members d) as (λ (o : Option Member). from_device device (elim o as (λ _. List Delivered) [ None ↦ [] | Some t ↦ map (tagged d) (events_at (items_of t.layout) t.station y) ]) ≡ [])
+    [ None ↦ refl | Some t ↦ from_tagged_other d device (events_at (items_of t.layout) t.station y) miss ]
+
+one_told : (d device : ℕ) (members : List Member) (m : Member) (y : OwnStep) → member_at members device ≡ Some m → from_device device (one_delivers members d y) ≡ own_events m (if_own d device y)
+one_told d device members m y h = elim (same_or_not d device) [
+  | inl same ↦
+      let hit : eqb device device ≡ true = subst (λ (n : ℕ). eqb n device ≡ true) same.0 same.1 in
+      subst (λ (n : ℕ). from_device device (one_delivers members n y) ≡ own_events m (if_own n device y)) (sym same.0)
+      (events_same device members m y hit h ∙ sym (ap (λ (b : Bool). own_events m (cond b (Some y) None)) hit))
+  | inr other ↦ events_other d device members y other.1 ∙ sym (ap (λ (b : Bool). own_events m (cond b (Some y) None)) other.1)
+]
+
+step_events : (device : ℕ) (members : List Member) (m : Member) (x : Step) → member_at members device ≡ Some m → from_device device (delivered_at members x) ≡ own_events m (own_step device x)
+step_events device members m (Change d change) h = one_told d device members m (Changes change) h
+step_events device members m Frame h = refl
+step_events device members m (Poll d fate) h = one_told d device members m (Polls fate) h
+
+-- one more own step
+own_states : (m : Member) (o : Option OwnStep) (steps : List OwnStep) → member_after_all (after_own m o) steps ≡ member_after_all m (cons_option o steps)
+own_states m None steps = refl
+own_states m (Some x) steps = refl
+
+own_told : (m : Member) (o : Option OwnStep) (steps : List OwnStep) → own_events m o ++ events_in (items_of m.layout) (after_own m o).station steps ≡ events_in (items_of m.layout) m.station (cons_option o steps)
+own_told m None steps = refl
+own_told m (Some x) steps = refl
+
+after_own-layout : (m : Member) (o : Option OwnStep) → (after_own m o).layout ≡ m.layout
+after_own-layout m None = refl
+after_own-layout m (Some x) = refl
+
+-- whole lists
+states : (steps : List Step) (members : List Member) (device : ℕ) (m : Member) → member_at members device ≡ Some m → member_at (bus_after_all members steps) device ≡ Some (member_after_all m (own device steps))
+states [] members device m h = h
+states (x ∷ steps) members device m h =
+    states steps (bus_after members x) device (after_own m (own_step device x)) (step_state device members m x h)
+    ∙ ap (λ (t : Member). Some t) (own_states m (own_step device x) (own device steps))
+
+told : (steps : List Step) (members : List Member) (device : ℕ) (m : Member) → member_at members device ≡ Some m → from_device device (delivered_in members steps) ≡ events_in (items_of m.layout) m.station (own device steps)
+told [] members device m h = refl
+told (x ∷ steps) members device m h =
+    let later : from_device device (delivered_in (bus_after members x) steps) ≡ events_in (items_of (after_own m (own_step device x)).layout) (after_own m (own_step device x)).station (own device steps)
+    = told steps (bus_after members x) device (after_own m (own_step device x)) (step_state device members m x h) in
+    let here = ap (λ (l : Contents). events_in (items_of l) (after_own m (own_step device x)).station (own device steps)) (after_own-layout m (own_step device x)) in
+    from_append device (delivered_at members x) (delivered_in (bus_after members x) steps)
+    ∙ ap (λ (es : List Event). es ++ from_device device (delivered_in (bus_after members x) steps)) (step_events device members m x h)
+    ∙ ap (λ (es : List Event). own_events m (own_step device x) ++ es) (later ∙ here)
+    ∙ own_told m (own_step device x) (own device steps)
+
+pub isolated : (members after : List Member) (steps : List Step) (old new : List Delivered) → after ≡ bus_after_all members steps → new ≡ old ++ delivered_in members steps → IsIsolated members after steps old new
+isolated members after steps old new states_are told_are = record {
+  states = λ device m h. ap (λ (ms : List Member). member_at ms device) states_are ∙ states steps members device m h;
+  events = λ device m h. ap (from_device device) told_are ∙ from_append device old (delivered_in members steps) ∙ ap (λ (es : List Event). from_device device old ++ es) (told steps members device m h);
+}
+
+-- a device that was just configured delivers the events of its epoch
+pub headline : (members : List Member) (steps : List Step) (old new : List Delivered) → new ≡ old ++ delivered_in members steps
+    → (device : ℕ) (m : Member) (snapshot : List Cell) (idle : List ℕ) → member_at members device ≡ Some m → m.station ≡ fresh (items_of m.layout) snapshot idle
+    → from_device device new ≡ from_device device old ++ events_of_epoch (items_of m.layout) snapshot idle (own device steps)
+headline members steps old new told_are device m snapshot idle h just =
+    ap (from_device device) told_are ∙ from_append device old (delivered_in members steps)
+    ∙ ap (λ (es : List Event). from_device device old ++ es)
+    (told steps members device m h ∙ ap (λ (s : Station). events_in (items_of m.layout) s (own device steps)) just ∙ delivers_epoch (items_of m.layout) snapshot idle (own device steps))
+
+pub ruleset by_itself = (isolated, headline)
+
+-- one more step of a run: the bus, and what was delivered
+after_push : (s : List Member) (steps : List Step) (step : Step) → bus_after_all s (steps ++ step ∷ []) ≡ bus_after (bus_after_all s steps) step
+after_push s [] step = refl
+after_push s (x ∷ steps) step = after_push (bus_after s x) steps step
+
+delivered_push : (s : List Member) (steps : List Step) (step : Step) → delivered_in s (steps ++ step ∷ []) ≡ delivered_in s steps ++ delivered_at (bus_after_all s steps) step
+delivered_push s [] step = append-nil (delivered_at s step)
+delivered_push s (x ∷ steps) step = rw (delivered_push (bus_after s x) steps step) (sym (append_assoc (delivered_at s x) (delivered_in (bus_after s x) steps) (delivered_at (bus_after_all (bus_after s x) steps) step)))
+
+pub ran_more : (s mid new : List Member) (steps : List Step) (i : ℕ) (d : Step) → i < length steps → mid ≡ bus_after_all s (take i steps) → new ≡ bus_after mid (get_or steps i d) → new ≡ bus_after_all s (take (i + 1) steps)
+ran_more s mid new steps i d lt before one = one ∙ ap (λ (m : List Member). bus_after m (get_or steps i d)) before ∙ sym (ap (bus_after_all s) (take_more steps i d lt) ∙ after_push s (take i steps) (get_or steps i d))
+
+pub told_more : (s mid : List Member) (first old new : List Delivered) (steps : List Step) (i : ℕ) (d : Step) → i < length steps → mid ≡ bus_after_all s (take i steps) → old ≡ first ++ delivered_in s (take i steps) → new ≡ old ++ delivered_at mid (get_or steps i d) → new ≡ first ++ delivered_in s (take (i + 1) steps)
+told_more s mid first old new steps i d lt before told one =
+    let more : delivered_in s (take (i + 1) steps) ≡ delivered_in s (take i steps) ++ delivered_at (bus_after_all s (take i steps)) (get_or steps i d)
+    = ap (delivered_in s) (take_more steps i d lt) ∙ delivered_push s (take i steps) (get_or steps i d) in
+    one ∙ ap (λ (es : List Delivered). es ++ delivered_at mid (get_or steps i d)) told
+    ∙ ap (λ (m : List Member). (first ++ delivered_in s (take i steps)) ++ delivered_at m (get_or steps i d)) before
+    ∙ append_assoc first (delivered_in s (take i steps)) (delivered_at (bus_after_all s (take i steps)) (get_or steps i d))
+    ∙ ap (λ (es : List Delivered). first ++ es) (sym more)

@@ -1,0 +1,10 @@
+pub mod KnownLemmas
+pub mod Delivery
+pub mod Isolation
+pub mod PollLemmas
+pub mod StepLemmas
+pub mod SlotLemmas
+pub mod ItemMotionLemmas
+pub mod MotionLemmas
+pub mod SumLemmas
+pub mod RigLemmas

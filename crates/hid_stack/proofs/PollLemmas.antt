@@ -1,0 +1,509 @@
+-- A poll at the two ends is a poll of their station (USB 2.0, 8.5.4 and 8.6).
+use Rattle.std.proofs.Common.{◌≡◌, ◌∙◌, ◌<◌, ◌++◌, ℕ, Bool, true, false, not, List, [], ◌∷◌, Option, Some, None, Result, Ok, Err, refl, ap, sym, subst, arith, eqb, cond, inl, inr, ◌⊎◌}
+use Rattle.std.specs.Prelude.{IfSome, ◌&&◌}
+use Rattle.std.specs.Bool.{beq}
+use Rattle.std.proofs.lemmas.Bool.Decides.{nat_tests}
+use Rattle.arrayvec.specs.declared.array_vec.ArrayVec.{ArrayVec}
+use Rattle.hid_layout.specs.Layout.{Contents}
+use Rattle.hid_layout.specs.Controls.{items_of}
+use Rattle.hid_layout.specs.Reports.{IsLayout}
+use Rattle.hid_cells.specs.declared.cell.Cell.{Cell}
+use Rattle.hid_cells.specs.declared.event.Event.{Event}
+use Rattle.hid_cells.specs.declared.fault.ReportFault.{ReportFault}
+use Rattle.hid_usages.specs.Cells.{FitsView}
+use Rattle.hid_usages.specs.Taking.{read_view, read_events}
+use Rattle.hid_usages.specs.Crossing.{ReadsAsShown}
+use Rattle.hid_usages.specs.Encoding.{AreBytes}
+use Rattle.hid_usages.specs.Views.{seen}
+use Rattle.hid_views.proofs.CrossingLemmas.{parts_back, seen_is_view}
+use Rattle.usb_packet.specs.declared.packet.Packet.{Packet}
+use Rattle.usb_packet.specs.declared.packet.Packet.TheVariants as packets
+use Rattle.usb_packet.specs.declared.packet.TokenKind.TheVariants.{In}
+use Rattle.usb_packet.specs.Spelling.{spelling}
+use Rattle.usb_transact.specs.declared.bus.Stage.TheVariants.{Token, Reply, Acknowledgement}
+use Rattle.usb_transact.specs.declared.host.Took.{Took}
+use Rattle.usb_transact.specs.declared.host.Took.TheVariants.{Fresh, Again, Nak, Silent}
+use Rattle.usb_transact.specs.declared.transaction.Fate.{Fate}
+use Rattle.usb_transact.specs.declared.transaction.Fate.TheVariants.{Clean, TokenLost, ReplyLost, AckLost}
+use Rattle.usb_transact.specs.Bus.{Arrivals, Carries}
+use Rattle.usb_transact.specs.Device.{answer_with}
+use Rattle.usb_transact.specs.Fate.{arrives_under}
+use Rattle.usb_transact.specs.Host.{token_to}
+use Rattle.usb_transact.specs.Taken.{taken}
+use Rattle.usb_transact.specs.Exchange.{took_where}
+use Rattle.usb_transact.proofs.TableLemmas.{read_whole, read_lost, took_answer}
+use Rattle.hid_device.specs.declared.device.TheConstants.{ENDPOINT}
+use Rattle.hid_device.specs.Standing.{first_due}
+use Rattle.hid_device.specs.Core.{CoreState, IsSound, IsArmed, AreBytesOf, Answers, opened_if, opening_of, closed_core}
+use Rattle.hid_device.specs.Device.{DeviceState, is_poll, polled, DeviceAnswers, AnswersPoll, AnswersIf, device_after, heard}
+use Rattle.hid_device.specs.Rounds.{Polls}
+use Rattle.hid_stack.specs.declared.fault.StackFault.{StackFault}
+use Rattle.hid_stack.specs.declared.step.Told.{Told}
+use Rattle.hid_stack.specs.declared.step.Told.TheVariants.{Polled}
+use Rattle.hid_stack.specs.declared.host.Phase.TheVariants.{Ready}
+use Rattle.hid_stack.specs.Host.{HostEnd, ready_after}
+use Rattle.hid_stack.specs.Joint.{round_between, joined, joint, IsEven, ArePaired, IsPair}
+use Rattle.hid_stack.specs.Known.{Known, told_of, view_read, view_behind, events_read, events_behind, known_behind, read_or_refused}
+use Rattle.hid_stack.specs.Members.{Member}
+use Rattle.hid_stack.specs.Polls.{Hears, Replies, HearsAck, Ends, Acknowledges, Transacts, HasBytes, spelled, told_with}
+use Rattle.hid_stack.specs.Stations.{Station, Open, opened, opened_by, answered, round_events, part_events, after, events_at}
+use Rattle.hid_stack.specs.Tells.{ShowsRound, TellsOpened, TellsPoll, sent, took_from, told_by}
+
+-- toggles that are the same
+beq_same : (t : Bool) → beq t t ≡ true
+beq_same true = refl
+beq_same false = refl
+
+-- a round that opens hasn't crossed
+abbrev uncrossed : ℕ → Option Open
+uncrossed r = Some (record { report = r; crossed = false })
+
+-- opening a round at the device opens it at the station
+opens_if : (c : CoreState) (known : Known) (due : Option ℕ) → c.toggle ≡ known.pipe.expects
+    → joined (opened_if (record c { current = None }) due) known ≡ opened_by (items_of c.layout) (joined (record c { current = None }) known) due
+opens_if c known None even = refl
+opens_if c known (Some r) even =
+    ap (λ (b : Bool). let s : Station = joined (opened_if (record c { current = None }) (Some r)) known in record s { current = Some (record { report = r; crossed = not b }) })
+    (ap (λ (t : Bool). beq c.toggle t) (sym even) ∙ beq_same c.toggle)
+
+opens_at : (c : CoreState) (known : Known) (current : Option ℕ) → IsEven c.toggle known.pipe.expects current
+    → joined (opening_of (record c { current = current })) known ≡ opened (items_of c.layout) (joined (record c { current = current }) known)
+opens_at c known None even = opens_if c known (first_due (items_of c.layout) c.standing) even
+opens_at c known (Some r) even = refl
+
+pub opens : (c : CoreState) (known : Known) → IsEven c.toggle known.pipe.expects c.current → joined (opening_of c) known ≡ opened (items_of c.layout) (joined c known)
+opens c known even = opens_at c known c.current even
+
+-- toggles, and one that changes
+other_differs : (t e : Bool) → beq t e ≡ true → beq t (not e) ≡ false
+other_differs true true h = refl
+other_differs false false h = refl
+other_differs true false h = absurd (cc)
+other_differs false true h = absurd (cc)
+
+both_change : (t e : Bool) → beq t e ≡ true → not t ≡ not e
+both_change true true h = refl
+both_change false false h = refl
+both_change true false h = absurd (cc)
+both_change false true h = absurd (cc)
+
+one_changes : (t e : Bool) → beq t e ≡ false → not t ≡ e
+one_changes true false h = refl
+one_changes false true h = refl
+one_changes true true h = absurd (cc)
+one_changes false false h = absurd (cc)
+
+-- what holds of a device and its host beside their toggles
+pub record Meets (addr : ℕ) (c : CoreState) (known : Known) : Type 0 where
+  pub configured : c.is_configured ≡ true
+  pub to_device : known.pipe.addr ≡ addr
+  pub endp : known.pipe.endp ≡ ENDPOINT
+  pub sound : IsSound c
+  pub laid : IsLayout c.layout
+  pub fits : FitsView (items_of c.layout) known.view
+
+-- the two ends with the host's layout that of the device
+abbrev pub sharing : CoreState → Known → Known
+sharing c known = record known { layout = c.layout }
+
+-- a poll whose token arrived, from the device's answer on
+pub record Arrives (fate : Fate) (c : CoreState) (known : Known) (addr home : ℕ) (packet : Packet)
+    (result : Result Told StackFault) (device_then : DeviceState) (host_then : HostEnd) (events : List Event) : Type 0 where
+  pub reply : Option Packet
+  pub replied : Carries (arrives_under fate) Reply packet reply
+  pub told : result ≡ told_with (Some packet) (told_of c.layout (taken known.pipe.expects reply))
+  pub host_moved : host_then ≡ ready_after home (sharing c known) (taken known.pipe.expects reply)
+  pub delivers : events ≡ events_behind (sharing c known) (taken known.pipe.expects reply)
+  pub ended : Ends (arrives_under fate) (told_of c.layout (taken known.pipe.expects reply)) (polled addr c) device_then
+
+-- what a poll makes of the station, once a round was opened for it
+pub record Lands (fate : Fate) (home : ℕ) (layout : Contents) (s : Station)
+    (result : Result Told StackFault) (device_then : DeviceState) (host_then : HostEnd) (events : List Event) : Type 0 where
+  pub member : joint device_then host_then ≡ record { addr = home; layout = layout; station = answered (items_of layout) s fate }
+  pub delivered : events ≡ round_events (items_of layout) s fate
+  pub told : (report : List ℕ) × ShowsRound layout s report × (result ≡ Ok (told_by s fate report))
+  pub pair : IsPair device_then host_then.phase
+
+-- the two ends after a poll, put together
+abbrev pub ready_with : ℕ → Known → HostEnd
+ready_with home known = record { addr = home; phase = Ready known }
+
+pub member_of : (d e : DeviceState) (h : HostEnd) (home : ℕ) (known : Known) → d ≡ e → h ≡ ready_with home known → joint d h ≡ joint e (ready_with home known)
+member_of d e h home known device_is host_is = ap (λ (x : DeviceState). joint x h) device_is ∙ ap (λ (x : HostEnd). joint e x) host_is
+
+pub pair_of : (d e : DeviceState) (h : HostEnd) (home : ℕ) (known : Known) → d ≡ e → h ≡ ready_with home known → ArePaired e known → IsPair d h.phase
+pair_of d e h home known device_is host_is pair =
+    subst (λ (x : DeviceState). IsPair x h.phase) (sym device_is) (subst (λ (x : HostEnd). IsPair e x.phase) (sym host_is) pair)
+
+-- the device's wait, behind its answer
+abbrev waiting : ℕ → CoreState → ℕ → DeviceState
+waiting addr c r = polled addr (record c { current = Some r })
+
+abbrev closed_device : ℕ → CoreState → ℕ → DeviceState
+closed_device addr c r = record { addr = addr; core = closed_core (record c { current = Some r }); waits = false }
+
+-- what holds of a device holds once its round is closed
+closed_sound : (c : CoreState) (r : ℕ) → IsSound (record c { current = Some r }) → IsSound (closed_core (record c { current = Some r }))
+closed_sound c r s = record {
+  empty_codes = s.empty_codes;
+  zeros = s.zeros;
+  inputs_first = s.inputs_first;
+  snapshot = s.snapshot;
+  fixed = s.fixed;
+  each_frames = s.each_frames;
+  each_idle = s.each_idle;
+  of_input = tt;
+}
+
+-- an ACK that arrives closes the round
+ack_closes : (arrivals : Arrivals) (addr : ℕ) (c : CoreState) (r : ℕ) (after : DeviceState)
+    → arrivals Acknowledgement (spelling packets.Ack) ≡ Some (spelling packets.Ack) → HearsAck arrivals (waiting addr c r) after
+    → after ≡ closed_device addr c r
+ack_closes arrivals addr c r after whole h =
+    let came = read_whole arrivals Acknowledgement packets.Ack h.came whole h.carried in
+    let heard : Hears (waiting addr c r) (Some packets.Ack) h.answer after = subst (λ (o : Option Packet). Hears (waiting addr c r) o h.answer after) came h.heard in
+    heard.1
+
+-- one that is lost leaves it open
+ack_lost : (arrivals : Arrivals) (addr : ℕ) (c : CoreState) (r : ℕ) (after : DeviceState)
+    → arrivals Acknowledgement (spelling packets.Ack) ≡ None → HearsAck arrivals (waiting addr c r) after → after ≡ waiting addr c r
+ack_lost arrivals addr c r after lost h =
+    let came = read_lost arrivals Acknowledgement packets.Ack h.came lost h.carried in
+    let heard : Hears (waiting addr c r) None h.answer after = subst (λ (o : Option Packet). Hears (waiting addr c r) o h.answer after) came h.heard in
+    heard.1
+
+-- what a host makes of fresh data that show a part
+abbrev payload : List ℕ → ArrayVec ℕ 64 (Unit {0})
+payload bytes = record { items = bytes }
+
+abbrev seeing : Known → ℕ → List Cell → Known
+seeing known r parts = record known { pipe = record known.pipe { expects = not known.pipe.expects }; view = seen (items_of known.layout) r known.view parts }
+
+fresh_told : (known : Known) (r : ℕ) (parts : List Cell) (bytes : List ℕ) → ReadsAsShown known.layout r parts bytes known.view → told_of known.layout (Fresh (payload bytes)) ≡ Ok (Fresh (payload bytes))
+fresh_told known r parts bytes reads = ap (read_or_refused (Fresh (payload bytes))) reads.report
+
+fresh_host : (known : Known) (home r : ℕ) (parts : List Cell) (bytes : List ℕ) → ReadsAsShown known.layout r parts bytes known.view → ready_after home known (Fresh (payload bytes)) ≡ ready_with home (seeing known r parts)
+fresh_host known home r parts bytes reads =
+    let read : view_read known.layout bytes known.view ≡ seen (items_of known.layout) r known.view parts
+    = ap (λ (o : Result ℕ ReportFault). elim o as (λ _. List Cell) [ Ok n ↦ read_view known.layout n bytes known.view | Err fault ↦ known.view ]) reads.report ∙ reads.view in
+    ap (λ (v : List Cell). ready_with home (record known { pipe = record known.pipe { expects = not known.pipe.expects }; view = v })) read
+
+fresh_events : (known : Known) (r : ℕ) (parts : List Cell) (bytes : List ℕ) → ReadsAsShown known.layout r parts bytes known.view
+    → events_behind known (Fresh (payload bytes)) ≡ part_events (items_of known.layout) r known.view parts
+fresh_events known r parts bytes reads =
+    ap (λ (o : Result ℕ ReportFault). elim o as (λ _. List Event) [ Ok n ↦ read_events known.layout n bytes known.view | Err fault ↦ [] ]) reads.report ∙ reads.events
+
+-- the station of a device with an open round, by whether the toggles are the same
+abbrev open_station : CoreState → Known → ℕ → Bool → Station
+open_station c known r same = record { standing = c.standing; current = Some (record { report = r; crossed = not same }); odd = c.toggle; view = known.view }
+
+-- data that reach a host which expects them, where the ACK arrives
+fresh_clean : (c : CoreState) (known : Known) (addr home r : ℕ) (bytes : List ℕ) (result : Result Told StackFault) (device_then : DeviceState) (host_then : HostEnd) (events : List Event)
+    → Meets addr (record c { current = Some r }) known → ReadsAsShown c.layout r c.standing.fixed bytes known.view → AreBytesOf c.layout c.standing.fixed r bytes
+    → beq c.toggle known.pipe.expects ≡ true
+    → result ≡ told_with (Some (packets.Data c.toggle (payload bytes))) (told_of c.layout (Fresh (payload bytes)))
+    → host_then ≡ ready_after home (sharing c known) (Fresh (payload bytes)) → events ≡ events_behind (sharing c known) (Fresh (payload bytes))
+    → HearsAck (arrives_under Clean) (waiting addr c r) device_then
+    → Lands Clean addr c.layout (open_station c known r true) result device_then host_then events
+fresh_clean c known addr home r bytes result device_then host_then events meets reads shows same told moved delivers hears =
+    let closes = ack_closes (arrives_under Clean) addr c r device_then refl hears in
+    let host_is = moved ∙ fresh_host (sharing c known) home r c.standing.fixed bytes reads in
+    record {
+      member = member_of device_then (closed_device addr c r) host_then home (seeing (sharing c known) r c.standing.fixed) closes host_is;
+      delivered = delivers ∙ fresh_events (sharing c known) r c.standing.fixed bytes reads;
+      told = (bytes, shows, told ∙ ap (told_with (Some (packets.Data c.toggle (payload bytes)))) (fresh_told (sharing c known) r c.standing.fixed bytes reads));
+      pair = pair_of device_then (closed_device addr c r) host_then home (seeing (sharing c known) r c.standing.fixed) closes host_is (record {
+        configured = meets.configured;
+        layout = refl;
+        addr = meets.to_device;
+        endp = meets.endp;
+        even = both_change c.toggle known.pipe.expects same;
+        sound = closed_sound c r meets.sound;
+        laid = meets.laid;
+        fits = seen_is_view (items_of c.layout) r known.view c.standing.fixed meets.fits meets.sound.fixed;
+      });
+    }
+
+-- where it is lost
+fresh_ack_lost : (c : CoreState) (known : Known) (addr home r : ℕ) (bytes : List ℕ) (result : Result Told StackFault) (device_then : DeviceState) (host_then : HostEnd) (events : List Event)
+    → Meets addr (record c { current = Some r }) known → ReadsAsShown c.layout r c.standing.fixed bytes known.view → AreBytesOf c.layout c.standing.fixed r bytes
+    → beq c.toggle known.pipe.expects ≡ true
+    → result ≡ told_with (Some (packets.Data c.toggle (payload bytes))) (told_of c.layout (Fresh (payload bytes)))
+    → host_then ≡ ready_after home (sharing c known) (Fresh (payload bytes)) → events ≡ events_behind (sharing c known) (Fresh (payload bytes))
+    → HearsAck (arrives_under AckLost) (waiting addr c r) device_then
+    → Lands AckLost addr c.layout (open_station c known r true) result device_then host_then events
+fresh_ack_lost c known addr home r bytes result device_then host_then events meets reads shows same told moved delivers hears =
+    let stays = ack_lost (arrives_under AckLost) addr c r device_then refl hears in
+    let host_is = moved ∙ fresh_host (sharing c known) home r c.standing.fixed bytes reads in
+    let crossed = other_differs c.toggle known.pipe.expects same in
+    record {
+      member = member_of device_then (waiting addr c r) host_then home (seeing (sharing c known) r c.standing.fixed) stays host_is
+          ∙ ap (λ (b : Bool). record {
+            addr = addr;
+            layout = c.layout;
+            station = record {
+              standing = c.standing;
+              current = Some (record { report = r; crossed = not b });
+              odd = c.toggle;
+              view = seen (items_of c.layout) r known.view c.standing.fixed;
+            };
+          }) crossed;
+      delivered = delivers ∙ fresh_events (sharing c known) r c.standing.fixed bytes reads;
+      told = (bytes, shows, told ∙ ap (told_with (Some (packets.Data c.toggle (payload bytes)))) (fresh_told (sharing c known) r c.standing.fixed bytes reads));
+      pair = pair_of device_then (waiting addr c r) host_then home (seeing (sharing c known) r c.standing.fixed) stays host_is (record {
+        configured = meets.configured;
+        layout = refl;
+        addr = meets.to_device;
+        endp = meets.endp;
+        even = tt;
+        sound = meets.sound;
+        laid = meets.laid;
+        fits = seen_is_view (items_of c.layout) r known.view c.standing.fixed meets.fits meets.sound.fixed;
+      });
+    }
+
+-- data that a host took before: where the ACK arrives, and where it is lost
+again_clean : (c : CoreState) (known : Known) (addr home r : ℕ) (bytes : List ℕ) (result : Result Told StackFault) (device_then : DeviceState) (host_then : HostEnd) (events : List Event)
+    → Meets addr (record c { current = Some r }) known → AreBytesOf c.layout c.standing.fixed r bytes
+    → beq c.toggle known.pipe.expects ≡ false
+    → result ≡ Ok (Polled (spelled (Some (packets.Data c.toggle (payload bytes)))) Again)
+    → host_then ≡ ready_with home (sharing c known) → events ≡ []
+    → HearsAck (arrives_under Clean) (waiting addr c r) device_then
+    → Lands Clean addr c.layout (open_station c known r false) result device_then host_then events
+again_clean c known addr home r bytes result device_then host_then events meets shows differ told moved delivers hears =
+    let closes = ack_closes (arrives_under Clean) addr c r device_then refl hears in
+    record {
+      member = member_of device_then (closed_device addr c r) host_then home (sharing c known) closes moved;
+      delivered = delivers;
+      told = (bytes, shows, told);
+      pair = pair_of device_then (closed_device addr c r) host_then home (sharing c known) closes moved (record {
+        configured = meets.configured;
+        layout = refl;
+        addr = meets.to_device;
+        endp = meets.endp;
+        even = one_changes c.toggle known.pipe.expects differ;
+        sound = closed_sound c r meets.sound;
+        laid = meets.laid;
+        fits = meets.fits;
+      });
+    }
+
+again_ack_lost : (c : CoreState) (known : Known) (addr home r : ℕ) (bytes : List ℕ) (result : Result Told StackFault) (device_then : DeviceState) (host_then : HostEnd) (events : List Event)
+    → Meets addr (record c { current = Some r }) known → AreBytesOf c.layout c.standing.fixed r bytes
+    → beq c.toggle known.pipe.expects ≡ false
+    → result ≡ Ok (Polled (spelled (Some (packets.Data c.toggle (payload bytes)))) Again)
+    → host_then ≡ ready_with home (sharing c known) → events ≡ []
+    → HearsAck (arrives_under AckLost) (waiting addr c r) device_then
+    → Lands AckLost addr c.layout (open_station c known r false) result device_then host_then events
+again_ack_lost c known addr home r bytes result device_then host_then events meets shows differ told moved delivers hears =
+    let stays = ack_lost (arrives_under AckLost) addr c r device_then refl hears in
+    record {
+      member = member_of device_then (waiting addr c r) host_then home (sharing c known) stays moved
+          ∙ ap (λ (b : Bool). record { addr = addr; layout = c.layout; station = open_station c known r b }) differ;
+      delivered = delivers;
+      told = (bytes, shows, told);
+      pair = pair_of device_then (waiting addr c r) host_then home (sharing c known) stays moved (record {
+        configured = meets.configured;
+        layout = refl;
+        addr = meets.to_device;
+        endp = meets.endp;
+        even = tt;
+        sound = meets.sound;
+        laid = meets.laid;
+        fits = meets.fits;
+      });
+    }
+
+either_none : (b : Bool) → [] ≡ cond {A = List Event} b [] []
+either_none true = refl
+either_none false = refl
+
+-- a reply that is lost tells nothing
+unread : (known : Known) (c : CoreState) (r : ℕ) → [] ≡ round_events (items_of c.layout) (joined (record c { current = Some r }) known) ReplyLost
+unread known c r = either_none (not (beq c.toggle known.pipe.expects))
+
+-- where nothing is taken and no round closes, the station stays
+stays : (c : CoreState) (known : Known) (addr home : ℕ) (current : Option ℕ) (armed : Option (List ℕ))
+    (result : Result Told StackFault) (device_then : DeviceState) (host_then : HostEnd) (events : List Event)
+    → IsEven c.toggle known.pipe.expects current → Meets addr (record c { current = current }) known → IsArmed c.layout c.standing.fixed current armed
+    → result ≡ Ok (Polled (spelled (Some (answer_with c.toggle armed))) Silent)
+    → device_then ≡ polled addr (record c { current = current }) → host_then ≡ ready_with home (sharing c known) → events ≡ []
+    → Lands ReplyLost addr c.layout (joined (record c { current = current }) known) result device_then host_then events
+stays c known addr home None None result device_then host_then events even meets arms told device_is host_is none = record {
+  member = member_of device_then (polled addr (record c { current = None })) host_then home (sharing c known) device_is host_is;
+  delivered = none;
+  told = ([], refl, told);
+  pair = pair_of device_then (polled addr (record c { current = None })) host_then home (sharing c known) device_is host_is (record {
+    configured = meets.configured;
+    layout = refl;
+    addr = meets.to_device;
+    endp = meets.endp;
+    even = even;
+    sound = meets.sound;
+    laid = meets.laid;
+    fits = meets.fits;
+  });
+}
+stays c known addr home None (Some bytes) result device_then host_then events even meets arms told device_is host_is none = absurd arms
+stays c known addr home (Some r) None result device_then host_then events even meets arms told device_is host_is none = absurd arms
+stays c known addr home (Some r) (Some bytes) result device_then host_then events even meets arms told device_is host_is none = record {
+  member = member_of device_then (waiting addr c r) host_then home (sharing c known) device_is host_is;
+  delivered = none ∙ unread known c r;
+  told = (bytes, arms, told);
+  pair = pair_of device_then (waiting addr c r) host_then home (sharing c known) device_is host_is (record {
+    configured = meets.configured;
+    layout = refl;
+    addr = meets.to_device;
+    endp = meets.endp;
+    even = tt;
+    sound = meets.sound;
+    laid = meets.laid;
+    fits = meets.fits;
+  });
+}
+
+-- a reply that is lost
+pub reply_lost : (c : CoreState) (known : Known) (addr home : ℕ) (current : Option ℕ) (armed : Option (List ℕ)) (packet : Packet)
+    (result : Result Told StackFault) (device_then : DeviceState) (host_then : HostEnd) (events : List Event)
+    → IsEven c.toggle known.pipe.expects current → Meets addr (record c { current = current }) known
+    → IsArmed c.layout c.standing.fixed current armed → packet ≡ answer_with c.toggle armed
+    → Arrives ReplyLost (record c { current = current }) known addr home packet result device_then host_then events
+    → Lands ReplyLost addr c.layout (joined (record c { current = current }) known) result device_then host_then events
+reply_lost c known addr home current armed packet result device_then host_then events even meets arms packet_is t =
+    let lost = read_lost (arrives_under ReplyLost) Reply packet t.reply refl t.replied in
+    let took : taken known.pipe.expects t.reply ≡ Silent = ap (taken known.pipe.expects) lost in
+    let host_is : host_then ≡ ready_with home (sharing c known) = t.host_moved ∙ ap (ready_after home (sharing c known)) took in
+    let told : result ≡ Ok (Polled (spelled (Some (answer_with c.toggle armed))) Silent)
+    = t.told ∙ ap (λ (x : Took). told_with (Some packet) (told_of c.layout x)) took ∙ ap (λ (x : Packet). Ok (Polled (spelled (Some x)) Silent)) packet_is in
+    let device_is : device_then ≡ polled addr (record c { current = current })
+    = subst (λ (x : Took). Ends (arrives_under ReplyLost) (told_of c.layout x) (polled addr (record c { current = current })) device_then) took t.ended in
+    stays c known addr home current armed result device_then host_then events even meets arms told device_is host_is (t.delivers ∙ ap (events_behind (sharing c known)) took)
+
+-- what a poll whose answer reaches the host comes to, by what the host takes
+pub record Comes (fate : Fate) (c : CoreState) (known : Known) (addr home : ℕ) (packet : Packet) (took : Took)
+    (result : Result Told StackFault) (device_then : DeviceState) (host_then : HostEnd) (events : List Event) : Type 0 where
+  pub told : result ≡ told_with (Some packet) (told_of c.layout took)
+  pub host_moved : host_then ≡ ready_after home (sharing c known) took
+  pub delivers : events ≡ events_behind (sharing c known) took
+  pub ended : Ends (arrives_under fate) (told_of c.layout took) (polled addr c) device_then
+
+-- an answer that reaches the host is taken by its row
+pub comes : (fate : Fate) (c : CoreState) (known : Known) (addr home : ℕ) (armed : Option (List ℕ)) (packet : Packet)
+    (result : Result Told StackFault) (device_then : DeviceState) (host_then : HostEnd) (events : List Event)
+    → ((bytes : List ℕ) → arrives_under fate Reply bytes ≡ Some bytes) → packet ≡ answer_with c.toggle armed
+    → Arrives fate c known addr home packet result device_then host_then events
+    → Comes fate c known addr home (answer_with c.toggle armed) (took_where known.pipe.expects c.toggle armed) result device_then host_then events
+comes fate c known addr home armed packet result device_then host_then events whole packet_is t =
+    let came = read_whole (arrives_under fate) Reply packet t.reply (whole (spelling packet)) t.replied in
+    let took : taken known.pipe.expects t.reply ≡ took_where known.pipe.expects c.toggle armed
+    = ap (taken known.pipe.expects) (came ∙ ap (λ (x : Packet). Some x) packet_is) ∙ took_answer known.pipe.expects c.toggle armed in
+    record {
+      told = t.told ∙ ap (λ (x : Took). told_with (Some packet) (told_of c.layout x)) took
+          ∙ ap (λ (x : Packet). told_with (Some x) (told_of c.layout (took_where known.pipe.expects c.toggle armed))) packet_is;
+      host_moved = t.host_moved ∙ ap (ready_after home (sharing c known)) took;
+      delivers = t.delivers ∙ ap (events_behind (sharing c known)) took;
+      ended = subst (λ (x : Took). Ends (arrives_under fate) (told_of c.layout x) (polled addr c) device_then) took t.ended;
+    }
+
+-- the same where it is known what the host takes
+comes_as : (fate : Fate) (c : CoreState) (known : Known) (addr home : ℕ) (packet : Packet) (took other : Took)
+    (result : Result Told StackFault) (device_then : DeviceState) (host_then : HostEnd) (events : List Event)
+    → took ≡ other → Comes fate c known addr home packet took result device_then host_then events
+    → Comes fate c known addr home packet other result device_then host_then events
+comes_as fate c known addr home packet took other result device_then host_then events is t =
+    subst (λ (x : Took). Comes fate c known addr home packet x result device_then host_then events) is t
+
+-- a poll at which no round is open and none opens
+nak : (fate : Fate) (c : CoreState) (known : Known) (addr home : ℕ)
+    (result : Result Told StackFault) (device_then : DeviceState) (host_then : HostEnd) (events : List Event)
+    → IsEven c.toggle known.pipe.expects None → Meets addr (record c { current = None }) known
+    → Comes fate (record c { current = None }) known addr home packets.Nak Nak result device_then host_then events
+    → (joint device_then host_then ≡ record { addr = addr; layout = c.layout; station = joined (record c { current = None }) known })
+    × (events ≡ []) × (result ≡ Ok (Polled (spelled (Some packets.Nak)) Nak)) × IsPair device_then host_then.phase
+nak fate c known addr home result device_then host_then events even meets t = (
+  member_of device_then (polled addr (record c { current = None })) host_then home (sharing c known) t.ended t.host_moved,
+  t.delivers,
+  t.told,
+  pair_of device_then (polled addr (record c { current = None })) host_then home (sharing c known) t.ended t.host_moved (record {
+    configured = meets.configured;
+    layout = refl;
+    addr = meets.to_device;
+    endp = meets.endp;
+    even = even;
+    sound = meets.sound;
+    laid = meets.laid;
+    fits = meets.fits;
+  }),
+)
+
+bool_cases : (b : Bool) → (b ≡ true) ⊎ (b ≡ false)
+bool_cases true = inl refl
+bool_cases false = inr refl
+
+-- the station of an open round, by the toggles
+opens_station : (fate : Fate) (addr : ℕ) (c : CoreState) (known : Known) (r : ℕ) (b : Bool)
+    (result : Result Told StackFault) (device_then : DeviceState) (host_then : HostEnd) (events : List Event)
+    → beq c.toggle known.pipe.expects ≡ b → Lands fate addr c.layout (open_station c known r b) result device_then host_then events
+    → Lands fate addr c.layout (joined (record c { current = Some r }) known) result device_then host_then events
+opens_station fate addr c known r b result device_then host_then events is lands =
+    subst (λ (x : Bool). Lands fate addr c.layout (open_station c known r x) result device_then host_then events) (sym is) lands
+
+-- the row of data, by the toggles
+abbrev row : Bool → List ℕ → Took
+row b bytes = cond b (Fresh (payload bytes)) Again
+
+pub clean : (c : CoreState) (known : Known) (addr home : ℕ) (current : Option ℕ) (armed : Option (List ℕ))
+    (result : Result Told StackFault) (device_then : DeviceState) (host_then : HostEnd) (events : List Event)
+    → IsEven c.toggle known.pipe.expects current → Meets addr (record c { current = current }) known → IsArmed c.layout c.standing.fixed current armed
+    → ((r : ℕ) (bytes : List ℕ) → current ≡ Some r → armed ≡ Some bytes → ReadsAsShown c.layout r c.standing.fixed bytes known.view)
+    → Comes Clean (record c { current = current }) known addr home (answer_with c.toggle armed) (took_where known.pipe.expects c.toggle armed) result device_then host_then events
+    → Lands Clean addr c.layout (joined (record c { current = current }) known) result device_then host_then events
+clean c known addr home None None result device_then host_then events even meets arms reads t =
+    let done = nak Clean c known addr home result device_then host_then events even meets t in
+    record { member = done.0; delivered = done.1; told = ([], refl, done.2); pair = done.3 }
+clean c known addr home None (Some bytes) result device_then host_then events even meets arms reads t = absurd arms
+clean c known addr home (Some r) None result device_then host_then events even meets arms reads t = absurd arms
+clean c known addr home (Some r) (Some bytes) result device_then host_then events even meets arms reads t =
+    let shown = reads r bytes refl refl in
+    elim (bool_cases (beq c.toggle known.pipe.expects)) [
+      | inl same ↦
+          let f = comes_as Clean (record c { current = Some r }) known addr home (answer_with c.toggle (Some bytes)) (took_where known.pipe.expects c.toggle (Some bytes)) (Fresh (payload bytes))
+          result device_then host_then events (ap (λ (b : Bool). row b bytes) same) t in
+          let acked : Ends (arrives_under Clean) (Ok (Fresh (payload bytes))) (waiting addr c r) device_then
+          = subst (λ (x : Result Took StackFault). Ends (arrives_under Clean) x (waiting addr c r) device_then) (fresh_told (sharing c known) r c.standing.fixed bytes shown) f.ended in
+          opens_station Clean addr c known r true result device_then host_then events same
+          (fresh_clean c known addr home r bytes result device_then host_then events meets shown arms same f.told f.host_moved f.delivers acked)
+      | inr differ ↦
+          let f = comes_as Clean (record c { current = Some r }) known addr home (answer_with c.toggle (Some bytes)) (took_where known.pipe.expects c.toggle (Some bytes)) Again
+          result device_then host_then events (ap (λ (b : Bool). row b bytes) differ) t in
+          opens_station Clean addr c known r false result device_then host_then events differ
+          (again_clean c known addr home r bytes result device_then host_then events meets arms differ f.told f.host_moved f.delivers f.ended)
+    ]
+
+pub ack_lost_poll : (c : CoreState) (known : Known) (addr home : ℕ) (current : Option ℕ) (armed : Option (List ℕ))
+    (result : Result Told StackFault) (device_then : DeviceState) (host_then : HostEnd) (events : List Event)
+    → IsEven c.toggle known.pipe.expects current → Meets addr (record c { current = current }) known → IsArmed c.layout c.standing.fixed current armed
+    → ((r : ℕ) (bytes : List ℕ) → current ≡ Some r → armed ≡ Some bytes → ReadsAsShown c.layout r c.standing.fixed bytes known.view)
+    → Comes AckLost (record c { current = current }) known addr home (answer_with c.toggle armed) (took_where known.pipe.expects c.toggle armed) result device_then host_then events
+    → Lands AckLost addr c.layout (joined (record c { current = current }) known) result device_then host_then events
+ack_lost_poll c known addr home None None result device_then host_then events even meets arms reads t =
+    let done = nak AckLost c known addr home result device_then host_then events even meets t in
+    record { member = done.0; delivered = done.1; told = ([], refl, done.2); pair = done.3 }
+ack_lost_poll c known addr home None (Some bytes) result device_then host_then events even meets arms reads t = absurd arms
+ack_lost_poll c known addr home (Some r) None result device_then host_then events even meets arms reads t = absurd arms
+ack_lost_poll c known addr home (Some r) (Some bytes) result device_then host_then events even meets arms reads t =
+    let shown = reads r bytes refl refl in
+    elim (bool_cases (beq c.toggle known.pipe.expects)) [
+      | inl same ↦
+          let f = comes_as AckLost (record c { current = Some r }) known addr home (answer_with c.toggle (Some bytes)) (took_where known.pipe.expects c.toggle (Some bytes)) (Fresh (payload bytes))
+          result device_then host_then events (ap (λ (b : Bool). row b bytes) same) t in
+          let acked : Ends (arrives_under AckLost) (Ok (Fresh (payload bytes))) (waiting addr c r) device_then
+          = subst (λ (x : Result Took StackFault). Ends (arrives_under AckLost) x (waiting addr c r) device_then) (fresh_told (sharing c known) r c.standing.fixed bytes shown) f.ended in
+          opens_station AckLost addr c known r true result device_then host_then events same
+          (fresh_ack_lost c known addr home r bytes result device_then host_then events meets shown arms same f.told f.host_moved f.delivers acked)
+      | inr differ ↦
+          let f = comes_as AckLost (record c { current = Some r }) known addr home (answer_with c.toggle (Some bytes)) (took_where known.pipe.expects c.toggle (Some bytes)) Again
+          result device_then host_then events (ap (λ (b : Bool). row b bytes) differ) t in
+          opens_station AckLost addr c known r false result device_then host_then events differ
+          (again_ack_lost c known addr home r bytes result device_then host_then events meets arms differ f.told f.host_moved f.delivers f.ended)
+    ]

@@ -1,0 +1,43 @@
+-- What holds of every device of a rig holds behind its calls.
+use Rattle.std.proofs.Common.{◌≡◌, ◌<◌, ◌++◌, ℕ, List, [], ◌∷◌, length, get_or, Result, Ok, Err, OnOk, OnErr, sym, subst}
+use Rattle.std.specs.Prelude.{slice_set}
+use Rattle.std.proofs.lemmas.List.Elements.{All-get_or, All-set}
+use Rattle.hid_layout.specs.Controls.{items_of}
+use Rattle.hid_layout.specs.Layout.{Contents}
+use Rattle.hid_usages.specs.Cells.{blank}
+use Rattle.hid_device.specs.Rounds.{OwnStep}
+use Rattle.hid_stack.specs.declared.fault.StackFault.{StackFault}
+use Rattle.hid_stack.specs.declared.step.Told.{Told}
+use Rattle.hid_stack.specs.Members.{Member, member_after, fresh_member}
+use Rattle.hid_stack.specs.Motion.{HasMotions}
+use Rattle.hid_stack.specs.Sums.{AllHaveMotions}
+use Rattle.hid_stack.proofs.MotionLemmas.{step_moving, fresh_has}
+use Rattle.hid_stack.proofs.SumLemmas.{attached_has}
+
+abbrev HasItsMotions : Member → Type 0
+HasItsMotions m = HasMotions (items_of m.layout) m.station
+
+-- one device behind a step
+stepped : (m n : Member) (x : OwnStep) → n ≡ member_after m x → HasItsMotions m → HasItsMotions n
+stepped m n x is has = subst HasItsMotions (sym is) (step_moving (items_of m.layout) m.station x has)
+
+at_place : (members : List Member) (i : ℕ) (m : Member) → AllHaveMotions members → i < length members → m ≡ get_or members i m → HasItsMotions m
+at_place members i m all within is = subst HasItsMotions (sym is) (All-get_or HasItsMotions members i m within all)
+
+pub stepped_have : (members : List Member) (i : ℕ) (m n : Member) (x : OwnStep) → AllHaveMotions members → i < length members → m ≡ get_or members i m → n ≡ member_after m x
+    → AllHaveMotions (slice_set members i n)
+stepped_have members i m n x all within is after = All-set HasItsMotions members i n (stepped m n x after (at_place members i m all within is)) all
+
+-- behind a poll, which memory may refuse
+polled_has : (m n : Member) (x : OwnStep) (result : Result Told StackFault) (P : Type 0) → OnOk result (n ≡ member_after m x) → OnErr result ((n ≡ m) × P) → HasItsMotions m → HasItsMotions n
+polled_has m n x (Ok told) P after err has = stepped m n x after has
+polled_has m n x (Err fault) P after err has = subst HasItsMotions (sym err.0) has
+
+pub polled_have : (members : List Member) (i : ℕ) (m n : Member) (x : OwnStep) (result : Result Told StackFault) (P : Type 0) → AllHaveMotions members → i < length members → m ≡ get_or members i m
+    → OnOk result (n ≡ member_after m x) → OnErr result ((n ≡ m) × P) → AllHaveMotions (slice_set members i n)
+polled_have members i m n x result P all within is after err = All-set HasItsMotions members i n (polled_has m n x result P after err (at_place members i m all within is)) all
+
+-- where a device was attached
+pub attached_have : (members new : List Member) (m : Member) (addr : ℕ) (layout : Contents) → AllHaveMotions members → m ≡ fresh_member addr layout → new ≡ members ++ m ∷ [] → AllHaveMotions new
+attached_have members new m addr layout all is new_is =
+    subst AllHaveMotions (sym new_is) (attached_has members m all (subst HasItsMotions (sym is) (fresh_has (items_of layout) _)))

@@ -1,0 +1,268 @@
+-- A poll packet by packet, over a bus that loses packets, is a poll of the station (USB 2.0, 8.5.4 and 8.6).
+use Rattle.std.proofs.Common.{◌≡◌, ◌∙◌, ◌<◌, ℕ, Bool, true, false, List, [], Option, Some, None, Result, Ok, Err, refl, ap, sym, subst, arith, eqb, cond}
+use Rattle.std.specs.Prelude.{IfSome, ◌&&◌}
+use Rattle.std.proofs.lemmas.Bool.Decides.{nat_tests}
+use Rattle.hid_layout.specs.Layout.{Contents}
+use Rattle.hid_layout.specs.Controls.{items_of}
+use Rattle.hid_layout.specs.Reports.{IsLayout}
+use Rattle.hid_cells.specs.declared.event.Event.{Event}
+use Rattle.hid_usages.specs.Cells.{FitsView}
+use Rattle.hid_usages.specs.Crossing.{ReadsAsShown}
+use Rattle.hid_views.proofs.CrossingLemmas.{parts_back}
+use Rattle.usb_packet.specs.declared.packet.Packet.{Packet}
+use Rattle.usb_packet.specs.Spelling.{spelling}
+use Rattle.usb_transact.specs.declared.bus.Stage.TheVariants.{Token, Reply}
+use Rattle.usb_transact.specs.declared.host.Took.{Took}
+use Rattle.usb_transact.specs.declared.host.Took.TheVariants.{Silent}
+use Rattle.usb_transact.specs.declared.transaction.Fate.{Fate}
+use Rattle.usb_transact.specs.declared.transaction.Fate.TheVariants.{Clean, TokenLost, ReplyLost, AckLost}
+use Rattle.usb_transact.specs.Bus.{Carries}
+use Rattle.usb_transact.specs.Device.{answer_with}
+use Rattle.usb_transact.specs.Fate.{arrives_under}
+use Rattle.usb_transact.specs.Host.{token_to}
+use Rattle.usb_transact.specs.Taken.{taken}
+use Rattle.usb_transact.proofs.TableLemmas.{read_whole, read_lost}
+use Rattle.hid_device.specs.declared.device.TheConstants.{ENDPOINT}
+use Rattle.hid_device.specs.Inputs.{input_count}
+use Rattle.hid_device.specs.Standing.{first_due}
+use Rattle.hid_device.specs.Core.{CoreState, IsSound, IsArmed, IsBelow, opened_if, opening_of}
+use Rattle.hid_device.specs.Device.{DeviceState, is_poll, polled, AnswersPoll, AnswersIf, device_after, heard}
+use Rattle.hid_device.specs.Rounds.{Polls}
+use Rattle.hid_stack.specs.declared.fault.StackFault.{StackFault}
+use Rattle.hid_stack.specs.declared.host.Phase.{Phase}
+use Rattle.hid_stack.specs.declared.host.Phase.TheVariants.{Cold, Ready}
+use Rattle.hid_stack.specs.declared.step.Told.{Told}
+use Rattle.hid_stack.specs.declared.step.Told.TheVariants.{Polled}
+use Rattle.hid_stack.specs.Host.{HostEnd, IfReady, ready_after}
+use Rattle.hid_stack.specs.Joint.{joined, station_of, joint, IsEven, ArePaired, IsPair}
+use Rattle.hid_stack.specs.Known.{Known, told_of, events_behind}
+use Rattle.hid_stack.specs.Polls.{Hears, Replies, Ends, Transacts, HasBytes, spelled, told_with}
+use Rattle.hid_stack.specs.Stations.{Station, Open, opened, answered, round_events, after, events_at}
+use Rattle.hid_stack.specs.Tells.{ShowsRound, TellsOpened, TellsPoll, told_by}
+use Rattle.hid_stack.proofs.PollLemmas.{opens, Meets, Arrives, Lands, Comes, sharing, ready_with, member_of, pair_of, comes, clean, ack_lost_poll, reply_lost}
+
+-- opening a round keeps the layout, the configuration and the toggle
+pub record Keeps (c d : CoreState) : Type 0 where
+  pub layout : d.layout ≡ c.layout
+  pub configured : d.is_configured ≡ c.is_configured
+  pub toggle : d.toggle ≡ c.toggle
+
+keeps_if : (c : CoreState) (due : Option ℕ) → Keeps c (opened_if c due)
+keeps_if c None = record { layout = refl; configured = refl; toggle = refl }
+keeps_if c (Some r) = record { layout = refl; configured = refl; toggle = refl }
+
+keeps_at : (c : CoreState) (current : Option ℕ) → Keeps (record c { current = current }) (opening_of (record c { current = current }))
+keeps_at c None = keeps_if (record c { current = None }) (first_due (items_of c.layout) c.standing)
+keeps_at c (Some r) = record { layout = refl; configured = refl; toggle = refl }
+
+keeps : (c : CoreState) → Keeps c (opening_of c)
+keeps c = keeps_at c c.current
+
+-- where no round is open then, the toggles are still the same
+even_if : (c : CoreState) (expects : Bool) (due : Option ℕ) → c.toggle ≡ expects
+    → IsEven (opened_if (record c { current = None }) due).toggle expects (opened_if (record c { current = None }) due).current
+even_if c expects None even = even
+even_if c expects (Some r) even = tt
+
+even_at : (c : CoreState) (expects : Bool) (current : Option ℕ) → IsEven c.toggle expects current
+    → IsEven (opening_of (record c { current = current })).toggle expects (opening_of (record c { current = current })).current
+even_at c expects None even = even_if c expects (first_due (items_of c.layout) c.standing) even
+even_at c expects (Some r) even = tt
+
+-- the token of a host polls its device
+polls_it : (device : DeviceState) (known : Known) → ArePaired device known → is_poll device (token_to known.pipe) ≡ true
+polls_it device known pair =
+    let addr : eqb known.pipe.addr device.addr ≡ true = let same = pair.addr in grind (arith, nat_tests) in
+    let endp : eqb known.pipe.endp ENDPOINT ≡ true = let same = pair.endp in grind (arith, nat_tests) in
+    ap (λ (b : Bool). b && (eqb known.pipe.addr device.addr && eqb known.pipe.endp ENDPOINT)) pair.configured
+    ∙ ap (λ (b : Bool). true && (b && eqb known.pipe.endp ENDPOINT)) addr
+    ∙ ap (λ (b : Bool). true && (true && b)) endp
+
+-- the bytes that a device sends show its part
+reads_at : (c : CoreState) (known : Known) (packet : Packet) (armed : Option (List ℕ)) → IsSound c → IsLayout c.layout → FitsView (items_of c.layout) known.view
+    → IsArmed c.layout c.standing.fixed c.current armed → HasBytes packet → packet ≡ answer_with c.toggle armed
+    → (r : ℕ) (bytes : List ℕ) → c.current ≡ Some r → armed ≡ Some bytes → ReadsAsShown c.layout r c.standing.fixed bytes known.view
+reads_at c known packet armed sound laid fits arms has packet_is r bytes current_is armed_is =
+    let shows = subst (λ (o : Option (List ℕ)). IsArmed c.layout c.standing.fixed (Some r) o) armed_is (subst (λ (o : Option ℕ). IsArmed c.layout c.standing.fixed o armed) current_is arms) in
+    let below = subst (λ (o : Option ℕ). IsBelow (input_count c.layout.reports) o) current_is sound.of_input in
+    parts_back c.layout r c.standing.fixed bytes known.view (record {
+      laid = laid;
+      input = sound.inputs_first.first r below;
+      fits = sound.fixed;
+      empty_codes = sound.empty_codes;
+      are_bytes = subst (λ (o : Option (List ℕ)). HasBytes (answer_with c.toggle o)) armed_is (subst HasBytes packet_is has);
+      encoding = shows.shows;
+    }) fits
+
+-- what a poll comes to at the two ends
+pub record PollsAs (fate : Fate) (device : DeviceState) (s : Station)
+    (result : Result Told StackFault) (device_then : DeviceState) (host_then : HostEnd) (events : List Event) : Type 0 where
+  pub member : joint device_then host_then ≡ record { addr = device.addr; layout = device.core.layout; station = after (items_of device.core.layout) s (Polls fate) }
+  pub delivered : events ≡ events_at (items_of device.core.layout) s (Polls fate)
+  pub told : (told : Told) × (result ≡ Ok told) × TellsPoll device.core.layout s fate told
+  pub pair : IsPair device_then host_then.phase
+
+-- a token that is lost changes nothing
+stays_closed : (layout : Contents) (c : CoreState) (known : Known) (current : Option ℕ) → joined (record c { current = current }) known ≡ answered (items_of layout) (joined (record c { current = current }) known) TokenLost
+stays_closed layout c known None = refl
+stays_closed layout c known (Some r) = refl
+
+either_none : (b : Bool) → [] ≡ cond {A = List Event} b [] []
+either_none true = refl
+either_none false = refl
+
+tells_none : (layout : Contents) (c : CoreState) (known : Known) (current : Option ℕ) → [] ≡ round_events (items_of layout) (joined (record c { current = current }) known) TokenLost
+tells_none layout c known None = refl
+tells_none layout c known (Some r) = either_none _
+
+token_lost : (device : DeviceState) (known : Known) (home : ℕ) (result : Result Told StackFault) (device_then : DeviceState) (host_then : HostEnd) (events : List Event)
+    → ArePaired device known → Transacts (arrives_under TokenLost) device home known result device_then host_then events
+    → PollsAs TokenLost device (joined device.core known) result device_then host_then events
+token_lost device known home result device_then host_then events pair t =
+    let lost = read_lost (arrives_under TokenLost) Token (token_to known.pipe) t.token refl t.polled in
+    let heard : Hears device None t.answer t.between = subst (λ (o : Option Packet). Hears device o t.answer t.between) lost t.heard in
+    let none : t.reply ≡ None = subst (λ (o : Option Packet). Replies (arrives_under TokenLost) o t.reply) heard.0 t.replied in
+    let took : taken known.pipe.expects t.reply ≡ Silent = ap (taken known.pipe.expects) none in
+    let device_is : device_then ≡ device = subst (λ (x : Took). Ends (arrives_under TokenLost) (told_of known.layout x) t.between device_then) took t.ended ∙ heard.1 in
+    let host_is : host_then ≡ ready_with home known = t.host_moved ∙ ap (ready_after home known) took in
+    record {
+      member = member_of device_then device host_then home known device_is host_is
+          ∙ ap (λ (s : Station). record { addr = device.addr; layout = device.core.layout; station = s }) (stays_closed device.core.layout device.core known device.core.current);
+      delivered = t.delivers ∙ ap (events_behind known) took ∙ tells_none device.core.layout device.core known device.core.current;
+      told = (Polled None Silent, t.told ∙ ap (λ (x : Took). told_with t.answer (told_of known.layout x)) took ∙ ap (λ (o : Option Packet). Ok (Polled (spelled o) Silent)) heard.0, refl);
+      pair = pair_of device_then device host_then home known device_is host_is pair;
+    }
+
+-- a token that arrives is answered, once a round was opened where one is due
+pub record Answered (device : DeviceState) (known : Known) (answer : Option Packet) (between : DeviceState) : Type 0 where
+  pub packet : Packet
+  pub armed : Option (List ℕ)
+  pub is : answer ≡ Some packet
+  pub arms : IsArmed (opening_of device.core).layout (opening_of device.core).standing.fixed (opening_of device.core).current armed
+  pub packet_is : packet ≡ answer_with (opening_of device.core).toggle armed
+  pub stands : between ≡ polled device.addr (opening_of device.core)
+  pub sound : IsSound (opening_of device.core)
+
+answered_by : (device : DeviceState) (known : Known) (answer : Option Packet) (between : DeviceState) → AnswersPoll (opening_of device.core) answer
+    → between ≡ polled device.addr (opening_of device.core) → IfSome answer (λ _. IsSound (opening_of device.core)) → Answered device known answer between
+answered_by device known None between h stands sound = absurd h
+answered_by device known (Some packet) between (armed, arms, packet_is) stands sound =
+    record { packet = packet; armed = armed; is = refl; arms = arms; packet_is = packet_is; stands = stands; sound = sound }
+
+token_came : (fate : Fate) (device : DeviceState) (known : Known) (home : ℕ) (result : Result Told StackFault) (device_then : DeviceState) (host_then : HostEnd) (events : List Event)
+    → ((bytes : List ℕ) → arrives_under fate Token bytes ≡ Some bytes) → ArePaired device known
+    → (t : Transacts (arrives_under fate) device home known result device_then host_then events) → Answered device known t.answer t.between
+token_came fate device known home result device_then host_then events whole pair t =
+    let came = read_whole (arrives_under fate) Token (token_to known.pipe) t.token (whole (spelling (token_to known.pipe))) t.polled in
+    let h : Hears device (Some (token_to known.pipe)) t.answer t.between = subst (λ (o : Option Packet). Hears device o t.answer t.between) came t.heard in
+    let stands : t.between ≡ polled device.addr (opening_of device.core)
+    = h.1 ∙ ap (λ (b : Bool). cond b (polled device.addr (opening_of device.core)) (heard device (token_to known.pipe))) (polls_it device known pair) in
+    answered_by device known t.answer t.between
+    (subst (λ (b : Bool). AnswersIf b (opening_of device.core) t.answer) (polls_it device known pair) h.0)
+    stands (subst (λ (d : DeviceState). IfSome t.answer (λ _. IsSound d.core)) stands h.2)
+
+-- from there on
+arrives : (fate : Fate) (device : DeviceState) (known : Known) (home : ℕ) (result : Result Told StackFault) (device_then : DeviceState) (host_then : HostEnd) (events : List Event)
+    → ArePaired device known
+    → (t : Transacts (arrives_under fate) device home known result device_then host_then events) → (a : Answered device known t.answer t.between)
+    → Arrives fate (opening_of device.core) known device.addr home a.packet result device_then host_then events
+arrives fate device known home result device_then host_then events pair t a =
+    let layout : known.layout ≡ (opening_of device.core).layout = pair.layout ∙ sym (keeps device.core).layout in
+    let shared : known ≡ sharing (opening_of device.core) known = ap (λ (l : Contents). record known { layout = l }) layout in
+    record {
+      reply = t.reply;
+      replied = subst (λ (o : Option Packet). Replies (arrives_under fate) o t.reply) a.is t.replied;
+      told = t.told ∙ ap (λ (o : Option Packet). told_with o (told_of known.layout (taken known.pipe.expects t.reply))) a.is
+          ∙ ap (λ (l : Contents). told_with (Some a.packet) (told_of l (taken known.pipe.expects t.reply))) layout;
+      host_moved = t.host_moved ∙ ap (λ (k : Known). ready_after home k (taken known.pipe.expects t.reply)) shared;
+      delivers = t.delivers ∙ ap (λ (k : Known). events_behind k (taken known.pipe.expects t.reply)) shared;
+      ended = subst (λ (d : DeviceState). Ends (arrives_under fate) (told_of (opening_of device.core).layout (taken known.pipe.expects t.reply)) d device_then) a.stands
+          (subst (λ (l : Contents). Ends (arrives_under fate) (told_of l (taken known.pipe.expects t.reply)) t.between device_then) layout t.ended);
+    }
+
+meets : (device : DeviceState) (known : Known) → ArePaired device known → IsSound (opening_of device.core) → Meets device.addr (opening_of device.core) known
+meets device known pair sound =
+    let layout : known.layout ≡ (opening_of device.core).layout = pair.layout ∙ sym (keeps device.core).layout in
+    record {
+      configured = (keeps device.core).configured ∙ pair.configured;
+      to_device = pair.addr;
+      endp = pair.endp;
+      sound = sound;
+      laid = subst IsLayout layout pair.laid;
+      fits = subst (λ (l : Contents). FitsView (items_of l) known.view) layout pair.fits;
+    }
+
+-- the station from before the token
+landed : (fate : Fate) (device : DeviceState) (known : Known) (result : Result Told StackFault) (device_then : DeviceState) (host_then : HostEnd) (events : List Event)
+    → ArePaired device known → Lands fate device.addr (opening_of device.core).layout (joined (opening_of device.core) known) result device_then host_then events
+    → Lands fate device.addr device.core.layout (opened (items_of device.core.layout) (joined device.core known)) result device_then host_then events
+landed fate device known result device_then host_then events pair lands =
+    subst (λ (s : Station). Lands fate device.addr device.core.layout s result device_then host_then events) (opens device.core known pair.even)
+    (subst (λ (l : Contents). Lands fate device.addr l (joined (opening_of device.core) known) result device_then host_then events) (keeps device.core).layout lands)
+
+-- what is told, by the bytes that show the part
+abbrev TellsSome : Contents → Station → Fate → Result Told StackFault → Type 0
+TellsSome layout s fate result = (told : Told) × (result ≡ Ok told) × TellsOpened layout s fate told
+
+told_by_report : (layout : Contents) (s : Station) (fate : Fate) (result : Result Told StackFault)
+    → (report : List ℕ) × ShowsRound layout s report × (result ≡ Ok (told_by s fate report)) → TellsSome layout s fate result
+told_by_report layout s fate result (report, shows, is) = (told_by s fate report, is, (report, shows, refl))
+
+pub polls : (fate : Fate) (device : DeviceState) (known : Known) (home : ℕ) (result : Result Told StackFault) (device_then : DeviceState) (host_then : HostEnd) (events : List Event)
+    → ArePaired device known → Transacts (arrives_under fate) device home known result device_then host_then events
+    → PollsAs fate device (joined device.core known) result device_then host_then events
+polls TokenLost device known home result device_then host_then events pair t = token_lost device known home result device_then host_then events pair t
+polls ReplyLost device known home result device_then host_then events pair t =
+    let a = token_came ReplyLost device known home result device_then host_then events (λ bytes. refl) pair t in
+    let c = opening_of device.core in
+    let even = even_at device.core known.pipe.expects device.core.current pair.even in
+    let lands = landed ReplyLost device known result device_then host_then events pair
+    (reply_lost c known device.addr home c.current a.armed a.packet result device_then host_then events even (meets device known pair a.sound) a.arms a.packet_is
+    (arrives ReplyLost device known home result device_then host_then events pair t a)) in
+    record { member = lands.member; delivered = lands.delivered; told = told_by_report device.core.layout (opened (items_of device.core.layout) (joined device.core known)) ReplyLost result lands.told; pair = lands.pair }
+polls Clean device known home result device_then host_then events pair t =
+    let a = token_came Clean device known home result device_then host_then events (λ bytes. refl) pair t in
+    let c = opening_of device.core in
+    let even = even_at device.core known.pipe.expects device.core.current pair.even in
+    let m = meets device known pair a.sound in
+    let has = subst (λ (o : Option Packet). IfSome o HasBytes) a.is t.bytes in
+    let lands = landed Clean device known result device_then host_then events pair
+    (clean c known device.addr home c.current a.armed result device_then host_then events even m a.arms
+    (reads_at c known a.packet a.armed a.sound m.laid m.fits a.arms has a.packet_is)
+    (comes Clean c known device.addr home a.armed a.packet result device_then host_then events (λ bytes. refl) a.packet_is
+    (arrives Clean device known home result device_then host_then events pair t a))) in
+    record { member = lands.member; delivered = lands.delivered; told = told_by_report device.core.layout (opened (items_of device.core.layout) (joined device.core known)) Clean result lands.told; pair = lands.pair }
+polls AckLost device known home result device_then host_then events pair t =
+    let a = token_came AckLost device known home result device_then host_then events (λ bytes. refl) pair t in
+    let c = opening_of device.core in
+    let even = even_at device.core known.pipe.expects device.core.current pair.even in
+    let m = meets device known pair a.sound in
+    let has = subst (λ (o : Option Packet). IfSome o HasBytes) a.is t.bytes in
+    let lands = landed AckLost device known result device_then host_then events pair
+    (ack_lost_poll c known device.addr home c.current a.armed result device_then host_then events even m a.arms
+    (reads_at c known a.packet a.armed a.sound m.laid m.fits a.arms has a.packet_is)
+    (comes AckLost c known device.addr home a.armed a.packet result device_then host_then events (λ bytes. refl) a.packet_is
+    (arrives AckLost device known home result device_then host_then events pair t a))) in
+    record { member = lands.member; delivered = lands.delivered; told = told_by_report device.core.layout (opened (items_of device.core.layout) (joined device.core known)) AckLost result lands.told; pair = lands.pair }
+
+-- the same of a host, which is ready
+pub polls_at : (fate : Fate) (device : DeviceState) (host : HostEnd) (phase : Phase) (result : Result Told StackFault) (device_then : DeviceState) (host_then : HostEnd) (events : List Event)
+    → IsPair device phase → IfReady phase (λ known. Transacts (arrives_under fate) device host.addr known result device_then host_then events)
+    → PollsAs fate device (station_of device.core phase) result device_then host_then events
+polls_at fate device host Cold result device_then host_then events pair t = absurd pair
+polls_at fate device host (Ready known) result device_then host_then events pair t = polls fate device known host.addr result device_then host_then events pair t
+
+-- what is told is what was returned
+pub told_is : (layout : Contents) (s : Station) (fate : Fate) (result : Result Told StackFault) (told : Told)
+    → result ≡ Ok told → ((other : Told) × (result ≡ Ok other) × TellsPoll layout s fate other) → TellsPoll layout s fate told
+told_is layout s fate result told is (other, other_is, tells) =
+    let both : Ok told ≡ Ok other = sym is ∙ other_is in
+    let same : told ≡ other = cc in
+    subst (TellsPoll layout s fate) (sym same) tells
+
+-- the host keeps its device's address
+pub home_stays : (fate : Fate) (device : DeviceState) (host : HostEnd) (phase : Phase) (result : Result Told StackFault) (device_then : DeviceState) (host_then : HostEnd) (events : List Event)
+    → IsPair device phase → IfReady phase (λ known. Transacts (arrives_under fate) device host.addr known result device_then host_then events)
+    → host_then.addr ≡ host.addr
+home_stays fate device host Cold result device_then host_then events pair t = absurd pair
+home_stays fate device host (Ready known) result device_then host_then events pair t = ap (λ (h : HostEnd). h.addr) t.host_moved

@@ -1,0 +1,44 @@
+use Rattle.std.proofs.Common.{◌≡◌, ◌++◌, ◌∙◌, arith, take, subst}
+use Rattle.std.proofs.lemmas.Grind.{common_steps}
+use Rattle.hid_stack.specs.Members.{bus_after_all, delivered_in}
+use Rattle.hid_stack.specs.Sums.{AllHaveMotions}
+use Rattle.hid_stack.proofs.Isolation.{ran_more, told_more, headline, isolated}
+use Rattle.hid_stack.proofs.SumLemmas.{sums_up}
+use Rattle.hid_stack.proofs.rig.Rig.run.Goals as goal
+
+pub loop-at-preserved : goal.loop-at-preserved
+loop-at-preserved c = record {
+  now = ran_more _ _ _ _ _ _ c.loop-at-test.true c.loop-at.invariant.now c.in-Ok.ensures.after;
+  told = told_more _ _ _ _ _ _ _ _ c.loop-at-test.true c.loop-at.invariant.now c.loop-at.invariant.told c.in-Ok.ensures.events;
+}
+
+pub returns-clause-headline : goal.returns-clause-headline
+returns-clause-headline c =
+    let told : c.loop-at.out.items ≡ c.args.out.now.items ++ delivered_in c.args.self.now c.args.steps.now = grind (arith, common_steps) in
+    headline c.args.self.now c.args.steps.now c.args.out.now.items c.loop-at.out.items told
+
+pub returns-clause-isolated : goal.returns-clause-isolated
+returns-clause-isolated c =
+    let stands : c.loop-at.self ≡ bus_after_all c.args.self.now c.args.steps.now = grind (arith, common_steps) in
+    let told : c.loop-at.out.items ≡ c.args.out.now.items ++ delivered_in c.args.self.now c.args.steps.now = grind (arith, common_steps) in
+    isolated c.args.self.now c.loop-at.self c.args.steps.now c.args.out.now.items c.loop-at.out.items stands told
+
+pub returns-in-Err-clause-err_headline : goal.returns-in-Err-clause-err_headline
+returns-in-Err-clause-err_headline c =
+    headline c.args.self.now (take c.loop-at.at c.args.steps.now) c.args.out.now.items c.step.new.out.items (c.in-Err.ensures.err.1 ∙ c.loop-at.invariant.told)
+
+pub returns-in-Err-clause-err_isolated : goal.returns-in-Err-clause-err_isolated
+returns-in-Err-clause-err_isolated c =
+    isolated c.args.self.now c.step.new.self (take c.loop-at.at c.args.steps.now) c.args.out.now.items c.step.new.out.items
+    (c.in-Err.ensures.err.0 ∙ c.loop-at.invariant.now) (c.in-Err.ensures.err.1 ∙ c.loop-at.invariant.told)
+
+pub returns-clause-conserves : goal.returns-clause-conserves
+returns-clause-conserves c =
+    let stands : c.loop-at.self ≡ bus_after_all c.args.self.now c.args.steps.now = grind (arith, common_steps) in
+    let told : c.loop-at.out.items ≡ c.args.out.now.items ++ delivered_in c.args.self.now c.args.steps.now = grind (arith, common_steps) in
+    sums_up c.args.self.now c.loop-at.self c.args.steps.now c.args.out.now.items c.loop-at.out.items (subst AllHaveMotions c.self.view_is c.self.invariant.2) stands told
+
+pub returns-in-Err-clause-err_conserves : goal.returns-in-Err-clause-err_conserves
+returns-in-Err-clause-err_conserves c =
+    sums_up c.args.self.now c.step.new.self (take c.loop-at.at c.args.steps.now) c.args.out.now.items c.step.new.out.items (subst AllHaveMotions c.self.view_is c.self.invariant.2)
+    (c.in-Err.ensures.err.0 ∙ c.loop-at.invariant.now) (c.in-Err.ensures.err.1 ∙ c.loop-at.invariant.told)

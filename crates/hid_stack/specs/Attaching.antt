@@ -1,0 +1,63 @@
+-- Which devices can be attached, and what is found of those that are (our choice).
+use Rattle.std.specs.Prelude.{◌≡◌, ◌⊎◌, ℕ, ◌<◌, ◌≤◌, ◌+◌, Bool, true, false, List, [], ◌∷◌, ◌++◌, length, Option, Some, None, Result, Ok, Err}
+use Rattle.hid_layout.specs.declared.control.ControlId.{ControlId}
+use Rattle.hid_layout.specs.declared.usage.Usage.{Usage}
+use Rattle.hid_layout.specs.Controls.{items_of}
+use Rattle.hid_layout.specs.Finding.{shown_at}
+use Rattle.hid_layout.specs.Layout.{Contents}
+use Rattle.hid_cells.specs.declared.change.ChangeFault.TheVariants.{NoSuchControl}
+use Rattle.hid_device.specs.declared.config.Config.{Config}
+use Rattle.hid_device.specs.declared.fault.DeviceCause.{DeviceCause}
+use Rattle.hid_device.specs.declared.fault.DeviceCause.TheVariants as causes
+use Rattle.hid_device.specs.Config.{is_config}
+use Rattle.hid_device.specs.Fault.{is_memory}
+use Rattle.hid_device.specs.Making.{CanServe}
+use Rattle.hid_device.specs.Making as making
+use Rattle.hid_stack.specs.declared.fault.StackFault.{StackFault}
+use Rattle.hid_stack.specs.declared.fault.StackFault.TheVariants.{NoDevice, Refused, BadDescriptor, TooManyDevices, Memory}
+use Rattle.hid_stack.specs.declared.fault.DescriptorFault.TheVariants.{Device}
+use Rattle.hid_stack.specs.Members.{Member, fresh_member, member_at}
+
+-- a device of this configuration can have this address and this layout
+pub record Suits (addr : ℕ) (config : Config) (descriptor : List ℕ) (layout : Contents) : Type 0 where
+  pub config_fits : is_config addr config descriptor ≡ true
+  pub serves : CanServe descriptor layout
+
+-- want of memory is not the descriptor's fault
+abbrev pub wants_memory : DeviceCause → Bool
+wants_memory causes.BadConfig = false
+wants_memory (causes.Layout cause) = is_memory cause
+wants_memory causes.NoEmptyCode = false
+wants_memory causes.RelativeWithoutZero = false
+wants_memory causes.Memory = true
+
+-- why there is no device, and no host for it: the device is refused, or memory was wanting
+abbrev pub IsNoPair : ℕ → Config → List ℕ → StackFault → Type 0
+IsNoPair addr config descriptor (BadDescriptor (Device fault)) = making.Refuses addr config descriptor fault.cause fault.at × (wants_memory fault.cause ≡ false)
+IsNoPair addr config descriptor Memory = Unit {0}
+IsNoPair addr config descriptor _ = ⊥
+
+-- Attaching where this many devices have room: the next number is the new device's address.
+abbrev pub Attaches : ℕ → Config → List ℕ → List Member → Result ℕ StackFault → List Member → Type 0
+Attaches room config descriptor old (Ok dev) new =
+    (length old < room) × (dev ≡ length old + 1)
+    × ((layout : Contents) × Suits dev config descriptor layout × (new ≡ old ++ fresh_member dev layout ∷ []))
+Attaches room config descriptor old (Err TooManyDevices) new = (room ≤ length old) × (new ≡ old)
+Attaches room config descriptor old (Err fault) new = (length old < room) × IsNoPair (length old + 1) config descriptor fault × (new ≡ old)
+
+-- the first of two places
+abbrev pub IsBefore : ControlId → ControlId → Type 0
+IsBefore d c = (d.item < c.item) ⊎ ((d.item ≡ c.item) × (d.index < c.index))
+
+-- the least control of a device with a usage
+pub record IsLeast (layout : Contents) (usage : Usage) (c : ControlId) : Type 0 where
+  pub has_usage : shown_at (items_of layout) c ≡ Some usage
+  pub none_before : (d : ControlId) → IsBefore d c → shown_at (items_of layout) d ≡ Some usage → ⊥
+
+-- Finding a control of a device by its usage.
+abbrev pub Finds : List Member → ℕ → Usage → Result ControlId StackFault → Type 0
+Finds members dev usage (Ok c) = (m : Member) × (member_at members dev ≡ Some m) × IsLeast m.layout usage c
+Finds members dev usage (Err NoDevice) = member_at members dev ≡ None
+Finds members dev usage (Err (Refused NoSuchControl)) =
+    (m : Member) × (member_at members dev ≡ Some m) × ((d : ControlId) → shown_at (items_of m.layout) d ≡ Some usage → ⊥)
+Finds members dev usage (Err fault) = ⊥

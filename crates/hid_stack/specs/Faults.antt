@@ -1,0 +1,22 @@
+-- What refusals are printed as: the codes from the outermost to the innermost.
+use Rattle.std.specs.Prelude.{ℕ, List, ◌++◌, codes}
+use Rattle.hid_layout.specs.Codes.{fault_text}
+use Rattle.hid_usages.specs.Faults.{change_code, report_code}
+use Rattle.hid_device.specs.Fault.{fault_text as device_text}
+use Rattle.hid_stack.specs.declared.fault.DescriptorFault.{DescriptorFault}
+use Rattle.hid_stack.specs.declared.fault.DescriptorFault.TheVariants.{Layout, Device}
+use Rattle.hid_stack.specs.declared.fault.StackFault.{StackFault}
+use Rattle.hid_stack.specs.declared.fault.StackFault.TheVariants.{NoDevice, NotReady, Refused, BadDescriptor, Report, TooManyDevices, Memory}
+
+abbrev pub descriptor_text : DescriptorFault → List ℕ
+descriptor_text (Layout fault) = fault_text fault
+descriptor_text (Device fault) = device_text fault.cause fault.at
+
+abbrev pub stack_text : StackFault → List ℕ
+stack_text NoDevice = codes "S1"
+stack_text NotReady = codes "S2"
+stack_text (Refused fault) = codes "S3 " ++ change_code fault
+stack_text (BadDescriptor fault) = codes "S5 " ++ descriptor_text fault
+stack_text (Report fault) = codes "S6 " ++ report_code fault
+stack_text TooManyDevices = codes "S7"
+stack_text Memory = codes "S8"

@@ -1,0 +1,54 @@
+-- A device and its host as one member of the bus.
+use Rattle.std.specs.Prelude.{◌≡◌, ℕ, ◌+◌, Bool, true, false, not, Option, Some, None}
+use Rattle.std.specs.Bool.{beq}
+use Rattle.hid_layout.specs.Layout.{Contents}
+use Rattle.hid_layout.specs.Reports.{IsLayout}
+use Rattle.hid_layout.specs.Controls.{items_of}
+use Rattle.hid_usages.specs.Cells.{blank, FitsView}
+use Rattle.usb_transact.specs.Host.{HostPipeState}
+use Rattle.hid_device.specs.declared.device.TheConstants.{ENDPOINT}
+use Rattle.hid_device.specs.Core.{CoreState, IsSound}
+use Rattle.hid_device.specs.Device.{DeviceState}
+use Rattle.hid_stack.specs.declared.host.Phase.{Phase}
+use Rattle.hid_stack.specs.declared.host.Phase.TheVariants.{Cold, Ready}
+use Rattle.hid_stack.specs.Host.{HostEnd}
+use Rattle.hid_stack.specs.Known.{Known}
+use Rattle.hid_stack.specs.Stations.{Station, Open}
+use Rattle.hid_stack.specs.Members.{Member}
+
+-- an open round has crossed exactly where the two toggles differ
+abbrev pub round_between : Bool → Bool → Option ℕ → Option Open
+round_between toggle expects None = None
+round_between toggle expects (Some r) = Some (record { report = r; crossed = not (beq toggle expects) })
+
+abbrev pub joined : CoreState → Known → Station
+joined core known = record { standing = core.standing; current = round_between core.toggle known.pipe.expects core.current; odd = core.toggle; view = known.view }
+
+-- a host that isn't ready has the initial view
+abbrev pub station_of : CoreState → Phase → Station
+station_of core (Ready known) = joined core known
+station_of core Cold = record { standing = core.standing; current = round_between core.toggle core.toggle core.current; odd = core.toggle; view = blank (items_of core.layout) }
+
+abbrev pub joint : DeviceState → HostEnd → Member
+joint device host = record { addr = device.addr; layout = device.core.layout; station = station_of device.core host.phase }
+
+-- where no round is open the toggles are the same
+abbrev pub IsEven : Bool → Bool → Option ℕ → Type 0
+IsEven toggle expects None = toggle ≡ expects
+IsEven toggle expects (Some r) = Unit {0}
+
+-- A device that is configured, and what its ready host keeps: the host polls the device, has its layout, and expects the
+-- device's toggle where no round is open.
+pub record ArePaired (device : DeviceState) (known : Known) : Type 0 where
+  pub configured : device.core.is_configured ≡ true
+  pub layout : known.layout ≡ device.core.layout
+  pub addr : known.pipe.addr ≡ device.addr
+  pub endp : known.pipe.endp ≡ ENDPOINT
+  pub even : IsEven device.core.toggle known.pipe.expects device.core.current
+  pub sound : IsSound device.core
+  pub laid : IsLayout known.layout
+  pub fits : FitsView (items_of known.layout) known.view
+
+abbrev pub IsPair : DeviceState → Phase → Type 0
+IsPair device Cold = ⊥
+IsPair device (Ready known) = ArePaired device known

@@ -1,0 +1,12 @@
+pub mod Faults
+pub mod Known
+pub mod Host
+pub mod Stations
+pub mod Members
+pub mod Joint
+pub mod Polls
+pub mod Tells
+pub mod Attaching
+pub mod Showing
+pub mod Motion
+pub mod Sums

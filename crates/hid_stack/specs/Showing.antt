@@ -1,0 +1,34 @@
+-- What the two ends of a member show (USB 2.0, 8.5.4 and 8.6).
+use Rattle.std.specs.Prelude.{◌≡◌, ℕ, true, List, Option, Some, None, Result, Ok, Err}
+use Rattle.std.specs.Option.{option_map}
+use Rattle.hid_device.specs.declared.device.TheConstants.{ENDPOINT}
+use Rattle.hid_device.specs.Device.{DeviceState}
+use Rattle.hid_stack.specs.Host.{HostEnd, IfReady, IsReady}
+use Rattle.hid_stack.specs.Known.{Known}
+use Rattle.hid_stack.specs.Stations.{Open, expected}
+use Rattle.hid_stack.specs.Members.{Member, member_at}
+
+-- The device of a member: it is configured and stands as its station does, the round that is open there is open here, and
+-- its toggle is set where the rounds closed are odd in number.
+pub record ShowsDevice (m : Member) (d : DeviceState) : Type 0 where
+  pub home : d.addr ≡ m.addr
+  pub layout : d.core.layout ≡ m.layout
+  pub configured : d.core.is_configured ≡ true
+  pub standing : d.core.standing ≡ m.station.standing
+  pub open_report : d.core.current ≡ option_map (λ round. round.report) m.station.current
+  pub toggle : d.core.toggle ≡ m.station.odd
+
+-- what its ready host keeps: the toggle that it expects is the other one exactly while an open round has crossed
+pub record ShowsKnown (m : Member) (known : Known) : Type 0 where
+  pub layout : known.layout ≡ m.layout
+  pub polls : known.pipe ≡ record { addr = m.addr; endp = ENDPOINT; expects = expected m.station }
+  pub view : known.view ≡ m.station.view
+
+pub record ShowsHost (m : Member) (h : HostEnd) : Type 0 where
+  pub home : h.addr ≡ m.addr
+  pub is_ready : IsReady h.phase
+  pub known : IfReady h.phase (ShowsKnown m)
+
+-- what a member gives, where there is one
+abbrev pub GivesOf : {A : Type 0} → (Member → A → Type 0) → List Member → ℕ → A → Type 0
+GivesOf shows members dev given = (m : Member) × (member_at members dev ≡ Some m) × shows m given

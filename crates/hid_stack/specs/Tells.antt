@@ -1,0 +1,53 @@
+-- What a poll tells, by its fate (USB 2.0, 8.5.4 and 8.6).
+use Rattle.std.specs.Prelude.{◌≡◌, ℕ, if◌then◌else◌, List, [], Option, Some, None}
+use Rattle.hid_layout.specs.Controls.{items_of}
+use Rattle.hid_layout.specs.Layout.{Contents}
+use Rattle.usb_packet.specs.declared.packet.Packet.{Packet}
+use Rattle.usb_packet.specs.declared.packet.Packet.TheVariants as packets
+use Rattle.usb_packet.specs.Spelling.{spelling}
+use Rattle.usb_transact.specs.declared.host.Took.{Took}
+use Rattle.usb_transact.specs.declared.host.Took.TheVariants.{Fresh, Again, Nak, Silent}
+use Rattle.usb_transact.specs.declared.transaction.Fate.{Fate}
+use Rattle.usb_transact.specs.declared.transaction.Fate.TheVariants.{Clean, TokenLost, ReplyLost, AckLost}
+use Rattle.hid_device.specs.Core.{AreBytesOf}
+use Rattle.hid_stack.specs.declared.step.Step.{Step}
+use Rattle.hid_stack.specs.declared.step.Step.TheVariants.{Change, Frame, Poll}
+use Rattle.hid_stack.specs.declared.step.Told.{Told}
+use Rattle.hid_stack.specs.declared.step.Told.TheVariants.{Quiet, Polled}
+use Rattle.hid_stack.specs.Stations.{Station, opened}
+use Rattle.hid_stack.specs.Members.{Member, member_at}
+
+-- the bytes that show the part of the open round
+abbrev pub ShowsRound : Contents → Station → List ℕ → Type 0
+ShowsRound layout s report = elim s.current [ None ↦ report ≡ [] | Some round ↦ AreBytesOf layout s.standing.fixed round.report report ]
+
+-- the device sends the data of the open round, DATA1 where the rounds closed are odd in number, else NAK
+abbrev pub sent : Station → List ℕ → Packet
+sent s report = elim s.current [ None ↦ packets.Nak | Some round ↦ packets.Data s.odd (record { items = report }) ]
+
+-- the host takes them as fresh at the poll at which the round crosses
+abbrev pub took_from : Station → List ℕ → Took
+took_from s report = elim s.current [ None ↦ Nak | Some round ↦ (if round.crossed then Again else Fresh (record { items = report })) ]
+
+-- What a poll tells whose token arrives, once a round was opened for it.
+abbrev pub told_by : Station → Fate → List ℕ → Told
+told_by s TokenLost report = Polled None Silent
+told_by s ReplyLost report = Polled (Some (record { items = spelling (sent s report) })) Silent
+told_by s Clean report = Polled (Some (record { items = spelling (sent s report) })) (took_from s report)
+told_by s AckLost report = Polled (Some (record { items = spelling (sent s report) })) (took_from s report)
+
+abbrev pub TellsOpened : Contents → Station → Fate → Told → Type 0
+TellsOpened layout s fate told = (report : List ℕ) × ShowsRound layout s report × (told ≡ told_by s fate report)
+
+-- What a poll tells: of a token that is lost nothing is sent.
+abbrev pub TellsPoll : Contents → Station → Fate → Told → Type 0
+TellsPoll layout s TokenLost told = told ≡ Polled None Silent
+TellsPoll layout s ReplyLost told = TellsOpened layout (opened (items_of layout) s) ReplyLost told
+TellsPoll layout s Clean told = TellsOpened layout (opened (items_of layout) s) Clean told
+TellsPoll layout s AckLost told = TellsOpened layout (opened (items_of layout) s) AckLost told
+
+-- What a step of the bus tells.
+abbrev pub Tells : List Member → Step → Told → Type 0
+Tells members (Change dev change) told = told ≡ Quiet
+Tells members Frame told = told ≡ Quiet
+Tells members (Poll dev fate) told = elim (member_at members dev) [ None ↦ ⊥ | Some m ↦ TellsPoll m.layout m.station fate told ]

@@ -1,0 +1,40 @@
+//! Hosts of human interface devices, and the rig that joins devices and hosts on one bus (USB 2.0, 8.5.4 and 8.6; HID
+//! 1.11, 5 to 8).
+//! ```text
+//!   Rig                     bus                              Device                    HostDevice
+//!   Step::Change ---------------------------------------->   change
+//!   Step::Frame  ---------------------------------------->   frame
+//!   Step::Poll              <---- IN 69 81 00 ----------------------------------------- token
+//!                           ---------------------------->    on_packet: a round opens where a report is due
+//!                           <---- DATA0 C3 00 00 04 .. ---   armed until it is acknowledged
+//!                           ------------------------------------------------------->   reply
+//!                           ---- ACK 0xD2 --------------->   on_packet                 Down 07:04
+//! ```
+//! Each packet goes as its bytes, and is read from the bytes that arrive; of each poll a [`Fate`](usb_transact::Fate)
+//! says what is lost.
+//!
+//! The rule to know: a device's events come from its polls alone, and a round's part is the one that was fixed when it
+//! opened.
+//!
+//! The promise, for every report descriptor that both ends accept and every list of changes, frames and polls: the events
+//! delivered are exactly the changes between the successive parts that crossed, in order, none twice: `headline` on
+//! [`Rig::run`]. Each step is told by its definition: `told`, `after` and `events` on [`Rig::step`]. Each device goes its
+//! own way: `isolated`. Its motion is neither lost nor doubled: `conserves`.
+#![tactic(auto)]
+
+mod fault;
+mod host;
+pub mod laws;
+mod poll;
+mod ready;
+mod rig;
+mod slot;
+mod step;
+
+pub use fault::{DescriptorFault, RunFault, StackFault};
+pub use host::HostDevice;
+pub use rig::{MAX_DEVICES, Rig, Start};
+pub use step::{Delivered, Step, Told};
+
+#[cfg(test)]
+mod tests;

@@ -1,0 +1,128 @@
+//! One poll: the host's token, the device's answer, and ACK for data, each packet as its bytes (USB 2.0, 8.5.4).
+ghost use Rattle.std.specs.Prelude.{◌≡◌, ◌≤◌, ◌+◌, [], length, IfSome, vec_len, vec_capacity};
+ghost use Rattle.std.specs.Option.{option_copied};
+ghost use Rattle.hid_layout.specs.Controls.{items_of, max_events};
+ghost use Rattle.hid_usages.specs.Encoding.{AreBytes};
+ghost use Rattle.usb_packet.specs.Spelling.{Fits};
+ghost use Rattle.hid_device.specs.Rounds.{Polls};
+ghost use Rattle.hid_stack.specs.Host.{IsReady, IfReady};
+ghost use Rattle.hid_stack.specs.Joint.{IsPair, joint, station_of};
+ghost use Rattle.hid_stack.specs.Members.{member_after};
+ghost use Rattle.hid_stack.specs.Polls.{Hears, HasBytes, Replies, Acknowledges, Transacts, spelled};
+ghost use Rattle.hid_stack.specs.Stations.{events_at};
+ghost use Rattle.hid_stack.specs.Tells.{TellsPoll};
+
+use crate::fault::StackFault;
+use crate::host::HostDevice;
+use crate::step::Told;
+use arrayvec::ArrayVec;
+use hid_device::Device;
+use hid_usages::Event;
+use usb_packet::{Packet, encode};
+use usb_transact::{Bus, Fate, Stage, Took, carried};
+
+// The numbers of a byte string are bytes.
+fn are_bytes(bytes: &[u8])
+    ensures { AreBytes bytes.now }
+{
+    let _bytes = bytes;
+}
+
+// Lets the device hear a packet, where one came, and gives its answer.
+fn hear(device: &mut Device, packet: Option<&Packet>) -> Option<Packet>
+    ensures hears { Hears device.old (option_copied packet.entry) result device.new }
+    ensures fits { IfSome result Fits }
+    ensures bytes { IfSome result HasBytes }
+{
+    let answer = device.on_packet(packet?);
+    if let Some(Packet::Data { payload, .. }) = &answer {
+        are_bytes(payload.as_slice());
+    }
+    answer
+}
+
+// The bytes of an answer, where there is one.
+fn spelled(answer: Option<&Packet>) -> Option<ArrayVec<u8, 65>>
+    requires { IfSome (option_copied answer) Fits }
+    ensures { result ≡ spelled (option_copied answer.entry) }
+{
+    match answer {
+        Some(answer) => Some(encode(answer)),
+        None => None,
+    }
+}
+
+// What the host reads of an answer.
+fn replied<B: Bus>(bus: &B, answer: Option<&Packet>) -> Option<Packet>
+    requires { IfSome (option_copied answer) Fits }
+    ensures { Replies (B.arrives bus.now) (option_copied answer.entry) result }
+{
+    match answer {
+        Some(answer) => carried(bus, Stage::Reply, answer),
+        None => None,
+    }
+}
+
+// Sends ACK for data, fresh or not, and lets the device hear what arrives of it.
+fn acknowledge<B: Bus>(bus: &B, took: &Took, device: &mut Device)
+    ensures { Acknowledges (B.arrives bus.now) took.now device.old device.new }
+{
+    match took {
+        Took::Fresh(_) | Took::Again => {
+            let came = carried(bus, Stage::Acknowledgement, &Packet::Ack);
+            hear(device, came.as_ref());
+        }
+        Took::Nak | Took::Stall | Took::Silent => {}
+    }
+}
+
+// One poll over any bus. Data that the host refuses end it.
+fn transact<B: Bus>(
+    bus: &B,
+    device: &mut Device,
+    host: &mut HostDevice,
+    events: &mut Vec<Event>,
+) -> Result<Told, StackFault>
+    requires ready { IsReady host.old.phase }
+    requires none { events.old.items ≡ [] }
+    requires room { IfReady host.old.phase (λ known. max_events (items_of known.layout) ≤ vec_capacity events.old) }
+    ensures transacts { IfReady host.old.phase (λ known.
+        Transacts (B.arrives bus.now) device.old host.old.addr known result device.new host.new events.new.items) }
+    ensures few { IfReady host.old.phase (λ known. length events.new.items ≤ max_events (items_of known.layout)) }
+    ensures capacity { vec_capacity events.new ≡ vec_capacity events.old }
+{
+    let token = host.token()?;
+    let came = carried(bus, Stage::Token, &token);
+    let answer = hear(device, came.as_ref());
+    let reply = replied(bus, answer.as_ref());
+    let took = host.reply(reply.as_ref(), events)?;
+    acknowledge(bus, &took, device);
+    Ok(Told::Polled {
+        reply: spelled(answer.as_ref()),
+        took,
+    })
+}
+
+/// One poll, of which this fate befalls the packets.
+pub(crate) fn poll(
+    fate: Fate,
+    device: &mut Device,
+    host: &mut HostDevice,
+    events: &mut Vec<Event>,
+) -> Told
+    requires pair { IsPair device.old host.old.phase }
+    requires room { max_events (items_of device.old.core.layout) ≤ vec_capacity events.old }
+    ensures told { TellsPoll device.old.core.layout (station_of device.old.core host.old.phase) fate result }
+    ensures after { joint device.new host.new ≡ member_after (joint device.old host.old) (Polls fate) }
+    ensures pair { IsPair device.new host.new.phase }
+    ensures home { host.new.addr ≡ host.old.addr }
+    ensures events { events.new.items ≡ events_at (items_of device.old.core.layout) (station_of device.old.core host.old.phase) (Polls fate) }
+    ensures few { length events.new.items ≤ max_events (items_of device.old.core.layout) }
+    ensures capacity { vec_capacity events.new ≡ vec_capacity events.old }
+{
+    events.clear();
+    match transact(&fate, device, host, events) {
+        Ok(told) => told,
+        Err(_) => unreachable!(),
+    }
+}

@@ -1,0 +1,118 @@
+//! What a ready host keeps: the layout of the reports, the pipe that it polls, and its view of the controls.
+ghost use Rattle.std.specs.Prelude.{◌≡◌, ◌≤◌, ◌+◌, ◌++◌, length, IfOk, IfErr, vec_len, vec_capacity};
+ghost use Rattle.std.specs.Option.{option_copied};
+ghost use Rattle.hid_layout.specs.Controls.{items_of, max_events};
+ghost use Rattle.hid_layout.specs.Reports.{IsLayout};
+ghost use Rattle.hid_usages.specs.Cells.{FitsView};
+ghost use Rattle.usb_packet.specs.Spelling.{Fits};
+ghost use Rattle.usb_transact.specs.Taken.{taken};
+ghost use Rattle.usb_transact.specs.Host.{token_to};
+ghost use Rattle.hid_stack.specs.Known.{Known, known_at_start, known_behind, told_of, events_behind};
+
+use crate::fault::StackFault;
+use hid_fields::WordCodec;
+use hid_layout::Layout;
+use hid_usages::{Event, View};
+use std::alloc::Global;
+use std::marker::Model;
+use usb_packet::{MAX_ADDRESS, Packet};
+use usb_transact::{HostPipe, Took};
+
+/// The endpoint of a virtual device's Input reports.
+const REPORT_ENDPOINT: u8 = 1;
+
+/// What a ready host keeps. A contract sees it as `layout`, `pipe` and `view`.
+#[derive(Drop)]
+pub struct ReadyHost {
+    layout: Layout,
+    pipe: HostPipe,
+    view: View,
+}
+
+impl Model for ReadyHost {
+    ghost use Rattle.hid_layout.specs.Controls.{items_of};
+    ghost use Rattle.hid_layout.specs.Reports.{IsLayout};
+    ghost use Rattle.hid_usages.specs.Cells.{FitsView};
+    ghost use Rattle.hid_stack.specs.Known.{Known};
+
+    ghost Value = { Known };
+
+    ghost view = { λ h. record { layout = h.layout; pipe = h.pipe; view = h.view } };
+
+    ghost invariant = { λ h. IsLayout h.layout × FitsView (items_of h.layout) h.view };
+}
+
+impl ReadyHost {
+    /// A host freshly given a layout.
+    pub(crate) fn new(alloc: Global, addr: u8, layout: Layout) -> Result<ReadyHost, StackFault>
+        requires addr { addr ≤ MAX_ADDRESS }
+        requires layout { IsLayout layout }
+        ensures new { IfOk result (λ host. host ≡ known_at_start addr layout) }
+        ensures memory { IfErr result (λ fault. fault ≡ StackFault.Memory) }
+    {
+        let Ok(view) = View::initial(alloc, &layout) else {
+            return Err(StackFault::Memory);
+        };
+        Ok(ReadyHost {
+            layout,
+            pipe: HostPipe::new(addr, REPORT_ENDPOINT),
+            view,
+        })
+    }
+
+    /// The IN token of a poll.
+    pub(crate) fn token(&self) -> Packet
+        ensures token { result ≡ token_to self.now.pipe }
+        ensures fits { Fits result }
+    {
+        self.pipe.token()
+    }
+
+    /// How many events a reply gives at most.
+    #[cfg(test)]
+    pub(crate) fn max_events(&self) -> usize
+        ensures { result ≡ max_events (items_of self.now.layout) }
+    {
+        self.layout.max_events()
+    }
+
+    /// The pipe that is polled.
+    pub(crate) fn pipe(&self) -> &HostPipe
+        ensures { result.now ≡ self.now.pipe }
+    {
+        &self.pipe
+    }
+
+    /// The view of the controls.
+    pub(crate) fn view(&self) -> &View
+        ensures { result.now ≡ self.now.view }
+    {
+        &self.view
+    }
+
+    /// Takes what came after a token, if something did. There is reserved room for `max_events` more.
+    pub(crate) fn reply(
+        &mut self,
+        packet: Option<&Packet>,
+        out: &mut Vec<Event>,
+    ) -> Result<Took, StackFault>
+        requires room { vec_len out.old + max_events (items_of self.old.layout) ≤ vec_capacity out.old }
+        ensures told { result ≡ told_of self.old.layout (taken self.old.pipe.expects (option_copied packet.entry)) }
+        ensures after { self.new ≡ known_behind self.old (taken self.old.pipe.expects (option_copied packet.entry)) }
+        ensures events { out.new.items ≡ out.old.items ++ events_behind self.old (taken self.old.pipe.expects (option_copied packet.entry)) }
+        ensures few { length out.new.items ≤ length out.old.items + max_events (items_of self.old.layout) }
+        ensures room { vec_capacity out.new ≡ vec_capacity out.old }
+    {
+        let took = self.pipe.take(packet);
+        if let Took::Fresh(payload) = &took {
+            match self
+                .view
+                .take_report::<WordCodec>(&self.layout, payload.as_slice(), out)
+            {
+                Ok(()) => {}
+                Err(fault) => return Err(StackFault::Report(fault)),
+            }
+        }
+        Ok(took)
+    }
+}

@@ -1,0 +1,46 @@
+//! The steps of a bus, and what they tell and deliver.
+use arrayvec::ArrayVec;
+use hid_usages::{Change, Event};
+use usb_transact::{Fate, Took};
+
+/// A step of the bus: one control change, one frame, or one whole transaction with what is lost of it.
+#[derive(Clone, Copy, Debug, PartialEq, Eq)]
+pub enum Step {
+    /// A control of a device changes.
+    Change {
+        /// The device, from 1.
+        dev: u8,
+        change: Change,
+    },
+    /// A frame passes, for every device (USB 2.0, 8.4.3).
+    Frame,
+    /// The host polls a device (USB 2.0, 8.5.4).
+    Poll {
+        /// The device, from 1.
+        dev: u8,
+        /// What is lost of the poll.
+        fate: Fate,
+    },
+}
+
+/// What a step tells.
+#[derive(Debug, Drop, PartialEq, Eq)]
+pub enum Told {
+    /// Nothing: no packet was sent.
+    Quiet,
+    /// A poll.
+    Polled {
+        /// The bytes that the device sent, also where they were lost; none where the token didn't reach it.
+        reply: Option<ArrayVec<u8, 65>>,
+        /// What the host made of it.
+        took: Took,
+    },
+}
+
+/// An event, and the device that it came from.
+#[derive(Clone, Copy, Debug, PartialEq, Eq)]
+pub struct Delivered {
+    /// The device, from 1.
+    pub dev: u8,
+    pub event: Event,
+}

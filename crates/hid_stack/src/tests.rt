@@ -1,0 +1,374 @@
+//! Rows of steps on a boot keyboard, a boot mouse and others, worked out by hand from the definitions (USB 2.0, 8.5.4
+//! and 8.6).
+
+use crate::{Delivered, HostDevice, MAX_DEVICES, Rig, RunFault, StackFault, Start, Step, Told};
+use arrayvec::ArrayVec;
+use hid_device::{Boot, Config, KEYBOARD, MOUSE};
+use hid_layout::{ControlId, Usage};
+use hid_usages::{Change, ChangeFault, Event, ReportFault};
+use std::test::Fail;
+use usb_packet::{Packet, TokenKind};
+use usb_transact::{Fate, Took};
+
+fn config(boot: Boot) -> Config {
+    Config {
+        vendor: 0xFFFF,
+        product: 0x0001,
+        interval: 10,
+        boot,
+    }
+}
+
+/// A step of device 1; a control by its item and index.
+#[derive(Clone, Copy)]
+enum Act {
+    Press(usize, usize),
+    Release(usize, usize),
+    Move(usize, usize, i32),
+    Frame,
+    Poll(Fate),
+}
+
+const CLEAN: Act = Act::Poll(Fate::Clean);
+
+fn changes(change: Change) -> Step {
+    Step::Change { dev: 1, change }
+}
+
+fn step_of(act: Act) -> Step {
+    match act {
+        Act::Press(item, index) => changes(Change::Press(ControlId { item, index })),
+        Act::Release(item, index) => changes(Change::Release(ControlId { item, index })),
+        Act::Move(item, index, by) => changes(Change::Move(ControlId { item, index }, by)),
+        Act::Frame => Step::Frame,
+        Act::Poll(fate) => Step::Poll { dev: 1, fate },
+    }
+}
+
+/// An event of device 1.
+#[derive(Clone, Copy)]
+enum Given {
+    /// A key of the keyboard's array, its item 4, where a usage's place is its ID.
+    Down(u16),
+    /// The mouse's X, the first element of its item 2.
+    X(i64),
+}
+
+fn event_of(given: Given) -> Event {
+    match given {
+        Given::Down(id) => Event::Down {
+            control: ControlId {
+                item: 4,
+                index: id as usize,
+            },
+            usage: Usage { page: 7, id },
+        },
+        Given::X(by) => Event::Motion {
+            control: ControlId { item: 2, index: 0 },
+            usage: Usage { page: 1, id: 0x30 },
+            by,
+        },
+    }
+}
+
+fn are_delivered(out: &[Delivered], wanted: &[Given]) -> bool {
+    out.len() == wanted.len()
+        && out.iter().zip(wanted.iter()).all(|(delivered, given)| *delivered
+            == Delivered {
+                dev: 1,
+                event: event_of(*given),
+            })
+}
+
+/// What the host makes of an answer.
+#[derive(Clone, Copy)]
+enum Verdict {
+    Fresh,
+    Again,
+    Nak,
+    Silent,
+}
+
+/// What a step tells.
+#[derive(Clone, Copy)]
+enum Tells {
+    Quiet,
+    Lost,
+    Sends(&'static [u8], Verdict),
+}
+
+fn is_verdict(took: &Took, wanted: Verdict) -> bool {
+    match (took, wanted) {
+        (Took::Fresh(_), Verdict::Fresh) => true,
+        (Took::Again, Verdict::Again) => true,
+        (Took::Nak, Verdict::Nak) => true,
+        (Took::Silent, Verdict::Silent) => true,
+        _ => false,
+    }
+}
+
+fn is_told(told: &Told, wanted: Tells) -> bool {
+    match (told, wanted) {
+        (Told::Quiet, Tells::Quiet) => true,
+        (Told::Polled { reply: None, took }, Tells::Lost) => is_verdict(took, Verdict::Silent),
+        (
+            Told::Polled {
+                reply: Some(bytes),
+                took,
+            },
+            Tells::Sends(sent, verdict),
+        ) => bytes.as_slice() == sent && is_verdict(took, verdict),
+        _ => false,
+    }
+}
+
+type Row = (Act, Tells, &'static [Given]);
+
+const NAK: Tells = Tells::Sends(&[0x5A], Verdict::Nak);
+
+#[rattlefmt::skip]
+const KEY_IN_A_RETRY: [Row; 7] = [
+    (Act::Press(4, 4),          Tells::Quiet,                                                          &[]),
+    (Act::Poll(Fate::AckLost),  Tells::Sends(&[0xC3, 0, 0, 0x04, 0, 0, 0, 0, 0], Verdict::Fresh),      &[Given::Down(4)]),
+    (Act::Press(4, 5),          Tells::Quiet,                                                          &[]),
+    (CLEAN,                Tells::Sends(&[0xC3, 0, 0, 0x04, 0, 0, 0, 0, 0], Verdict::Again),      &[]),
+    (CLEAN,                Tells::Sends(&[0x4B, 0, 0, 0x04, 0x05, 0, 0, 0, 0], Verdict::Fresh),   &[Given::Down(5)]),
+    (Act::Frame,          Tells::Quiet,                                                          &[]),
+    (CLEAN,                NAK,                                                                   &[]),
+];
+
+#[rattlefmt::skip]
+const PRESSED_AND_RELEASED: [Row; 3] = [
+    (Act::Press(4, 4),          Tells::Quiet,                                                          &[]),
+    (Act::Release(4, 4),        Tells::Quiet,                                                          &[]),
+    (CLEAN,                NAK,                                                                   &[]),
+];
+
+#[rattlefmt::skip]
+const REPLY_LOST: [Row; 4] = [
+    (Act::Press(4, 4),            Tells::Quiet,                                                        &[]),
+    (Act::Poll(Fate::ReplyLost),  Tells::Sends(&[0xC3, 0, 0, 0x04, 0, 0, 0, 0, 0], Verdict::Silent),   &[]),
+    (Act::Poll(Fate::TokenLost),  Tells::Lost,                                                         &[]),
+    (CLEAN,                  Tells::Sends(&[0xC3, 0, 0, 0x04, 0, 0, 0, 0, 0], Verdict::Fresh),    &[Given::Down(4)]),
+];
+
+#[rattlefmt::skip]
+const FAR_LEFT: [Row; 4] = [
+    (Act::Move(2, 0, -200),    Tells::Quiet,                                                          &[]),
+    (Act::Poll(Fate::AckLost),  Tells::Sends(&[0xC3, 0x00, 0x81, 0x00], Verdict::Fresh),               &[Given::X(-127)]),
+    (CLEAN,                Tells::Sends(&[0xC3, 0x00, 0x81, 0x00], Verdict::Again),               &[]),
+    (CLEAN,                Tells::Sends(&[0x4B, 0x00, 0xB7, 0x00], Verdict::Fresh),               &[Given::X(-73)]),
+];
+
+const SCHEDULES: [(&str, Boot, &[u8], &[Row]); 4] = [
+    (
+        "a key in a retry",
+        Boot::Keyboard,
+        &KEYBOARD,
+        &KEY_IN_A_RETRY,
+    ),
+    (
+        "nothing crossed",
+        Boot::Keyboard,
+        &KEYBOARD,
+        &PRESSED_AND_RELEASED,
+    ),
+    ("a reply is lost", Boot::Keyboard, &KEYBOARD, &REPLY_LOST),
+    (
+        "a retry takes no further motion",
+        Boot::Mouse,
+        &MOUSE,
+        &FAR_LEFT,
+    ),
+];
+
+#[test]
+fn a_schedule_tells_and_delivers(rt: HostRuntime) -> Result<(), Fail> {
+    for (name, boot, descriptor, rows) in SCHEDULES {
+        let mut rig = Rig::new(rt.alloc())?;
+        rig.attach(&config(boot), descriptor, Start::Ready)?;
+        for (act, wanted, events) in rows {
+            let mut out = Vec::new(rt.alloc());
+            let told = rig.step(&step_of(*act), &mut out)?;
+            assert!(rt; is_told(&told, *wanted), "{name}: told");
+            assert!(rt; are_delivered(&out, events), "{name}: delivered");
+        }
+    }
+    Ok(())
+}
+
+#[test]
+fn a_run_ends_at_its_first_refusal(rt: HostRuntime) -> Result<(), Fail> {
+    let mut rig = Rig::new(rt.alloc())?;
+    rig.attach(&config(Boot::Keyboard), &KEYBOARD, Start::Ready)?;
+    let mut out = Vec::new(rt.alloc());
+    let steps = [
+        step_of(Act::Press(4, 4)),
+        step_of(Act::Poll(Fate::AckLost)),
+        step_of(Act::Press(4, 5)),
+        step_of(CLEAN),
+        step_of(CLEAN),
+    ];
+    assert_eq!(rt; rig.run(&steps, &mut out), Ok(()));
+    assert!(rt; are_delivered(&out, &[Given::Down(4), Given::Down(5)]));
+
+    let mut more = Vec::new(rt.alloc());
+    let stopped = [
+        step_of(Act::Press(4, 6)),
+        step_of(CLEAN),
+        Step::Poll {
+            dev: 2,
+            fate: Fate::Clean,
+        },
+        step_of(Act::Press(4, 7)),
+    ];
+    let fault = StackFault::NoDevice;
+    assert_eq!(rt;
+        rig.run(&stopped, &mut more),
+        Err(RunFault { at: 2, fault })
+    );
+    assert!(rt; are_delivered(&more, &[Given::Down(6)]));
+    Ok(())
+}
+
+#[test]
+fn the_two_ends_show_their_toggles(rt: HostRuntime) -> Result<(), Fail> {
+    let key = ControlId { item: 4, index: 4 };
+    let report: [u8; 8] = [0, 0, 0x04, 0, 0, 0, 0, 0];
+    let mut rig = Rig::new(rt.alloc())?;
+    assert_eq!(rt;
+        rig.attach(&config(Boot::Keyboard), &KEYBOARD, Start::Ready),
+        Ok(1)
+    );
+    let mut out = Vec::new(rt.alloc());
+    assert_eq!(rt;
+        rig.run(
+            &[step_of(Act::Press(4, 4)), step_of(Act::Poll(Fate::AckLost))],
+            &mut out
+        ),
+        Ok(())
+    );
+    assert!(rt; rig.host(1)?.pipe().expects());
+    assert!(rt; rig.host(1)?.view().held(key));
+    assert!(rt; !rig.device(1)?.pipe().toggle());
+    assert_eq!(rt; rig.device(1)?.pipe().armed(), Some(report.as_slice()));
+
+    assert_eq!(rt; rig.run(&[step_of(CLEAN)], &mut out), Ok(()));
+    assert!(rt; rig.host(1)?.pipe().expects());
+    assert!(rt; rig.device(1)?.pipe().toggle());
+    assert_eq!(rt; rig.device(1)?.pipe().armed(), None);
+    Ok(())
+}
+
+fn data(one: bool, bytes: &[u8]) -> Option<Packet> {
+    let payload = ArrayVec::try_from(bytes).ok()?;
+    Some(Packet::Data { one, payload })
+}
+
+#[test]
+fn a_short_report_is_refused_and_the_next_is_read(rt: HostRuntime) -> Result<(), Fail> {
+    let key = ControlId { item: 4, index: 4 };
+    let mut host = HostDevice::ready(rt.alloc(), 1, &KEYBOARD)?;
+    let token = Packet::Token {
+        kind: TokenKind::In,
+        addr: 1,
+        endp: 1,
+    };
+    assert_eq!(rt; host.token(), Ok(token));
+
+    let mut out = Vec::with_capacity(rt.alloc(), host.max_events())?;
+    let short = data(false, &[0; 7]);
+    assert_eq!(rt;
+        host.reply(short.as_ref(), &mut out),
+        Err(StackFault::Report(ReportFault::Short))
+    );
+    assert!(rt; host.pipe().expects() && !host.view().held(key) && out.is_empty());
+
+    let mut events = Vec::with_capacity(rt.alloc(), host.max_events())?;
+    let whole = data(true, &[0, 0, 0x04, 0, 0, 0, 0, 0]);
+    let took = host.reply(whole.as_ref(), &mut events)?;
+    assert!(rt; is_verdict(&took, Verdict::Fresh));
+    assert_eq!(rt; events.as_slice(), [event_of(Given::Down(4))].as_slice());
+    assert!(rt; !host.pipe().expects() && host.view().held(key));
+    Ok(())
+}
+
+#[test]
+fn a_cold_host_is_not_ready(rt: HostRuntime) {
+    assert_eq!(rt; HostDevice::cold(127).token(), Err(StackFault::NotReady));
+}
+
+#[test]
+fn a_control_is_found_by_its_usage(rt: HostRuntime) -> Result<(), Fail> {
+    let mut rig = Rig::new(rt.alloc())?;
+    rig.attach(&config(Boot::Mouse), &MOUSE, Start::Ready)?;
+    let wheel = Usage { page: 1, id: 0x38 };
+    let y = Usage { page: 1, id: 0x31 };
+    assert_eq!(rt; rig.find(1, y), Ok(ControlId { item: 2, index: 1 }));
+    assert_eq!(rt;
+        rig.find(1, wheel),
+        Err(StackFault::Refused(ChangeFault::NoSuchControl))
+    );
+    assert_eq!(rt; rig.find(2, y), Err(StackFault::NoDevice));
+    assert_eq!(rt; rig.find(0, y), Err(StackFault::NoDevice));
+    Ok(())
+}
+
+/// Motion that only goes to the right, from 1 to 3: 0 can't be sent.
+#[rattlefmt::skip]
+const NO_ZERO: [u8; 14] = [
+    0x05, 0x01, 0x09, 0x30, 0x15, 0x01, 0x25, 0x03, 0x75, 0x08, 0x95, 0x01, 0x81, 0x06,
+];
+
+const REFUSED: [(Boot, &[u8], &str); 3] = [
+    (Boot::No, &[0xB4], "S5 V3 at 0"),
+    (Boot::No, &NO_ZERO, "S5 V19"),
+    (Boot::Keyboard, &MOUSE, "S5 V20"),
+];
+
+#[test]
+fn refusals_are_printed_as_their_codes(rt: HostRuntime) -> Result<(), Fail> {
+    let mut rig = Rig::new(rt.alloc())?;
+    for (boot, descriptor, text) in REFUSED {
+        match rig.attach(&config(boot), descriptor, Start::Ready) {
+            Ok(_) => assert!(rt; false, "{text}"),
+            Err(fault) => assert_eq!(rt; format!(in rt.alloc(); "{fault}")?.as_str(), text),
+        }
+    }
+    for n in 1..=MAX_DEVICES {
+        assert!(rt;
+            rig.attach(&config(Boot::Mouse), &MOUSE, Start::Ready)
+                .is_ok(),
+            "{n}"
+        );
+    }
+    assert_eq!(rt;
+        rig.attach(&config(Boot::Keyboard), &MOUSE, Start::Ready),
+        Err(StackFault::TooManyDevices)
+    );
+
+    let mut out = Vec::new(rt.alloc());
+    let far = changes(Change::Move(ControlId { item: 2, index: 0 }, i32::MAX));
+    rig.step(&far, &mut out)?;
+    let fault = StackFault::Refused(ChangeFault::MotionFull);
+    assert_eq!(rt;
+        rig.run(&[step_of(Act::Move(2, 0, 1))], &mut out),
+        Err(RunFault { at: 0, fault })
+    );
+    for (fault, text) in [
+        (fault, "S3 U6"),
+        (StackFault::NoDevice, "S1"),
+        (StackFault::NotReady, "S2"),
+        (StackFault::Report(ReportFault::UnknownReport), "S6 U9"),
+        (StackFault::TooManyDevices, "S7"),
+        (StackFault::Memory, "S8"),
+    ] {
+        assert_eq!(rt; format!(in rt.alloc(); "{fault}")?.as_str(), text);
+    }
+    let stopped = RunFault { at: 4, fault };
+    assert_eq!(rt;
+        format!(in rt.alloc(); "{stopped}")?.as_str(),
+        "step 4: S3 U6"
+    );
+    Ok(())
+}

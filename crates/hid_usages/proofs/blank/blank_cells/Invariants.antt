@@ -1,7 +1,0 @@
-use Rattle.std.proofs.Common.{◌≡◌, take}
-use Rattle.hid_layout.specs.Controls.{items_of}
-use Rattle.hid_usages.specs.Cells.{blank}
-use Rattle.hid_usages.proofs.blank.blank_cells.Given as goal
-
-abbrev pub invariant-loop-i : goal.invariant-loop-i
-invariant-loop-i l = l.cells.items ≡ blank (take l.i (items_of l.layout))

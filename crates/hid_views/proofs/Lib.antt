@@ -1,0 +1,15 @@
+pub mod EventLemmas
+pub mod UsageLemmas
+pub mod ViewLemmas
+pub mod NamedLemmas
+pub mod KeyLemmas
+pub mod PressLemmas
+pub mod TakeLemmas
+pub mod LawLemmas
+pub mod CodePartLemmas
+pub mod NamingLemmas
+pub mod CrossingLemmas
+pub mod OneReportLemmas
+pub mod CrossingVectors
+pub mod BootDescriptors
+pub mod BootLemmas

@@ -1,0 +1,17 @@
+use Rattle.std.proofs.Common.{◌∙◌, sym}
+use Rattle.std.proofs.lemmas.Option.{slice_get_within}
+use Rattle.hid_views.proofs.TakeLemmas.{usages_count, keys_few}
+use Rattle.hid_views.proofs.take.take_numbers.Goals as goal
+
+pub take_elements-requires-clause-numbers : goal.take_elements-requires-clause-numbers
+take_elements-requires-clause-numbers c =
+    c.requires.numbers ∙ sym (usages_count c.args.layout.now c.args.i c.args.item.now c.in-Elements.kind c.in-Elements.least c.in-Elements.greatest c.in-Elements.count c.requires.layout c.requires.listed c.requires.data c.requires.input (sym c.in-Elements.is ∙ c.controls_of.ensures))
+
+pub entries-requires : goal.entries-requires
+entries-requires c = slice_get_within c.args.layout.now.items c.args.i c.args.item.now c.requires.listed
+
+pub take_array-requires-clause-entries : goal.take_array-requires-clause-entries
+take_array-requires-clause-entries c = c.requires.layout.few_entries c.args.i c.entries.result.now c.entries.ensures
+
+pub take_array-requires-clause-places : goal.take_array-requires-clause-places
+take_array-requires-clause-places c = keys_few c.args.layout.now c.args.i c.args.item.now c.requires.input

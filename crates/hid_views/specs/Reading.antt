@@ -1,0 +1,113 @@
+-- What a report of any bytes means, by the number of each element. A number out of range is null where the control has null.
+use Rattle.std.specs.Prelude.{ℕ, ◌+◌, ◌*◌, ◌<◌, ◌≤◌, ◌==◌, nat_lt, length, position, Result, Ok, Err, Bool, true, false, ◌&&◌, if◌then◌else◌, List, [], ◌∷◌, map, slice_get, Option, Some, None, ℤ, pos, ◌+ℤ◌}
+use Rattle.std.specs.Ordering.{int_eq}
+use Rattle.std.specs.List.{list_any, zip}
+use Rattle.hid_fields.specs.Value.{is_negative}
+use Rattle.hid_layout.specs.declared.main_item.MainItem.{MainItem}
+use Rattle.hid_layout.specs.declared.main_item.Element.{Element}
+use Rattle.hid_layout.specs.declared.report.Report.{Report}
+use Rattle.hid_layout.specs.declared.report.ReportKind.TheVariants.{Input}
+use Rattle.hid_layout.specs.Fields.{same_kind}
+use Rattle.hid_layout.specs.Layout.{Contents}
+use Rattle.hid_layout.specs.Reports.{first_bit, report_bytes}
+use Rattle.hid_parts.specs.Numbers.{number_at, numbers_in}
+use Rattle.hid_cells.specs.declared.fault.ReportFault.{ReportFault}
+use Rattle.hid_cells.specs.declared.fault.ReportFault.TheVariants.{Short, UnknownReport}
+use Rattle.hid_layout.specs.declared.usage.Usage.{Usage}
+use Rattle.hid_layout.specs.declared.control.ControlKind.{ControlKind}
+use Rattle.hid_layout.specs.declared.control.ControlKind.TheVariants.{Switch, Value, NullValue, Relative}
+use Rattle.hid_layout.specs.Controls.{Form, NoControls, Elements, Keys, Key, is_rollover}
+pub use Rattle.hid_cells.specs.Cells.{is_in, has_null}
+pub use Rattle.hid_layout.specs.Sent.{at_zero, place_named}
+pub use Rattle.hid_parts.specs.Encoding.{is_data_in}
+pub use Rattle.hid_cells.specs.Keys.{keys_of, keys_at}
+use Rattle.hid_cells.specs.declared.cell.Cell.{Cell}
+use Rattle.hid_cells.specs.declared.cell.Cell.TheVariants.{Vacant, Pressed, Holding, Moved}
+
+-- an element of a variable item
+abbrev pub read_switch : Bool → ℤ → Bool
+read_switch before v = if int_eq v (pos 0) then false else (if int_eq v (pos 1) then true else before)
+
+abbrev pub read_value : Bool → ℤ → ℤ → Option ℤ → ℤ → Option ℤ
+read_value has_null least greatest before v = if is_in least greatest v then Some v else (if has_null then None else before)
+
+abbrev pub read_motion : ℤ → ℤ → ℤ → ℤ
+read_motion least greatest v = if is_in least greatest v then v else pos 0
+
+abbrev pub usage_named : MainItem → List Usage → ℤ → Option Usage
+usage_named item us v = elim (place_named item v) [ None ↦ None | Some i ↦ slice_get us i ]
+
+abbrev pub is_rollover_at : List Usage → ℕ → Bool
+is_rollover_at us place = elim (slice_get us place) [ None ↦ false | Some u ↦ is_rollover u ]
+
+abbrev pub names_rollover : MainItem → List Usage → ℤ → Bool
+names_rollover item us v = elim (usage_named item us v) [ None ↦ false | Some u ↦ is_rollover u ]
+
+-- whether an element names the key at a place
+abbrev pub names_key : MainItem → List ℤ → ℕ → Bool
+names_key item vs i = list_any (λ v. int_eq v (item.min +ℤ pos i)) vs
+
+abbrev pub named_from : MainItem → List ℤ → ℕ → List Key → List Bool
+named_from item vs i [] = []
+named_from item vs i (key ∷ keys) = (key.is_switch && names_key item vs i) ∷ named_from item vs (i + 1) keys
+
+-- what is kept of an item in a view once these numbers of its elements are read
+abbrev pub read_elements : ControlKind → ℤ → ℤ → Cell → List ℤ → Cell
+read_elements kind least greatest (Pressed bs) vs = Pressed (map (λ p. read_switch p.0 p.1) (zip bs vs))
+read_elements kind least greatest (Holding bs) vs = Holding (map (λ p. read_value (has_null kind) least greatest p.0 p.1) (zip bs vs))
+read_elements kind least greatest cell vs = cell
+
+abbrev pub read_named : MainItem → List Key → Cell → List ℤ → Cell
+read_named item keys (Pressed bs) vs = Pressed (named_from item vs 0 keys)
+read_named item keys cell vs = cell
+
+-- one element that names ErrorRollOver keeps an array's keys as they were
+abbrev pub read_keys : MainItem → List Usage → List Key → Cell → List ℤ → Cell
+read_keys item us keys cell vs = if list_any (names_rollover item us) vs then cell else read_named item keys cell vs
+
+abbrev pub read_cell : MainItem → List Usage → Form → Cell → List ℤ → Cell
+read_cell item us NoControls cell vs = cell
+read_cell item us (Elements kind least greatest usages) cell vs = read_elements kind least greatest cell vs
+read_cell item us (Keys elements rolls keys) cell vs = read_keys item us keys cell vs
+
+-- the numbers of an item's elements in the bytes of its report
+abbrev pub item_numbers : Contents → List ℕ → MainItem → List ℤ
+item_numbers layout bytes m = numbers_in bytes (first_bit layout + m.offset) m.size (is_negative m.min) m.count
+
+-- the motions that these bytes carry
+abbrev pub motion_elements : ControlKind → ℤ → ℤ → List ℤ → Cell
+motion_elements Relative least greatest vs = Moved (map (read_motion least greatest) vs)
+motion_elements Switch least greatest vs = Vacant
+motion_elements Value least greatest vs = Vacant
+motion_elements NullValue least greatest vs = Vacant
+
+abbrev pub motion_cell : Form → List ℤ → Cell
+motion_cell NoControls vs = Vacant
+motion_cell (Elements kind least greatest usages) vs = motion_elements kind least greatest vs
+motion_cell (Keys elements rolls keys) vs = Vacant
+
+-- the Input report with an ID; 0 where reports aren't numbered (HID 1.11, 5.6)
+abbrev pub is_input_with : ℕ → Report → Bool
+is_input_with id report = same_kind report.kind Input && (report.id == id)
+
+abbrev pub first_byte : List ℕ → Option ℕ
+first_byte [] = None
+first_byte (b ∷ bytes) = Some b
+
+abbrev pub whole_report : Contents → List ℕ → Option ℕ → Result ℕ ReportFault
+whole_report layout bytes None = Err UnknownReport
+whole_report layout bytes (Some r) = if nat_lt (length bytes) (report_bytes layout r) then Err Short else Ok r
+
+-- The Input report that the bytes name and fill, or why there is none. More bytes than it has are ignored.
+abbrev pub report_named : Contents → List ℕ → Result ℕ ReportFault
+report_named layout bytes =
+    if layout.numbered then elim (first_byte bytes) [ None ↦ Err Short | Some id ↦ whole_report layout bytes (position (is_input_with id) layout.reports) ]
+    else whole_report layout bytes (position (is_input_with 0) layout.reports)
+
+-- the number of a data element
+abbrev pub element_number : Contents → List ℕ → Element → ℤ
+element_number layout bytes element = number_at bytes (first_bit layout + element.bit) element.width element.signed
+
+-- a data element lies in the bytes
+abbrev pub IsInside : Contents → List ℕ → Element → Type 0
+IsInside layout bytes element = (0 < element.width) × (element.width ≤ 32) × (first_bit layout + (element.bit + element.width) ≤ 8 * length bytes)

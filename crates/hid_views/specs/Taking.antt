@@ -1,0 +1,69 @@
+-- What the numbers of one listed item's elements make of a view, and what they tell.
+use Rattle.std.specs.Prelude.{◌≡◌, ℕ, ◌+◌, List, [], ◌∷◌, ◌++◌, length, if◌then◌else◌, Some, None, Result, Ok, Err, ℤ, slice_get}
+use Rattle.hid_cells.specs.declared.fault.ReportFault.{ReportFault}
+use Rattle.hid_layout.specs.declared.main_item.MainItem.{MainItem}
+use Rattle.hid_layout.specs.declared.usage.Usage.{Usage}
+use Rattle.hid_layout.specs.Usages.{usage_list}
+use Rattle.hid_layout.specs.Layout.{Contents}
+use Rattle.hid_layout.specs.Controls.{items_of, form_at, form_of}
+use Rattle.hid_cells.specs.declared.cell.Cell.{Cell}
+use Rattle.hid_cells.specs.declared.event.Event.{Event}
+use Rattle.hid_views.specs.Events.{change_events}
+use Rattle.hid_views.specs.Views.{motions_told, HasNext}
+use Rattle.hid_views.specs.Reading.{read_cell, motion_cell, is_data_in, item_numbers, report_named}
+
+-- the usage list of a listed item
+abbrev pub list_at : Contents → ℕ → List Usage
+list_at layout i = elim (slice_get layout.entries i) [ None ↦ [] | Some es ↦ usage_list es ]
+
+-- the controls of the item are those of its form
+abbrev pub IsFormOf : Contents → ℕ → MainItem → Type 0
+IsFormOf layout i m = form_at (items_of layout) i ≡ form_of m (list_at layout i) m.shape
+
+abbrev pub read_by_numbers : Contents → ℕ → MainItem → Cell → List ℤ → Cell
+read_by_numbers layout i m cell vs = read_cell m (list_at layout i) (form_at (items_of layout) i) cell vs
+
+abbrev pub told_by_numbers : Contents → ℕ → MainItem → Cell → Cell → List ℤ → List Event
+told_by_numbers layout i m before after vs =
+    change_events i (form_at (items_of layout) i) before after ++ motions_told i (form_at (items_of layout) i) (motion_cell (form_at (items_of layout) i) vs)
+
+-- what is kept of the item at a place once these bytes of report r are read
+abbrev pub read_by_report : Contents → ℕ → List ℕ → ℕ → Cell → Cell
+read_by_report layout r bytes i cell =
+    elim (slice_get layout.items i) [ None ↦ cell | Some m ↦ (if is_data_in r m then read_by_numbers layout i m cell (item_numbers layout bytes m) else cell) ]
+
+-- and what they tell of it
+abbrev pub told_by_report : Contents → ℕ → List ℕ → ℕ → Cell → List Event
+told_by_report layout r bytes i cell =
+    elim (slice_get layout.items i) [
+      | None ↦ []
+      | Some m ↦ (if is_data_in r m then told_by_numbers layout i m cell (read_by_numbers layout i m cell (item_numbers layout bytes m)) (item_numbers layout bytes m) else [])
+    ]
+
+-- The view once these bytes of report r are read, and what they tell, from the item at place i on.
+abbrev pub read_from : Contents → ℕ → List ℕ → ℕ → List Cell → List Cell
+read_from layout r bytes i [] = []
+read_from layout r bytes i (cell ∷ cells) = read_by_report layout r bytes i cell ∷ read_from layout r bytes (i + 1) cells
+
+abbrev pub told_from : Contents → ℕ → List ℕ → ℕ → List Cell → List Event
+told_from layout r bytes i [] = []
+told_from layout r bytes i (cell ∷ cells) = told_by_report layout r bytes i cell ++ told_from layout r bytes (i + 1) cells
+
+-- Reading a report: controls of other reports stay.
+abbrev pub read_view : Contents → ℕ → List ℕ → List Cell → List Cell
+read_view layout r bytes view = read_from layout r bytes 0 view
+
+-- What reading a report tells, in layout order.
+abbrev pub read_events : Contents → ℕ → List ℕ → List Cell → List Event
+read_events layout r bytes view = told_from layout r bytes 0 view
+
+-- there is a cell to be written for each present one, with its room
+pub record ArePairs (cells nexts : List Cell) : Type 0 where
+  pub one_each : length nexts ≡ length cells
+  pub each : (i : ℕ) (cell next : Cell) → slice_get cells i ≡ Some cell → slice_get nexts i ≡ Some next → HasNext cell next
+
+-- Taking a report: the view is read and the events follow, or the report is refused and nothing changes.
+abbrev pub TakesReport : Contents → List ℕ → List Cell → List Event → Result (Unit {0}) ReportFault → List Cell → List Event → Type 0
+TakesReport layout bytes view out (Ok _) view' out' =
+    (r : ℕ) × (report_named layout bytes ≡ Ok r) × (view' ≡ read_view layout r bytes view) × (out' ≡ out ++ read_events layout r bytes view)
+TakesReport layout bytes view out (Err fault) view' out' = (report_named layout bytes ≡ Err fault) × (view' ≡ view) × (out' ≡ out)

@@ -1,0 +1,82 @@
+//! Which Input report bytes are, and the number of one of its elements.
+
+ghost use Rattle.std.specs.Prelude.{◌≡◌, ◌<◌, ◌≤◌, ◌+◌, ◌*◌, ℕ, Bool, false, length, Option, Some, None, IfOk, position, IsSomeAnd, unwrap_or, IfSome};
+ghost use Rattle.hid_layout.specs.Controls.{is_input};
+ghost use Rattle.hid_layout.specs.Reports.{element_of, first_bit, report_bytes};
+ghost use Rattle.hid_parts.specs.Numbers.{number_at};
+ghost use Rattle.hid_cells.specs.Parts.{IsInput};
+ghost use Rattle.hid_views.specs.Reading.{is_input_with, whole_report, report_named, element_number, IsInside};
+
+use hid_cells::ReportFault;
+use hid_fields::{FieldCodec, to_value};
+use hid_layout::{Element, Layout, Report, ReportKind};
+
+fn is_input_with(report: &Report, id: u8) -> bool
+    ensures { result ≡ is_input_with id report.now }
+{
+    match report.kind {
+        ReportKind::Input => report.id == id,
+        ReportKind::Output | ReportKind::Feature => false,
+    }
+}
+
+fn input_with(layout: &Layout, id: u8) -> Option<usize>
+    ensures place { result ≡ position (is_input_with id) layout.now.reports }
+    ensures within { IfSome result (λ r. r < length layout.now.reports) }
+{
+    layout
+        .reports()
+        .iter()
+        .position(|report| is_input_with(report, id))
+}
+
+fn whole_report(layout: &Layout, bytes: &[u8], id: u8) -> Result<usize, ReportFault>
+    ensures { result ≡ whole_report layout.now bytes.now (position (is_input_with id) layout.now.reports) }
+{
+    match input_with(layout, id) {
+        None => Err(ReportFault::UnknownReport),
+        Some(report) => {
+            if bytes.len() < layout.report_bytes(report) {
+                Err(ReportFault::Short)
+            } else {
+                Ok(report)
+            }
+        }
+    }
+}
+
+/// The number of the Input report that the bytes are, by their first byte where reports are numbered (HID 1.11, 5.6).
+/// More bytes than the report has are ignored.
+pub fn input_report(layout: &Layout, bytes: &[u8]) -> Result<usize, ReportFault>
+    ensures { result ≡ report_named layout.now bytes.now }
+{
+    if layout.numbered() {
+        match bytes.first() {
+            None => Err(ReportFault::Short),
+            Some(id) => whole_report(layout, bytes, *id),
+        }
+    } else {
+        whole_report(layout, bytes, 0)
+    }
+}
+
+/// The number of a data element in the bytes of its report (HID 1.11, 5.8). The element lies in the bytes.
+pub fn element_value<C: FieldCodec>(layout: &Layout, bytes: &[u8], item: usize, j: usize) -> i64
+    requires listed { item < length layout.now.items }
+    requires element { IsSomeAnd (element_of layout.now item j) (λ element. IsInside layout.now bytes.now element) }
+    ensures { IfSome (element_of layout.now item j) (λ element. result ≡ element_number layout.now bytes.now element) }
+{
+    match layout.element(item, j) {
+        Some(element) => element_number::<C>(layout, bytes, &element),
+        None => 0,
+    }
+}
+
+fn element_number<C: FieldCodec>(layout: &Layout, bytes: &[u8], element: &Element) -> i64
+    requires { IsInside layout.now bytes.now element.now }
+    ensures { result ≡ element_number layout.now bytes.now element.now }
+{
+    let first = if layout.numbered() { 8 } else { 0 };
+    let pattern = C::get(bytes, first + element.bit as usize, element.width);
+    to_value(pattern, element.width, element.signed)
+}

@@ -1,0 +1,147 @@
+//! A host's view of a device's controls.
+
+ghost use Rattle.std.specs.Prelude.{◌≡◌, ◌≤◌, ◌+◌, ◌++◌, true, length, IfOk, vec_len, vec_capacity};
+ghost use Rattle.hid_layout.specs.Controls.{items_of, max_events};
+ghost use Rattle.hid_cells.specs.Cells.{blank, FitsView};
+ghost use Rattle.hid_cells.specs.Snapshots.{is_pressed, cell_at};
+ghost use Rattle.hid_cells.specs.Keys.{keys_at, has_keys_at, key_words, AreKeyWords};
+ghost use Rattle.hid_views.specs.Taking.{TakesReport};
+ghost use Rattle.hid_views.specs.Views.{value_in, changes_between};
+
+use crate::differences::all_changes;
+use crate::input::input_report;
+use crate::take::take_items;
+use hid_cells::{Cell, Event, MemoryFault, ReportFault, blank_cells, key_words, plan_of};
+use hid_fields::FieldCodec;
+use hid_layout::{ControlId, Layout};
+use std::alloc::Global;
+use std::marker::Model;
+
+/// The switches that a host holds for pressed, and a value or null of each absolute control. Calls with a layout ask for
+/// the one with which the view was made.
+#[derive(Drop)]
+pub struct View {
+    cells: Vec<Cell>,
+    /// Room for what the next report makes of the cells.
+    nexts: Vec<Cell>,
+    /// Room for the numbers of an item.
+    numbers: Vec<i64>,
+}
+
+impl Model for View {
+    ghost use Rattle.std.specs.Prelude.{List, ◌≤◌, vec_capacity};
+    ghost use Rattle.hid_cells.specs.declared.cell.Cell.{Cell};
+
+    ghost Value = { List Cell };
+
+    ghost view = { λ v. v.cells.items };
+
+    ghost use Rattle.hid_views.specs.Taking.{ArePairs};
+
+    ghost invariant = { λ v. ArePairs v.cells.items v.nexts.items × (512 ≤ vec_capacity v.numbers) };
+}
+
+impl View {
+    /// Nothing is held; values are those of a blank snapshot.
+    #[tactic(auto, using(hid_cells::proofs::BlankLemmas::initial_fits))]
+    pub fn initial(alloc: Global, layout: &Layout) -> Result<Self, MemoryFault>
+        ensures initial { IfOk result (λ view. view ≡ blank (items_of layout.now)) }
+        ensures fits { IfOk result (λ view. FitsView (items_of layout.now) view) }
+    {
+        let cells = match blank_cells(alloc, layout) {
+            Ok(cells) => cells,
+            Err(_) => return Err(MemoryFault),
+        };
+        let nexts = match blank_cells(alloc, layout) {
+            Ok(nexts) => nexts,
+            Err(_) => return Err(MemoryFault),
+        };
+        match Vec::with_capacity(alloc, 512) {
+            Ok(numbers) => Ok(View {
+                cells,
+                nexts,
+                numbers,
+            }),
+            Err(_) => Err(MemoryFault),
+        }
+    }
+
+    /// Takes the bytes of an Input report, and appends what changes and what moves. More bytes than the report has are
+    /// ignored. There is reserved room for `max_events` more; no memory is taken. A refusal leaves the view as it was.
+    pub fn take_report<C: FieldCodec>(
+        &mut self,
+        layout: &Layout,
+        bytes: &[u8],
+        out: &mut Vec<Event>,
+    ) -> Result<(), ReportFault>
+        requires fits { FitsView (items_of layout.now) self.old }
+        requires room { vec_len out.old + max_events (items_of layout.now) ≤ vec_capacity out.old }
+        // The view read, and the events.
+        ensures taken { TakesReport layout.now bytes.now self.old out.old.items result self.new out.new.items }
+        ensures fits { FitsView (items_of layout.now) self.new }
+        ensures room { vec_capacity out.new ≡ vec_capacity out.old }
+    {
+        match input_report(layout, bytes) {
+            Ok(report) => {
+                let places = plan_of(layout, report);
+                take_items::<C>(
+                    layout,
+                    report,
+                    places,
+                    bytes,
+                    &mut self.numbers,
+                    &mut self.cells,
+                    &mut self.nexts,
+                    out,
+                );
+                Ok(())
+            }
+            Err(fault) => Err(fault),
+        }
+    }
+
+    /// Whether a switch is held; false for another kind.
+    pub fn held(&self, control: ControlId) -> bool
+        ensures { result ≡ is_pressed (cell_at self.now control.item) control.index }
+    {
+        match self.cells.get(control.item) {
+            Some(Cell::Pressed(flags)) => flags.get_or_false(control.index),
+            _ => false,
+        }
+    }
+
+    /// The held keys of an Input array, by place in its usage list: bit i mod 64 of word i div 64 is 1 exactly where the
+    /// key at place i is held.
+    #[tactic(auto, using(hid_cells::proofs::KeyWordLemmas::view_words))]
+    pub fn key_words(&self, layout: &Layout, item: usize) -> &[u64]
+        requires fits { FitsView (items_of layout.now) self.now }
+        requires array { has_keys_at (items_of layout.now) item ≡ true }
+        ensures words { result.now ≡ key_words self.now item }
+        ensures keys { AreKeyWords (length (keys_at layout.now item)) (is_pressed (cell_at self.now item)) result.now }
+    {
+        key_words(&self.cells, item)
+    }
+
+    /// The value of an absolute control; none where it is null, and for another kind.
+    pub fn value(&self, control: ControlId) -> Option<i64>
+        ensures { result ≡ value_in (cell_at self.now control.item) control.index }
+    {
+        match self.cells.get(control.item) {
+            Some(Cell::Holding(values)) => values.get_or_none(control.index),
+            _ => None,
+        }
+    }
+}
+
+/// Appends what changes from one view to another: of a variable item by rising index, of an array each release by
+/// rising index and then each press. There is reserved room for `max_events` more; no memory is taken.
+#[tactic(auto, using(crate::proofs::ViewLemmas::few_changes))]
+pub fn changes(layout: &Layout, before: &View, after: &View, out: &mut Vec<Event>)
+    requires before { FitsView (items_of layout.now) before.now }
+    requires after { FitsView (items_of layout.now) after.now }
+    requires room { vec_len out.old + max_events (items_of layout.now) ≤ vec_capacity out.old }
+    ensures events { out.new.items ≡ out.old.items ++ changes_between (items_of layout.now) before.now after.now }
+    ensures room { vec_capacity out.new ≡ vec_capacity out.old }
+{
+    all_changes(layout, &before.cells, &after.cells, out);
+}
