@@ -1,6 +1,6 @@
 //! The lines of a script, from bytes that come in pieces.
 
-ghost use Rattle.std.specs.Prelude.{◌≡◌, ◌+◌, ◌-◌, ◌^◌, ◌<◌, ◌≤◌, [], ◌∷◌, length};
+ghost use Rattle.std.specs.Prelude.{◌≡◌, ◌+◌, ◌-◌, ◌^◌, ◌<◌, ◌≤◌, [], ◌∷◌, length, IfOk};
 ghost use Rattle.std.specs.Str.Lines.{strip_carriage_return};
 ghost use Rattle.hid_script.specs.Place.{IsUnbroken, AppendsTaken, AppendsRun};
 
@@ -82,7 +82,8 @@ impl Script {
     /// Runs the line that has begun, if it has a byte: the script is at its end.
     pub fn finish<W: Write>(&mut self, writer: &mut W) -> Result<Summary, ScriptFault>
         requires { self.old.lines < 2 ^ 64 - 1 }
-        ensures { AppendsRun (W.contents writer.old) (W.contents writer.new) (place_of self.old) result }
+        ensures ran { AppendsRun (W.contents writer.old) (W.contents writer.new) (place_of self.old) result }
+        ensures count { IfOk result (λ summary. summary.lines ≤ self.old.lines + 1) }
     {
         if self.begun.is_empty() {
             return Ok(self.summary());

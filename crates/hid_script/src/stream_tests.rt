@@ -9,7 +9,7 @@ use hid_stack::{DescriptorFault, StackFault, Start};
 use hid_usages::ChangeFault;
 use std::alloc::{AllocError, Global};
 use std::io;
-use std::io::{ErrorKind, Read, Write};
+use std::io::{BufWriter, ErrorKind, Read, Write};
 use std::test::Fail;
 use usb_transact::Fate;
 
@@ -211,6 +211,59 @@ fn a_write_that_fails_leaves_what_was_taken(rt: HostRuntime) -> Result<(), Fail>
                     "{room}"
                 );
             }
+        }
+    }
+    Ok(())
+}
+
+#[test]
+fn what_a_buffer_holds_is_flushed(rt: HostRuntime) -> Result<(), Fail> {
+    for sample in SAMPLES {
+        let mut reader = sample.script.as_bytes();
+        let mut writer = BufWriter::new(rt.alloc(), Vec::new(rt.alloc()))?;
+        run(rt.alloc(), &mut reader, &mut writer, sample.options)?;
+        assert_eq!(rt; writer.get_ref().as_slice(), sample.text.as_bytes());
+    }
+    Ok(())
+}
+
+#[test]
+fn what_comes_before_a_fault_is_flushed(rt: HostRuntime) -> Result<(), Fail> {
+    let mut reader = b"layout 75 08 95 01 81 01\nx\n".as_slice();
+    let mut writer = BufWriter::new(rt.alloc(), Vec::new(rt.alloc()))?;
+    let result = run(rt.alloc(), &mut reader, &mut writer, QUIET);
+    let fault = ScriptFault {
+        line: 2,
+        cause: Cause::Syntax,
+    };
+    assert_eq!(rt; result, Err(fault));
+    assert_eq!(rt;
+        writer.get_ref().as_slice(),
+        b"report input 0 bytes 1\nitem 0 input 0 at 0 8x1 padding\n".as_slice()
+    );
+    Ok(())
+}
+
+#[test]
+fn a_buffer_that_cannot_be_flushed_is_a_fault_behind_the_last_line(
+    rt: HostRuntime,
+) -> Result<(), Fail> {
+    for sample in SAMPLES {
+        for room in 0..sample.text.len() {
+            let mut reader = sample.script.as_bytes();
+            let narrow = Narrow {
+                taken: Vec::new(rt.alloc()),
+                room,
+                fails: true,
+            };
+            let mut writer = BufWriter::new(rt.alloc(), narrow)?;
+            let result = run(rt.alloc(), &mut reader, &mut writer, sample.options);
+            let fault = ScriptFault {
+                line: 6,
+                cause: Cause::Write,
+            };
+            assert_eq!(rt; result, Err(fault), "{room}");
+            assert_eq!(rt; writer.get_ref().taken.len(), room, "{room}");
         }
     }
     Ok(())

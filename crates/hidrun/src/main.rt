@@ -2,7 +2,7 @@
 //! ```text
 //!   hidrun [--layout] [--trace]
 //!
-//!   standard input --> hid_script::run --> standard output
+//!   standard input --> hid_script::run --> a buffer --> standard output
 //!                           |
 //!                           +-- a fault --> standard error, as `line 2: X4 U8`, and an exit status
 //! ```
@@ -14,10 +14,10 @@ mod status;
 mod tests;
 mod words;
 
-use hid_script::{Options, fault_line, run};
+use hid_script::{Cause, Options, ScriptFault, Summary, fault_line, run};
 use status::{OUTSIDE, WRONG_USAGE, exit_of};
 use std::env;
-use std::io::Write;
+use std::io::{BufWriter, Write};
 use std::process::ExitCode;
 use words::{WordsFault, options_of};
 
@@ -43,14 +43,24 @@ fn main(rt: HostRuntime) -> ExitCode {
 }
 
 fn run_script(rt: &HostRuntime, options: Options) -> ExitCode {
-    let alloc = rt.alloc();
-    match run(alloc, &mut rt.stdin(), &mut rt.stdout(), options) {
+    match run_buffered(rt, options) {
         Ok(_) => ExitCode::SUCCESS,
         Err(fault) => {
-            if let Ok(line) = fault_line(alloc, &fault) {
+            if let Ok(line) = fault_line(rt.alloc(), &fault) {
                 let _ = rt.stderr().write_all(line.as_slice());
             }
             ExitCode::from(exit_of(&fault))
         }
     }
+}
+
+/// Runs the script of standard input. What it tells goes through a buffer, which `run` flushes.
+fn run_buffered(rt: &HostRuntime, options: Options) -> Result<Summary, ScriptFault> {
+    let Ok(mut output) = BufWriter::new(rt.alloc(), rt.stdout()) else {
+        return Err(ScriptFault {
+            line: 1,
+            cause: Cause::Memory,
+        });
+    };
+    run(rt.alloc(), &mut rt.stdin(), &mut output, options)
 }
