@@ -19,7 +19,7 @@ use Rattle.hid_device.specs.Config.{is_config}
 use Rattle.hid_device.specs.Inputs.{input_count}
 use Rattle.hid_device.specs.Standing.{configured, first_due, after_frame}
 use Rattle.hid_device.specs.Rounds.{OwnStep, Changes, Frame, Polls, Bus, has_crossed, has_closed, after_steps, fresh_bus, rounds, crossed_rounds, events_of_epoch}
-use Rattle.hid_device.specs.Epochs.{kept_motion, moved_motion, given_motion, Conserves}
+use Rattle.hid_device.specs.Epochs.{moved_motion, given_motion}
 
 abbrev press : ℕ → ℕ → OwnStep
 press i j = Changes (change.Press (at i j))
@@ -172,25 +172,7 @@ pressed_before : events_of_epoch mouse (Pressed (true ∷ false ∷ false ∷ []
     ≡ event.Down (at 0 0) (usage 9 1) ∷ []
 pressed_before = refl
 
--- what a mouse still has of the motion to the right
-abbrev kept_x : List OwnStep → ℤ
-kept_x steps = let bus = then mouse 1 steps in kept_motion mouse bus.standing bus.current (at 2 0)
-
-in_snapshot_alone : kept_x (move 2 0 (pos 200) ∷ []) ≡ pos 200
-in_snapshot_alone = refl
-
-in_open_round_too : kept_x (move 2 0 (pos 200) ∷ Polls ReplyLost ∷ []) ≡ pos 200
-in_open_round_too = refl
-
-no_more_once_crossed : kept_x (move 2 0 (pos 200) ∷ Polls AckLost ∷ []) ≡ pos 73
-no_more_once_crossed = refl
-
-abbrev conserves_x : List OwnStep → Type 0
-conserves_x steps = Conserves (at 2 0) steps (pos 0) (told mouse 1 steps) (kept_x steps)
-
-conserved : conserves_x (move 2 0 (pos 200) ∷ Polls AckLost ∷ move 2 0 (negsuc 4) ∷ Polls Clean ∷ Polls ReplyLost ∷ [])
-conserved = refl
-
+-- the motion to the right that is given, and the one that changes add
 given_so_far : given_motion (at 2 0) (told mouse 1 (move 2 0 (pos 200) ∷ Polls Clean ∷ Polls Clean ∷ [])) ≡ pos 200
 given_so_far = refl
 

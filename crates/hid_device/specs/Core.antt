@@ -68,6 +68,7 @@ framed_core core = record core { standing = after_frame core.standing }
 
 -- these bytes, and no others, show the part of a report
 pub record AreBytesOf (layout : Contents) (parts : List Cell) (r : ℕ) (bytes : List ℕ) : Type 0 where
+  pub are_bytes : AreBytes bytes
   pub shows : IsEncoding layout r (part_numbers layout parts) bytes
   pub only : (other : List ℕ) → AreBytes other → IsEncoding layout r (part_numbers layout parts) other → other ≡ bytes
 

@@ -1,24 +1,11 @@
 -- The motion of a control, from the changes that add it to the events that give it (our choice).
-use Rattle.std.specs.Prelude.{◌≡◌, Bool, not, ◌&&◌, ◌==◌, if◌then◌else◌, List, [], ◌∷◌, Option, Some, None, ℤ, pos, ◌+ℤ◌}
+use Rattle.std.specs.Prelude.{◌≡◌, Bool, ◌&&◌, ◌==◌, if◌then◌else◌, List, [], ◌∷◌, ℤ, pos, ◌+ℤ◌}
 use Rattle.hid_layout.specs.declared.control.ControlId.{ControlId}
-use Rattle.hid_layout.specs.Controls.{Item}
 use Rattle.hid_cells.specs.declared.change.Change.{Change}
 use Rattle.hid_cells.specs.declared.change.Change.TheVariants as change
 use Rattle.hid_cells.specs.declared.event.Event.{Event}
 use Rattle.hid_cells.specs.declared.event.Event.TheVariants as event
-use Rattle.hid_usages.specs.Parts.{is_of, item_at, motion_of}
-use Rattle.hid_device.specs.Standing.{Standing}
-use Rattle.hid_device.specs.Rounds.{OwnStep, Changes, Frame, Polls, Round, has_crossed}
-
--- what a round that is open and hasn't crossed carries of a control's motion
-abbrev pub carried_by : List Item → Option Round → ControlId → ℤ
-carried_by items None c = pos 0
-carried_by items (Some round) c =
-    if not (has_crossed round) && is_of round.report (item_at items c.item) then motion_of round.parts c else pos 0
-
--- The motion that a device still has: in its snapshot, and in a round that hasn't crossed.
-abbrev pub kept_motion : List Item → Standing → Option Round → ControlId → ℤ
-kept_motion items d current c = motion_of d.snapshot c +ℤ carried_by items current c
+use Rattle.hid_device.specs.Rounds.{OwnStep, Changes, Frame, Polls}
 
 abbrev pub is_same_control : ControlId → ControlId → Bool
 is_same_control a b = (a.item == b.item) && (a.index == b.index)

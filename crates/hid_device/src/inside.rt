@@ -3,6 +3,7 @@
 ghost use Rattle.std.specs.Prelude.{◌≡◌, ◌<◌, length, None, IfSome, IfOk, IfErr};
 ghost use Rattle.hid_layout.specs.Controls.{items_of};
 ghost use Rattle.hid_usages.specs.Cells.{FitsSnapshot};
+ghost use Rattle.hid_usages.specs.Encoding.{AreBytes};
 ghost use Rattle.hid_usages.specs.Snapshots.{Changes};
 ghost use Rattle.usb_packet.specs.Spelling.{Fits};
 ghost use Rattle.hid_device.specs.Standing.{is_due, first_due};
@@ -258,9 +259,17 @@ impl Core {
         self.snapshot.take_motion(&self.layout, report, &self.fixed);
         self.frames[report] = 0;
         let bytes = encode_report::<WordCodec>(&self.layout, report, &self.fixed);
+        are_bytes(&bytes);
         self.pipe.arm(&bytes);
         self.current = Some(report);
     }
+}
+
+// The numbers of a byte string are bytes.
+fn are_bytes(bytes: &[u8])
+    ensures { AreBytes bytes.now }
+{
+    let _bytes = bytes;
 }
 
 fn change_snapshot(

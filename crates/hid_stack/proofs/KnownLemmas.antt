@@ -1,5 +1,5 @@
 -- A host's reading of fresh data.
-use Rattle.std.proofs.Common.{◌≡◌, ◌≤◌, ◌+◌, ◌++◌, ℕ, List, refl, Ok, length, arith, ap, length-append}
+use Rattle.std.proofs.Common.{◌≡◌, ◌≤◌, ◌+◌, ℕ, List, refl, Ok, length, arith, ap, length-append}
 use Rattle.hid_layout.specs.declared.fault.Cause.{Cause}
 use Rattle.hid_layout.specs.declared.fault.Cause.TheVariants.{Memory}
 use Rattle.hid_layout.specs.Controls.{items_of, max_events}

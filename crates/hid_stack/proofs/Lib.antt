@@ -8,3 +8,4 @@ pub mod ItemMotionLemmas
 pub mod MotionLemmas
 pub mod SumLemmas
 pub mod RigLemmas
+pub mod AnswerLemmas

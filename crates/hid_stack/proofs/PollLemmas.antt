@@ -1,8 +1,6 @@
 -- A poll at the two ends is a poll of their station (USB 2.0, 8.5.4 and 8.6).
-use Rattle.std.proofs.Common.{◌≡◌, ◌∙◌, ◌<◌, ◌++◌, ℕ, Bool, true, false, not, List, [], ◌∷◌, Option, Some, None, Result, Ok, Err, refl, ap, sym, subst, arith, eqb, cond, inl, inr, ◌⊎◌}
-use Rattle.std.specs.Prelude.{IfSome, ◌&&◌}
+use Rattle.std.proofs.Common.{◌≡◌, ◌∙◌, ℕ, Bool, true, false, not, List, [], Option, Some, None, Result, Ok, Err, refl, ap, sym, subst, cond, inl, inr, ◌⊎◌}
 use Rattle.std.specs.Bool.{beq}
-use Rattle.std.proofs.lemmas.Bool.Decides.{nat_tests}
 use Rattle.arrayvec.specs.declared.array_vec.ArrayVec.{ArrayVec}
 use Rattle.hid_layout.specs.Layout.{Contents}
 use Rattle.hid_layout.specs.Controls.{items_of}
@@ -13,41 +11,36 @@ use Rattle.hid_cells.specs.declared.fault.ReportFault.{ReportFault}
 use Rattle.hid_usages.specs.Cells.{FitsView}
 use Rattle.hid_usages.specs.Taking.{read_view, read_events}
 use Rattle.hid_usages.specs.Crossing.{ReadsAsShown}
-use Rattle.hid_usages.specs.Encoding.{AreBytes}
 use Rattle.hid_usages.specs.Views.{seen}
-use Rattle.hid_views.proofs.CrossingLemmas.{parts_back, seen_is_view}
+use Rattle.hid_views.proofs.CrossingLemmas.{seen_is_view}
 use Rattle.usb_packet.specs.declared.packet.Packet.{Packet}
 use Rattle.usb_packet.specs.declared.packet.Packet.TheVariants as packets
-use Rattle.usb_packet.specs.declared.packet.TokenKind.TheVariants.{In}
 use Rattle.usb_packet.specs.Spelling.{spelling}
-use Rattle.usb_transact.specs.declared.bus.Stage.TheVariants.{Token, Reply, Acknowledgement}
+use Rattle.usb_transact.specs.declared.bus.Stage.TheVariants.{Reply, Acknowledgement}
 use Rattle.usb_transact.specs.declared.host.Took.{Took}
 use Rattle.usb_transact.specs.declared.host.Took.TheVariants.{Fresh, Again, Nak, Silent}
 use Rattle.usb_transact.specs.declared.transaction.Fate.{Fate}
-use Rattle.usb_transact.specs.declared.transaction.Fate.TheVariants.{Clean, TokenLost, ReplyLost, AckLost}
+use Rattle.usb_transact.specs.declared.transaction.Fate.TheVariants.{Clean, ReplyLost, AckLost}
 use Rattle.usb_transact.specs.Bus.{Arrivals, Carries}
 use Rattle.usb_transact.specs.Device.{answer_with}
 use Rattle.usb_transact.specs.Fate.{arrives_under}
-use Rattle.usb_transact.specs.Host.{token_to}
 use Rattle.usb_transact.specs.Taken.{taken}
 use Rattle.usb_transact.specs.Exchange.{took_where}
 use Rattle.usb_transact.proofs.TableLemmas.{read_whole, read_lost, took_answer}
 use Rattle.hid_device.specs.declared.device.TheConstants.{ENDPOINT}
 use Rattle.hid_device.specs.Standing.{first_due}
-use Rattle.hid_device.specs.Core.{CoreState, IsSound, IsArmed, AreBytesOf, Answers, opened_if, opening_of, closed_core}
-use Rattle.hid_device.specs.Device.{DeviceState, is_poll, polled, DeviceAnswers, AnswersPoll, AnswersIf, device_after, heard}
-use Rattle.hid_device.specs.Rounds.{Polls}
+use Rattle.hid_device.specs.Core.{CoreState, IsSound, IsArmed, AreBytesOf, opened_if, opening_of, closed_core}
+use Rattle.hid_device.specs.Device.{DeviceState, polled}
 use Rattle.hid_stack.specs.declared.fault.StackFault.{StackFault}
 use Rattle.hid_stack.specs.declared.step.Told.{Told}
 use Rattle.hid_stack.specs.declared.step.Told.TheVariants.{Polled}
 use Rattle.hid_stack.specs.declared.host.Phase.TheVariants.{Ready}
 use Rattle.hid_stack.specs.Host.{HostEnd, ready_after}
-use Rattle.hid_stack.specs.Joint.{round_between, joined, joint, IsEven, ArePaired, IsPair}
-use Rattle.hid_stack.specs.Known.{Known, told_of, view_read, view_behind, events_read, events_behind, known_behind, read_or_refused}
-use Rattle.hid_stack.specs.Members.{Member}
-use Rattle.hid_stack.specs.Polls.{Hears, Replies, HearsAck, Ends, Acknowledges, Transacts, HasBytes, spelled, told_with}
-use Rattle.hid_stack.specs.Stations.{Station, Open, opened, opened_by, answered, round_events, part_events, after, events_at}
-use Rattle.hid_stack.specs.Tells.{ShowsRound, TellsOpened, TellsPoll, sent, took_from, told_by}
+use Rattle.hid_stack.specs.Joint.{joined, joint, IsEven, ArePaired, IsPair}
+use Rattle.hid_stack.specs.Known.{Known, told_of, view_read, events_behind, read_or_refused}
+use Rattle.hid_stack.specs.Polls.{Hears, HearsAck, Ends, spelled, told_with}
+use Rattle.hid_stack.specs.Stations.{Station, Open, opened, opened_by, answered, round_events, part_events, after}
+use Rattle.hid_stack.specs.Tells.{ShowsRound, told_by}
 
 -- toggles that are the same
 beq_same : (t : Bool) → beq t t ≡ true

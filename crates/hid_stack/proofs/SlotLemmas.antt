@@ -1,7 +1,5 @@
 -- A device and its host as one slot of the bus.
-use Rattle.std.proofs.Common.{◌≡◌, ◌∙◌, ◌≤◌, ◌<◌, ℕ, Bool, true, false, List, Option, Some, None, Result, Ok, Err, refl, ap, sym, subst}
-use Rattle.hid_layout.specs.declared.fault.Cause.{Cause}
-use Rattle.hid_layout.specs.declared.fault.Cause.TheVariants.{Memory}
+use Rattle.std.proofs.Common.{◌≡◌, ◌∙◌, ◌≤◌, ℕ, List, Ok, refl, ap, sym, subst}
 use Rattle.hid_layout.specs.Controls.{items_of, max_events}
 use Rattle.hid_layout.specs.Faults.{Accepts}
 use Rattle.hid_layout.specs.Items.{Item as Spelled}
@@ -10,12 +8,10 @@ use Rattle.hid_layout.specs.Layout.{Contents, layout_of}
 use Rattle.hid_layout.specs.Reports.{IsLayout}
 use Rattle.hid_layout.proofs.WellFormed.{layout_of_accepted}
 use Rattle.hid_cells.specs.declared.change.Change.{Change}
-use Rattle.hid_usages.specs.Cells.{blank, FitsView}
 use Rattle.hid_cells.proofs.BlankLemmas.{initial_fits}
 use Rattle.hid_device.specs.declared.config.Config.{Config}
 use Rattle.hid_device.specs.Core.{IsSound}
 use Rattle.hid_device.specs.Device.{DeviceState, changed_device, configured_device}
-use Rattle.hid_device.specs.Fault.{is_memory}
 use Rattle.hid_device.specs.Making.{MakesDevice, new_device}
 use Rattle.hid_stack.specs.declared.fault.StackFault.{StackFault}
 use Rattle.hid_stack.specs.declared.fault.StackFault.TheVariants as faults
@@ -25,7 +21,7 @@ use Rattle.hid_stack.specs.Host.{HostEnd, IsNoLayout, ready_host}
 use Rattle.hid_stack.specs.declared.host.Phase.{Phase}
 use Rattle.hid_stack.specs.declared.host.Phase.TheVariants.{Cold, Ready}
 use Rattle.hid_stack.specs.Joint.{joint, ArePaired, IsPair}
-use Rattle.hid_stack.specs.Members.{Member, fresh_member}
+use Rattle.hid_stack.specs.Members.{fresh_member}
 
 -- where the device accepts the descriptor, its host lacks nothing but memory
 pub no_pair : (addr : ℕ) (config : Config) (descriptor : List ℕ) (fault : StackFault) (made : DeviceState)

@@ -1,5 +1,5 @@
 -- A poll packet by packet, over a bus that loses packets, is a poll of the station (USB 2.0, 8.5.4 and 8.6).
-use Rattle.std.proofs.Common.{◌≡◌, ◌∙◌, ◌<◌, ℕ, Bool, true, false, List, [], Option, Some, None, Result, Ok, Err, refl, ap, sym, subst, arith, eqb, cond}
+use Rattle.std.proofs.Common.{◌≡◌, ◌∙◌, ℕ, Bool, true, false, List, [], Option, Some, None, Result, Ok, refl, ap, sym, subst, arith, eqb, cond}
 use Rattle.std.specs.Prelude.{IfSome, ◌&&◌}
 use Rattle.std.proofs.lemmas.Bool.Decides.{nat_tests}
 use Rattle.hid_layout.specs.Layout.{Contents}
@@ -11,12 +11,11 @@ use Rattle.hid_usages.specs.Crossing.{ReadsAsShown}
 use Rattle.hid_views.proofs.CrossingLemmas.{parts_back}
 use Rattle.usb_packet.specs.declared.packet.Packet.{Packet}
 use Rattle.usb_packet.specs.Spelling.{spelling}
-use Rattle.usb_transact.specs.declared.bus.Stage.TheVariants.{Token, Reply}
+use Rattle.usb_transact.specs.declared.bus.Stage.TheVariants.{Token}
 use Rattle.usb_transact.specs.declared.host.Took.{Took}
 use Rattle.usb_transact.specs.declared.host.Took.TheVariants.{Silent}
 use Rattle.usb_transact.specs.declared.transaction.Fate.{Fate}
 use Rattle.usb_transact.specs.declared.transaction.Fate.TheVariants.{Clean, TokenLost, ReplyLost, AckLost}
-use Rattle.usb_transact.specs.Bus.{Carries}
 use Rattle.usb_transact.specs.Device.{answer_with}
 use Rattle.usb_transact.specs.Fate.{arrives_under}
 use Rattle.usb_transact.specs.Host.{token_to}
@@ -26,7 +25,7 @@ use Rattle.hid_device.specs.declared.device.TheConstants.{ENDPOINT}
 use Rattle.hid_device.specs.Inputs.{input_count}
 use Rattle.hid_device.specs.Standing.{first_due}
 use Rattle.hid_device.specs.Core.{CoreState, IsSound, IsArmed, IsBelow, opened_if, opening_of}
-use Rattle.hid_device.specs.Device.{DeviceState, is_poll, polled, AnswersPoll, AnswersIf, device_after, heard}
+use Rattle.hid_device.specs.Device.{DeviceState, is_poll, polled, AnswersPoll, AnswersIf, heard}
 use Rattle.hid_device.specs.Rounds.{Polls}
 use Rattle.hid_stack.specs.declared.fault.StackFault.{StackFault}
 use Rattle.hid_stack.specs.declared.host.Phase.{Phase}
@@ -37,9 +36,9 @@ use Rattle.hid_stack.specs.Host.{HostEnd, IfReady, ready_after}
 use Rattle.hid_stack.specs.Joint.{joined, station_of, joint, IsEven, ArePaired, IsPair}
 use Rattle.hid_stack.specs.Known.{Known, told_of, events_behind}
 use Rattle.hid_stack.specs.Polls.{Hears, Replies, Ends, Transacts, HasBytes, spelled, told_with}
-use Rattle.hid_stack.specs.Stations.{Station, Open, opened, answered, round_events, after, events_at}
+use Rattle.hid_stack.specs.Stations.{Station, opened, answered, round_events, after, events_at}
 use Rattle.hid_stack.specs.Tells.{ShowsRound, TellsOpened, TellsPoll, told_by}
-use Rattle.hid_stack.proofs.PollLemmas.{opens, Meets, Arrives, Lands, Comes, sharing, ready_with, member_of, pair_of, comes, clean, ack_lost_poll, reply_lost}
+use Rattle.hid_stack.proofs.PollLemmas.{opens, Meets, Arrives, Lands, sharing, ready_with, member_of, pair_of, comes, clean, ack_lost_poll, reply_lost}
 
 -- opening a round keeps the layout, the configuration and the toggle
 pub record Keeps (c d : CoreState) : Type 0 where

@@ -1,11 +1,9 @@
 -- A device and its host as one member of the bus.
-use Rattle.std.specs.Prelude.{◌≡◌, ℕ, ◌+◌, Bool, true, false, not, Option, Some, None}
+use Rattle.std.specs.Prelude.{◌≡◌, ℕ, Bool, true, not, Option, Some, None}
 use Rattle.std.specs.Bool.{beq}
-use Rattle.hid_layout.specs.Layout.{Contents}
 use Rattle.hid_layout.specs.Reports.{IsLayout}
 use Rattle.hid_layout.specs.Controls.{items_of}
 use Rattle.hid_usages.specs.Cells.{blank, FitsView}
-use Rattle.usb_transact.specs.Host.{HostPipeState}
 use Rattle.hid_device.specs.declared.device.TheConstants.{ENDPOINT}
 use Rattle.hid_device.specs.Core.{CoreState, IsSound}
 use Rattle.hid_device.specs.Device.{DeviceState}

@@ -1,5 +1,5 @@
 -- What a ready host keeps, and what it makes of the answers to its polls (USB 2.0, 8.5.4 and 8.6; HID 1.11, 5.6).
-use Rattle.std.specs.Prelude.{ℕ, List, [], Option, Result, Ok, Err}
+use Rattle.std.specs.Prelude.{ℕ, List, [], Result, Ok, Err}
 use Rattle.hid_layout.specs.Layout.{Contents}
 use Rattle.hid_layout.specs.Controls.{items_of}
 use Rattle.hid_cells.specs.declared.cell.Cell.{Cell}

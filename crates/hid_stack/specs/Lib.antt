@@ -10,3 +10,4 @@ pub mod Attaching
 pub mod Showing
 pub mod Motion
 pub mod Sums
+pub mod Laws

@@ -1,6 +1,6 @@
 -- One poll over any bus, packet by packet (USB 2.0, 8.5.4 and 8.6): each end acts on what it reads of the bytes that arrive,
 -- and on nothing else.
-use Rattle.std.specs.Prelude.{◌≡◌, ◌<◌, ℕ, List, Option, Some, None, Result, Ok, Err, IfSome}
+use Rattle.std.specs.Prelude.{◌≡◌, ℕ, List, Option, Some, None, Result, Ok, Err, IfSome}
 use Rattle.arrayvec.specs.declared.array_vec.ArrayVec.{ArrayVec}
 use Rattle.hid_cells.specs.declared.event.Event.{Event}
 use Rattle.hid_usages.specs.Encoding.{AreBytes}

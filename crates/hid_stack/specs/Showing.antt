@@ -1,11 +1,11 @@
 -- What the two ends of a member show (USB 2.0, 8.5.4 and 8.6).
-use Rattle.std.specs.Prelude.{◌≡◌, ℕ, true, List, Option, Some, None, Result, Ok, Err}
+use Rattle.std.specs.Prelude.{◌≡◌, ℕ, true, List, Some}
 use Rattle.std.specs.Option.{option_map}
 use Rattle.hid_device.specs.declared.device.TheConstants.{ENDPOINT}
 use Rattle.hid_device.specs.Device.{DeviceState}
 use Rattle.hid_stack.specs.Host.{HostEnd, IfReady, IsReady}
 use Rattle.hid_stack.specs.Known.{Known}
-use Rattle.hid_stack.specs.Stations.{Open, expected}
+use Rattle.hid_stack.specs.Stations.{expected}
 use Rattle.hid_stack.specs.Members.{Member, member_at}
 
 -- The device of a member: it is configured and stands as its station does, the round that is open there is open here, and

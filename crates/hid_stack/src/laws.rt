@@ -6,10 +6,32 @@ ghost use Rattle.hid_usages.specs.Cells.{blank, FitsSnapshot, FitsShown, FitsVie
 ghost use Rattle.hid_device.specs.Rounds.{OwnStep};
 ghost use Rattle.hid_stack.specs.declared.step.Step.{Step as BusStep};
 ghost use Rattle.hid_stack.specs.declared.step.Delivered.{Delivered};
+ghost use Rattle.hid_stack.specs.Laws.{TellsOneThing, FindsOneControl, AttachesOneDevice};
 ghost use Rattle.hid_stack.specs.Members.{Member, bus_after_all, delivered_in};
 ghost use Rattle.hid_stack.specs.Motion.{HasMotions, KeepsMotion, KeepsAccepted, are_accepted};
 ghost use Rattle.hid_stack.specs.Stations.{Station, fresh, after_all};
 ghost use Rattle.hid_stack.specs.Sums.{AllHaveMotions, SumsUp};
+
+use hid_layout::laws::{accepted_or_refused, one_reading, one_refusal};
+
+/// A step tells one thing at most.
+pub fn one_telling()
+    ensures { TellsOneThing }
+{}
+
+/// A usage names one control of a device at most, or none for one cause.
+pub fn one_finding()
+    ensures { FindsOneControl }
+{}
+
+/// A device is attached in one way at most, or refused for one cause, want of memory aside.
+pub fn one_attaching()
+    ensures { AttachesOneDevice }
+{
+    one_reading();
+    accepted_or_refused();
+    one_refusal();
+}
 
 /// Steps neither lose nor double the motion of a control: what a station had of it and what accepted moves added is what
 /// was told of it and what the station still has. A station keeps its motions behind any steps.

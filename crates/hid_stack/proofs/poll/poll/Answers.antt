@@ -1,4 +1,4 @@
-use Rattle.std.proofs.Common.{◌≡◌, ◌∙◌, Result, Ok, Err, sym, ap}
+use Rattle.std.proofs.Common.{◌≡◌, ◌∙◌, Ok, Err, sym}
 use Rattle.hid_stack.specs.Joint.{station_of}
 use Rattle.hid_stack.proofs.StepLemmas.{polls_at, told_is, home_stays}
 use Rattle.hid_stack.proofs.poll.poll.Goals as goal

@@ -1,5 +1,6 @@
 use Rattle.std.proofs.Common.{◌≡◌, ℕ, List, length, Option, Some, sym, ap, ◌∙◌, subst, arith}
 use Rattle.std.proofs.lemmas.List.{length-set}
+use Rattle.hid_usages.specs.Encoding.{AreBytes}
 use Rattle.usb_transact.specs.Device.{DevPipeState}
 use Rattle.hid_device.specs.Core.{CoreState, IsArmed}
 use Rattle.hid_device.proofs.inside.Core.open.Goals as goal
@@ -8,7 +9,8 @@ pub invariant_of-self : goal.invariant_of-self
 invariant_of-self c =
     let before = c.self.invariant.sound in
     let frames : length c.self.inside.frames.items ≡ length c.args.self.now.standing.frames = ap (λ (core : CoreState). length core.standing.frames) c.self.view_is in
-    let armed : c.arm.new.self.armed ≡ Some c.encode_report-bytes.result.items = ap (λ (pipe : DevPipeState). pipe.armed) c.arm.ensures ∙ ap Some c.deref.ensures.0 in
+    let armed : c.arm.new.self.armed ≡ Some c.encode_report-bytes.result.items = ap (λ (pipe : DevPipeState). pipe.armed) c.arm.ensures ∙ ap Some c.deref-2.ensures.0 in
+    let are_bytes : AreBytes c.encode_report-bytes.result.items = subst AreBytes c.deref.ensures.0 c.are_bytes.ensures in
     record {
       sound = record {
         empty_codes = before.empty_codes;
@@ -21,5 +23,5 @@ invariant_of-self c =
         of_input = omega (arith, frames, before.each_frames, c.requires.input);
       };
       armed = subst (λ (bytes : Option (List ℕ)). IsArmed c.self.inside.layout c.shown.new.parts (Some c.args.report) bytes) (sym armed)
-          (record { shows = c.encode_report-bytes.ensures.shows; only = c.encode_report-bytes.ensures.only });
+          (record { are_bytes = are_bytes; shows = c.encode_report-bytes.ensures.shows; only = c.encode_report-bytes.ensures.only });
     }

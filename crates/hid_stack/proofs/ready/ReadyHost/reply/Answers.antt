@@ -1,4 +1,4 @@
-use Rattle.std.proofs.Common.{◌≤◌, ◌+◌, Vec, Global, length, arith, ap}
+use Rattle.std.proofs.Common.{Vec, Global, length, arith, ap}
 use Rattle.hid_layout.specs.Controls.{items_of, max_events}
 use Rattle.hid_cells.specs.declared.event.Event.{Event}
 use Rattle.hid_stack.specs.Known.{Known}

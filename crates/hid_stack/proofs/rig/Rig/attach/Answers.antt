@@ -1,5 +1,4 @@
-use Rattle.std.proofs.Common.{◌≡◌, ◌≤◌, length, ap, arith, rules}
-use Rattle.hid_stack.specs.Members.{Member}
+use Rattle.std.proofs.Common.{rules}
 use Rattle.hid_stack.proofs.RigLemmas.{attached_have}
 use Rattle.hid_stack.proofs.rig.Rig.attach.Goals as goal
 

@@ -1,4 +1,4 @@
-use Rattle.std.proofs.Common.{◌≡◌, ◌≤◌, length, arith, rules}
+use Rattle.std.proofs.Common.{rules}
 use Rattle.hid_device.specs.Rounds.{Changes, Polls}
 use Rattle.hid_stack.proofs.RigLemmas.{stepped_have, polled_have}
 use Rattle.hid_stack.proofs.rig.Rig.step.Goals as goal

@@ -1,4 +1,3 @@
-use Rattle.std.proofs.Common.{◌≡◌, ◌∙◌, ◌≤◌, sym, ap, arith, subst}
 use Rattle.hid_stack.proofs.SlotLemmas.{changed_pair}
 use Rattle.hid_stack.proofs.slot.Slot.change.Goals as goal
 

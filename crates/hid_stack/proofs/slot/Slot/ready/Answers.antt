@@ -1,4 +1,4 @@
-use Rattle.std.proofs.Common.{◌≡◌, ◌≤◌, ◌∙◌, arith, ap}
+use Rattle.std.proofs.Common.{arith, ap}
 use Rattle.hid_layout.specs.Controls.{items_of, max_events}
 use Rattle.hid_layout.specs.Layout.{Contents}
 use Rattle.hid_stack.proofs.SlotLemmas.{makes, no_pair}
