@@ -24,7 +24,15 @@ use Rattle.hid_script.specs.Session.{Session, Outcome, accepted, after_text, Joi
 use Rattle.hid_script.specs.Steps.{TellsLayout, TellsDevice, TellsStep, TellsFound, TellsChange, lays_out, refuses_layout, attaches, stepped, refuses_step, config_of, change_of}
 use Rattle.hid_script.specs.Telling.{Once, times, Means, LineTells, LineBegins, BeginsMeant, Begins}
 use Rattle.hid_script.specs.Run.{AllTell}
-use Rattle.hid_script.specs.Laws.{StackAnswersOneThing, LineTellsOneThing, LinesTellOneText, BeginsWithFronts}
+use Rattle.hid_stack.specs.Laws.{TellsOneThing, FindsOneControl, AttachesOneDevice}
+use Rattle.hid_stack.specs.declared.rig.TheConstants.{MAX_DEVICES}
+use Rattle.hid_script.specs.Laws.{LineTellsOneThing, LinesTellOneText, BeginsWithFronts}
+
+-- the stack answers one thing
+pub record HasOneAnswer : Type 0 where
+  pub tells : TellsOneThing
+  pub finds : FindsOneControl
+  pub attaches : AttachesOneDevice
 
 -- a part tells one outcome at most
 abbrev IsOne : (Session → Outcome → Type 0) → Type 0
@@ -44,17 +52,17 @@ one_layout reading apart cause place bytes session o other (inr h) (inr k) =
 
 -- ---- steps
 
-one_step : StackAnswersOneThing → (step : Step) → IsOne (TellsStep step)
+one_step : HasOneAnswer → (step : Step) → IsOne (TellsStep step)
 one_step one step session o other (inl h) (inl k) = h.3 ∙ ap (stepped session step) (one.tells session.members step h.0 k.0 h.2 k.2) ∙ sym k.3
 one_step one step session o other (inl h) (inr k) = let taken = h.1 in let refused = k.1 in absurd (cc)
 one_step one step session o other (inr h) (inl k) = let refused = h.1 in let taken = k.1 in absurd (cc)
 one_step one step session o other (inr h) (inr k) = let first = h.1 in let second = k.1 in let same : h.0 ≡ k.0 = cc in h.2 ∙ ap refuses_step same ∙ sym k.2
 
-one_found : StackAnswersOneThing → (dev : ℕ) (wanted : Wanted) (found : Result ControlId StackFault) → IsOne (TellsFound dev wanted found)
+one_found : HasOneAnswer → (dev : ℕ) (wanted : Wanted) (found : Result ControlId StackFault) → IsOne (TellsFound dev wanted found)
 one_found one dev wanted (Ok control) session o other h k = one_step one (Change dev (change_of wanted control)) session o other h k
 one_found one dev wanted (Err fault) session o other h k = h ∙ sym k
 
-one_change : StackAnswersOneThing → (dev : ℕ) (usage : Usage) (wanted : Wanted) → IsOne (TellsChange dev usage wanted)
+one_change : HasOneAnswer → (dev : ℕ) (usage : Usage) (wanted : Wanted) → IsOne (TellsChange dev usage wanted)
 one_change one dev usage wanted session o other h k =
     let same = one.finds session.members dev usage h.0 k.0 h.1 k.1 in
     one_found one dev wanted k.0 session o other (subst (λ found. TellsFound dev wanted found session o) same h.2) k.2
@@ -71,23 +79,23 @@ one_fresh members dev other layout next e =
     let fresh : fresh_member dev layout ≡ fresh_member other next = cc in
     ap (λ (m : Member). m.layout) fresh
 
-one_device : StackAnswersOneThing → (boot : Boot) (bytes : List ℕ) → IsOne (TellsDevice boot bytes)
+one_device : HasOneAnswer → (boot : Boot) (bytes : List ℕ) → IsOne (TellsDevice boot bytes)
 one_device one boot bytes session o other (inl h) (inl k) =
-    let same = one.attaches session.members (config_of boot) bytes (Ok h.0) (Ok k.0) h.2 k.2 h.3 k.3 (λ e. cc) (λ e. cc) in
+    let same = one.attaches MAX_DEVICES (config_of boot) bytes session.members h.2 k.2 (Ok h.0) (Ok k.0) h.3 k.3 (λ e. cc) (λ e. cc) in
     let layout = one_fresh session.members h.0 k.0 h.1 k.1 (sym h.4 ∙ same.1 ∙ k.4) in
     h.5 ∙ ap (λ l. attaches session l h.2) layout ∙ ap (attaches session k.1) same.1 ∙ sym k.5
 one_device one boot bytes session o other (inl h) (inr k) =
-    let same = (one.attaches session.members (config_of boot) bytes (Ok h.0) (Err k.0) h.2 k.1 h.3 k.2 (λ e. cc) (λ e. k.3 (cc))).0 in absurd (cc)
+    let same = (one.attaches MAX_DEVICES (config_of boot) bytes session.members h.2 k.1 (Ok h.0) (Err k.0) h.3 k.2 (λ e. cc) (λ e. k.3 (cc))).0 in absurd (cc)
 one_device one boot bytes session o other (inr h) (inl k) =
-    let same = (one.attaches session.members (config_of boot) bytes (Err h.0) (Ok k.0) h.1 k.2 h.2 k.3 (λ e. h.3 (cc)) (λ e. cc)).0 in absurd (cc)
+    let same = (one.attaches MAX_DEVICES (config_of boot) bytes session.members h.1 k.2 (Err h.0) (Ok k.0) h.2 k.3 (λ e. h.3 (cc)) (λ e. cc)).0 in absurd (cc)
 one_device one boot bytes session o other (inr h) (inr k) =
-    let same = (one.attaches session.members (config_of boot) bytes (Err h.0) (Err k.0) h.1 k.1 h.2 k.2 (λ e. h.3 (cc)) (λ e. k.3 (cc))).0 in
+    let same = (one.attaches MAX_DEVICES (config_of boot) bytes session.members h.1 k.1 (Err h.0) (Err k.0) h.2 k.2 (λ e. h.3 (cc)) (λ e. k.3 (cc))).0 in
     let fault : h.0 ≡ k.0 = cc in
     h.4 ∙ ap refuses_step fault ∙ sym k.4
 
 -- ---- lines
 
-one_once : HasOneReading → AcceptsNoRefused → HasOneCause → HasOnePlace → StackAnswersOneThing → (said : Line) → IsOne (Once said)
+one_once : HasOneReading → AcceptsNoRefused → HasOneCause → HasOnePlace → HasOneAnswer → (said : Line) → IsOne (Once said)
 unfolding Once
 one_once reading apart cause place one line.Nothing session o other h k = h ∙ sym k
 one_once reading apart cause place one (line.Layout bytes) session o other h k = one_layout reading apart cause place bytes.items session o other h k
@@ -126,11 +134,11 @@ unfolding Repeats
 one_repeated Part one zero session o other h k = h ∙ sym k
 one_repeated Part one (suc n) session o other h k = one_join (Part session) (Repeats n Part) (one session) (one_repeated Part one n) o other h k
 
-one_meant : HasOneReading → AcceptsNoRefused → HasOneCause → HasOnePlace → StackAnswersOneThing → (session : Session) (meaning : Result Line Cause) (o other : Outcome) → Means session meaning o → Means session meaning other → o ≡ other
+one_meant : HasOneReading → AcceptsNoRefused → HasOneCause → HasOnePlace → HasOneAnswer → (session : Session) (meaning : Result Line Cause) (o other : Outcome) → Means session meaning o → Means session meaning other → o ≡ other
 one_meant reading apart cause place one session (Ok said) o other h k = one_repeated (Once said) (one_once reading apart cause place one said) (times said) session o other h k
 one_meant reading apart cause place one session (Err why) o other h k = h ∙ sym k
 
-pub one_outcome : HasOneReading → AcceptsNoRefused → HasOneCause → HasOnePlace → StackAnswersOneThing → LineTellsOneThing
+pub one_outcome : HasOneReading → AcceptsNoRefused → HasOneCause → HasOnePlace → HasOneAnswer → LineTellsOneThing
 unfolding LineTells
 one_outcome reading apart cause place one session bytes o other h k = one_meant reading apart cause place one session (meaning_of bytes) o other h k
 
@@ -163,10 +171,10 @@ front_repeated Part one (suc n) (suc count) session next text o below (inl h) (i
     let whole : text ≡ k.0 ++ h.2.text = ap (λ (p : Outcome). p.text) h.5 ∙ ap (λ t. t ++ h.2.text) first in
     (front.0, ap (λ (p : Outcome). p.text) k.5 ∙ ap (λ t. k.0 ++ t) front.1 ∙ sym (append_assoc k.0 h.2.text front.0) ∙ ap (λ t. t ++ front.0) (sym whole))
 
-front_meant : HasOneReading → AcceptsNoRefused → HasOneCause → HasOnePlace → StackAnswersOneThing → (session : Session) (meaning : Result Line Cause) (text : List ℕ) (o : Outcome) → BeginsMeant session meaning text → Means session meaning o → IsFront text o.text
+front_meant : HasOneReading → AcceptsNoRefused → HasOneCause → HasOnePlace → HasOneAnswer → (session : Session) (meaning : Result Line Cause) (text : List ℕ) (o : Outcome) → BeginsMeant session meaning text → Means session meaning o → IsFront text o.text
 front_meant reading apart cause place one session (Ok said) text o h k = front_repeated (Once said) (one_once reading apart cause place one said) h.0 (times said) session h.1 text o h.2 h.3 k
 front_meant reading apart cause place one session (Err why) text o h k = rw h (o.text, refl)
 
-pub fronts : HasOneReading → AcceptsNoRefused → HasOneCause → HasOnePlace → StackAnswersOneThing → BeginsWithFronts
+pub fronts : HasOneReading → AcceptsNoRefused → HasOneCause → HasOnePlace → HasOneAnswer → BeginsWithFronts
 unfolding LineTells LineBegins
 fronts reading apart cause place one session bytes text o h k = front_meant reading apart cause place one session (meaning_of bytes) text o h k

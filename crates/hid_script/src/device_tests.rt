@@ -7,7 +7,7 @@ use std::test::Fail;
 
 /// Scripts that run to their end, with `--layout` and `--trace` or not.
 #[rattlefmt::skip]
-const ACCEPTED: [(&str, bool, bool, &str, &str); 12] = [
+const ACCEPTED: [(&str, bool, bool, &str, &str); 13] = [
     ("a pressed key", false, true,
         "device ready keyboard 05 01 09 06 A1 01 05 07 19 E0 29 E7 15 00 25 01 75 01 95 08 81 02 95 01 75 08 81 01 95 05 75 01 05 08 19 01 29 05 91 02 95 01 75 03 91 01 95 06 75 08 15 00 25 65 05 07 19 00 29 65 81 00 C0\npress 1 07:04\npoll 1\n",
         "1 poll DATA0 00 00 04 00 00 00 00 00 fresh\n1 down 07:04\n"),
@@ -44,11 +44,14 @@ const ACCEPTED: [(&str, bool, bool, &str, &str); 12] = [
     ("the layout of a device", true, false,
         "device ready mouse 05 01 09 02 A1 01 09 01 A1 00 05 09 19 01 29 03 15 00 25 01 95 03 75 01 81 02 95 01 75 05 81 01 05 01 09 30 09 31 15 81 25 7F 75 08 95 02 81 06 C0 C0\n",
         "report input 0 bytes 3\nitem 0 input 0 at 0 1x3 variable 0..1 09:01-09:03 in 1/01:02 0/01:01\nitem 1 input 0 at 3 5x1 padding in 1/01:02 0/01:01\nitem 2 input 0 at 8 8x2 relative -127..127 01:30 01:31 in 1/01:02 0/01:01\n"),
+    ("the last of 65,535 keys", false, true,
+        "device ready plain 05 09 19 01 2A FF FF 15 00 27 FF FF 00 00 75 10 95 02 81 00\npress 1 09:FFFF\npoll 1\n",
+        "1 poll DATA0 FE FF FF FF fresh\n1 down 09:FFFF\n"),
 ];
 
 /// Scripts that are refused, with what they print before and the line that names the fault.
 #[rattlefmt::skip]
-const REFUSED: [(&str, &str, &str, &str); 13] = [
+const REFUSED: [(&str, &str, &str, &str); 27] = [
     ("no value of that sign",
         "device ready plain 05 01 09 02 A1 01 09 30 15 00 25 00 75 08 95 01 81 06 C0\nmove 1 01:30 1\n",
         "", "line 2: X4 S3 U5\n"),
@@ -88,6 +91,48 @@ const REFUSED: [(&str, &str, &str, &str); 13] = [
     ("a value without null",
         "device ready plain 05 01 09 30 15 00 25 7F 75 08 95 01 81 02\nnull 1 01:30\n",
         "", "line 2: X4 S3 U4\n"),
+    ("a truncated item",
+        "device ready plain 05\n",
+        "", "line 1: X4 S5 V1 at 0\n"),
+    ("a ninth Push",
+        "device ready plain A4 A4 A4 A4 A4 A4 A4 A4 A4\n",
+        "", "line 1: X4 S5 V4 at 8\n"),
+    ("a seventeenth collection",
+        "device ready plain A1 01 A1 01 A1 01 A1 01 A1 01 A1 01 A1 01 A1 01 A1 01 A1 01 A1 01 A1 01 A1 01 A1 01 A1 01 A1 01 A1 01\n",
+        "", "line 1: X4 S5 V5 at 32\n"),
+    ("an end without a collection",
+        "device ready plain C0\n",
+        "", "line 1: X4 S5 V6 at 0\n"),
+    ("an open collection",
+        "device ready plain A1 01\n",
+        "", "line 1: X4 S5 V7 at 2\n"),
+    ("report ID 0",
+        "device ready plain 85 00\n",
+        "", "line 1: X4 S5 V8 at 0\n"),
+    ("a report ID behind a field without one",
+        "device ready plain 75 08 95 01 81 01 85 01\n",
+        "", "line 1: X4 S5 V9 at 8\n"),
+    ("a range from 5 to 4",
+        "device ready plain 05 01 09 30 15 05 25 04 75 08 95 01 81 02\n",
+        "", "line 1: X4 S5 V10 at 12\n"),
+    ("a field of 33 bits",
+        "device ready plain 05 01 09 30 25 01 75 21 95 01 81 02\n",
+        "", "line 1: X4 S5 V11 at 10\n"),
+    ("usages from 5 to 4",
+        "device ready plain 05 01 19 05 29 04 25 01 75 01 95 01 81 02\n",
+        "", "line 1: X4 S5 V12 at 12\n"),
+    ("a least usage without a greatest",
+        "device ready plain 05 01 19 05 25 01 75 01 95 01 81 02\n",
+        "", "line 1: X4 S5 V13 at 10\n"),
+    ("a delimiter",
+        "device ready plain A9 01\n",
+        "", "line 1: X4 S5 V14 at 0\n"),
+    ("a report of 65 bytes",
+        "device ready plain 75 08 95 41 81 01\n",
+        "", "line 1: X4 S5 V15 at 4\n"),
+    ("a 65th usage",
+        "device ready plain 05 01 09 30 09 30 09 30 09 30 09 30 09 30 09 30 09 30 09 30 09 30 09 30 09 30 09 30 09 30 09 30 09 30 09 30 09 30 09 30 09 30 09 30 09 30 09 30 09 30 09 30 09 30 09 30 09 30 09 30 09 30 09 30 09 30 09 30 09 30 09 30 09 30 09 30 09 30 09 30 09 30 09 30 09 30 09 30 09 30 09 30 09 30 09 30 09 30 09 30 09 30 09 30 09 30 09 30 09 30 09 30 09 30 09 30 09 30 09 30 09 30 09 30 09 30 09 30 09 30 09 30 25 01 75 01 95 01 81 02\n",
+        "", "line 1: X4 S5 V16 at 138\n"),
 ];
 
 #[test]

@@ -1,30 +1,37 @@
 //! Laws of the definitions that the contract of `run` cites: they pin what it writes, up to where it ends.
 
-ghost use Rattle.hid_script.specs.Laws.{StackAnswersOneThing, LineTellsOneThing, LinesTellOneText, BeginsWithFronts};
+ghost use Rattle.hid_script.specs.Laws.{LineTellsOneThing, LinesTellOneText, BeginsWithFronts};
 
 use hid_layout::laws::{accepted_or_refused, one_reading, one_refusal};
+use hid_stack::laws::{one_attaching, one_finding, one_telling};
 
 /// A line tells one text at most, with one end: it is accepted or refused, and for one cause.
 pub fn one_outcome()
-    ensures { StackAnswersOneThing → LineTellsOneThing }
+    ensures { LineTellsOneThing }
 {
     one_reading();
     accepted_or_refused();
     one_refusal();
+    one_telling();
+    one_finding();
+    one_attaching();
 }
 
 /// Lines that are all accepted tell one text at most, and leave one session.
 pub fn one_text()
-    ensures { StackAnswersOneThing → LinesTellOneText }
+    ensures { LinesTellOneText }
 {
     one_outcome();
 }
 
 /// What a want of memory or the writer leaves of a line's text is a front of it.
 pub fn fronts()
-    ensures { StackAnswersOneThing → BeginsWithFronts }
+    ensures { BeginsWithFronts }
 {
     one_reading();
     accepted_or_refused();
     one_refusal();
+    one_telling();
+    one_finding();
+    one_attaching();
 }

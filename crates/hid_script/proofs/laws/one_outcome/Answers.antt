@@ -2,4 +2,6 @@ use Rattle.hid_script.proofs.TellingLemmas.{one_outcome}
 use Rattle.hid_script.proofs.laws.one_outcome.Goals as goal
 
 pub returns : goal.returns
-returns c = one_outcome c.one_reading.ensures c.accepted_or_refused.ensures c.one_refusal.ensures.cause c.one_refusal.ensures.place
+returns c =
+    one_outcome c.one_reading.ensures c.accepted_or_refused.ensures c.one_refusal.ensures.cause c.one_refusal.ensures.place
+    (record { tells = c.one_telling.ensures; finds = c.one_finding.ensures; attaches = c.one_attaching.ensures })

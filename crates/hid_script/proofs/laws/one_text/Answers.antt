@@ -2,4 +2,4 @@ use Rattle.hid_script.proofs.TellingLemmas.{one_text}
 use Rattle.hid_script.proofs.laws.one_text.Goals as goal
 
 pub returns : goal.returns
-returns c = λ one. one_text (c.one_outcome.ensures one)
+returns c = one_text c.one_outcome.ensures
