@@ -2,7 +2,9 @@
 //! descriptors with one rule each, worked out by hand.
 
 use crate::tests::{KEYBOARD, MOUSE, usage};
-use crate::{Codes, Control, ControlId, ControlKind, Controls, Layout, Usage};
+use crate::{
+    Cause, Codes, Collection, Control, ControlId, ControlKind, Controls, Layout, LayoutFault, Usage,
+};
 
 fn control(kind: ControlKind, page: u16, id: u16) -> Option<Control> {
     Some(Control {
@@ -109,6 +111,12 @@ fn the_keyboard_has_modifiers_and_keys(rt: HostRuntime) {
     assert_eq!(rt; layout.plan(1), [2, 3].as_slice());
 }
 
+/// An array with the usages 09:0000 to 09:FFFF and then 07:0001, which sends 0 to 70,000 in 17 bits.
+const MANY_USAGES: [u8; 26] = [
+    0x05, 0x09, 0x1A, 0x00, 0x00, 0x2A, 0xFF, 0xFF, 0x0B, 0x01, 0x00, 0x07, 0x00, 0x15, 0x00, 0x27,
+    0x70, 0x11, 0x01, 0x00, 0x75, 0x11, 0x95, 0x01, 0x81, 0x00,
+];
+
 /// A descriptor of one item, with its controls, what its codes tell, and the control at one place.
 #[rattlefmt::skip]
 const FIELDS: [(&str, &[u8], Controls, Option<i64>, usize, Option<Control>); 7] = [
@@ -132,9 +140,9 @@ const FIELDS: [(&str, &[u8], Controls, Option<i64>, usize, Option<Control>); 7] 
 const ARRAYS: [(&str, &[u8], Controls, (Option<i64>, Option<i64>, Option<i64>), usize, Option<Control>); 7] = [
     ("every pattern names a key", &[0x05, 0x09, 0x19, 0x01, 0x2A, 0x00, 0x01, 0x15, 0x00, 0x26, 0xFF, 0x00, 0x75, 0x08, 0x95, 0x01, 0x81, 0x00],
         Controls::Keys { elements: 1, rolls_over: false, count: 256 }, (None, None, None), 255, Some(Control { kind: ControlKind::Switch, usage: Usage { page: 9, id: 256 } })),
-    ("keys end before the place 65,536, and the rollover code does not", &[0x05, 0x09, 0x1A, 0x00, 0x00, 0x2A, 0xFF, 0xFF, 0x0B, 0x01, 0x00, 0x07, 0x00, 0x15, 0x00, 0x27, 0x70, 0x11, 0x01, 0x00, 0x75, 0x11, 0x95, 0x01, 0x81, 0x00],
+    ("keys end before the place 65,536, and the rollover code does not", &MANY_USAGES,
         Controls::Keys { elements: 1, rolls_over: true, count: 65536 }, (Some(70001), Some(0), Some(65536)), 65536, None),
-    ("the place before it is a key", &[0x05, 0x09, 0x1A, 0x00, 0x00, 0x2A, 0xFF, 0xFF, 0x0B, 0x01, 0x00, 0x07, 0x00, 0x15, 0x00, 0x27, 0x70, 0x11, 0x01, 0x00, 0x75, 0x11, 0x95, 0x01, 0x81, 0x00],
+    ("the place before it is a key", &MANY_USAGES,
         Controls::Keys { elements: 1, rolls_over: true, count: 65536 }, (Some(70001), Some(0), Some(65536)), 65535, Some(Control { kind: ControlKind::Switch, usage: Usage { page: 9, id: 65535 } })),
     ("a negative minimum names the first usage", &[0x05, 0x09, 0x19, 0x01, 0x29, 0x03, 0x15, 0xFF, 0x25, 0x01, 0x75, 0x03, 0x95, 0x02, 0x81, 0x00],
         Controls::Keys { elements: 2, rolls_over: false, count: 3 }, (Some(2), Some(2), None), 0, Some(Control { kind: ControlKind::Switch, usage: Usage { page: 9, id: 1 } })),
@@ -225,5 +233,190 @@ fn a_usage_names_its_least_control(rt: HostRuntime) {
     ] {
         let layout = Layout::parse(rt.alloc(), descriptor).expect(&rt, "accepted");
         assert_eq!(rt; layout.find(usage(page, id)), found, "{page}:{id}");
+    }
+}
+
+/// A motion in report 1 and a button in report 2.
+const NUMBERED: [u8; 35] = [
+    0x05, 0x01, 0x09, 0x02, 0xA1, 0x01, 0x85, 0x01, 0x09, 0x30, 0x15, 0x81, 0x25, 0x7F, 0x75, 0x08,
+    0x95, 0x01, 0x81, 0x06, 0x85, 0x02, 0x05, 0x09, 0x09, 0x01, 0x15, 0x00, 0x25, 0x01, 0x75, 0x01,
+    0x81, 0x02, 0xC0,
+];
+
+/// A gamepad's hat switch: one field of four bits, from 0 to 7, with a null state; then four bits of padding.
+const HAT: [u8; 25] = [
+    0x05, 0x01, 0x09, 0x04, 0xA1, 0x01, 0x09, 0x39, 0x15, 0x00, 0x25, 0x07, 0x75, 0x04, 0x95, 0x01,
+    0x81, 0x42, 0x75, 0x04, 0x95, 0x01, 0x81, 0x03, 0xC0,
+];
+
+#[test]
+fn each_report_has_its_plan(rt: HostRuntime) {
+    let layout = Layout::parse(rt.alloc(), &NUMBERED).expect(&rt, "accepted");
+    assert!(rt; layout.numbered());
+    assert_eq!(rt; layout.reports().len(), 2);
+    assert_eq!(rt; layout.items().len(), 2);
+    for (r, plan) in [[0usize].as_slice(), &[1]].iter().enumerate() {
+        assert!(rt; r < layout.reports().len());
+        assert_eq!(rt; layout.report_bytes(r), 2, "report {r}");
+        assert_eq!(rt; layout.plan(r), *plan, "report {r}");
+    }
+    for item in 0..2 {
+        assert!(rt; item < layout.items().len());
+        assert_eq!(rt; layout.starts(item), [0].as_slice(), "item {item}");
+    }
+    for (item, index, found) in [
+        (0, 0, control(ControlKind::Relative, 1, 0x30)),
+        (0, 1, None),
+        (1, 0, control(ControlKind::Switch, 9, 1)),
+        (1, 1, None),
+        (2, 0, None),
+    ] {
+        assert_eq!(rt;
+            layout.control(ControlId { item, index }),
+            found,
+            "{item} {index}"
+        );
+    }
+    assert_eq!(rt; layout.max_events(), 2);
+}
+
+#[test]
+fn a_hat_is_one_value(rt: HostRuntime) {
+    let layout = Layout::parse(rt.alloc(), &HAT).expect(&rt, "accepted");
+    assert!(rt; !layout.numbered());
+    assert_eq!(rt; layout.reports().len(), 1);
+    assert_eq!(rt; layout.items().len(), 2);
+    assert_eq!(rt; layout.report_bytes(0), 1);
+    assert_eq!(rt; layout.plan(0), [0, 1].as_slice());
+    assert_eq!(rt; layout.starts(0), [0].as_slice());
+    assert_eq!(rt; layout.starts(1).len(), 0);
+    assert_eq!(rt;
+        layout.controls(0),
+        Controls::Elements {
+            kind: ControlKind::NullValue,
+            least: 0,
+            greatest: 7,
+            count: 1
+        }
+    );
+    assert_eq!(rt; layout.controls(1), Controls::None);
+    assert_eq!(rt; layout.codes(0).null, Some(8));
+    for (item, index, found) in [
+        (0, 0, control(ControlKind::NullValue, 1, 0x39)),
+        (0, 1, None),
+        (1, 0, None),
+    ] {
+        assert_eq!(rt;
+            layout.control(ControlId { item, index }),
+            found,
+            "{item} {index}"
+        );
+    }
+    assert_eq!(rt; layout.max_events(), 1);
+}
+
+/// For each of the keyboard's items where its ranges begin.
+#[test]
+fn the_keyboard_has_its_starts(rt: HostRuntime) {
+    let layout = Layout::parse(rt.alloc(), &KEYBOARD).expect(&rt, "the keyboard is accepted");
+    assert_eq!(rt; layout.items().len(), 5);
+    let none: &[u32] = &[];
+    let one: &[u32] = &[0];
+    for (item, starts) in [one, none, one, none, one].iter().enumerate() {
+        assert!(rt; item < layout.items().len());
+        assert_eq!(rt; layout.starts(item), *starts, "item {item}");
+    }
+}
+
+/// A descriptor, a usage, and the least control that has it.
+#[rattlefmt::skip]
+const LEAST: [(&str, &[u8], (u16, u16), Option<(usize, usize)>); 13] = [
+    ("the motion of report 1",                 &NUMBERED, (1, 0x30), Some((0, 0))),
+    ("the button of report 2",                 &NUMBERED, (9, 1), Some((1, 0))),
+    ("the usage of a collection",              &NUMBERED, (1, 2), None),
+    ("a hat",                                  &HAT, (1, 0x39), Some((0, 0))),
+    ("the usage of the collection round it",   &HAT, (1, 4), None),
+    ("both elements of an item have it",       &[0x05, 0x09, 0x09, 0x01, 0x25, 0x01, 0x75, 0x01, 0x95, 0x02, 0x81, 0x02], (9, 1), Some((0, 0))),
+    ("two items have it",                      &[0x05, 0x09, 0x25, 0x01, 0x75, 0x01, 0x95, 0x01, 0x09, 0x02, 0x81, 0x02, 0x09, 0x01, 0x81, 0x02, 0x09, 0x01, 0x81, 0x02], (9, 1), Some((1, 0))),
+    ("two places of an array have it",         &[0x05, 0x09, 0x09, 0x01, 0x09, 0x01, 0x25, 0x07, 0x75, 0x03, 0x95, 0x01, 0x81, 0x00], (9, 1), Some((0, 0))),
+    ("the first of the two can't be sent",     &[0x05, 0x09, 0x09, 0x01, 0x09, 0x01, 0x15, 0xFB, 0x25, 0x03, 0x75, 0x03, 0x95, 0x01, 0x81, 0x00], (9, 1), Some((0, 1))),
+    ("in the second of two ranges",            &[0x05, 0x09, 0x19, 0x01, 0x29, 0x03, 0x19, 0x03, 0x29, 0x05, 0x25, 0x07, 0x75, 0x03, 0x95, 0x01, 0x81, 0x00], (9, 4), Some((0, 4))),
+    ("in both of two ranges",                  &[0x05, 0x09, 0x19, 0x01, 0x29, 0x03, 0x19, 0x03, 0x29, 0x05, 0x25, 0x07, 0x75, 0x03, 0x95, 0x01, 0x81, 0x00], (9, 3), Some((0, 2))),
+    ("the last place that can be a key",       &MANY_USAGES, (9, 0xFFFF), Some((0, 65535))),
+    ("ErrorRollOver behind it",                &MANY_USAGES, (7, 1), None),
+];
+
+#[test]
+fn the_least_control_is_found(rt: HostRuntime) {
+    for (name, descriptor, (page, id), found) in LEAST {
+        let layout = Layout::parse(rt.alloc(), descriptor).expect(&rt, "accepted");
+        assert_eq!(rt;
+            layout.find(usage(page, id)),
+            found.map(|(item, index)| ControlId { item, index }),
+            "{name}"
+        );
+    }
+}
+
+/// The usage behind 65,536 others has a place, and no key stands there.
+#[test]
+fn a_usage_may_stand_behind_all_keys(rt: HostRuntime) {
+    let layout = Layout::parse(rt.alloc(), &MANY_USAGES).expect(&rt, "accepted");
+    assert_eq!(rt; layout.items().len(), 1);
+    assert_eq!(rt; layout.starts(0), [0, 65536].as_slice());
+    assert_eq!(rt; layout.usage(0, 65535), Some(usage(9, 0xFFFF)));
+    assert_eq!(rt; layout.usage(0, 65536), Some(usage(7, 1)));
+    assert_eq!(rt; layout.usage(0, 65537), None);
+    for (index, found) in [
+        (0, None),
+        (1, control(ControlKind::Switch, 9, 1)),
+        (65535, control(ControlKind::Switch, 9, 0xFFFF)),
+        (65536, None),
+    ] {
+        assert_eq!(rt;
+            layout.control(ControlId { item: 0, index }),
+            found,
+            "{index}"
+        );
+    }
+    assert_eq!(rt; layout.max_events(), 2);
+}
+
+/// A range that is refused at an Input item, each descriptor in two: with a Collection alone taking the range, and with an
+/// Input item behind it that takes it again; and the first usage of the Collection.
+#[rattlefmt::skip]
+const WRONG_RANGES: [(&str, &[u8], &[u8], Option<Usage>); 2] = [
+    ("from page 9 to page 8",
+        &[0x1B, 0x05, 0x00, 0x09, 0x00, 0x2B, 0x06, 0x00, 0x08, 0x00, 0xA1, 0x02, 0x75, 0x01, 0x95, 0x01, 0x81, 0x01, 0xC0],
+        &[0x1B, 0x05, 0x00, 0x09, 0x00, 0x2B, 0x06, 0x00, 0x08, 0x00, 0xA1, 0x02, 0x75, 0x01, 0x95, 0x01, 0x81, 0x01,
+          0x1B, 0x05, 0x00, 0x09, 0x00, 0x2B, 0x06, 0x00, 0x08, 0x00, 0x81, 0x00, 0xC0],
+        Some(Usage { page: 9, id: 5 })),
+    ("from 6 to 5",
+        &[0x1B, 0x06, 0x00, 0x09, 0x00, 0x2B, 0x05, 0x00, 0x09, 0x00, 0xA1, 0x02, 0x75, 0x01, 0x95, 0x01, 0x81, 0x01, 0xC0],
+        &[0x1B, 0x06, 0x00, 0x09, 0x00, 0x2B, 0x05, 0x00, 0x09, 0x00, 0xA1, 0x02, 0x75, 0x01, 0x95, 0x01, 0x81, 0x01,
+          0x1B, 0x06, 0x00, 0x09, 0x00, 0x2B, 0x05, 0x00, 0x09, 0x00, 0x81, 0x00, 0xC0],
+        None),
+];
+
+/// A range over two pages is on its minimum's page where a Collection takes it, and refused at an Input item. The same
+/// holds of a range with its minimum over its maximum, which has no usage.
+#[test]
+fn a_wrong_range_is_refused_at_an_input(rt: HostRuntime) {
+    for (name, taken, refused, first) in WRONG_RANGES {
+        let layout = Layout::parse(rt.alloc(), taken).expect(&rt, "accepted");
+        assert_eq!(rt; layout.items().len(), 1, "{name}");
+        let path = [Collection {
+            kind: 2,
+            usage: first,
+        }];
+        assert_eq!(rt; layout.path(0), path.as_slice(), "{name}");
+        assert_eq!(rt;
+            Layout::parse(rt.alloc(), refused).err(),
+            Some(LayoutFault {
+                cause: Cause::BadUsageRange,
+                at: 28
+            }),
+            "{name}"
+        );
     }
 }
