@@ -88,5 +88,5 @@ locals_added before item old new h is_old adds =
     }
 
 -- the kept item is the one that was read
-pub adds_item : (prefix : ℕ) (item : Item) (usage : NamedUsage) (old new : Locals) → prefix ≡ prefix_of item → usage ≡ named item → AddsLocal prefix usage old new → AddsLocal (prefix_of item) (named item) old new
-adds_item prefix item usage old new p u a = subst (λ n. AddsLocal n (named item) old new) p (subst (λ n. AddsLocal prefix n old new) u a)
+pub adds_item : (prefix : ℕ) (item : Item) (old new : Locals) → prefix ≡ prefix_of item → AddsLocal prefix (named item) old new → AddsLocal (prefix_of item) (named item) old new
+adds_item prefix item old new p a = subst (λ n. AddsLocal n (named item) old new) p a

@@ -77,7 +77,7 @@ pub(crate) struct Locals {
 }
 
 impl Locals {
-    ghost use Rattle.hid_layout.specs.Locals.{AreLocals, AddsLocal};
+    ghost use Rattle.hid_layout.specs.Locals.{AreLocals, AddsLocal, named};
 
     pub(crate) fn new(alloc: Global) -> Result<Locals, AllocError>
         ensures { IfOk result (AreLocals []) }
@@ -120,16 +120,19 @@ impl Locals {
         Ok(())
     }
 
-    fn add(&mut self, prefix: u8, usage: NamedUsage) -> Result<(), AllocError>
-        ensures { OnOk result (AddsLocal prefix usage self.old self.new) }
+    /// Adds the usage that a local item names; another item has none that is read.
+    fn add(&mut self, prefix: u8, item: &Item) -> Result<(), AllocError>
+        requires { IsShort item.now }
+        ensures { OnOk result (AddsLocal prefix (named item.now.bytes.now) self.old self.new) }
     {
         match prefix {
             prefix::USAGE => {
+                let usage = NamedUsage::of(item);
                 self.entries.push((usage, usage))?;
                 Ok(())
             }
-            prefix::USAGE_MINIMUM => self.add_minimum(usage),
-            prefix::USAGE_MAXIMUM => self.add_maximum(usage),
+            prefix::USAGE_MINIMUM => self.add_minimum(NamedUsage::of(item)),
+            prefix::USAGE_MAXIMUM => self.add_maximum(NamedUsage::of(item)),
             _ => Ok(()),
         }
     }
@@ -140,7 +143,7 @@ impl Locals {
         requires prefix { prefix ≡ prefix_of item.now.bytes.now }
         ensures { OnOk result ((before : List Spelled) → is_main item.now.bytes.now ≡ false → AreLocals before self.old → AreLocals (item.now.bytes.now ∷ before) self.new) }
     {
-        self.add(prefix, NamedUsage::of(item))
+        self.add(prefix, item)
     }
 
     /// Ends the locals, at a main item.
