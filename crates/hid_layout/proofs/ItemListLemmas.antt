@@ -1,13 +1,12 @@
 -- The lists of one more item, put behind the others.
-use Rattle.std.proofs.Common.{◌≡◌, ℕ, ◌+◌, List, [], ◌∷◌, ◌++◌, length, map, refl, sym, subst, ap, ◌∙◌, arith, length-append}
+use Rattle.std.proofs.Common.{◌≡◌, ℕ, ◌+◌, List, [], ◌∷◌, ◌++◌, length, map, sym, subst, ap, ◌∙◌, arith, length-append}
 use Rattle.std.proofs.lemmas.List.{map-append}
 use Rattle.hid_layout.specs.declared.collection.Collection.{Collection}
 use Rattle.hid_layout.specs.declared.item_lists.ItemSpans.{ItemSpans}
-use Rattle.hid_layout.specs.declared.span.Span.{Span}
 use Rattle.hid_layout.specs.Usages.{Entry}
 use Rattle.hid_layout.specs.Lists.{lists_at, AreWithin}
 use Rattle.hid_layout.specs.Index.{starts_of}
-use Rattle.hid_layout.specs.ItemLists.{Listed, listed_more, listed_at, entry_spans, path_spans, AreListed}
+use Rattle.hid_layout.specs.ItemLists.{listed_more, listed_at, entry_spans, path_spans, AreListed}
 use Rattle.hid_layout.proofs.ListsLemmas.{lists_more, within_more}
 use Rattle.hid_layout.proofs.StartLemmas.{starts-length}
 

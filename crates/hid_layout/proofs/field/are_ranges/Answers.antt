@@ -1,4 +1,4 @@
-use Rattle.std.proofs.Common.{◌≡◌, ap, sym, ◌∙◌}
+use Rattle.std.proofs.Common.{ap, sym, ◌∙◌}
 use Rattle.hid_layout.specs.Usages.{is_range}
 use Rattle.hid_layout.proofs.Paths.{range_passed, range_failed}
 use Rattle.hid_layout.proofs.field.are_ranges.Goals as goal

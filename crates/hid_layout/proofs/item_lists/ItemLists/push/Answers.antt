@@ -1,9 +1,9 @@
-use Rattle.std.proofs.Common.{◌≡◌, List, map, ◌++◌, [], ◌∷◌, length, sym, ap, ◌∙◌, arith, length-append}
+use Rattle.std.proofs.Common.{◌≡◌, List, map, ◌++◌, [], ◌∷◌, length, ap, ◌∙◌, arith, length-append}
 use Rattle.hid_layout.specs.declared.item_lists.ItemSpans.{ItemSpans}
 use Rattle.hid_layout.specs.Usages.{Entry}
 use Rattle.hid_layout.specs.Locals.{entry_on_page}
 use Rattle.hid_layout.specs.Index.{starts_of}
-use Rattle.hid_layout.specs.ItemLists.{Listed, listed_more, AreListed, listed_at}
+use Rattle.hid_layout.specs.ItemLists.{listed_more, listed_at}
 use Rattle.hid_layout.proofs.ItemListLemmas.{IsBehind, listed_added, still_listed}
 use Rattle.hid_layout.proofs.item_lists.ItemLists.push.Goals as goal
 

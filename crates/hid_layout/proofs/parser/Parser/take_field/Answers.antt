@@ -1,7 +1,7 @@
-use Rattle.std.proofs.Common.{◌≡◌, ℕ, Bool, List, map, refl, ap, subst, sym, ◌∙◌, arith, nat_eq, length}
-use Rattle.hid_layout.specs.Usages.{Entry, entries, are_paired}
+use Rattle.std.proofs.Common.{◌≡◌, ℕ, Bool, List, map, ap, arith, nat_eq, length}
+use Rattle.hid_layout.specs.Usages.{Entry, entries}
 use Rattle.hid_layout.specs.Fields.{fields}
-use Rattle.hid_layout.specs.Locals.{entry_on_page, AreLocals}
+use Rattle.hid_layout.specs.Locals.{entry_on_page}
 use Rattle.hid_layout.specs.declared.parser.Parser.{Parser}
 use Rattle.hid_layout.proofs.Frames.{usages_there, field_is_main}
 use Rattle.hid_layout.proofs.TakingFields.{field_there, field_refused, field_limited, field_taken, paired_there}
