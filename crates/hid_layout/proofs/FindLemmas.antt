@@ -11,11 +11,10 @@ use Rattle.hid_layout.specs.declared.main_item.Shape.{Shape}
 use Rattle.hid_layout.specs.declared.main_item.Shape.TheVariants.{Padding, Variable, Array}
 use Rattle.hid_layout.specs.declared.control.Control.{Control}
 use Rattle.hid_layout.specs.declared.control.ControlKind.{ControlKind}
-use Rattle.hid_layout.specs.Usages.{Entry, entry_count, usage_list}
+use Rattle.hid_layout.specs.Usages.{Entry, entry_count, usage_list, starts_of}
 use Rattle.hid_layout.specs.Fields.{is_padding}
 use Rattle.hid_layout.specs.Layout.{Contents}
 use Rattle.hid_layout.specs.Reports.{IsLayout}
-use Rattle.hid_layout.specs.Index.{starts_of}
 use Rattle.hid_layout.specs.Controls.{Form, Elements, Keys, spread, keys_from, is_key, is_input, Item, items_of, form_at, form_of, control_of, control_of_item, control_of_key}
 use Rattle.hid_layout.specs.declared.control.ControlId.{ControlId}
 use Rattle.hid_layout.specs.Finding.{shown_in, shown_at, holds}

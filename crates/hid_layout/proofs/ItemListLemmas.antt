@@ -3,9 +3,8 @@ use Rattle.std.proofs.Common.{◌≡◌, ℕ, ◌+◌, List, [], ◌∷◌, ◌+
 use Rattle.std.proofs.lemmas.List.{map-append}
 use Rattle.hid_layout.specs.declared.collection.Collection.{Collection}
 use Rattle.hid_layout.specs.declared.item_lists.ItemSpans.{ItemSpans}
-use Rattle.hid_layout.specs.Usages.{Entry}
+use Rattle.hid_layout.specs.Usages.{Entry, starts_of}
 use Rattle.hid_layout.specs.Lists.{lists_at, AreWithin}
-use Rattle.hid_layout.specs.Index.{starts_of}
 use Rattle.hid_layout.specs.ItemLists.{listed_more, listed_at, entry_spans, path_spans, AreListed}
 use Rattle.hid_layout.proofs.ListsLemmas.{lists_more, within_more}
 use Rattle.hid_layout.proofs.StartLemmas.{starts-length}

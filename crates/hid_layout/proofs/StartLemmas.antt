@@ -3,8 +3,7 @@ use Rattle.std.proofs.Common.{◌≡◌, ℕ, zero, suc, ◌+◌, ◌-◌, ◌<�
 use Rattle.std.specs.List.{slice_get}
 use Rattle.std.proofs.lemmas.List.{take-append-drop, take_all, drop_all}
 use Rattle.std.proofs.lemmas.Grind.{flat_map-append}
-use Rattle.hid_layout.specs.Usages.{Entry, entry_count, rising, usage_list}
-use Rattle.hid_layout.specs.Index.{starts_from, starts_of}
+use Rattle.hid_layout.specs.Usages.{Entry, entry_count, rising, usage_list, starts_from, starts_of}
 use Rattle.std.proofs.lemmas.Bool.Decides.{nat_tests}
 use Rattle.hid_layout.proofs.Places.{get_right, rising-length, found, skipped}
 

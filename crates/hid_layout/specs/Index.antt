@@ -2,19 +2,11 @@
 use Rattle.std.specs.Prelude.{◌≡◌, ℕ, ◌+◌, false, ◌==◌, if◌then◌else◌, List, [], ◌∷◌, map, length, slice_get, Some}
 use Rattle.hid_layout.specs.declared.main_item.MainItem.{MainItem}
 use Rattle.hid_layout.specs.declared.sent.Codes.{Codes}
-use Rattle.hid_layout.specs.Usages.{Entry, entry_count, usage_list}
+use Rattle.hid_layout.specs.Usages.{Entry, usage_list}
 use Rattle.hid_layout.specs.Fields.{is_padding}
 use Rattle.hid_layout.specs.Faults.{upward}
 use Rattle.hid_layout.specs.Layout.{Contents}
 use Rattle.hid_layout.specs.Sent.{AreCodes}
-
--- for each range how many usages stand before it
-abbrev pub starts_from : ℕ → List Entry → List ℕ
-starts_from n [] = []
-starts_from n (e ∷ es) = n ∷ starts_from (n + entry_count e) es
-
-abbrev pub starts_of : List Entry → List ℕ
-starts_of es = starts_from 0 es
 
 -- the places of a report's items, from the place i on
 abbrev pub places_from : ℕ → ℕ → List MainItem → List ℕ

@@ -3,9 +3,8 @@ use Rattle.std.specs.Prelude.{◌≡◌, ℕ, List, [], ◌∷◌, ◌++◌, map
 use Rattle.hid_layout.specs.declared.collection.Collection.{Collection}
 use Rattle.hid_layout.specs.declared.item_lists.ItemSpans.{ItemSpans}
 use Rattle.hid_layout.specs.declared.span.Span.{Span}
-use Rattle.hid_layout.specs.Usages.{Entry}
+use Rattle.hid_layout.specs.Usages.{Entry, starts_of}
 use Rattle.hid_layout.specs.Lists.{lists_at, AreWithin}
-use Rattle.hid_layout.specs.Index.{starts_of}
 
 -- for each listed item its usages as ranges, and the collections round it
 pub record Listed : Type 0 where

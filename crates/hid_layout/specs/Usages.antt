@@ -72,3 +72,11 @@ entry_count e = (e.1.id + 1) - e.0.id
 -- the usage list: each range written out, on its minimum's page
 abbrev pub usage_list : List Entry → List Usage
 usage_list es = flat_map (λ e. rising e.0.page e.0.id (entry_count e)) es
+
+-- for each range how many usages stand before it
+abbrev pub starts_from : ℕ → List Entry → List ℕ
+starts_from n [] = []
+starts_from n (e ∷ es) = n ∷ starts_from (n + entry_count e) es
+
+abbrev pub starts_of : List Entry → List ℕ
+starts_of es = starts_from 0 es

@@ -114,7 +114,7 @@ impl MainItem {
     ghost use Rattle.hid_layout.specs.Fields.{is_padding};
     ghost use Rattle.hid_layout.specs.Reports.{HasElements};
     ghost use Rattle.hid_layout.specs.Sent.{AreCodes};
-    ghost use Rattle.hid_layout.specs.Index.{starts_of};
+    ghost use Rattle.hid_layout.specs.Usages.{starts_of};
 
     /// The controls of an item of an Input report, without their usages.
     pub(crate) fn controls(&self, entries: &[(Usage, Usage)], codes: &Codes) -> Controls

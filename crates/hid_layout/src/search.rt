@@ -1,8 +1,7 @@
 //! The usage at a place of a usage list, found by halving.
 
 ghost use Rattle.std.specs.Prelude.{◌≡◌, ◌<◌, ◌≤◌, ◌-◌, length, slice_get, slice_index};
-ghost use Rattle.hid_layout.specs.Usages.{usage_list};
-ghost use Rattle.hid_layout.specs.Index.{starts_of};
+ghost use Rattle.hid_layout.specs.Usages.{usage_list, starts_of};
 ghost use Rattle.hid_layout.specs.Finding.{holds};
 
 use crate::controls::entry_count;

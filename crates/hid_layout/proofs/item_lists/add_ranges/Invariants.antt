@@ -1,7 +1,7 @@
 use Rattle.std.proofs.Common.{◌≡◌, ◌++◌, ◌+◌, ◌*◌, ◌≤◌, take, drop, length, map}
 use Rattle.std.specs.Vec.{vec_len, vec_capacity}
 use Rattle.hid_layout.specs.Locals.{entry_on_page}
-use Rattle.hid_layout.specs.Index.{starts_from}
+use Rattle.hid_layout.specs.Usages.{starts_from}
 use Rattle.hid_layout.proofs.item_lists.add_ranges.Given as goal
 
 -- what was added, with what comes from here on, is all

@@ -1,7 +1,6 @@
 use Rattle.std.proofs.Common.{◌≡◌, ◌≢◌, ◌≤◌, List, ℕ, ◌<◌, ◌+◌, ◌-◌, length, get_or, ap, arith, subst}
 use Rattle.std.specs.Prelude.{slice_index}
-use Rattle.hid_layout.specs.Usages.{Entry}
-use Rattle.hid_layout.specs.Index.{starts_of}
+use Rattle.hid_layout.specs.Usages.{Entry, starts_of}
 use Rattle.hid_layout.proofs.StartLemmas.{starts-length, found_by_start, past_by_start, none_by_start}
 use Rattle.hid_layout.proofs.search.usage_by_starts.Goals as goal
 

@@ -1,8 +1,7 @@
 use Rattle.std.proofs.Common.{◌≡◌, List, map, ◌++◌, [], ◌∷◌, length, ap, ◌∙◌, arith, length-append}
 use Rattle.hid_layout.specs.declared.item_lists.ItemSpans.{ItemSpans}
-use Rattle.hid_layout.specs.Usages.{Entry}
+use Rattle.hid_layout.specs.Usages.{Entry, starts_of}
 use Rattle.hid_layout.specs.Locals.{entry_on_page}
-use Rattle.hid_layout.specs.Index.{starts_of}
 use Rattle.hid_layout.specs.ItemLists.{listed_more, listed_at}
 use Rattle.hid_layout.proofs.ItemListLemmas.{IsBehind, listed_added, still_listed}
 use Rattle.hid_layout.proofs.item_lists.ItemLists.push.Goals as goal

@@ -1,6 +1,6 @@
 use Rattle.std.proofs.Common.{◌≡◌, Some, map, sym, ap, ◌∙◌}
 use Rattle.std.specs.List.{slice_get, slice_range}
-use Rattle.hid_layout.specs.Index.{starts_of}
+use Rattle.hid_layout.specs.Usages.{starts_of}
 use Rattle.hid_layout.specs.ItemLists.{Listed, entry_spans}
 use Rattle.hid_layout.proofs.ListsLemmas.{list_there}
 use Rattle.hid_layout.proofs.item_lists.ItemLists.starts.Goals as goal
