@@ -13,15 +13,15 @@ use Rattle.std.proofs.lemmas.Nat.{shr-shr, shr_le}
 use Rattle.std.specs.Option.{IfSome}
 use Rattle.std.specs.Int.RustNames.{count_ones}
 use Rattle.std.specs.Simd.Lanes.{mask_l}
-use Rattle.std.proofs.lemmas.List.{length-take, length-drop, get_or-drop, get_or-take, take-set-le, drop-set-lt, drop-set-add, get_or-set_same, get_or-set_other, map-id, drop-replicate, length-replicate}
+use Rattle.std.proofs.lemmas.List.{take_all, length-take, length-drop, get_or-drop, get_or-take, take-set-le, drop-set-lt, drop-set-add, get_or-set_same, get_or-set_other, map-id, drop-replicate, length-replicate}
 use Rattle.std.proofs.lemmas.List.Sums.{sum_by-cons, sum_by-take-drop, count_by-le-length}
 use Rattle.std.proofs.lemmas.Simd.{mask_l-lt, bit_mask_l, ones-mask_l}
-use Rattle.std.proofs.lemmas.Nat.Bits.{same_from_bits_below, bit_at-lt, bit_at-zero, bit_at_and, bit_at_not, bit_at_above, bit_at-trailing_zeros}
+use Rattle.std.proofs.lemmas.Nat.Bits.{same_from_bits_below, bit_at-lt, bit_at-zero, bit_at-suc, bit_at_lowest, bit_at_and, bit_at_not, bit_at_above, bit_at-trailing_zeros}
 use Rattle.std.proofs.Math.Pow.{pow_mono}
 use Rattle.std.proofs.lemmas.Bool.{cases_lt, cases_eq}
 use Rattle.hid_cells.specs.Words.{words_in, words_of, bits_in, places_in, AreWords, is_on, is_alone, is_bit, are_alone, IsFirst, FindsFirst}
 
-bits_in-word : (ps : List Bool) → bits_in (length ps) (mask_l ps) ≡ ps
+pub bits_in-word : (ps : List Bool) → bits_in (length ps) (mask_l ps) ≡ ps
 unfolding bits_in
 bits_in-word [] = refl
 bits_in-word (true ∷ ps) =
@@ -32,6 +32,18 @@ bits_in-word (false ∷ ps) =
     let e : ((zero + 2 * mask_l ps) % 2) ≡ 0 = omega arith in
     let h : ((zero + 2 * mask_l ps) / 2) ≡ mask_l ps = omega arith in
     rw (e, h, bits_in-word ps) refl
+
+-- one of the lowest bits of a word
+pub bits_in-at : (n w j : ℕ) → j < n → slice_get (bits_in n w) j ≡ Some (bit_at w j == 1)
+unfolding bits_in
+bits_in-at zero w j h = absurd (omega arith)
+bits_in-at (suc n) w zero h = ap (λ (b : ℕ). Some (b == 1)) (sym (bit_at_lowest w))
+bits_in-at (suc n) w (suc j) h = bits_in-at n (w / 2) j (omega arith) ∙ ap (λ (b : ℕ). Some (b == 1)) (sym (bit_at-suc w j))
+
+pub bits_in-length : (n w : ℕ) → length (bits_in n w) ≡ n
+unfolding bits_in
+bits_in-length zero w = refl
+bits_in-length (suc n) w = ap suc (bits_in-length n (w / 2))
 
 take_drop : {A : Type 0} (n : ℕ) (xs : List A) → take n xs ++ drop n xs ≡ xs
 take_drop zero xs = refl
@@ -47,6 +59,18 @@ places_back (suc k) ps h =
     let d : length ps - 64 ≡ length (drop 64 ps) = sym (length-drop 64 ps) in
     let within : length (drop 64 ps) ≤ 64 * k = omega (arith, length-drop 64 ps) in
     rw (m, d, bits_in-word (take 64 ps), places_back k (drop 64 ps) within) (take_drop 64 ps)
+
+-- Up to 64 places are the lowest bits of their word.
+pub word_keeps : (ps : List Bool) (w : ℕ) → length ps ≤ 64 → slice_get (words_of ps) 0 ≡ Some w → bits_in (length ps) w ≡ ps
+unfolding words_in
+word_keeps ps w few here = of_words (div_ceil (length ps) 64) here
+  where
+    of_words : (k : ℕ) → slice_get (words_in k ps) 0 ≡ Some w → bits_in (length ps) w ≡ ps
+    of_words zero e = absurd (cc)
+    of_words (suc k) e =
+        let is : mask_l (take 64 ps) ≡ w = cc in
+        let all : take 64 ps ≡ ps = take_all 64 ps few in
+        ap (bits_in (length ps)) (sym is ∙ ap mask_l all) ∙ bits_in-word ps
 
 pub words_in-length : (k : ℕ) (ps : List Bool) → length (words_in k ps) ≡ k
 unfolding words_in

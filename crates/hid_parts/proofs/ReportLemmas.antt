@@ -93,7 +93,7 @@ get-last (x ∷ xs) y zero h = absurd (omega arith)
 get-last (x ∷ xs) y (suc j) h = get-last xs y j (omega arith)
 
 -- the number of an element, of all that are read
-numbers_in-at : (bytes : List ℕ) (at w : ℕ) (signed : Bool) (n j : ℕ) → j < n → slice_get (numbers_in bytes at w signed n) j ≡ Some (number_at bytes (at + w * j) w signed)
+pub numbers_in-at : (bytes : List ℕ) (at w : ℕ) (signed : Bool) (n j : ℕ) → j < n → slice_get (numbers_in bytes at w signed n) j ≡ Some (number_at bytes (at + w * j) w signed)
 numbers_in-at bytes at w signed zero j h = absurd (omega arith)
 numbers_in-at bytes at w signed (suc n) j h = elim (cases_lt j n) [
   | inl lt ↦ get-front (numbers_in bytes at w signed n) _ j (omega (arith, numbers_in-length bytes at w signed n)) ∙ numbers_in-at bytes at w signed n j lt

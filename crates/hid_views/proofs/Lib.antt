@@ -5,6 +5,7 @@ pub mod NamedLemmas
 pub mod KeyLemmas
 pub mod PressLemmas
 pub mod TakeLemmas
+pub mod BitLemmas
 pub mod LawLemmas
 pub mod CodePartLemmas
 pub mod NamingLemmas

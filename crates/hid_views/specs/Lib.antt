@@ -6,3 +6,4 @@ pub mod Law
 pub mod Crossing
 pub mod OneReport
 pub mod Boot
+pub mod Bits

@@ -80,7 +80,7 @@ fn switch_event(control: ControlId, usage: Usage, before: bool, after: bool, out
 }
 
 /// The same, of the switch at an index of an item.
-fn tell_switch(
+pub(crate) fn tell_switch(
     layout: &Layout,
     item: usize,
     index: usize,

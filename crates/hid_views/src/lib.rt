@@ -9,6 +9,7 @@
 //! Any bytes give one view and one list of events: `taken` on [`View::take_report`].
 #![tactic(auto)]
 
+mod bits;
 pub mod boot;
 mod differences;
 mod input;

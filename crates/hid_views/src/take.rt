@@ -1,6 +1,6 @@
 //! What a report of any bytes makes of a view, and the events of it.
 
-ghost use Rattle.std.specs.Prelude.{All, ◌≡◌, ◌<◌, ◌≤◌, ◌+◌, ◌*◌, ◌++◌, ℕ, Bool, ℤ, if◌then◌else◌, false, map, length, slice_get, Some, vec_len, vec_capacity};
+ghost use Rattle.std.specs.Prelude.{All, pos, ◌≡◌, ◌<◌, ◌≤◌, ◌+◌, ◌*◌, ◌++◌, ℕ, Bool, ℤ, if◌then◌else◌, false, map, length, slice_get, Some, vec_len, vec_capacity};
 ghost use Rattle.std.specs.List.{list_any, zip};
 ghost use Rattle.hid_layout.specs.Controls.{items_of, form_at, head_of, is_rollover};
 ghost use Rattle.hid_layout.specs.Index.{plan_of};
@@ -15,7 +15,12 @@ ghost use Rattle.hid_views.specs.Events.{usages_at, element_events, key_events, 
 ghost use Rattle.hid_views.specs.Views.{HasNext};
 ghost use Rattle.hid_views.specs.Reading.{is_rollover_at, has_null, read_switch, read_value, names_rollover, named_from, keys_at, read_elements, read_keys, read_named, motion_elements};
 ghost use Rattle.hid_views.specs.Views.{motions_of};
+ghost use Rattle.hid_views.specs.Bits.{read_bits};
+ghost use Rattle.hid_views.specs.Reading.{item_numbers};
+ghost use Rattle.hid_parts.specs.Encoding.{IsData};
+ghost use Rattle.hid_layout.specs.declared.control.ControlKind.TheVariants as ControlKind;
 
+use crate::bits::{are_bits, take_bits};
 use crate::differences::{Bounds, flag_changes, motions, switch_changes, value_changes};
 use crate::read::{place_of, read_keys as read_named_keys, read_switches, read_values};
 use hid_cells::{Cell, Event, Flags, Values, item_at};
@@ -311,6 +316,58 @@ fn take_numbers(
     }
 }
 
+/// Switches of one bit each, as their pattern leaves them, and what they tell.
+fn take_pattern(layout: &Layout, i: usize, pattern: u32, cell: &mut Cell, out: &mut Vec<Event>)
+    requires held { HasRoom (head.Elements ControlKind.Switch (pos 0) (pos 1) (length (usages_at layout.now i))) cell.old }
+    requires few { length (usages_at layout.now i) ≤ 32 }
+    requires room { vec_len out.old + length (element_events i (usages_at layout.now i) cell.old (read_bits pattern cell.old)) ≤ vec_capacity out.old }
+    ensures cell { cell.new ≡ read_bits pattern cell.old }
+    ensures events { out.new.items ≡ out.old.items ++ element_events i (usages_at layout.now i) cell.old cell.new }
+    ensures len { vec_len out.new ≡ vec_len out.old + length (element_events i (usages_at layout.now i) cell.old cell.new) }
+    ensures room { vec_capacity out.new ≡ vec_capacity out.old }
+{
+    match cell {
+        Cell::Pressed(held) => take_bits(layout, i, pattern, held, out),
+        Cell::Vacant | Cell::Holding(_) | Cell::Moved(_) | Cell::RolledOver(_) => {}
+    }
+}
+
+/// What is kept of an item with data once the bytes of its report are read, and what they tell.
+fn take_fields<C: FieldCodec>(
+    layout: &Layout,
+    i: usize,
+    item: &MainItem,
+    bytes: &[u8],
+    numbers: &mut Vec<i64>,
+    cell: &mut Cell,
+    next: &mut Cell,
+    out: &mut Vec<Event>,
+)
+    requires layout { IsLayout layout.now }
+    requires input { IsFormOf layout.now i item.now }
+    requires data { IsData layout.now item.now.report i item.now }
+    requires whole { report_bytes layout.now item.now.report ≤ length bytes.now }
+    requires numbers { 512 ≤ vec_capacity numbers.old }
+    requires held { HasRoom (head_of (form_at (items_of layout.now) i)) cell.old }
+    requires next { HasNext cell.old next.old }
+    requires room { vec_len out.old + length (told_by_numbers layout.now i item.now cell.old (read_by_numbers layout.now i item.now cell.old (item_numbers layout.now bytes.now item.now)) (item_numbers layout.now bytes.now item.now)) ≤ vec_capacity out.old }
+    ensures numbers { vec_capacity numbers.new ≡ vec_capacity numbers.old }
+    ensures cell { cell.new ≡ read_by_numbers layout.now i item.now cell.old (item_numbers layout.now bytes.now item.now) }
+    ensures next { HasNext cell.new next.new }
+    ensures events { out.new.items ≡ out.old.items ++ told_by_numbers layout.now i item.now cell.old cell.new (item_numbers layout.now bytes.now item.now) }
+    ensures len { vec_len out.new ≡ vec_len out.old + length (told_by_numbers layout.now i item.now cell.old cell.new (item_numbers layout.now bytes.now item.now)) }
+    ensures room { vec_capacity out.new ≡ vec_capacity out.old }
+{
+    let at = first_bit(layout) + item.offset as usize;
+    if are_bits(item) {
+        take_pattern(layout, i, C::get(bytes, at, item.count), cell, out);
+    } else {
+        let count = item.count as usize;
+        get_all::<C>(bytes, at, item.size, item.min < 0, count, numbers);
+        take_numbers(layout, i, item, numbers, cell, next, out);
+    }
+}
+
 /// What is kept of a listed item once the bytes of a report are read, and what they tell.
 fn take_item<C: FieldCodec>(
     layout: &Layout,
@@ -338,15 +395,7 @@ fn take_item<C: FieldCodec>(
 {
     let item = item_at(layout, i);
     if is_data(item, report) {
-        get_all::<C>(
-            bytes,
-            first_bit(layout) + item.offset as usize,
-            item.size,
-            item.min < 0,
-            item.count as usize,
-            numbers,
-        );
-        take_numbers(layout, i, item, numbers, cell, next, out);
+        take_fields::<C>(layout, i, item, bytes, numbers, cell, next, out);
     }
 }
 

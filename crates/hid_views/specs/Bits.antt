@@ -1,0 +1,38 @@
+-- Switches of one bit each, side by side: all of them are the pattern of one field (our choice).
+use Rattle.std.specs.Prelude.{ℕ, ◌==◌, ◌&&◌, nat_le, Bool, true, false, List, length, slice_get, Option, Some, None}
+use Rattle.hid_layout.specs.declared.control.ControlKind.{ControlKind}
+use Rattle.hid_layout.specs.declared.control.ControlKind.TheVariants.{Switch, Value, NullValue, Relative}
+use Rattle.hid_layout.specs.declared.main_item.MainItem.{MainItem}
+use Rattle.hid_layout.specs.declared.main_item.Shape.{Shape}
+use Rattle.hid_layout.specs.declared.main_item.Shape.TheVariants.{Padding, Variable, Array}
+use Rattle.hid_layout.specs.Controls.{element_kind}
+use Rattle.hid_cells.specs.declared.cell.Cell.{Cell}
+use Rattle.hid_cells.specs.declared.cell.Cell.TheVariants.{Vacant, Pressed, Holding, Moved, RolledOver}
+use Rattle.hid_cells.specs.Words.{words_of, bits_in}
+
+abbrev pub is_variable : Shape → Bool
+is_variable Variable = true
+is_variable Padding = false
+is_variable Array = false
+
+abbrev pub is_switch : ControlKind → Bool
+is_switch Switch = true
+is_switch Value = false
+is_switch NullValue = false
+is_switch Relative = false
+
+-- the elements of an item are up to 32 switches of one bit each
+abbrev pub are_bits : MainItem → Bool
+are_bits item = is_variable item.shape && (item.size == 1 && (nat_le item.count 32 && is_switch (element_kind item)))
+
+-- what is kept of such an item once its pattern is read
+abbrev pub read_bits : ℕ → Cell → Cell
+read_bits pattern (Pressed bs) = Pressed (bits_in (length bs) pattern)
+read_bits pattern Vacant = Vacant
+read_bits pattern (Holding vs) = Holding vs
+read_bits pattern (Moved ms) = Moved ms
+read_bits pattern (RolledOver bs) = RolledOver bs
+
+-- the pattern is the first word of what is held
+abbrev pub is_first_word : List Bool → ℕ → Bool
+is_first_word bs pattern = elim (slice_get (words_of bs) 0) [ None ↦ false | Some word ↦ word == pattern ]
