@@ -3,8 +3,8 @@ pub mod UsageLemmas
 pub mod ViewLemmas
 pub mod NamedLemmas
 pub mod KeyLemmas
-pub mod PressLemmas
 pub mod TakeLemmas
+pub mod PressLemmas
 pub mod BitLemmas
 pub mod LawLemmas
 pub mod CodePartLemmas

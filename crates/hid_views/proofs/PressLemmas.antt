@@ -1,83 +1,91 @@
--- The keys of an array, by its item and its usage list.
-use Rattle.std.proofs.Common.{◌≡◌, ℕ, ◌<◌, Bool, true, false, cond, List, length, map, take, Option, Some, None, refl, sym, ap, ◌∙◌, subst, arith}
-use Rattle.std.specs.List.{slice_get}
+-- The keys of an array, by its usage list.
+use Rattle.std.proofs.Common.{◌≡◌, ℕ, ◌+◌, ◌<◌, ◌≤◌, ◌&&◌, nat_lt, not, inl, inr, Bool, true, false, List, [], ◌∷◌, ◌++◌, length, map, Option, Some, None, ℤ, pos, ◌+ℤ◌, int_le, refl, sym, ap, ◌∙◌, arith}
+use Rattle.std.specs.List.{list_any, slice_get, slice_set}
 use Rattle.std.specs.Option.{option_map}
-use Rattle.std.proofs.lemmas.List.{length-map, length-take}
+use Rattle.std.proofs.lemmas.Option.{slice_get_within}
+use Rattle.std.proofs.lemmas.Bool.{cases_lt}
+use Rattle.std.proofs.lemmas.Int.{ints}
+use Rattle.std.proofs.lemmas.Bool.Decides.{nat_tests}
 use Rattle.hid_layout.specs.declared.main_item.MainItem.{MainItem}
+use Rattle.hid_layout.specs.declared.usage.Usage.{Usage}
 use Rattle.hid_layout.specs.declared.main_item.Shape.{Shape}
 use Rattle.hid_layout.specs.declared.main_item.Shape.TheVariants.{Padding, Variable, Array}
-use Rattle.hid_layout.specs.declared.usage.Usage.{Usage}
+use Rattle.hid_layout.specs.declared.control.Controls.TheVariants as head
 use Rattle.hid_layout.specs.Usages.{Entry, usage_list}
+use Rattle.hid_views.specs.Taking.{list_at, IsFormOf}
+use Rattle.hid_views.proofs.TakeLemmas.{list_at-is}
 use Rattle.hid_layout.specs.Layout.{Contents}
-use Rattle.hid_layout.specs.Reports.{IsLayout, HasElements, usage_of}
-use Rattle.hid_layout.specs.Controls.{Form, NoControls, Elements, Keys, Key, Item, items_of, item_of, form_of, form_at, is_input, is_key, keys_from}
-use Rattle.hid_layout.specs.Fields.{is_padding}
-use Rattle.hid_layout.proofs.FormLemmas.{key-get, keys_from-length}
-use Rattle.hid_views.specs.Events.{usages_of}
-use Rattle.hid_views.specs.Reading.{keys_of, keys_at}
-use Rattle.hid_cells.proofs.ItemLemmas.{items_from-at, form_at-is, got, same_item}
+use Rattle.hid_layout.specs.Controls.{Form, Key, head_of, form_of, form_at, items_of, is_key, is_encodable, is_rollover}
+use Rattle.hid_layout.proofs.FormLemmas.{key-get, keys-length}
+use Rattle.hid_cells.proofs.CodeLemmas.{both_true}
 use Rattle.hid_cells.proofs.ListLemmas.{map_at}
-use Rattle.hid_views.proofs.UsageLemmas.{usage_of-is, usages_within}
+use Rattle.hid_cells.specs.declared.cell.Cell.{Cell}
+use Rattle.hid_cells.specs.declared.cell.Cell.TheVariants.{Pressed}
+use Rattle.hid_views.specs.Reading.{array_keys, keys_of, keys_at, named_from, names_rollover, read_keys}
+use Rattle.hid_views.proofs.KeyLemmas.{key_added, no_key_added, no_place_added, rollover_named}
 
-form_places : (form : Form) (j : ℕ) → j < length (keys_of form) → j < length (usages_of form)
-form_places NoControls j h = absurd (omega arith)
-form_places (Elements kind least greatest us) j h = absurd (omega arith)
-form_places (Keys elements rolls keys) j h = omega (arith, length-map keys (λ (key : Key). key.usage))
-
-pub key_within : (layout : Contents) (i j : ℕ) → j < length (keys_at layout i) → i < length layout.items
-key_within layout i j h = usages_within layout i j (form_places (form_at (items_of layout) i) j h)
-
--- the item and the usages of the key at a place
-pub record HasKey (layout : Contents) (i j : ℕ) : Type 0 where
-  pub item : MainItem
-  pub entries : List Entry
-  pub listed : slice_get layout.items i ≡ Some item
-  pub entries_there : slice_get layout.entries i ≡ Some entries
-  pub elements : HasElements item
-  pub few : j < 65536
-  pub are : keys_at layout i ≡ keys_from item 0 (take 65536 (usage_list entries))
-
-of_form : (m : MainItem) (us : List Usage) (shape : Shape) (j : ℕ) → j < length (keys_of (form_of m us shape)) → (is_padding shape ≡ false) × (j < 65536) × (keys_of (form_of m us shape) ≡ keys_from m 0 (take 65536 us))
-of_form m us Padding j h = absurd (omega arith)
-of_form m us Variable j h = absurd (omega arith)
-of_form m us Array j h = (refl, omega (arith, keys_from-length m 0 (take 65536 us), length-take 65536 us), refl)
-
-pub key_there : (layout : Contents) (i j : ℕ) → IsLayout layout → j < length (keys_at layout i) → HasKey layout i j
-key_there layout i j laid h =
-    let within = key_within layout i j h in
-    let m = got layout.items i within in
-    let es = got layout.entries i (omega (arith, laid.entries_there)) in
-    let there = items_from-at layout.reports layout.items layout.entries i m.0 es.0 m.1 es.1 in
-    of_item m.0 es.0 m.1 es.1 (is_input layout.reports m.0.report) (form_at-is (items_of layout) i (item_of layout.reports m.0 es.0) there) h
+-- no key stands behind the last place that a key can have
+key_low : (m : MainItem) (p : ℕ) (u : Usage) → is_key m p u ≡ true → p < 65536
+key_low m p u h =
+    let low = (both_true (nat_lt p 65536) _ ((both_true (is_encodable m (m.min +ℤ pos p)) _ h).1)).0 in
+    of_test p low
   where
-    of_item : (m : MainItem) (es : List Entry) → slice_get layout.items i ≡ Some m → slice_get layout.entries i ≡ Some es → (b : Bool)
-        → (let a : Item = record { report = Some m.report; form = form_of m (usage_list es) m.shape } in let z : Item = record { report = None; form = NoControls } in form_at (items_of layout) i ≡ (cond b a z).form)
-        → j < length (keys_at layout i) → HasKey layout i j
-    of_item m es listed there false e k = absurd (omega (arith, ap (λ (f : Form). length (keys_of f)) e))
-    of_item m es listed there true e k =
-        let facts = of_form m (usage_list es) m.shape j (omega (arith, ap (λ (f : Form). length (keys_of f)) e)) in
-        record {
-          item = m;
-          entries = es;
-          listed = listed;
-          entries_there = there;
-          elements = laid.elements i m listed facts.0;
-          few = facts.1;
-          are = ap keys_of e ∙ facts.2;
-        }
+    of_test : (p : ℕ) → nat_lt p 65536 ≡ true → p < 65536
+    of_test p h = grind (arith, nat_tests)
 
--- whether the place is a key, by its usage
-pub pressed_by : (layout : Contents) (i j : ℕ) (m : MainItem) (usage : Usage) → HasKey layout i j → slice_get layout.items i ≡ Some m → usage_of layout i j ≡ Some usage
-    → slice_get (map (λ (key : Key). key.is_switch) (keys_at layout i)) j ≡ Some (is_key m j usage)
-pressed_by layout i j m usage has listed found =
-    let us = usage_list has.entries in
-    let here : slice_get us j ≡ Some usage = sym (usage_of-is layout i has.entries j has.entries_there) ∙ found in
-    let key : Key = record { usage = usage; is_switch = is_key has.item j usage } in
-    let there : slice_get (keys_at layout i) j ≡ Some key =
-    ap (λ (keys : List Key). slice_get keys j) has.are ∙ key-get has.item us j has.few
-    ∙ ap (λ (o : Option Usage). option_map (λ (u : Usage). let k : Key = record { usage = u; is_switch = is_key has.item j u } in k) o) here
-    in
-    map_at (λ (key : Key). key.is_switch) (keys_at layout i) j key there ∙ ap (λ (it : MainItem). Some (is_key it j usage)) (same_item layout i has.item m has.listed listed)
+pub key_place : (m : MainItem) (us : List Usage) (p : ℕ) (u : Usage) → slice_get us p ≡ Some u → is_key m p u ≡ true → p < length (array_keys m us)
+key_place m us p u here on = omega (arith, keys-length m us, slice_get_within us p u here, key_low m p u on)
 
-pub pressed_elements : (layout : Contents) (i j : ℕ) (m : MainItem) → HasKey layout i j → slice_get layout.items i ≡ Some m → HasElements m
-pressed_elements layout i j m has listed = subst HasElements (same_item layout i has.item m has.listed listed) has.elements
+key_here : (m : MainItem) (us : List Usage) (p : ℕ) (u : Usage) → slice_get us p ≡ Some u → p < length (array_keys m us) → slice_get (map (λ (key : Key). key.is_switch) (array_keys m us)) p ≡ Some (is_key m p u)
+key_here m us p u here within =
+    let key : Key = record { usage = u; is_switch = is_key m p u } in
+    let there : slice_get (array_keys m us) p ≡ Some key = key-get m us p (omega (arith, keys-length m us)) ∙ ap (λ (o : Option Usage). option_map (λ (v : Usage). let k : Key = record { usage = v; is_switch = is_key m p v } in k) o) here in
+    map_at (λ (k : Key). k.is_switch) (array_keys m us) p key there
+
+-- a number names the key at its place
+pub pressed : (m : MainItem) (us : List Usage) (vs : List ℤ) (v : ℤ) (p : ℕ) (u : Usage) → slice_get us p ≡ Some u → v ≡ m.min +ℤ pos p → is_key m p u ≡ true
+    → slice_set (named_from m vs 0 (array_keys m us)) p true ≡ named_from m (vs ++ v ∷ []) 0 (array_keys m us)
+pressed m us vs v p u here is on =
+    let within = key_place m us p u here on in
+    key_added m vs v (array_keys m us) p within (key_here m us p u here within ∙ ap (λ (b : Bool). Some b) on) is
+
+-- and none where no key stands there
+pub not_pressed : (m : MainItem) (us : List Usage) (vs : List ℤ) (v : ℤ) (p : ℕ) (u : Usage) → slice_get us p ≡ Some u → v ≡ m.min +ℤ pos p → is_key m p u ≡ false
+    → named_from m vs 0 (array_keys m us) ≡ named_from m (vs ++ v ∷ []) 0 (array_keys m us)
+not_pressed m us vs v p u here is off = elim (cases_lt p (length (array_keys m us))) [
+  | inl within ↦ no_key_added m vs v (array_keys m us) p (key_here m us p u here within ∙ ap (λ (b : Bool). Some b) off) is
+  | inr past ↦
+      no_place_added m vs v (array_keys m us)
+      (λ q low other.
+      let same : q ≡ p = omega (arith, ints) in
+      omega arith)
+]
+
+-- the keys stay where a number names ErrorRollOver, and are named anew elsewhere
+pub keys_stay : (m : MainItem) (us : List Usage) (keys : List Key) (bs : List Bool) (vs : List ℤ) → list_any (names_rollover m us) vs ≡ true → read_keys m us keys (Pressed bs) vs ≡ Pressed bs
+keys_stay m us keys bs vs h = rw h refl
+
+pub keys_named : (m : MainItem) (us : List Usage) (keys : List Key) (bs : List Bool) (vs : List ℤ) → list_any (names_rollover m us) vs ≡ false → read_keys m us keys (Pressed bs) vs ≡ Pressed (named_from m vs 0 keys)
+keys_named m us keys bs vs h = rw h refl
+
+-- whether a number that names a place tells ErrorRollOver
+pub tells : (m : MainItem) (us : List Usage) (v : ℤ) (p : ℕ) (u : Usage) → slice_get us p ≡ Some u → v ≡ m.min +ℤ pos p → names_rollover m us v ≡ (int_le v m.max && is_rollover u)
+tells m us v p u here is = rollover_named m us v p is ∙ ap (λ (o : Option Usage). int_le v m.max && (elim o as (λ _. Bool) [ None ↦ false | Some w ↦ is_rollover w ])) here
+
+pub is_not : (b r : Bool) → r ≡ not b → r ≡ true → b ≡ false
+is_not false r h k = refl
+is_not true r h k = absurd (cc)
+
+pub is_so : (b r : Bool) → r ≡ not b → r ≡ false → b ≡ true
+is_so true r h k = refl
+is_so false r h k = absurd (cc)
+
+-- the keys of a listed array are those of its usages
+pub keys_are : (layout : Contents) (i : ℕ) (m : MainItem) (es : List Entry) (elements : ℕ) (rolls : Bool) (n : ℕ) → IsFormOf layout i m → slice_get layout.entries i ≡ Some es → head.Keys elements rolls n ≡ head_of (form_at (items_of layout) i)
+    → keys_at layout i ≡ array_keys m (usage_list es)
+keys_are layout i m es elements rolls n form there heads = ap keys_of form ∙ of_shape (list_at layout i) m.shape (heads ∙ ap head_of form) ∙ ap (array_keys m) (list_at-is layout i es there)
+  where
+    of_shape : (us : List Usage) (shape : Shape) → head.Keys elements rolls n ≡ head_of (form_of m us shape) → keys_of (form_of m us shape) ≡ array_keys m us
+    of_shape us Padding h = absurd (cc)
+    of_shape us Variable h = absurd (cc)
+    of_shape us Array h = refl

@@ -1,5 +1,5 @@
 -- What a report of any bytes means, by the number of each element. A number out of range is null where the control has null.
-use Rattle.std.specs.Prelude.{ℕ, ◌+◌, ◌*◌, ◌<◌, ◌≤◌, ◌==◌, nat_lt, length, position, Result, Ok, Err, Bool, true, false, ◌&&◌, if◌then◌else◌, List, [], ◌∷◌, map, slice_get, Option, Some, None, ℤ, pos, ◌+ℤ◌}
+use Rattle.std.specs.Prelude.{◌≡◌, ℕ, ◌+◌, ◌*◌, ◌<◌, ◌≤◌, ◌==◌, nat_lt, length, position, Result, Ok, Err, Bool, true, false, ◌&&◌, if◌then◌else◌, List, [], ◌∷◌, map, slice_get, Option, Some, None, ℤ, pos, ◌+ℤ◌}
 use Rattle.std.specs.Ordering.{int_eq}
 use Rattle.std.specs.List.{list_any, zip}
 use Rattle.hid_fields.specs.Value.{is_negative}
@@ -16,7 +16,7 @@ use Rattle.hid_cells.specs.declared.fault.ReportFault.TheVariants.{Short, Unknow
 use Rattle.hid_layout.specs.declared.usage.Usage.{Usage}
 use Rattle.hid_layout.specs.declared.control.ControlKind.{ControlKind}
 use Rattle.hid_layout.specs.declared.control.ControlKind.TheVariants.{Switch, Value, NullValue, Relative}
-use Rattle.hid_layout.specs.Controls.{Form, NoControls, Elements, Keys, Key, is_rollover}
+use Rattle.hid_layout.specs.Controls.{Form, NoControls, Elements, Keys, Key, is_rollover, keys_from, key_places, least_of, greatest_of}
 pub use Rattle.hid_cells.specs.Cells.{is_in, has_null}
 pub use Rattle.hid_layout.specs.Sent.{at_zero, place_named}
 pub use Rattle.hid_parts.specs.Encoding.{is_data_in}
@@ -50,6 +50,14 @@ names_key item vs i = list_any (λ v. int_eq v (item.min +ℤ pos i)) vs
 abbrev pub named_from : MainItem → List ℤ → ℕ → List Key → List Bool
 named_from item vs i [] = []
 named_from item vs i (key ∷ keys) = (key.is_switch && names_key item vs i) ∷ named_from item vs (i + 1) keys
+
+-- the least and the greatest number that an element can carry
+abbrev pub AreBounds : MainItem → ℤ → ℤ → Type 0
+AreBounds item least greatest = (least ≡ least_of item) × (greatest ≡ greatest_of item)
+
+-- the keys of an array with these usages
+abbrev pub array_keys : MainItem → List Usage → List Key
+array_keys item us = keys_from item 0 (key_places us)
 
 -- what is kept of an item in a view once these numbers of its elements are read
 abbrev pub read_elements : ControlKind → ℤ → ℤ → Cell → List ℤ → Cell

@@ -30,7 +30,7 @@ fn usage_place(item: &MainItem, entries: &[(Usage, Usage)], index: usize) -> usi
 }
 
 /// The usage at a place of an item's usage list: a few ranges are walked, more are halved.
-pub(crate) fn listed_usage(layout: &Layout, item: usize, place: usize) -> Option<Usage>
+fn listed_usage(layout: &Layout, item: usize, place: usize) -> Option<Usage>
     requires { item < length layout.now.items }
     ensures { result ≡ usage_of layout.now item place }
 {

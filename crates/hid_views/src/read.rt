@@ -3,13 +3,15 @@
 ghost use Rattle.std.specs.Prelude.{◌≡◌, ◌<◌, ℕ, Bool, map, length, slice_get, Some};
 ghost use Rattle.std.specs.List.{zip};
 ghost use Rattle.std.specs.Prelude.{◌≢◌, ◌≤◌, ◌*◌, ◌+ℤ◌, pos, ◌++◌, [], ◌∷◌, ℤ, List, MatchOption};
-ghost use Rattle.hid_layout.specs.Reports.{HasElements};
-ghost use Rattle.hid_layout.specs.Controls.{is_key, is_encodable, tells_error};
-ghost use Rattle.hid_views.specs.Reading.{keys_at, named_from, read_switch, read_value};
+ghost use Rattle.std.specs.Prelude.{not, true, ◌&&◌, int_le};
+ghost use Rattle.std.specs.List.{list_any};
+ghost use Rattle.hid_layout.specs.Usages.{usage_list};
+ghost use Rattle.hid_layout.specs.Controls.{is_key, is_rollover, tells_error};
+ghost use Rattle.hid_views.specs.Reading.{array_keys, AreBounds, named_from, names_rollover, read_switch, read_value};
 
-use crate::differences::{Bounds, listed_usage};
-use hid_cells::{Flags, Values, item_at};
-use hid_layout::{ControlId, Layout, MAX_KEYS, MainItem, Usage};
+use crate::differences::Bounds;
+use hid_cells::{Flags, Values};
+use hid_layout::{MAX_KEYS, MainItem, Usage, usage_at, usage_count};
 
 fn number_at(numbers: &[i64], index: usize) -> i64
     requires { index < length numbers.now }
@@ -87,7 +89,7 @@ pub(crate) fn read_values(
 }
 
 /// The place that an element of this number names, of so many.
-pub(crate) fn place_of(item: &MainItem, number: &i64, count: usize) -> Option<usize>
+fn place_of(item: &MainItem, number: &i64, count: usize) -> Option<usize>
     requires { count ≤ 64 * 65536 }
     ensures { MatchOption result ((p : ℕ) → p < count → number.now ≢ (item.now.min +ℤ pos p)) (λ p. (p < count) × (number.now ≡ item.now.min +ℤ pos p)) }
 {
@@ -103,23 +105,10 @@ pub(crate) fn place_of(item: &MainItem, number: &i64, count: usize) -> Option<us
     }
 }
 
-/// The number by which an element names a place.
-fn number_of(item: &MainItem, place: usize) -> i64
-    requires elements { HasElements item.now }
-    requires small { place ≤ 65536 }
-    ensures { result ≡ item.now.min +ℤ pos place }
+fn is_rollover(usage: &Usage) -> bool
+    ensures { result ≡ is_rollover usage.now }
 {
-    item.min + place as i64
-}
-
-/// Whether an element can carry the number by which it names a place.
-fn is_encodable(item: &MainItem, place: usize) -> bool
-    requires elements { HasElements item.now }
-    requires small { place ≤ 65536 }
-    ensures { result ≡ is_encodable item.now (item.now.min +ℤ pos place) }
-{
-    let number = number_of(item, place);
-    item.least() <= number && number <= item.greatest()
+    usage.page == 7 && usage.id == 1
 }
 
 fn tells_error(usage: &Usage) -> bool
@@ -128,66 +117,100 @@ fn tells_error(usage: &Usage) -> bool
     usage.page == 7 && (usage.id == 1 || (usage.id == 2 || usage.id == 3))
 }
 
-/// Whether an element can press the key with this usage at a place.
-fn is_pressable(item: &MainItem, place: usize, usage: &Usage) -> bool
-    requires elements { HasElements item.now }
-    requires small { place ≤ 65536 }
+/// Whether an element of this number can press the key with this usage at its place.
+fn is_pressable(item: &MainItem, range: &Bounds, number: &i64, place: usize, usage: &Usage) -> bool
+    requires range { AreBounds item.now range.now.least range.now.greatest }
+    requires number { number.now ≡ item.now.min +ℤ pos place }
     ensures { result ≡ is_key item.now place usage.now }
 {
-    is_encodable(item, place) && (place < MAX_KEYS && (usage.id != 0 && !tells_error(usage)))
+    let is_encodable = range.least <= *number && *number <= range.greatest;
+    is_encodable && (place < MAX_KEYS && (usage.id != 0 && !tells_error(usage)))
 }
 
-/// The same, of a place without a usage.
-fn is_control(layout: &Layout, item: usize, index: usize) -> bool
-    requires { index < length (keys_at layout.now item) }
-    ensures { slice_get (map (λ key. key.is_switch) (keys_at layout.now item)) index ≡ Some result }
-{
-    layout.control(ControlId { item, index }).is_some()
-}
-
-/// Whether an element can press the key at a place.
-fn is_key(layout: &Layout, item: usize, index: usize) -> bool
-    requires { index < length (keys_at layout.now item) }
-    ensures { slice_get (map (λ key. key.is_switch) (keys_at layout.now item)) index ≡ Some result }
-{
-    let main = item_at(layout, item);
-    match listed_usage(layout, item, index) {
-        Some(usage) => is_pressable(main, index, &usage),
-        None => is_control(layout, item, index),
-    }
-}
-
-/// Adds the key that an element of this number names.
-fn add_key(layout: &Layout, i: usize, item: &MainItem, number: &i64, after: &mut Flags)
-    requires places { length (keys_at layout.now i) ≤ 65536 }
-    requires after { length after.old ≡ length (keys_at layout.now i) }
-    ensures keys { (numbers : List ℤ) → after.old ≡ named_from item.now numbers 0 (keys_at layout.now i) → after.new ≡ named_from item.now (numbers ++ number.now ∷ []) 0 (keys_at layout.now i) }
-    ensures len { length after.new ≡ length after.old }
-{
-    match place_of(item, number, after.len()) {
-        Some(place) => {
-            if is_key(layout, i, place) {
-                after.set(place, true);
-            }
-        }
-        None => {}
-    }
-}
-
-/// The keys that these numbers name.
-pub(crate) fn read_keys(
-    layout: &Layout,
-    i: usize,
+/// Adds the key with this usage at the place that an element of this number names.
+fn press(
     item: &MainItem,
-    numbers: &[i64],
+    entries: &[(Usage, Usage)],
+    range: &Bounds,
+    number: &i64,
+    place: usize,
+    usage: &Usage,
     after: &mut Flags,
 )
-    requires places { length (keys_at layout.now i) ≤ 65536 }
-    requires after { length after.old ≡ length (keys_at layout.now i) }
-    ensures { after.new ≡ named_from item.now numbers.now 0 (keys_at layout.now i) }
+    requires range { AreBounds item.now range.now.least range.now.greatest }
+    requires number { number.now ≡ item.now.min +ℤ pos place }
+    requires usage { slice_get (usage_list entries.now) place ≡ Some usage.now }
+    requires after { length after.old ≡ length (array_keys item.now (usage_list entries.now)) }
+    ensures keys { (numbers : List ℤ) → after.old ≡ named_from item.now numbers 0 (array_keys item.now (usage_list entries.now)) → after.new ≡ named_from item.now (numbers ++ number.now ∷ []) 0 (array_keys item.now (usage_list entries.now)) }
+    ensures len { length after.new ≡ length after.old }
 {
+    if is_pressable(item, range, number, place, usage) {
+        after.set(place, true);
+    }
+}
+
+/// Whether an element of this number, which names this usage, tells ErrorRollOver.
+fn tells_rollover(item: &MainItem, number: &i64, usage: &Usage) -> bool
+    ensures { result ≡ (int_le number.now item.now.max && is_rollover usage.now) }
+{
+    *number <= item.max && is_rollover(usage)
+}
+
+/// Adds the key that an element of this number names; false where it names ErrorRollOver.
+fn add_key(
+    item: &MainItem,
+    entries: &[(Usage, Usage)],
+    count: usize,
+    range: &Bounds,
+    number: &i64,
+    after: &mut Flags,
+) -> bool
+    requires count { count ≡ length (usage_list entries.now) }
+    requires few { count ≤ 64 * 65536 }
+    requires range { AreBounds item.now range.now.least range.now.greatest }
+    requires after { length after.old ≡ length (array_keys item.now (usage_list entries.now)) }
+    ensures rolls { result ≡ not (names_rollover item.now (usage_list entries.now) number.now) }
+    ensures keys { (numbers : List ℤ) → result ≡ true → after.old ≡ named_from item.now numbers 0 (array_keys item.now (usage_list entries.now)) → after.new ≡ named_from item.now (numbers ++ number.now ∷ []) 0 (array_keys item.now (usage_list entries.now)) }
+    ensures len { length after.new ≡ length after.old }
+{
+    match place_of(item, number, count) {
+        None => true,
+        Some(place) => match usage_at(entries, place) {
+            None => true,
+            Some(usage) => {
+                if tells_rollover(item, number, &usage) {
+                    false
+                } else {
+                    press(item, entries, range, number, place, &usage, after);
+                    true
+                }
+            }
+        },
+    }
+}
+
+/// The keys that these numbers name; false where one names ErrorRollOver.
+pub(crate) fn read_keys(
+    item: &MainItem,
+    entries: &[(Usage, Usage)],
+    range: &Bounds,
+    numbers: &[i64],
+    after: &mut Flags,
+) -> bool
+    requires entries { length entries.now ≤ 64 }
+    requires range { AreBounds item.now range.now.least range.now.greatest }
+    requires after { length after.old ≡ length (array_keys item.now (usage_list entries.now)) }
+    ensures rolls { result ≡ not (list_any (names_rollover item.now (usage_list entries.now)) numbers.now) }
+    ensures keys { result ≡ true → after.new ≡ named_from item.now numbers.now 0 (array_keys item.now (usage_list entries.now)) }
+    ensures len { length after.new ≡ length after.old }
+{
+    let count = usage_count(entries);
     after.release_all();
     for k in 0..numbers.len() {
-        add_key(layout, i, item, &number_at(numbers, k), after);
+        let number = number_at(numbers, k);
+        if !add_key(item, entries, count, range, &number, after) {
+            return false;
+        }
     }
+    true
 }

@@ -2,18 +2,18 @@
 
 ghost use Rattle.std.specs.Prelude.{All, pos, ◌≡◌, ◌<◌, ◌≤◌, ◌+◌, ◌*◌, ◌++◌, ℕ, Bool, ℤ, if◌then◌else◌, false, map, length, slice_get, Some, vec_len, vec_capacity};
 ghost use Rattle.std.specs.List.{list_any, zip};
-ghost use Rattle.hid_layout.specs.Controls.{items_of, form_at, head_of, is_rollover};
+ghost use Rattle.hid_layout.specs.Controls.{items_of, form_at, head_of};
 ghost use Rattle.hid_layout.specs.Index.{plan_of};
 ghost use Rattle.hid_layout.specs.Usages.{usage_list};
 ghost use Rattle.hid_layout.specs.Fields.{is_padding};
-ghost use Rattle.hid_layout.specs.Reports.{IsLayout, report_bytes};
+ghost use Rattle.hid_layout.specs.Reports.{HasElements, IsLayout, report_bytes};
 ghost use Rattle.hid_views.specs.Taking.{IsFormOf, read_by_numbers, told_by_numbers, read_by_report, told_by_report, read_view, read_events, ArePairs};
 ghost use Rattle.hid_cells.specs.Parts.{IsInput};
 ghost use Rattle.hid_layout.specs.declared.control.Controls.TheVariants as head;
 ghost use Rattle.hid_cells.specs.Cells.{HasRoom, FitsView};
 ghost use Rattle.hid_views.specs.Events.{usages_at, element_events, key_events, switch_events, value_events, ups, downs, HasPlaces};
 ghost use Rattle.hid_views.specs.Views.{HasNext};
-ghost use Rattle.hid_views.specs.Reading.{is_rollover_at, has_null, read_switch, read_value, names_rollover, named_from, keys_at, read_elements, read_keys, read_named, motion_elements};
+ghost use Rattle.hid_views.specs.Reading.{array_keys, AreBounds, has_null, read_switch, read_value, keys_at, read_elements, read_keys, motion_elements};
 ghost use Rattle.hid_views.specs.Views.{motions_of};
 ghost use Rattle.hid_views.specs.Bits.{read_bits};
 ghost use Rattle.hid_views.specs.Reading.{item_numbers};
@@ -22,76 +22,55 @@ ghost use Rattle.hid_layout.specs.declared.control.ControlKind.TheVariants as Co
 
 use crate::bits::{are_bits, take_bits};
 use crate::differences::{Bounds, flag_changes, motions, switch_changes, value_changes};
-use crate::read::{place_of, read_keys as read_named_keys, read_switches, read_values};
+use crate::read::{read_keys as read_named_keys, read_switches, read_values};
 use hid_cells::{Cell, Event, Flags, Values, item_at};
 use hid_fields::FieldCodec;
-use hid_layout::{ControlKind, Controls, Layout, MainItem, Shape, Usage, usage_at, usage_count};
+use hid_layout::{ControlKind, Controls, Layout, MainItem, Shape, Usage};
 use hid_parts::{first_bit, get_all, is_data};
 use std::mem;
 
-fn is_rollover(usage: &Usage) -> bool
-    ensures { result ≡ is_rollover usage.now }
-{
-    usage.page == 7 && usage.id == 1
-}
-
-/// Whether an element of this number names ErrorRollOver, in a list of so many usages.
-fn names_rollover(item: &MainItem, entries: &[(Usage, Usage)], count: usize, number: &i64) -> bool
-    requires count { count ≡ length (usage_list entries.now) }
-    requires few { count ≤ 64 * 65536 }
-    ensures { result ≡ names_rollover item.now (usage_list entries.now) number.now }
-{
-    match place_of(item, number, count) {
-        Some(place) => *number <= item.max && is_rollover_at(entries, place),
-        None => false,
-    }
-}
-
-fn is_rollover_at(entries: &[(Usage, Usage)], place: usize) -> bool
-    ensures { result ≡ is_rollover_at (usage_list entries.now) place }
-{
-    match usage_at(entries, place) {
-        Some(usage) => is_rollover(&usage),
-        None => false,
-    }
-}
-
-/// Whether one of these numbers names ErrorRollOver.
-fn rolls_over(item: &MainItem, entries: &[(Usage, Usage)], numbers: &[i64]) -> bool
-    requires { length entries.now ≤ 64 }
-    ensures { result ≡ list_any (names_rollover item.now (usage_list entries.now)) numbers.now }
-{
-    let count = usage_count(entries);
-    numbers
-        .iter()
-        .any(|number| names_rollover(item, entries, count, number))
-}
-
-/// The held keys of an array, as these numbers leave them, and what they tell.
+/// The held keys of an array, as these numbers leave them, and what they tell. Where one names ErrorRollOver, the keys
+/// stay (HID 1.11, appendix C).
 fn take_flags(
     layout: &Layout,
     i: usize,
     item: &MainItem,
+    entries: &[(Usage, Usage)],
     numbers: &[i64],
     held: &mut Flags,
     named: &mut Flags,
     out: &mut Vec<Event>,
 )
-    requires places { length (keys_at layout.now i) ≤ 65536 }
+    requires elements { HasElements item.now }
+    requires entries { length entries.now ≤ 64 }
+    requires keys { keys_at layout.now i ≡ array_keys item.now (usage_list entries.now) }
     requires usages { length (usages_at layout.now i) ≡ length (keys_at layout.now i) }
     requires held { length held.old ≡ length (keys_at layout.now i) }
     requires named { length named.old ≡ length (keys_at layout.now i) }
-    requires room { vec_len out.old + length (key_events i (usages_at layout.now i) (Cell.Pressed held.old) (Cell.Pressed (named_from item.now numbers.now 0 (keys_at layout.now i)))) ≤ vec_capacity out.old }
-    ensures held { held.new ≡ named_from item.now numbers.now 0 (keys_at layout.now i) }
+    requires room { vec_len out.old + length (key_events i (usages_at layout.now i) (Cell.Pressed held.old) (read_keys item.now (usage_list entries.now) (keys_at layout.now i) (Cell.Pressed held.old) numbers.now)) ≤ vec_capacity out.old }
+    ensures held { Cell.Pressed held.new ≡ read_keys item.now (usage_list entries.now) (keys_at layout.now i) (Cell.Pressed held.old) numbers.now }
     ensures held_len { length held.new ≡ length held.old }
     ensures named_len { length named.new ≡ length held.old }
     ensures events { out.new.items ≡ out.old.items ++ key_events i (usages_at layout.now i) (Cell.Pressed held.old) (Cell.Pressed held.new) }
     ensures len { vec_len out.new ≡ vec_len out.old + length (key_events i (usages_at layout.now i) (Cell.Pressed held.old) (Cell.Pressed held.new)) }
     ensures room { vec_capacity out.new ≡ vec_capacity out.old }
 {
-    read_named_keys(layout, i, item, numbers, named);
-    flag_changes(layout, i, held, named, out);
-    mem::swap(held, named);
+    let range = bounds_of(item);
+    if read_named_keys(item, entries, &range, numbers, named) {
+        flag_changes(layout, i, held, named, out);
+        mem::swap(held, named);
+    }
+}
+
+/// The numbers that an element of an item with data can carry.
+fn bounds_of(item: &MainItem) -> Bounds
+    requires { HasElements item.now }
+    ensures { AreBounds item.now result.least result.greatest }
+{
+    Bounds {
+        least: item.least(),
+        greatest: item.greatest(),
+    }
 }
 
 /// Switches, as these numbers leave them, and what they tell.
@@ -147,37 +126,6 @@ fn take_values(
 }
 
 /// The keys of an array, as these numbers leave them, and what they tell.
-fn take_keys(
-    layout: &Layout,
-    i: usize,
-    item: &MainItem,
-    numbers: &[i64],
-    cell: &mut Cell,
-    next: &mut Cell,
-    out: &mut Vec<Event>,
-)
-    requires places { length (keys_at layout.now i) ≤ 65536 }
-    requires usages { length (usages_at layout.now i) ≡ length (keys_at layout.now i) }
-    requires held { HasPlaces cell.old (length (keys_at layout.now i)) }
-    requires next { HasNext cell.old next.old }
-    requires room { vec_len out.old + length (key_events i (usages_at layout.now i) cell.old (read_named item.now (keys_at layout.now i) cell.old numbers.now)) ≤ vec_capacity out.old }
-    ensures cell { cell.new ≡ read_named item.now (keys_at layout.now i) cell.old numbers.now }
-    ensures next { HasNext cell.new next.new }
-    ensures events { out.new.items ≡ out.old.items ++ key_events i (usages_at layout.now i) cell.old cell.new }
-    ensures len { vec_len out.new ≡ vec_len out.old + length (key_events i (usages_at layout.now i) cell.old cell.new) }
-    ensures room { vec_capacity out.new ≡ vec_capacity out.old }
-{
-    match cell {
-        Cell::Pressed(held) => match next {
-            Cell::Pressed(named) => take_flags(layout, i, item, numbers, held, named, out),
-            Cell::Vacant | Cell::Holding(_) | Cell::Moved(_) | Cell::RolledOver(_) => {}
-        },
-        Cell::Vacant | Cell::Holding(_) | Cell::Moved(_) | Cell::RolledOver(_) => {}
-    }
-}
-
-/// The keys of an array, as these numbers leave them, and what they tell. Where one names ErrorRollOver, the keys stay
-/// (HID 1.11, appendix C).
 fn take_array(
     layout: &Layout,
     i: usize,
@@ -188,8 +136,9 @@ fn take_array(
     next: &mut Cell,
     out: &mut Vec<Event>,
 )
+    requires elements { HasElements item.now }
     requires entries { length entries.now ≤ 64 }
-    requires places { length (keys_at layout.now i) ≤ 65536 }
+    requires keys { keys_at layout.now i ≡ array_keys item.now (usage_list entries.now) }
     requires usages { length (usages_at layout.now i) ≡ length (keys_at layout.now i) }
     requires held { HasPlaces cell.old (length (keys_at layout.now i)) }
     requires next { HasNext cell.old next.old }
@@ -200,8 +149,14 @@ fn take_array(
     ensures len { vec_len out.new ≡ vec_len out.old + length (key_events i (usages_at layout.now i) cell.old cell.new) }
     ensures room { vec_capacity out.new ≡ vec_capacity out.old }
 {
-    if !rolls_over(item, entries, numbers) {
-        take_keys(layout, i, item, numbers, cell, next, out);
+    match cell {
+        Cell::Pressed(held) => match next {
+            Cell::Pressed(named) => {
+                take_flags(layout, i, item, entries, numbers, held, named, out);
+            }
+            Cell::Vacant | Cell::Holding(_) | Cell::Moved(_) | Cell::RolledOver(_) => {}
+        },
+        Cell::Vacant | Cell::Holding(_) | Cell::Moved(_) | Cell::RolledOver(_) => {}
     }
 }
 

@@ -1,19 +1,45 @@
-use Rattle.std.proofs.Common.{◌<◌, ◌∙◌, ap, length, arith, Some, Bool, true}
-use Rattle.std.specs.List.{slice_set}
-use Rattle.hid_views.specs.Reading.{keys_at}
-use Rattle.hid_views.proofs.KeyLemmas.{key_added, no_key_added, no_place_added}
+use Rattle.std.proofs.Common.{◌≡◌, ◌&&◌, ◌∙◌, sym, ap, true, false, not, int_le, length, Some, None, Option, arith, rules}
+use Rattle.std.specs.List.{slice_get}
+use Rattle.hid_layout.specs.declared.usage.Usage.{Usage}
+use Rattle.hid_layout.specs.Usages.{usage_list}
+use Rattle.hid_layout.specs.Controls.{is_rollover}
+use Rattle.hid_layout.proofs.FormLemmas.{keys-length}
+use Rattle.hid_cells.proofs.ItemLemmas.{got}
+use Rattle.hid_views.specs.Reading.{array_keys}
+use Rattle.hid_views.proofs.KeyLemmas.{no_rollover_named, no_place_added}
+use Rattle.hid_views.proofs.PressLemmas.{tells}
 use Rattle.hid_views.proofs.read.add_key.Goals as goal
 
-pub returns-then-is_key-clause-keys : goal.returns-then-is_key-clause-keys
-returns-then-is_key-clause-keys c = λ numbers is.
-    let within : c.in-Some.place < length (keys_at c.args.layout.now c.args.i) = omega (arith, c.in-Some.ensures.0, c.len.ensures, c.requires.after) in
-    c.set.ensures ∙ ap (λ xs. slice_set xs c.in-Some.place true) is
-    ∙ key_added c.args.item.now numbers c.args.number.now (keys_at c.args.layout.now c.args.i) c.in-Some.place within (c.is_key.ensures ∙ ap (λ (b : Bool). Some b) c.if-is_key.true) c.in-Some.ensures.1
-
-pub returns-else-is_key-clause-keys : goal.returns-else-is_key-clause-keys
-returns-else-is_key-clause-keys c = λ numbers is.
-    is ∙ no_key_added c.args.item.now numbers c.args.number.now (keys_at c.args.layout.now c.args.i) c.in-Some.place (c.is_key.ensures ∙ ap (λ (b : Bool). Some b) c.if-is_key.false) c.in-Some.ensures.1
+pub returns-in-None-clause-rolls : goal.returns-in-None-clause-rolls
+returns-in-None-clause-rolls c = ap not (sym (no_rollover_named c.args.item.now (usage_list c.args.entries.now) c.args.number.now (λ p h. c.in-None.ensures p (omega (arith, c.requires.count)))))
 
 pub returns-in-None-clause-keys : goal.returns-in-None-clause-keys
-returns-in-None-clause-keys c = λ numbers is.
-    is ∙ no_place_added c.args.item.now numbers c.args.number.now (keys_at c.args.layout.now c.args.i) (λ p h. c.in-None.ensures p (omega arith))
+returns-in-None-clause-keys c = λ numbers on is.
+    is ∙ no_place_added c.args.item.now numbers c.args.number.now (array_keys c.args.item.now (usage_list c.args.entries.now)) (λ p h. c.in-None.ensures p (omega (arith, keys-length c.args.item.now (usage_list c.args.entries.now), c.requires.count)))
+
+pub returns-in-None-usage_at-clause-rolls : goal.returns-in-None-usage_at-clause-rolls
+returns-in-None-usage_at-clause-rolls c =
+    let there = got (usage_list c.args.entries.now) c.in-Some.place (omega (arith, c.in-Some.ensures.0, c.requires.count)) in
+    let none : None ≡ Some there.0 = sym (sym c.usage_at.ensures ∙ c.in-None-usage_at.is) ∙ there.1 in
+    absurd (cc)
+
+pub returns-in-None-usage_at-clause-keys : goal.returns-in-None-usage_at-clause-keys
+returns-in-None-usage_at-clause-keys c = λ numbers on is.
+    let there = got (usage_list c.args.entries.now) c.in-Some.place (omega (arith, c.in-Some.ensures.0, c.requires.count)) in
+    let none : None ≡ Some there.0 = sym (sym c.usage_at.ensures ∙ c.in-None-usage_at.is) ∙ there.1 in
+    absurd (cc)
+
+pub returns-then-tells_rollover-clause-rolls : goal.returns-then-tells_rollover-clause-rolls
+returns-then-tells_rollover-clause-rolls c =
+    let here : slice_get (usage_list c.args.entries.now) c.in-Some.place ≡ Some c.in-Some-usage_at.usage = sym c.usage_at.ensures ∙ c.in-Some-usage_at.is in
+    let on : (int_le c.args.number.now c.args.item.now.max && is_rollover c.in-Some-usage_at.usage) ≡ true = sym c.tells_rollover.ensures ∙ c.if-tells_rollover.true in
+    ap not (sym (tells c.args.item.now (usage_list c.args.entries.now) c.args.number.now c.in-Some.place c.in-Some-usage_at.usage here c.in-Some.ensures.1 ∙ on))
+
+pub returns-else-tells_rollover-clause-rolls : goal.returns-else-tells_rollover-clause-rolls
+returns-else-tells_rollover-clause-rolls c =
+    let here : slice_get (usage_list c.args.entries.now) c.in-Some.place ≡ Some c.in-Some-usage_at.usage = sym c.usage_at.ensures ∙ c.in-Some-usage_at.is in
+    let off : (int_le c.args.number.now c.args.item.now.max && is_rollover c.in-Some-usage_at.usage) ≡ false = sym c.tells_rollover.ensures ∙ c.if-tells_rollover.false in
+    ap not (sym (tells c.args.item.now (usage_list c.args.entries.now) c.args.number.now c.in-Some.place c.in-Some-usage_at.usage here c.in-Some.ensures.1 ∙ off))
+
+pub returns-else-tells_rollover-clause-keys : goal.returns-else-tells_rollover-clause-keys
+returns-else-tells_rollover-clause-keys c = λ numbers on is. c.press.ensures.keys numbers is

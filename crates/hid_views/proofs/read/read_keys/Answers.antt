@@ -1,24 +1,42 @@
-use Rattle.std.proofs.Common.{◌≡◌, ◌++◌, ◌∷◌, [], ◌∙◌, ℤ, List, to_z, of_z, w64, take, replicate, false, ap, sym, length, rules}
+use Rattle.std.proofs.Common.{◌≡◌, ◌++◌, ◌∷◌, [], ◌∙◌, refl, Some, true, false, not, ℤ, List, to_z, of_z, w64, take, replicate, ap, sym, length, rules}
+use Rattle.std.specs.List.{list_any, slice_get}
 use Rattle.std.proofs.lemmas.Int.{to_z-of_z}
-use Rattle.hid_views.specs.Reading.{keys_at, named_from}
-use Rattle.hid_views.proofs.KeyLemmas.{named_none}
-use Rattle.hid_cells.proofs.ListLemmas.{take_at}
 use Rattle.std.proofs.lemmas.List.{length-replicate}
+use Rattle.hid_layout.specs.Usages.{usage_list}
+use Rattle.hid_cells.proofs.ListLemmas.{take_at}
+use Rattle.hid_cells.proofs.FillLemmas.{any_from_hit, any_from_miss}
+use Rattle.hid_views.specs.Reading.{array_keys, named_from, names_rollover}
+use Rattle.hid_views.proofs.KeyLemmas.{named_none}
+use Rattle.hid_views.proofs.PressLemmas.{is_not, is_so}
 use Rattle.hid_views.proofs.read.read_keys.Goals as goal
 
 pub loop-k-init : goal.loop-k-init
 loop-k-init c = record {
-  so_far = c.release_all.ensures ∙ ap (λ n. replicate n false) c.requires.after ∙ named_none c.args.item.now 0 (keys_at c.args.layout.now c.args.i);
+  so_far = c.release_all.ensures ∙ ap (λ n. replicate n false) c.requires.after ∙ named_none c.args.item.now 0 (array_keys c.args.item.now (usage_list c.args.entries.now));
   len = ap length c.release_all.ensures ∙ length-replicate (length c.args.after.now) false;
+  none = refl;
 }
 
 pub loop-k-preserved : goal.loop-k-preserved
 loop-k-preserved c =
-    let number : to_z w64 (of_z w64 c.number_at.result) ≡ c.number_at.result = search (rules, to_z-of_z) in
+    let us = usage_list c.args.entries.now in
+    let v = to_z w64 (of_z w64 c.number_at-number.result) in
+    let number : v ≡ c.number_at-number.result = search (rules, to_z-of_z) in
+    let here : slice_get c.args.numbers.now c.loop-k.k ≡ Some v = c.number_at-number.ensures ∙ ap (λ (n : ℤ). Some n) (sym number) in
+    let on : c.add_key.result ≡ true = search rules in
+    let off : names_rollover c.args.item.now us v ≡ false = is_not (names_rollover c.args.item.now us v) c.add_key.result c.add_key.ensures.rolls on in
     record {
-      so_far =
-          c.add_key.ensures.keys (take c.loop-k.k c.args.numbers.now) c.loop-k.invariant.so_far
-          ∙ ap (λ (v : ℤ). named_from c.args.item.now (take c.loop-k.k c.args.numbers.now ++ v ∷ []) 0 (keys_at c.args.layout.now c.args.i)) number
-          ∙ ap (λ (vs : List ℤ). named_from c.args.item.now vs 0 (keys_at c.args.layout.now c.args.i)) (sym (take_at c.args.numbers.now c.loop-k.k c.number_at.result c.number_at.ensures));
+      so_far = c.add_key.ensures.keys (take c.loop-k.k c.args.numbers.now) on c.loop-k.invariant.so_far ∙ ap (λ (vs : List ℤ). named_from c.args.item.now vs 0 (array_keys c.args.item.now us)) (sym (take_at c.args.numbers.now c.loop-k.k v here));
       len = c.add_key.ensures.len ∙ c.loop-k.invariant.len;
+      none = sym (any_from_miss (names_rollover c.args.item.now us) c.args.numbers.now c.loop-k.k v here off) ∙ c.loop-k.invariant.none;
     }
+
+pub returns-then-not-add_key-clause-rolls : goal.returns-then-not-add_key-clause-rolls
+returns-then-not-add_key-clause-rolls c =
+    let us = usage_list c.args.entries.now in
+    let v = to_z w64 (of_z w64 c.number_at-number.result) in
+    let number : v ≡ c.number_at-number.result = search (rules, to_z-of_z) in
+    let here : slice_get c.args.numbers.now c.loop-k.k ≡ Some v = c.number_at-number.ensures ∙ ap (λ (n : ℤ). Some n) (sym number) in
+    let no : c.add_key.result ≡ false = search rules in
+    let on : names_rollover c.args.item.now us v ≡ true = is_so (names_rollover c.args.item.now us v) c.add_key.result c.add_key.ensures.rolls no in
+    ap not (sym (sym c.loop-k.invariant.none ∙ any_from_hit (names_rollover c.args.item.now us) c.args.numbers.now c.loop-k.k v here on))

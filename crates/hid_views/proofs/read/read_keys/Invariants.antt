@@ -1,9 +1,14 @@
-use Rattle.std.proofs.Common.{◌≡◌, take, length}
-use Rattle.hid_views.specs.Reading.{keys_at, named_from}
+use Rattle.std.proofs.Common.{◌≡◌, take, drop, length}
+use Rattle.std.specs.List.{list_any}
+use Rattle.hid_layout.specs.Usages.{usage_list}
+use Rattle.hid_views.specs.Reading.{array_keys, named_from, names_rollover}
 use Rattle.hid_views.proofs.read.read_keys.Given as goal
 
 abbrev pub invariant-loop-k : goal.invariant-loop-k
-invariant-loop-k l = record {
-  so_far : l.after ≡ named_from l.item (take l.k l.numbers) 0 (keys_at l.layout l.i);
-  len : length l.after ≡ length l.fn.after;
-}
+invariant-loop-k l =
+    let us = usage_list l.entries in
+    record {
+      so_far : l.after ≡ named_from l.item (take l.k l.numbers) 0 (array_keys l.item us);
+      len : length l.after ≡ length l.fn.after;
+      none : list_any (names_rollover l.item us) (drop l.k l.numbers) ≡ list_any (names_rollover l.item us) l.numbers;
+    }

@@ -1,12 +1,41 @@
-use Rattle.std.proofs.Common.{◌∙◌, ap, sym, length}
-use Rattle.hid_views.specs.Reading.{keys_at}
-use Rattle.hid_views.proofs.NamedLemmas.{named_length}
+use Rattle.std.proofs.Common.{◌≡◌, ◌∙◌, ◌++◌, true, false, Bool, List, ap, sym, length, append-nil, arith, rules}
+use Rattle.std.specs.List.{list_any}
+use Rattle.hid_cells.specs.declared.cell.Cell.{Cell}
+use Rattle.hid_cells.specs.declared.cell.Cell.TheVariants.{Pressed}
+use Rattle.hid_cells.specs.declared.event.Event.{Event}
+use Rattle.hid_layout.specs.Usages.{usage_list}
+use Rattle.hid_layout.specs.Controls.{Key}
+use Rattle.hid_views.specs.Events.{usages_at, key_events}
+use Rattle.hid_views.specs.Reading.{array_keys, keys_at, named_from, names_rollover, read_keys}
+use Rattle.hid_views.proofs.ViewLemmas.{same_keys}
+use Rattle.hid_views.proofs.PressLemmas.{keys_stay, keys_named, is_not, is_so}
 use Rattle.hid_views.proofs.take.take_flags.Goals as goal
 
-pub flag_changes-requires-clause-after : goal.flag_changes-requires-clause-after
-flag_changes-requires-clause-after c =
-    ap length c.read_keys.ensures ∙ named_length c.args.item.now c.args.numbers.now 0 (keys_at c.args.layout.now c.args.i) ∙ sym c.requires.usages
+pub flag_changes-requires-clause-room : goal.flag_changes-requires-clause-room
+flag_changes-requires-clause-room c =
+    let us = usage_list c.args.entries.now in
+    let off : list_any (names_rollover c.args.item.now us) c.args.numbers.now ≡ false = is_not (list_any (names_rollover c.args.item.now us) c.args.numbers.now) c.read_keys.result c.read_keys.ensures.rolls (search rules) in
+    let named : c.read_keys.new.after ≡ named_from c.args.item.now c.args.numbers.now 0 (keys_at c.args.layout.now c.args.i) = c.read_keys.ensures.keys (search rules) ∙ ap (λ (keys : List Key). named_from c.args.item.now c.args.numbers.now 0 keys) (sym c.requires.keys) in
+    let read : read_keys c.args.item.now us (keys_at c.args.layout.now c.args.i) (Pressed c.args.held.now) c.args.numbers.now ≡ Pressed c.read_keys.new.after = keys_named c.args.item.now us (keys_at c.args.layout.now c.args.i) c.args.held.now c.args.numbers.now off ∙ ap Pressed (sym named) in
+    omega (arith, c.requires.room, ap (λ (cell : Cell). length (key_events c.args.i (usages_at c.args.layout.now c.args.i) (Pressed c.args.held.now) cell)) read)
 
-pub returns-clause-held_len : goal.returns-clause-held_len
-returns-clause-held_len c =
-    ap length c.swap.ensures.x_after ∙ ap length c.read_keys.ensures ∙ named_length c.args.item.now c.args.numbers.now 0 (keys_at c.args.layout.now c.args.i) ∙ sym c.requires.held
+pub returns-then-read_keys-clause-held : goal.returns-then-read_keys-clause-held
+returns-then-read_keys-clause-held c =
+    let us = usage_list c.args.entries.now in
+    let off : list_any (names_rollover c.args.item.now us) c.args.numbers.now ≡ false = is_not (list_any (names_rollover c.args.item.now us) c.args.numbers.now) c.read_keys.result c.read_keys.ensures.rolls (search rules) in
+    let named : c.read_keys.new.after ≡ named_from c.args.item.now c.args.numbers.now 0 (keys_at c.args.layout.now c.args.i) = c.read_keys.ensures.keys (search rules) ∙ ap (λ (keys : List Key). named_from c.args.item.now c.args.numbers.now 0 keys) (sym c.requires.keys) in
+    ap Pressed (c.swap.ensures.x_after ∙ named) ∙ sym (keys_named c.args.item.now us (keys_at c.args.layout.now c.args.i) c.args.held.now c.args.numbers.now off)
+
+pub returns-else-read_keys-clause-held : goal.returns-else-read_keys-clause-held
+returns-else-read_keys-clause-held c =
+    let us = usage_list c.args.entries.now in
+    let on : list_any (names_rollover c.args.item.now us) c.args.numbers.now ≡ true = is_so (list_any (names_rollover c.args.item.now us) c.args.numbers.now) c.read_keys.result c.read_keys.ensures.rolls (search rules) in
+    sym (keys_stay c.args.item.now us (keys_at c.args.layout.now c.args.i) c.args.held.now c.args.numbers.now on)
+
+pub returns-else-read_keys-clause-events : goal.returns-else-read_keys-clause-events
+returns-else-read_keys-clause-events c =
+    sym (ap (λ (es : List Event). c.args.out.now.items ++ es) (same_keys c.args.i (usages_at c.args.layout.now c.args.i) (Pressed c.args.held.now)) ∙ append-nil c.args.out.now.items)
+
+pub returns-else-read_keys-clause-len : goal.returns-else-read_keys-clause-len
+returns-else-read_keys-clause-len c =
+    omega (arith, ap (λ (es : List Event). length es) (same_keys c.args.i (usages_at c.args.layout.now c.args.i) (Pressed c.args.held.now)))

@@ -1,6 +1,7 @@
 use Rattle.std.proofs.Common.{◌∙◌, sym}
 use Rattle.std.proofs.lemmas.Option.{slice_get_within}
-use Rattle.hid_views.proofs.TakeLemmas.{usages_count, keys_few}
+use Rattle.hid_views.proofs.TakeLemmas.{usages_count}
+use Rattle.hid_views.proofs.PressLemmas.{keys_are}
 use Rattle.hid_views.proofs.take.take_numbers.Goals as goal
 
 pub take_elements-requires-clause-numbers : goal.take_elements-requires-clause-numbers
@@ -13,5 +14,9 @@ entries-requires c = slice_get_within c.args.layout.now.items c.args.i c.args.it
 pub take_array-requires-clause-entries : goal.take_array-requires-clause-entries
 take_array-requires-clause-entries c = c.requires.layout.few_entries c.args.i c.entries.result.now c.entries.ensures
 
-pub take_array-requires-clause-places : goal.take_array-requires-clause-places
-take_array-requires-clause-places c = keys_few c.args.layout.now c.args.i c.args.item.now c.requires.input
+pub take_array-requires-clause-elements : goal.take_array-requires-clause-elements
+take_array-requires-clause-elements c = c.requires.layout.elements c.args.i c.args.item.now c.requires.listed c.requires.data
+
+pub take_array-requires-clause-keys : goal.take_array-requires-clause-keys
+take_array-requires-clause-keys c =
+    keys_are c.args.layout.now c.args.i c.args.item.now c.entries.result.now _ _ _ c.requires.input c.entries.ensures (sym c.in-Keys.is ∙ c.controls_of.ensures)
