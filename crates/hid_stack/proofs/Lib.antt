@@ -9,3 +9,4 @@ pub mod MotionLemmas
 pub mod SumLemmas
 pub mod RigLemmas
 pub mod AnswerLemmas
+mod Vectors
