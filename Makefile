@@ -37,7 +37,7 @@ examples: $(HIDRUN)
 
 # Runs the mouse example with each of its allocations refused in turn, without a proof. It takes some minutes.
 memory:
-	examples/refuse-memory 51
+	examples/refuse-memory 48
 
 clean:
 	rm -rf bin crates/*/out
