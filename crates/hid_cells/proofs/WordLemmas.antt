@@ -19,6 +19,7 @@ use Rattle.std.proofs.lemmas.Simd.{mask_l-lt, bit_mask_l, ones-mask_l}
 use Rattle.std.proofs.lemmas.Nat.Bits.{same_from_bits_below, bit_at-lt, bit_at-zero, bit_at-suc, bit_at_lowest, bit_at_and, bit_at_not, bit_at_above, bit_at-trailing_zeros}
 use Rattle.std.proofs.Math.Pow.{pow_mono}
 use Rattle.std.proofs.lemmas.Bool.{cases_lt, cases_eq}
+use Rattle.hid_cells.proofs.FillLemmas.{set_length}
 use Rattle.hid_cells.specs.Words.{words_in, words_of, bits_in, places_in, AreWords, is_on, is_alone, is_bit, are_alone, IsFirst, FindsFirst}
 
 pub bits_in-word : (ps : List Bool) → bits_in (length ps) (mask_l ps) ≡ ps
@@ -220,11 +221,6 @@ word_there ws n ps i are e h = let t = told ws n ps are e in omega arith
 
 pub place_read : (ws : List ℕ) (n : ℕ) (ps : List Bool) (i : ℕ) (b : Bool) → AreWords ws n → places_in ws n ≡ ps → i < length ps → b ≡ is_bit ws i → slice_get ps i ≡ Some b
 place_read ws n ps i b are e h is = slice_get-get_or ps i false h ∙ ap Some (sym (unwrap_or-slice_get ps i false) ∙ sym (bit_on_at ws n ps i are e) ∙ sym is)
-
-set_length : {A : Type 0} (xs : List A) (k : ℕ) (v : A) → length (slice_set xs k v) ≡ length xs
-set_length [] k v = refl
-set_length (x ∷ xs) zero v = refl
-set_length (x ∷ xs) (suc k) v = ap suc (set_length xs k v)
 
 -- one place is set by one bit of its word
 pub place_set : (ws : List ℕ) (n : ℕ) (ps : List Bool) (i : ℕ) (p : Bool) (w : ℕ) → AreWords ws n → places_in ws n ≡ ps → i < length ps → w < 2 ^ 64 → bit_at w (i % 64) ≡ cond p 1 0
