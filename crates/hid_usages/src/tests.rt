@@ -4,27 +4,15 @@
 ghost use Rattle.hid_layout.specs.Controls.{items_of};
 ghost use Rattle.hid_cells.specs.Cells.{FitsSnapshot};
 
+use crate::boot::{KEYBOARD, MOUSE};
 use crate::{
     ChangeFault, Event, ReportFault, Shown, Snapshot, View, changes, encode_report,
     has_empty_codes, has_keys, has_zeros, input_report, is_input,
 };
 use hid_fields::{BitCodec, WordCodec};
 use hid_layout::{ControlId, Layout, Usage};
+use std::ops::Range;
 use std::test::Fail;
-
-const KEYBOARD: [u8; 63] = [
-    0x05, 0x01, 0x09, 0x06, 0xA1, 0x01, 0x05, 0x07, 0x19, 0xE0, 0x29, 0xE7, 0x15, 0x00, 0x25, 0x01,
-    0x75, 0x01, 0x95, 0x08, 0x81, 0x02, 0x95, 0x01, 0x75, 0x08, 0x81, 0x01, 0x95, 0x05, 0x75, 0x01,
-    0x05, 0x08, 0x19, 0x01, 0x29, 0x05, 0x91, 0x02, 0x95, 0x01, 0x75, 0x03, 0x91, 0x01, 0x95, 0x06,
-    0x75, 0x08, 0x15, 0x00, 0x25, 0x65, 0x05, 0x07, 0x19, 0x00, 0x29, 0x65, 0x81, 0x00, 0xC0,
-];
-
-const MOUSE: [u8; 50] = [
-    0x05, 0x01, 0x09, 0x02, 0xA1, 0x01, 0x09, 0x01, 0xA1, 0x00, 0x05, 0x09, 0x19, 0x01, 0x29, 0x03,
-    0x15, 0x00, 0x25, 0x01, 0x95, 0x03, 0x75, 0x01, 0x81, 0x02, 0x95, 0x01, 0x75, 0x05, 0x81, 0x01,
-    0x05, 0x01, 0x09, 0x30, 0x09, 0x31, 0x15, 0x81, 0x25, 0x7F, 0x75, 0x08, 0x95, 0x02, 0x81, 0x06,
-    0xC0, 0xC0,
-];
 
 const HAT: [u8; 25] = [
     0x05, 0x01, 0x09, 0x04, 0xA1, 0x01, 0x09, 0x39, 0x15, 0x00, 0x25, 0x07, 0x75, 0x04, 0x95, 0x01,
@@ -163,17 +151,17 @@ fn motion_that_a_field_cannot_carry_stays(rt: HostRuntime) -> Result<(), Fail> {
     Ok(())
 }
 
-/// Presses the six keys behind a.
-fn presses_six(layout: &Layout, keys: &mut Snapshot) -> bool
+/// Presses these keys of the boot keyboard's array, and tells whether each was taken.
+pub(crate) fn presses(layout: &Layout, keys: &mut Snapshot, places: Range<usize>) -> bool
     requires { FitsSnapshot (items_of layout.now) keys.old }
     ensures { FitsSnapshot (items_of layout.now) keys.new }
 {
-    keys.press(layout, at(4, 5)).is_ok()
-        && keys.press(layout, at(4, 6)).is_ok()
-        && keys.press(layout, at(4, 7)).is_ok()
-        && keys.press(layout, at(4, 8)).is_ok()
-        && keys.press(layout, at(4, 9)).is_ok()
-        && keys.press(layout, at(4, 10)).is_ok()
+    for place in places {
+        if keys.press(layout, at(4, place)).is_err() {
+            return false;
+        }
+    }
+    true
 }
 
 #[test]
@@ -187,7 +175,7 @@ fn reports_show_their_parts(rt: HostRuntime) -> Result<(), Fail> {
     keys.shown(&layout, 0, &mut parts);
     let one = encode_report::<WordCodec>(&layout, 0, &parts);
     assert_eq!(rt; one.as_slice(), [0x02, 0, 0x04, 0, 0, 0, 0, 0].as_slice());
-    assert!(rt; presses_six(&layout, &mut keys));
+    assert!(rt; presses(&layout, &mut keys, 5..11));
     keys.shown(&layout, 0, &mut parts);
     let seven = encode_report::<BitCodec>(&layout, 0, &parts);
     assert_eq!(rt;
@@ -268,7 +256,7 @@ fn keys_are_kept_as_words(rt: HostRuntime) -> Result<(), Fail> {
     let layout = Layout::parse(rt.alloc(), &KEYBOARD)?;
     let mut keys = Snapshot::blank(rt.alloc(), &layout)?;
     assert_eq!(rt; keys.press(&layout, at(4, 4)), Ok(()), "a");
-    assert!(rt; presses_six(&layout, &mut keys));
+    assert!(rt; presses(&layout, &mut keys, 5..11));
     assert!(rt; has_keys(&layout, 4));
     assert_eq!(rt; keys.key_words(&layout, 4), [0x7F0, 0].as_slice());
     Ok(())
