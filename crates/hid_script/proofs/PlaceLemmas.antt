@@ -15,11 +15,11 @@ use Rattle.hid_script.specs.declared.fault.Summary.{Summary}
 use Rattle.hid_script.specs.Words.{words_of}
 use Rattle.hid_script.specs.Meaning.{meaning_of, words_said}
 use Rattle.hid_script.specs.declared.fault.Options.{Options}
-use Rattle.hid_script.specs.Session.{Session, Outcome, accepted, refused, at_first}
+use Rattle.hid_script.specs.Session.{Session, accepted, refused, at_first}
 use Rattle.hid_script.specs.declared.line.Line.{Line}
 use Rattle.hid_script.specs.Session.{Repeats}
 use Rattle.hid_script.specs.Telling.{LineTells, LineBegins, BeginsMeant, Means}
-use Rattle.hid_script.specs.Run.{Ending, Refusal, Want, Cut, Silence, ending_of, EndsAs, Ends, FirstTells, FirstBegins, AllTell, RunsTo, Finishes, AppendsScript}
+use Rattle.hid_script.specs.Run.{Silence, ending_of, EndsAs, Ends, FirstTells, FirstBegins, AllTell, RunsTo, Finishes, AppendsScript}
 use Rattle.hid_script.specs.Place.{Place, IsUnbroken, lines_at, Writes, Advances, RunsFrom, Takes}
 
 -- ---- lines

@@ -1,10 +1,8 @@
 -- A part that is told some times over.
-use Rattle.std.proofs.Common.{◌≡◌, ◌⊎◌, ℕ, zero, suc, ◌+◌, ◌<◌, ◌≤◌, List, [], ◌++◌, refl, sym, ap, ◌∙◌, subst, inl, inr, arith, append-nil, append_assoc, Result, Ok, Err, Option, IsErrAnd}
-use Rattle.std.specs.Io.KnownBytes.{Appends}
+use Rattle.std.proofs.Common.{◌≡◌, ℕ, zero, suc, ◌<◌, List, [], ◌++◌, refl, sym, ap, ◌∙◌, subst, inl, inr, arith, append-nil, append_assoc, Result, Ok, Err, IsErrAnd}
 use Rattle.hid_script.specs.declared.fault.Cause.{Cause}
-use Rattle.hid_script.specs.Session.{Session, Outcome, accepted, after_text, Joins, Repeats}
+use Rattle.hid_script.specs.Session.{Session, Outcome, accepted, Repeats}
 use Rattle.hid_script.specs.Telling.{Begins}
-use Rattle.hid_script.specs.Output.{IsFront}
 use Rattle.hid_script.specs.Run.{Ending, Refusal, Want, Cut, Silence, ending_of, EndsAs, Ends}
 use Rattle.hid_script.specs.Place.{IsBegun, OnceEndsAs, WritesOnce, Writes}
 

@@ -1,6 +1,6 @@
 -- What was written of a line.
 use Rattle.std.proofs.Common.{◌≡◌, ◌⊎◌, ℕ, ◌+◌, ◌≤◌, Bool, true, false, nat_lt, cond, List, [], ◌∷◌, ◌++◌, ◌-◌, length, refl, sym, ap, ◌∙◌, subst, inl, inr, Result, Ok, Err, Option, None, Some, OnOk, IfErr, IsErrAnd, arith}
-use Rattle.std.specs.Prelude.{position, if◌then◌else◌, slice_get}
+use Rattle.std.specs.Prelude.{position, slice_get}
 use Rattle.std.specs.Io.KnownBytes.{Appends}
 use Rattle.std.proofs.KnownBytes.{Appends-nil}
 use Rattle.std.proofs.lemmas.Bool.{ltb-false, cond-false, ne_eqb}
@@ -37,8 +37,8 @@ use Rattle.hid_script.specs.LayoutText.{layout_text}
 use Rattle.hid_script.specs.ValuesText.{values_text}
 use Rattle.hid_script.specs.StepText.{step_text}
 use Rattle.hid_script.specs.Session.{Session, Outcome, accepted, refused}
-use Rattle.hid_script.specs.Steps.{TellsLayout, TellsValues, TellsDevice, TellsStep, TellsFound, TellsChange, lays_out, valued, read_report, refuses_step, config_of, attaches, counted, stepped, change_of}
-use Rattle.hid_script.specs.Telling.{Begins, BeginsMeant, LineTells, LineBegins, Means, CarriesOut, cause_from, cause_of, stack_cause}
+use Rattle.hid_script.specs.Steps.{TellsLayout, TellsValues, TellsDevice, TellsStep, TellsChange, lays_out, valued, read_report, refuses_step, config_of, attaches, counted, stepped, change_of}
+use Rattle.hid_script.specs.Telling.{BeginsMeant, LineTells, LineBegins, Means, CarriesOut, cause_from, cause_of, stack_cause}
 use Rattle.hid_script.specs.Output.{AppendsFront}
 use Rattle.hid_script.specs.Run.{Ending, Refusal, Want, Cut, Silence, ending_of, EndsAs, Ends}
 use Rattle.hid_script.specs.Place.{AppendsTold, AppendsOnce, OnceEndsAs, IsBegun}

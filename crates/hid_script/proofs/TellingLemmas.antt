@@ -1,5 +1,5 @@
 -- A line tells one thing, and begins with a front of it.
-use Rattle.std.proofs.Common.{◌≡◌, ℕ, zero, suc, ◌≤◌, List, [], ◌∷◌, ◌++◌, length, refl, sym, ap, ◌∙◌, subst, inl, inr, arith, append_assoc, Option, None, Some, Result, Ok, Err}
+use Rattle.std.proofs.Common.{◌≡◌, ℕ, zero, suc, ◌≤◌, List, [], ◌∷◌, ◌++◌, length, refl, sym, ap, ◌∙◌, subst, inl, inr, arith, append_assoc, Option, Some, Result, Ok, Err}
 use Rattle.std.specs.Prelude.{slice_get}
 use Rattle.hid_layout.specs.declared.fault.LayoutFault.{LayoutFault}
 use Rattle.hid_layout.specs.declared.usage.Usage.{Usage}
@@ -8,11 +8,10 @@ use Rattle.hid_layout.specs.Layout.{Contents, layout_of}
 use Rattle.hid_layout.specs.Laws.{HasOneReading, AcceptsNoRefused, HasOneCause, HasOnePlace}
 use Rattle.hid_device.specs.declared.config.Boot.{Boot}
 use Rattle.hid_stack.specs.declared.fault.StackFault.{StackFault}
-use Rattle.hid_stack.specs.declared.fault.StackFault.TheVariants as stack
 use Rattle.hid_stack.specs.declared.step.Step.{Step}
 use Rattle.hid_stack.specs.declared.step.Step.TheVariants.{Change}
 use Rattle.hid_stack.specs.declared.step.Step.TheVariants as step
-use Rattle.hid_stack.specs.Members.{Member, fresh_member, refusal}
+use Rattle.hid_stack.specs.Members.{Member, fresh_member}
 use Rattle.hid_script.specs.declared.fault.Cause.{Cause}
 use Rattle.hid_script.specs.declared.wanted.Wanted.{Wanted}
 use Rattle.hid_script.specs.declared.wanted.Wanted.TheVariants as wanted
@@ -22,7 +21,7 @@ use Rattle.hid_script.specs.Meaning.{meaning_of}
 use Rattle.hid_script.specs.Output.{IsFront}
 use Rattle.hid_script.specs.Session.{Session, Outcome, accepted, after_text, Joins, Repeats}
 use Rattle.hid_script.specs.Steps.{TellsLayout, TellsDevice, TellsStep, TellsFound, TellsChange, lays_out, refuses_layout, attaches, stepped, refuses_step, config_of, change_of}
-use Rattle.hid_script.specs.Telling.{Once, times, Means, LineTells, LineBegins, BeginsMeant, Begins}
+use Rattle.hid_script.specs.Telling.{Once, times, Means, LineTells, LineBegins, BeginsMeant}
 use Rattle.hid_script.specs.Run.{AllTell}
 use Rattle.hid_stack.specs.Laws.{TellsOneThing, FindsOneControl, AttachesOneDevice}
 use Rattle.hid_stack.specs.declared.rig.TheConstants.{MAX_DEVICES}

@@ -1,5 +1,5 @@
 -- What the parts of a script tell: layouts, values, devices, and steps of the bus.
-use Rattle.std.specs.Prelude.{◌≡◌, ◌≢◌, ◌⊎◌, ◌∷◌, ◌++◌, ℕ, ◌+◌, ◌-◌, ◌^◌, min, Bool, List, [], length, if◌then◌else◌, Option, None, Some, Result, Ok, Err}
+use Rattle.std.specs.Prelude.{◌≡◌, ◌≢◌, ◌⊎◌, ◌∷◌, ◌++◌, ℕ, ◌+◌, ◌-◌, ◌^◌, min, List, [], length, if◌then◌else◌, Option, None, Some, Result, Ok, Err}
 use Rattle.hid_layout.specs.Items.{Item}
 use Rattle.hid_layout.specs.Layout.{Contents, layout_of}
 use Rattle.hid_layout.specs.Faults.{Accepts, Refuses}
@@ -21,7 +21,6 @@ use Rattle.hid_stack.specs.Tells.{Tells}
 use Rattle.hid_stack.specs.declared.rig.TheConstants.{MAX_DEVICES}
 use Rattle.hid_stack.specs.declared.fault.StackFault.TheVariants as stack
 use Rattle.hid_stack.specs.Attaching.{Attaches, Finds}
-use Rattle.hid_script.specs.declared.fault.Cause.{Cause}
 use Rattle.hid_script.specs.declared.fault.Cause.TheVariants as causes
 use Rattle.hid_script.specs.declared.fault.StepFault.TheVariants as faults
 use Rattle.hid_script.specs.declared.wanted.Wanted.{Wanted}

@@ -83,7 +83,8 @@ impl Script {
     pub fn finish<W: Write>(&mut self, writer: &mut W) -> Result<Summary, ScriptFault>
         requires { self.old.lines < 2 ^ 64 - 1 }
         ensures ran { AppendsRun (W.contents writer.old) (W.contents writer.new) (place_of self.old) result }
-        ensures count { IfOk result (λ summary. summary.lines ≤ self.old.lines + 1) }
+        ensures counted { IfOk result (λ summary. summary.lines ≡ self.new.lines) }
+        ensures count { self.new.lines ≤ self.old.lines + 1 }
     {
         if self.begun.is_empty() {
             return Ok(self.summary());

@@ -1,5 +1,5 @@
 use Rattle.std.proofs.Common.{refl}
-use Rattle.hid_script.proofs.PlaceLemmas.{flushed_run, never_flushed}
+use Rattle.hid_script.proofs.PlaceLemmas.{never_flushed}
 use Rattle.hid_script.proofs.whole.run.Goals as goal
 
 pub returns-in-Err-flushed : goal.returns-in-Err-flushed
