@@ -86,6 +86,10 @@ keys_from item i (u ∷ us) = record { usage = u; is_switch = is_key item i u } 
 abbrev pub key_places : List Usage → List Usage
 key_places us = take MAX_KEYS us
 
+-- the keys of an array with these usages
+abbrev pub array_keys : MainItem → List Usage → List Key
+array_keys item us = keys_from item 0 (key_places us)
+
 -- the least place, from i on, that an element can carry and that names ErrorRollOver
 unfoldable pub rollover_from : MainItem → ℕ → List Usage → Option ℕ
 rollover_from item i [] = None
@@ -98,7 +102,7 @@ has_place (Some i) = true
 abbrev pub form_of : MainItem → List Usage → Shape → Form
 form_of item us Padding = NoControls
 form_of item us Variable = Elements (element_kind item) (least_of item) (greatest_of item) (spread item.count us)
-form_of item us Array = Keys item.count (has_place (rollover_from item 0 us)) (keys_from item 0 (key_places us))
+form_of item us Array = Keys item.count (has_place (rollover_from item 0 us)) (array_keys item us)
 
 -- whether an item stands in an Input report
 abbrev pub is_input_report : Option Report → Bool

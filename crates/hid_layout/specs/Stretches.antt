@@ -20,9 +20,6 @@ is_nothing place (Some u) = not (is_named place u)
 abbrev pub usage_behind : Usage → ℕ → ℕ → Usage
 usage_behind low start place = record { page = low.page; id = low.id + (place - start) }
 
-abbrev pub tells_error_at : Usage → ℕ → ℕ → Bool
-tells_error_at low start place = tells_error (usage_behind low start place)
-
 -- of a range: the first place from one on that names nothing, or its end, or a place behind that itself
 pub record IsFirstNothing (low : Usage) (start from end place : ℕ) : Type 0 where
   pub low_bound : from ≤ place

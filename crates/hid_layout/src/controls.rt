@@ -4,7 +4,7 @@ ghost use Rattle.std.specs.Prelude.{◌≡◌, false, ◌<◌, ◌≤◌, ◌*�
 ghost use Rattle.hid_layout.specs.Usages.{entry_count, usage_list};
 ghost use Rattle.hid_layout.specs.Flags.{has_flag};
 ghost use Rattle.hid_layout.specs.Faults.{least_value, greatest_value};
-ghost use Rattle.hid_layout.specs.Controls.{least_of, greatest_of, is_encodable, has_outside, element_kind, is_rollover, tells_error, is_key};
+ghost use Rattle.hid_layout.specs.Controls.{least_of, greatest_of, is_encodable, has_outside, element_kind, is_key};
 
 use crate::control::{Control, ControlKind, Controls};
 use crate::limits::{MAX_ENTRIES, MAX_KEYS, MAX_WIDTH};
@@ -97,15 +97,6 @@ impl MainItem {
         } else {
             ControlKind::Value
         }
-    }
-}
-
-impl Usage {
-    /// Whether it tells an error of a keyboard: ErrorRollOver, POSTFail or ErrorUndefined.
-    fn tells_error(self) -> bool
-        ensures { result ≡ tells_error self }
-    {
-        self.page == 7 && (self.id == 1 || (self.id == 2 || self.id == 3))
     }
 }
 

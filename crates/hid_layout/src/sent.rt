@@ -15,18 +15,9 @@ ghost use Rattle.hid_layout.specs.Sent.{AreCodes, names_nothing as names_nothing
 use crate::controls::entry_count;
 use crate::limits::{MAX_ENTRIES, MAX_KEYS};
 use crate::main_item::MainItem;
-use crate::usage::Usage;
+use crate::usage::{ERROR_ROLL_OVER, FIRST_KEY, KEYBOARD, Usage};
 use crate::values::{greatest_value, least_value};
 use hid_fields::{null_pattern, to_value};
-
-/// The page of keyboards (HID Usage Tables, Keyboard/Keypad Page).
-const KEYBOARD: u16 = 0x07;
-
-/// The usage ID ErrorRollOver of that page; POSTFail and ErrorUndefined follow it.
-const ERROR_ROLL_OVER: u16 = 0x01;
-
-/// The first usage ID of that page that is a key.
-const FIRST_KEY: u16 = 0x04;
 
 /// The numbers by which elements tell what no key and no value tells; where an item has no such number, none.
 #[derive(Clone, Copy, Debug, PartialEq, Eq)]
@@ -47,21 +38,22 @@ struct Stretch {
     start: usize,
     end: usize,
     ghost small: { end < 2 ^ 40 },
+    ghost ids: { low.id + (end - start) ≤ 2 ^ 16 },
 }
 
 impl Stretch {
-    ghost use Rattle.hid_layout.specs.Stretches.{IsFirstNothing, tells_error_at};
+    ghost use Rattle.hid_layout.specs.Stretches.{IsFirstNothing, usage_behind};
 
-    /// Whether the usage at a place tells an error of a keyboard.
-    fn tells_error(&self, place: usize) -> bool
-        requires { self.now.start ≤ place }
-        ensures { result ≡ tells_error_at self.now.low self.now.start place }
+    /// The usage at a place.
+    fn usage(&self, place: usize) -> Usage
+        requires low { self.now.start ≤ place }
+        requires high { place < self.now.end }
+        ensures { result ≡ usage_behind self.now.low self.now.start place }
     {
-        let after = place - self.start;
-        self.low.page == KEYBOARD
-            && after < FIRST_KEY as usize
-            && ERROR_ROLL_OVER as usize <= self.low.id as usize + after
-            && self.low.id as usize + after < FIRST_KEY as usize
+        Usage {
+            page: self.low.page,
+            id: self.low.id + (place - self.start) as u16,
+        }
     }
 
     /// The first place from one on that names neither a key nor an error, or the end, or where it is behind the end,
@@ -77,7 +69,7 @@ impl Stretch {
         if next >= self.end {
             return self.end;
         }
-        if !self.tells_error(next) {
+        if !self.usage(next).tells_error() {
             return next;
         }
         self.end

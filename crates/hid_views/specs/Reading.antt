@@ -16,7 +16,8 @@ use Rattle.hid_cells.specs.declared.fault.ReportFault.TheVariants.{Short, Unknow
 use Rattle.hid_layout.specs.declared.usage.Usage.{Usage}
 use Rattle.hid_layout.specs.declared.control.ControlKind.{ControlKind}
 use Rattle.hid_layout.specs.declared.control.ControlKind.TheVariants.{Switch, Value, NullValue, Relative}
-use Rattle.hid_layout.specs.Controls.{Form, NoControls, Elements, Keys, Key, is_rollover, keys_from, key_places, least_of, greatest_of}
+use Rattle.hid_layout.specs.Controls.{Form, NoControls, Elements, Keys, Key, is_rollover, least_of, greatest_of}
+pub use Rattle.hid_layout.specs.Controls.{array_keys}
 pub use Rattle.hid_cells.specs.Cells.{is_in, has_null}
 pub use Rattle.hid_layout.specs.Sent.{at_zero, place_named}
 pub use Rattle.hid_parts.specs.Encoding.{is_data_in}
@@ -54,10 +55,6 @@ named_from item vs i (key ∷ keys) = (key.is_switch && names_key item vs i) ∷
 -- the least and the greatest number that an element can carry
 abbrev pub AreBounds : MainItem → ℤ → ℤ → Type 0
 AreBounds item least greatest = (least ≡ least_of item) × (greatest ≡ greatest_of item)
-
--- the keys of an array with these usages
-abbrev pub array_keys : MainItem → List Usage → List Key
-array_keys item us = keys_from item 0 (key_places us)
 
 -- what is kept of an item in a view once these numbers of its elements are read
 abbrev pub read_elements : ControlKind → ℤ → ℤ → Cell → List ℤ → Cell

@@ -6,7 +6,7 @@ ghost use Rattle.std.specs.Prelude.{◌≢◌, ◌≤◌, ◌*◌, ◌+ℤ◌, p
 ghost use Rattle.std.specs.Prelude.{not, true, ◌&&◌, int_le};
 ghost use Rattle.std.specs.List.{list_any};
 ghost use Rattle.hid_layout.specs.Usages.{usage_list};
-ghost use Rattle.hid_layout.specs.Controls.{is_key, is_rollover, tells_error};
+ghost use Rattle.hid_layout.specs.Controls.{is_key, is_rollover};
 ghost use Rattle.hid_views.specs.Reading.{array_keys, AreBounds, named_from, names_rollover, read_switch, read_value};
 
 use crate::differences::Bounds;
@@ -105,18 +105,6 @@ fn place_of(item: &MainItem, number: &i64, count: usize) -> Option<usize>
     }
 }
 
-fn is_rollover(usage: &Usage) -> bool
-    ensures { result ≡ is_rollover usage.now }
-{
-    usage.page == 7 && usage.id == 1
-}
-
-fn tells_error(usage: &Usage) -> bool
-    ensures { result ≡ tells_error usage.now }
-{
-    usage.page == 7 && (usage.id == 1 || (usage.id == 2 || usage.id == 3))
-}
-
 /// Whether an element of this number can press the key with this usage at its place.
 fn is_pressable(item: &MainItem, range: &Bounds, number: &i64, place: usize, usage: &Usage) -> bool
     requires range { AreBounds item.now range.now.least range.now.greatest }
@@ -124,7 +112,7 @@ fn is_pressable(item: &MainItem, range: &Bounds, number: &i64, place: usize, usa
     ensures { result ≡ is_key item.now place usage.now }
 {
     let is_encodable = range.least <= *number && *number <= range.greatest;
-    is_encodable && (place < MAX_KEYS && (usage.id != 0 && !tells_error(usage)))
+    is_encodable && (place < MAX_KEYS && (usage.id != 0 && !usage.tells_error()))
 }
 
 /// Adds the key with this usage at the place that an element of this number names.
@@ -153,7 +141,7 @@ fn press(
 fn tells_rollover(item: &MainItem, number: &i64, usage: &Usage) -> bool
     ensures { result ≡ (int_le number.now item.now.max && is_rollover usage.now) }
 {
-    *number <= item.max && is_rollover(usage)
+    *number <= item.max && usage.is_rollover()
 }
 
 /// Adds the key that an element of this number names; false where it names ErrorRollOver.
