@@ -22,7 +22,7 @@ use Rattle.hid_layout.specs.Faults.{least_value, greatest_value}
 use Rattle.hid_layout.specs.Flags.{has_flag, RELATIVE, NULL_STATE}
 use Rattle.hid_layout.specs.Fields.{is_padding}
 use Rattle.hid_layout.specs.Reports.{HasElements}
-use Rattle.hid_layout.specs.Controls.{Elements, Keys, least_of, greatest_of, is_encodable, element_kind, has_outside, spread, keys_from, key_places, rollover_from, is_rollover, form_of, head_of}
+use Rattle.hid_layout.specs.Controls.{Elements, Keys, least_of, greatest_of, is_encodable, element_kind, has_outside, spread, keys_from, key_places, rollover_from, is_rollover, form_of, head_of, array_keys}
 use Rattle.hid_cells.specs.declared.cell.Cell.{Cell}
 use Rattle.hid_cells.specs.declared.cell.Cell.TheVariants.{Vacant, Pressed, Holding, Moved, RolledOver}
 use Rattle.hid_cells.specs.Cells.{is_in, pressed_count, are_values, are_motions, are_pressable, HasRoom, InPart}
@@ -219,8 +219,8 @@ elements_send m us Relative (Holding vs) has some is room ok = absurd room
 elements_send m us Relative (RolledOver vs) has some is room ok = absurd room
 
 keys_send : (m : MainItem) (us : List Usage) (rolls : Bool) (cell : Cell) → HasElements m
-    → HasRoom (head_of (Keys m.count rolls (keys_from m 0 (key_places us)))) cell → InPart (Keys m.count rolls (keys_from m 0 (key_places us))) cell
-    → CanSend m (sent m us (Keys m.count rolls (keys_from m 0 (key_places us))) cell)
+    → HasRoom (head_of (Keys m.count rolls (array_keys m us))) cell → InPart (Keys m.count rolls (array_keys m us)) cell
+    → CanSend m (sent m us (Keys m.count rolls (array_keys m us)) cell)
 keys_send m us rolls (Pressed ps) has room ok =
     let rest = m.count - pressed_count ps in
     let code = or_zero (empty_number m us) in
@@ -244,7 +244,7 @@ can_send m us Padding cell data_ has some room ok = absurd (cc)
 can_send m us Variable cell data_ has some room ok = elements_send m us (element_kind m) cell has some refl room ok
 can_send m us Array cell data_ has some room ok = keys_send m us _ cell has room ok
 
-pub places_few : (m : MainItem) (us : List Usage) → length (keys_from m 0 (key_places us)) ≤ 65536
+pub places_few : (m : MainItem) (us : List Usage) → length (array_keys m us) ≤ 65536
 places_few m us = omega (arith, keys_from-length m 0 (key_places us), length-take 65536 us)
 
 -- no cell of an item has more places than an array may

@@ -23,7 +23,7 @@ use Rattle.hid_layout.specs.Faults.{least_value, greatest_value}
 use Rattle.hid_layout.specs.Flags.{has_flag, RELATIVE, NULL_STATE}
 use Rattle.hid_layout.specs.Fields.{is_padding}
 use Rattle.hid_layout.specs.Reports.{HasElements}
-use Rattle.hid_layout.specs.Controls.{Elements, Keys, least_of, greatest_of, is_encodable, has_outside, element_kind, is_key, tells_error, is_rollover, keys_from, key_places, rollover_from, has_place, form_of, head_of, spread}
+use Rattle.hid_layout.specs.Controls.{Elements, Keys, least_of, greatest_of, is_encodable, has_outside, element_kind, is_key, tells_error, is_rollover, keys_from, key_places, rollover_from, has_place, form_of, head_of, spread, array_keys}
 use Rattle.hid_layout.specs.Sent.{is_in, at_zero, place_named, number_of, first_passing, least_pattern, names_nothing, null_number, empty_number, rollover_number}
 use Rattle.hid_layout.proofs.PatternLemmas.{greatest_at, least_at, plain, low, high}
 use Rattle.hid_cells.specs.declared.cell.Cell.{Cell}
@@ -307,8 +307,8 @@ stands_first n us = λ j u h. let e : 0 + j ≡ j = omega arith in rw e (first n
     first (suc n) (x ∷ us) (suc j) u h = first n us j u h
 
 keys_part : (m : MainItem) (us : List Usage) (cell : Cell) → HasElements m → is_some (empty_number m us) ≡ true
-    → HasRoom (head_of (Keys m.count (has_place (rollover_from m 0 us)) (keys_from m 0 (key_places us)))) cell → InPart (Keys m.count (has_place (rollover_from m 0 us)) (keys_from m 0 (key_places us))) cell
-    → IsPart m us (Keys m.count (has_place (rollover_from m 0 us)) (keys_from m 0 (key_places us))) cell
+    → HasRoom (head_of (Keys m.count (has_place (rollover_from m 0 us)) (array_keys m us))) cell → InPart (Keys m.count (has_place (rollover_from m 0 us)) (array_keys m us)) cell
+    → IsPart m us (Keys m.count (has_place (rollover_from m 0 us)) (array_keys m us)) cell
 keys_part m us Vacant has there room ok = absurd room
 keys_part m us (Holding vs) has there room ok = absurd room
 keys_part m us (Moved ms) has there room ok = absurd room

@@ -13,7 +13,7 @@ use Rattle.hid_layout.specs.Usages.{Entry, usage_list}
 use Rattle.hid_layout.specs.Fields.{is_padding}
 use Rattle.hid_layout.specs.Layout.{Contents}
 use Rattle.hid_layout.specs.Reports.{IsLayout, HasElements}
-use Rattle.hid_layout.specs.Controls.{Form, NoControls, Elements, Keys, Item, items_of, item_of, form_of, form_at, head_of, key_places, keys_from}
+use Rattle.hid_layout.specs.Controls.{Form, NoControls, Elements, Keys, Item, items_of, item_of, form_of, form_at, head_of, array_keys}
 use Rattle.hid_views.specs.Events.{usages_of, usages_at}
 use Rattle.hid_views.specs.Reading.{keys_of, keys_at}
 use Rattle.hid_views.specs.Taking.{list_at, IsFormOf, read_by_report, told_by_report, read_from, told_from, read_view, read_events, ArePairs}
@@ -218,7 +218,7 @@ pub read_cell_fits : (m : MainItem) (us : List Usage) (shape : Shape) (cell : Ce
     → HasRoom (head_of (form_of m us shape)) (read_cell m us (form_of m us shape) cell vs) × InView (form_of m us shape) (read_cell m us (form_of m us shape) cell vs)
 read_cell_fits m us Padding cell vs data_ some h room ok = absurd (cc)
 read_cell_fits m us Variable cell vs data_ some h room ok = (read_elements_room (element_kind m) (least_of m) (greatest_of m) _ cell vs (h ∙ sym (spread-length m.count us some)) room, tt)
-read_cell_fits m us Array cell vs data_ some h room ok = read_keys_fits m us m.count (has_place (rollover_from m 0 us)) (keys_from m 0 (key_places us)) cell vs h room ok
+read_cell_fits m us Array cell vs data_ some h room ok = read_keys_fits m us m.count (has_place (rollover_from m 0 us)) (array_keys m us) cell vs h room ok
 
 -- the events of what is read of an item are few
 elements_few : (i : ℕ) (us : List Usage) (kind : ControlKind) (least greatest : ℤ) (b a : Cell) (vs : List ℤ) → HasRoom (head.Elements kind least greatest (length us)) b → length (element_events i us b a) + length (motions_of i us (motion_elements kind least greatest vs)) ≤ length us

@@ -10,7 +10,7 @@ ghost use Rattle.hid_views.specs.Views.{value_in, changes_between};
 
 use crate::differences::all_changes;
 use crate::input::input_report;
-use crate::take::take_items;
+use crate::take::{Received, take_items};
 use hid_cells::{Cell, Event, MemoryFault, ReportFault, blank_cells, key_words, plan_of};
 use hid_fields::FieldCodec;
 use hid_layout::{ControlId, Layout};
@@ -84,11 +84,14 @@ impl View {
         match input_report(layout, bytes) {
             Ok(report) => {
                 let places = plan_of(layout, report);
-                take_items::<C>(
+                let received = Received {
                     layout,
                     report,
-                    places,
                     bytes,
+                };
+                take_items::<C>(
+                    &received,
+                    places,
                     &mut self.numbers,
                     &mut self.cells,
                     &mut self.nexts,

@@ -12,80 +12,80 @@ use Rattle.hid_parts.proofs.NumberLemmas.{numbers_in-length}
 use Rattle.hid_views.proofs.take.take_fields.Goals as goal
 
 pub are_bits-requires : goal.are_bits-requires
-are_bits-requires g c = c.requires.layout.elements c.args.i c.args.item.now c.requires.data.listed c.requires.data.no_padding
+are_bits-requires g c = c.requires.layout.elements c.args.listed.now.place c.args.listed.now.item.now c.requires.data.listed c.requires.data.no_padding
 
 pub get_all-requires-clause-some : goal.get_all-requires-clause-some
-get_all-requires-clause-some g c = (c.requires.layout.elements c.args.i c.args.item.now c.requires.data.listed c.requires.data.no_padding).some_bits
+get_all-requires-clause-some g c = (c.requires.layout.elements c.args.listed.now.place c.args.listed.now.item.now c.requires.data.listed c.requires.data.no_padding).some_bits
 
 pub get_all-requires-clause-width : goal.get_all-requires-clause-width
-get_all-requires-clause-width g c = (c.requires.layout.elements c.args.i c.args.item.now c.requires.data.listed c.requires.data.no_padding).narrow
+get_all-requires-clause-width g c = (c.requires.layout.elements c.args.listed.now.place c.args.listed.now.item.now c.requires.data.listed c.requires.data.no_padding).narrow
 
 pub get_all-requires-clause-few : goal.get_all-requires-clause-few
-get_all-requires-clause-few g c = (c.requires.layout.elements c.args.i c.args.item.now c.requires.data.listed c.requires.data.no_padding).few
+get_all-requires-clause-few g c = (c.requires.layout.elements c.args.listed.now.place c.args.listed.now.item.now c.requires.data.listed c.requires.data.no_padding).few
 
 pub get_all-requires-clause-inside : goal.get_all-requires-clause-inside
 get_all-requires-clause-inside g c =
-    let inside = place_inside c.args.layout.now c.args.item.now.report c.args.i c.args.item.now c.requires.layout c.requires.data in
+    let inside = place_inside c.args.listed.now.layout.now c.args.listed.now.item.now.report c.args.listed.now.place c.args.listed.now.item.now c.requires.layout c.requires.data in
     omega (arith, c.first_bit.ensures.value, c.requires.whole)
 
 pub get_all-requires-clause-short : goal.get_all-requires-clause-short
 get_all-requires-clause-short g c =
-    let inside = place_inside c.args.layout.now c.args.item.now.report c.args.i c.args.item.now c.requires.layout c.requires.data in
-    omega (arith, c.first_bit.ensures.value, c.requires.layout.short c.args.item.now.report)
+    let inside = place_inside c.args.listed.now.layout.now c.args.listed.now.item.now.report c.args.listed.now.place c.args.listed.now.item.now c.requires.layout c.requires.data in
+    omega (arith, c.first_bit.ensures.value, c.requires.layout.short c.args.listed.now.item.now.report)
 
 pub get_all-requires-clause-room : goal.get_all-requires-clause-room
 get_all-requires-clause-room g c =
-    let few = (c.requires.layout.elements c.args.i c.args.item.now c.requires.data.listed c.requires.data.no_padding).few in
+    let few = (c.requires.layout.elements c.args.listed.now.place c.args.listed.now.item.now c.requires.data.listed c.requires.data.no_padding).few in
     omega (arith, few, c.requires.numbers)
 
 pub take_numbers-requires-clause-numbers : goal.take_numbers-requires-clause-numbers
 take_numbers-requires-clause-numbers g c =
     let same : length c.deref.result.now ≡ length c.get_all.new.numbers.items = search rules in
-    same ∙ ap length c.get_all.ensures.items ∙ numbers_in-length c.args.bytes.now _ c.args.item.now.size _ c.args.item.now.count
+    same ∙ ap length c.get_all.ensures.items ∙ numbers_in-length c.args.bytes.now _ c.args.listed.now.item.now.size _ c.args.listed.now.item.now.count
 
 pub get-requires-clause-some : goal.get-requires-clause-some
-get-requires-clause-some g c = (c.requires.layout.elements c.args.i c.args.item.now c.requires.data.listed c.requires.data.no_padding).some
+get-requires-clause-some g c = (c.requires.layout.elements c.args.listed.now.place c.args.listed.now.item.now c.requires.data.listed c.requires.data.no_padding).some
 
 pub get-requires-clause-width : goal.get-requires-clause-width
 get-requires-clause-width g c =
-    let on : are_bits c.args.item.now ≡ true = search rules in
-    let few = (has_bits c.args.item.now on).few in
+    let on : are_bits c.args.listed.now.item.now ≡ true = search rules in
+    let few = (has_bits c.args.listed.now.item.now on).few in
     omega arith
 
 pub get-requires-clause-inside : goal.get-requires-clause-inside
 get-requires-clause-inside g c =
-    let on : are_bits c.args.item.now ≡ true = search rules in
-    let size = (has_bits c.args.item.now on).size in
-    let inside = place_inside c.args.layout.now c.args.item.now.report c.args.i c.args.item.now c.requires.layout c.requires.data in
-    let product : c.args.item.now.size * c.args.item.now.count ≡ 1 * c.args.item.now.count = ap (λ (n : ℕ). n * c.args.item.now.count) size in
+    let on : are_bits c.args.listed.now.item.now ≡ true = search rules in
+    let size = (has_bits c.args.listed.now.item.now on).size in
+    let inside = place_inside c.args.listed.now.layout.now c.args.listed.now.item.now.report c.args.listed.now.place c.args.listed.now.item.now c.requires.layout c.requires.data in
+    let product : c.args.listed.now.item.now.size * c.args.listed.now.item.now.count ≡ 1 * c.args.listed.now.item.now.count = ap (λ (n : ℕ). n * c.args.listed.now.item.now.count) size in
     omega (arith, c.first_bit.ensures.value, c.requires.whole)
 
 pub take_pattern-requires-clause-held : goal.take_pattern-requires-clause-held
 take_pattern-requires-clause-held g c =
-    let on : are_bits c.args.item.now ≡ true = search rules in
-    (reads_as_bits c.args.layout.now c.args.bytes.now c.args.i c.args.item.now c.args.cell.now c.requires.layout c.requires.data.listed c.requires.input (has_bits c.args.item.now on) c.requires.held).room
+    let on : are_bits c.args.listed.now.item.now ≡ true = search rules in
+    (reads_as_bits c.args.listed.now.layout.now c.args.bytes.now c.args.listed.now.place c.args.listed.now.item.now c.args.cell.now c.requires.layout c.requires.data.listed c.requires.input (has_bits c.args.listed.now.item.now on) c.requires.held).room
 
 pub take_pattern-requires-clause-few : goal.take_pattern-requires-clause-few
 take_pattern-requires-clause-few g c =
-    let on : are_bits c.args.item.now ≡ true = search rules in
-    let bits = has_bits c.args.item.now on in
-    let reads = reads_as_bits c.args.layout.now c.args.bytes.now c.args.i c.args.item.now c.args.cell.now c.requires.layout c.requires.data.listed c.requires.input bits c.requires.held in
+    let on : are_bits c.args.listed.now.item.now ≡ true = search rules in
+    let bits = has_bits c.args.listed.now.item.now on in
+    let reads = reads_as_bits c.args.listed.now.layout.now c.args.bytes.now c.args.listed.now.place c.args.listed.now.item.now c.args.cell.now c.requires.layout c.requires.data.listed c.requires.input bits c.requires.held in
     omega (arith, reads.places, bits.few)
 
 pub take_pattern-requires-clause-room : goal.take_pattern-requires-clause-room
 take_pattern-requires-clause-room g c =
-    let on : are_bits c.args.item.now ≡ true = search rules in
-    let reads = reads_as_bits c.args.layout.now c.args.bytes.now c.args.i c.args.item.now c.args.cell.now c.requires.layout c.requires.data.listed c.requires.input (has_bits c.args.item.now on) c.requires.held in
-    let pattern : c.get.result ≡ pattern_in c.args.layout.now c.args.bytes.now c.args.item.now = search rules in
+    let on : are_bits c.args.listed.now.item.now ≡ true = search rules in
+    let reads = reads_as_bits c.args.listed.now.layout.now c.args.bytes.now c.args.listed.now.place c.args.listed.now.item.now c.args.cell.now c.requires.layout c.requires.data.listed c.requires.input (has_bits c.args.listed.now.item.now on) c.requires.held in
+    let pattern : c.get.result ≡ pattern_in c.args.listed.now.layout.now c.args.bytes.now c.args.listed.now.item.now = search rules in
     let read = ap (λ (p : ℕ). read_bits p c.args.cell.now) pattern ∙ reads.read in
-    let told = ap (λ (a : Cell). element_events c.args.i (usages_at c.args.layout.now c.args.i) c.args.cell.now a) read ∙ reads.told (read_by_numbers c.args.layout.now c.args.i c.args.item.now c.args.cell.now (item_numbers c.args.layout.now c.args.bytes.now c.args.item.now)) in
+    let told = ap (λ (a : Cell). element_events c.args.listed.now.place (usages_at c.args.listed.now.layout.now c.args.listed.now.place) c.args.cell.now a) read ∙ reads.told (read_by_numbers c.args.listed.now.layout.now c.args.listed.now.place c.args.listed.now.item.now c.args.cell.now (item_numbers c.args.listed.now.layout.now c.args.bytes.now c.args.listed.now.item.now)) in
     omega (arith, ap (λ (es : List Event). length es) told, c.requires.room)
 
 pub returns-then-are_bits-clause-cell : goal.returns-then-are_bits-clause-cell
 returns-then-are_bits-clause-cell g c =
-    let on : are_bits c.args.item.now ≡ true = search rules in
-    let reads = reads_as_bits c.args.layout.now c.args.bytes.now c.args.i c.args.item.now c.args.cell.now c.requires.layout c.requires.data.listed c.requires.input (has_bits c.args.item.now on) c.requires.held in
-    let pattern : c.get.result ≡ pattern_in c.args.layout.now c.args.bytes.now c.args.item.now = search rules in
+    let on : are_bits c.args.listed.now.item.now ≡ true = search rules in
+    let reads = reads_as_bits c.args.listed.now.layout.now c.args.bytes.now c.args.listed.now.place c.args.listed.now.item.now c.args.cell.now c.requires.layout c.requires.data.listed c.requires.input (has_bits c.args.listed.now.item.now on) c.requires.held in
+    let pattern : c.get.result ≡ pattern_in c.args.listed.now.layout.now c.args.bytes.now c.args.listed.now.item.now = search rules in
     c.take_pattern.ensures.cell ∙ ap (λ (p : ℕ). read_bits p c.args.cell.now) pattern ∙ reads.read
 
 pub returns-then-are_bits-clause-next : goal.returns-then-are_bits-clause-next
@@ -94,12 +94,12 @@ returns-then-are_bits-clause-next g c =
 
 pub returns-then-are_bits-clause-events : goal.returns-then-are_bits-clause-events
 returns-then-are_bits-clause-events g c =
-    let on : are_bits c.args.item.now ≡ true = search rules in
-    let reads = reads_as_bits c.args.layout.now c.args.bytes.now c.args.i c.args.item.now c.args.cell.now c.requires.layout c.requires.data.listed c.requires.input (has_bits c.args.item.now on) c.requires.held in
+    let on : are_bits c.args.listed.now.item.now ≡ true = search rules in
+    let reads = reads_as_bits c.args.listed.now.layout.now c.args.bytes.now c.args.listed.now.place c.args.listed.now.item.now c.args.cell.now c.requires.layout c.requires.data.listed c.requires.input (has_bits c.args.listed.now.item.now on) c.requires.held in
     c.take_pattern.ensures.events ∙ ap (λ (es : List Event). c.args.out.now.items ++ es) (reads.told c.take_pattern.new.cell)
 
 pub returns-then-are_bits-clause-len : goal.returns-then-are_bits-clause-len
 returns-then-are_bits-clause-len g c =
-    let on : are_bits c.args.item.now ≡ true = search rules in
-    let reads = reads_as_bits c.args.layout.now c.args.bytes.now c.args.i c.args.item.now c.args.cell.now c.requires.layout c.requires.data.listed c.requires.input (has_bits c.args.item.now on) c.requires.held in
+    let on : are_bits c.args.listed.now.item.now ≡ true = search rules in
+    let reads = reads_as_bits c.args.listed.now.layout.now c.args.bytes.now c.args.listed.now.place c.args.listed.now.item.now c.args.cell.now c.requires.layout c.requires.data.listed c.requires.input (has_bits c.args.listed.now.item.now on) c.requires.held in
     c.take_pattern.ensures.len ∙ ap (λ (es : List Event). vec_len c.args.out.now + length es) (reads.told c.take_pattern.new.cell)

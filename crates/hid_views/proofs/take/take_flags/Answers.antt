@@ -14,28 +14,28 @@ use Rattle.hid_views.proofs.take.take_flags.Goals as goal
 pub flag_changes-requires-clause-room : goal.flag_changes-requires-clause-room
 flag_changes-requires-clause-room c =
     let us = usage_list c.args.entries.now in
-    let off : list_any (names_rollover c.args.item.now us) c.args.numbers.now ≡ false = is_not (list_any (names_rollover c.args.item.now us) c.args.numbers.now) c.read_keys.result c.read_keys.ensures.rolls (search rules) in
-    let named : c.read_keys.new.after ≡ named_from c.args.item.now c.args.numbers.now 0 (keys_at c.args.layout.now c.args.i) = c.read_keys.ensures.keys (search rules) ∙ ap (λ (keys : List Key). named_from c.args.item.now c.args.numbers.now 0 keys) (sym c.requires.keys) in
-    let read : read_keys c.args.item.now us (keys_at c.args.layout.now c.args.i) (Pressed c.args.held.now) c.args.numbers.now ≡ Pressed c.read_keys.new.after = keys_named c.args.item.now us (keys_at c.args.layout.now c.args.i) c.args.held.now c.args.numbers.now off ∙ ap Pressed (sym named) in
-    omega (arith, c.requires.room, ap (λ (cell : Cell). length (key_events c.args.i (usages_at c.args.layout.now c.args.i) (Pressed c.args.held.now) cell)) read)
+    let off : list_any (names_rollover c.args.listed.now.item.now us) c.args.numbers.now ≡ false = is_not (list_any (names_rollover c.args.listed.now.item.now us) c.args.numbers.now) c.read_keys.result c.read_keys.ensures.rolls (search rules) in
+    let named : c.read_keys.new.after ≡ named_from c.args.listed.now.item.now c.args.numbers.now 0 (keys_at c.args.listed.now.layout.now c.args.listed.now.place) = c.read_keys.ensures.keys (search rules) ∙ ap (λ (keys : List Key). named_from c.args.listed.now.item.now c.args.numbers.now 0 keys) (sym c.requires.keys) in
+    let read : read_keys c.args.listed.now.item.now us (keys_at c.args.listed.now.layout.now c.args.listed.now.place) (Pressed c.args.held.now) c.args.numbers.now ≡ Pressed c.read_keys.new.after = keys_named c.args.listed.now.item.now us (keys_at c.args.listed.now.layout.now c.args.listed.now.place) c.args.held.now c.args.numbers.now off ∙ ap Pressed (sym named) in
+    omega (arith, c.requires.room, ap (λ (cell : Cell). length (key_events c.args.listed.now.place (usages_at c.args.listed.now.layout.now c.args.listed.now.place) (Pressed c.args.held.now) cell)) read)
 
 pub returns-then-read_keys-clause-held : goal.returns-then-read_keys-clause-held
 returns-then-read_keys-clause-held c =
     let us = usage_list c.args.entries.now in
-    let off : list_any (names_rollover c.args.item.now us) c.args.numbers.now ≡ false = is_not (list_any (names_rollover c.args.item.now us) c.args.numbers.now) c.read_keys.result c.read_keys.ensures.rolls (search rules) in
-    let named : c.read_keys.new.after ≡ named_from c.args.item.now c.args.numbers.now 0 (keys_at c.args.layout.now c.args.i) = c.read_keys.ensures.keys (search rules) ∙ ap (λ (keys : List Key). named_from c.args.item.now c.args.numbers.now 0 keys) (sym c.requires.keys) in
-    ap Pressed (c.swap.ensures.x_after ∙ named) ∙ sym (keys_named c.args.item.now us (keys_at c.args.layout.now c.args.i) c.args.held.now c.args.numbers.now off)
+    let off : list_any (names_rollover c.args.listed.now.item.now us) c.args.numbers.now ≡ false = is_not (list_any (names_rollover c.args.listed.now.item.now us) c.args.numbers.now) c.read_keys.result c.read_keys.ensures.rolls (search rules) in
+    let named : c.read_keys.new.after ≡ named_from c.args.listed.now.item.now c.args.numbers.now 0 (keys_at c.args.listed.now.layout.now c.args.listed.now.place) = c.read_keys.ensures.keys (search rules) ∙ ap (λ (keys : List Key). named_from c.args.listed.now.item.now c.args.numbers.now 0 keys) (sym c.requires.keys) in
+    ap Pressed (c.swap.ensures.x_after ∙ named) ∙ sym (keys_named c.args.listed.now.item.now us (keys_at c.args.listed.now.layout.now c.args.listed.now.place) c.args.held.now c.args.numbers.now off)
 
 pub returns-else-read_keys-clause-held : goal.returns-else-read_keys-clause-held
 returns-else-read_keys-clause-held c =
     let us = usage_list c.args.entries.now in
-    let on : list_any (names_rollover c.args.item.now us) c.args.numbers.now ≡ true = is_so (list_any (names_rollover c.args.item.now us) c.args.numbers.now) c.read_keys.result c.read_keys.ensures.rolls (search rules) in
-    sym (keys_stay c.args.item.now us (keys_at c.args.layout.now c.args.i) c.args.held.now c.args.numbers.now on)
+    let on : list_any (names_rollover c.args.listed.now.item.now us) c.args.numbers.now ≡ true = is_so (list_any (names_rollover c.args.listed.now.item.now us) c.args.numbers.now) c.read_keys.result c.read_keys.ensures.rolls (search rules) in
+    sym (keys_stay c.args.listed.now.item.now us (keys_at c.args.listed.now.layout.now c.args.listed.now.place) c.args.held.now c.args.numbers.now on)
 
 pub returns-else-read_keys-clause-events : goal.returns-else-read_keys-clause-events
 returns-else-read_keys-clause-events c =
-    sym (ap (λ (es : List Event). c.args.out.now.items ++ es) (same_keys c.args.i (usages_at c.args.layout.now c.args.i) (Pressed c.args.held.now)) ∙ append-nil c.args.out.now.items)
+    sym (ap (λ (es : List Event). c.args.out.now.items ++ es) (same_keys c.args.listed.now.place (usages_at c.args.listed.now.layout.now c.args.listed.now.place) (Pressed c.args.held.now)) ∙ append-nil c.args.out.now.items)
 
 pub returns-else-read_keys-clause-len : goal.returns-else-read_keys-clause-len
 returns-else-read_keys-clause-len c =
-    omega (arith, ap (λ (es : List Event). length es) (same_keys c.args.i (usages_at c.args.layout.now c.args.i) (Pressed c.args.held.now)))
+    omega (arith, ap (λ (es : List Event). length es) (same_keys c.args.listed.now.place (usages_at c.args.listed.now.layout.now c.args.listed.now.place) (Pressed c.args.held.now)))

@@ -11,40 +11,40 @@ use Rattle.hid_views.proofs.take.take_items.Goals as goal
 
 pub take_item-requires-clause-held : goal.take_item-requires-clause-held
 take_item-requires-clause-held g c =
-    let skips = taking_skips c.args.layout.now c.args.report c.args.bytes.now c.args.cells.now c.loop-place.cells c.args.out.now.items c.loop-place.out.items (vec_len c.loop-place.out) (vec_capacity c.loop-place.out) (c.requires.fits.one_each ∙ c.requires.all) c.loop-place.auto.cells in
-    let next = along_next c.args.layout.now c.args.report c.loop-place.place-index c.args.places.now _ skips c.requires.plan (omega arith) c.loop-place.invariant.along in
-    let here : (get_or c.args.places.now c.loop-place.place-index 0) < length c.args.layout.now.items = c.requires.within c.loop-place.place-index 0 (omega arith) in
+    let skips = taking_skips c.args.received.now.layout.now c.args.received.now.report c.args.received.now.bytes.now c.args.cells.now c.loop-place.cells c.args.out.now.items c.loop-place.out.items (vec_len c.loop-place.out) (vec_capacity c.loop-place.out) (c.requires.fits.one_each ∙ c.requires.all) c.loop-place.auto.cells in
+    let next = along_next c.args.received.now.layout.now c.args.received.now.report c.loop-place.place-index c.args.places.now _ skips c.requires.plan (omega arith) c.loop-place.invariant.along in
+    let here : (get_or c.args.places.now c.loop-place.place-index 0) < length c.args.received.now.layout.now.items = c.requires.within c.loop-place.place-index 0 (omega arith) in
     let within : (get_or c.args.places.now c.loop-place.place-index 0) < length c.args.cells.now = omega (arith, here, c.requires.fits.one_each, c.requires.all) in
-    let there = read_start c.args.layout.now c.args.report c.args.bytes.now c.args.cells.now c.loop-place.cells (get_or c.args.places.now c.loop-place.place-index 0) c.index-cells-i.result next.holds.cells within c.loop-place.auto.cells in
-    room_at InView (items_of c.args.layout.now) c.args.cells.now (get_or c.args.places.now c.loop-place.place-index 0) _ c.requires.fits (omega (arith, here, c.requires.all)) there
+    let there = read_start c.args.received.now.layout.now c.args.received.now.report c.args.received.now.bytes.now c.args.cells.now c.loop-place.cells (get_or c.args.places.now c.loop-place.place-index 0) c.index-cells-i.result next.holds.cells within c.loop-place.auto.cells in
+    room_at InView (items_of c.args.received.now.layout.now) c.args.cells.now (get_or c.args.places.now c.loop-place.place-index 0) _ c.requires.fits (omega (arith, here, c.requires.all)) there
 
 pub take_item-requires-clause-next : goal.take_item-requires-clause-next
 take_item-requires-clause-next g c =
-    let here : (get_or c.args.places.now c.loop-place.place-index 0) < length c.args.layout.now.items = c.requires.within c.loop-place.place-index 0 (omega arith) in
+    let here : (get_or c.args.places.now c.loop-place.place-index 0) < length c.args.received.now.layout.now.items = c.requires.within c.loop-place.place-index 0 (omega arith) in
     let within : (get_or c.args.places.now c.loop-place.place-index 0) < length c.args.cells.now = omega (arith, here, c.requires.fits.one_each, c.requires.all) in
     pair_at c.loop-place.cells c.loop-place.nexts (get_or c.args.places.now c.loop-place.place-index 0) c.index-cells-i.result c.index-nexts-i.result c.loop-place.invariant.pairs (omega (arith, within, c.loop-place.auto.cells))
 
 pub take_item-requires-clause-room : goal.take_item-requires-clause-room
 take_item-requires-clause-room g c =
-    let skips = taking_skips c.args.layout.now c.args.report c.args.bytes.now c.args.cells.now c.loop-place.cells c.args.out.now.items c.loop-place.out.items (vec_len c.loop-place.out) (vec_capacity c.loop-place.out) (c.requires.fits.one_each ∙ c.requires.all) c.loop-place.auto.cells in
-    let next = along_next c.args.layout.now c.args.report c.loop-place.place-index c.args.places.now _ skips c.requires.plan (omega arith) c.loop-place.invariant.along in
-    let here : (get_or c.args.places.now c.loop-place.place-index 0) < length c.args.layout.now.items = c.requires.within c.loop-place.place-index 0 (omega arith) in
+    let skips = taking_skips c.args.received.now.layout.now c.args.received.now.report c.args.received.now.bytes.now c.args.cells.now c.loop-place.cells c.args.out.now.items c.loop-place.out.items (vec_len c.loop-place.out) (vec_capacity c.loop-place.out) (c.requires.fits.one_each ∙ c.requires.all) c.loop-place.auto.cells in
+    let next = along_next c.args.received.now.layout.now c.args.received.now.report c.loop-place.place-index c.args.places.now _ skips c.requires.plan (omega arith) c.loop-place.invariant.along in
+    let here : (get_or c.args.places.now c.loop-place.place-index 0) < length c.args.received.now.layout.now.items = c.requires.within c.loop-place.place-index 0 (omega arith) in
     let within : (get_or c.args.places.now c.loop-place.place-index 0) < length c.args.cells.now = omega (arith, here, c.requires.fits.one_each, c.requires.all) in
-    let there = read_start c.args.layout.now c.args.report c.args.bytes.now c.args.cells.now c.loop-place.cells (get_or c.args.places.now c.loop-place.place-index 0) c.index-cells-i.result next.holds.cells within c.loop-place.auto.cells in
-    let step = told_from-next c.args.layout.now c.args.report c.args.bytes.now c.args.cells.now (get_or c.args.places.now c.loop-place.place-index 0) (get_or c.loop-place.cells (get_or c.args.places.now c.loop-place.place-index 0) c.index-cells-i.result) there in
+    let there = read_start c.args.received.now.layout.now c.args.received.now.report c.args.received.now.bytes.now c.args.cells.now c.loop-place.cells (get_or c.args.places.now c.loop-place.place-index 0) c.index-cells-i.result next.holds.cells within c.loop-place.auto.cells in
+    let step = told_from-next c.args.received.now.layout.now c.args.received.now.report c.args.received.now.bytes.now c.args.cells.now (get_or c.args.places.now c.loop-place.place-index 0) (get_or c.loop-place.cells (get_or c.args.places.now c.loop-place.place-index 0) c.index-cells-i.result) there in
     room_for _ _ _ _ _ step next.holds.fits
 
 pub loop-place-preserved : goal.loop-place-preserved
 loop-place-preserved g c =
-    let skips = taking_skips c.args.layout.now c.args.report c.args.bytes.now c.args.cells.now c.loop-place.cells c.args.out.now.items c.loop-place.out.items (vec_len c.loop-place.out) (vec_capacity c.loop-place.out) (c.requires.fits.one_each ∙ c.requires.all) c.loop-place.auto.cells in
-    let next = along_next c.args.layout.now c.args.report c.loop-place.place-index c.args.places.now _ skips c.requires.plan (omega arith) c.loop-place.invariant.along in
-    let here : (get_or c.args.places.now c.loop-place.place-index 0) < length c.args.layout.now.items = c.requires.within c.loop-place.place-index 0 (omega arith) in
+    let skips = taking_skips c.args.received.now.layout.now c.args.received.now.report c.args.received.now.bytes.now c.args.cells.now c.loop-place.cells c.args.out.now.items c.loop-place.out.items (vec_len c.loop-place.out) (vec_capacity c.loop-place.out) (c.requires.fits.one_each ∙ c.requires.all) c.loop-place.auto.cells in
+    let next = along_next c.args.received.now.layout.now c.args.received.now.report c.loop-place.place-index c.args.places.now _ skips c.requires.plan (omega arith) c.loop-place.invariant.along in
+    let here : (get_or c.args.places.now c.loop-place.place-index 0) < length c.args.received.now.layout.now.items = c.requires.within c.loop-place.place-index 0 (omega arith) in
     let within : (get_or c.args.places.now c.loop-place.place-index 0) < length c.args.cells.now = omega (arith, here, c.requires.fits.one_each, c.requires.all) in
-    let there = read_start c.args.layout.now c.args.report c.args.bytes.now c.args.cells.now c.loop-place.cells (get_or c.args.places.now c.loop-place.place-index 0) c.index-cells-i.result next.holds.cells within c.loop-place.auto.cells in
-    let step = told_from-next c.args.layout.now c.args.report c.args.bytes.now c.args.cells.now (get_or c.args.places.now c.loop-place.place-index 0) (get_or c.loop-place.cells (get_or c.args.places.now c.loop-place.place-index 0) c.index-cells-i.result) there in
+    let there = read_start c.args.received.now.layout.now c.args.received.now.report c.args.received.now.bytes.now c.args.cells.now c.loop-place.cells (get_or c.args.places.now c.loop-place.place-index 0) c.index-cells-i.result next.holds.cells within c.loop-place.auto.cells in
+    let step = told_from-next c.args.received.now.layout.now c.args.received.now.report c.args.received.now.bytes.now c.args.cells.now (get_or c.args.places.now c.loop-place.place-index 0) (get_or c.loop-place.cells (get_or c.args.places.now c.loop-place.place-index 0) c.index-cells-i.result) there in
     record {
-      along = along_step c.args.layout.now c.args.report c.loop-place.place-index _ _ _ next (record {
-        cells = read_next c.args.layout.now c.args.report c.args.bytes.now c.args.cells.now c.loop-place.cells (get_or c.args.places.now c.loop-place.place-index 0) c.index-cells-i.result c.take_item.new.cell next.holds.cells within c.loop-place.auto.cells c.take_item.ensures.cell;
+      along = along_step c.args.received.now.layout.now c.args.received.now.report c.loop-place.place-index _ _ _ next (record {
+        cells = read_next c.args.received.now.layout.now c.args.received.now.report c.args.received.now.bytes.now c.args.cells.now c.loop-place.cells (get_or c.args.places.now c.loop-place.place-index 0) c.index-cells-i.result c.take_item.new.cell next.holds.cells within c.loop-place.auto.cells c.take_item.ensures.cell;
         events = told _ _ _ _ _ _ step next.holds.events c.take_item.ensures.events;
         fits = room_left _ _ _ _ _ _ _ step next.holds.fits c.take_item.ensures.len c.take_item.ensures.room;
       });
@@ -55,14 +55,14 @@ loop-place-preserved g c =
 
 pub returns-clause-view : goal.returns-clause-view
 returns-clause-view g c =
-    let skips = taking_skips c.args.layout.now c.args.report c.args.bytes.now c.args.cells.now c.loop-place.cells c.args.out.now.items c.loop-place.out.items (vec_len c.loop-place.out) (vec_capacity c.loop-place.out) (c.requires.fits.one_each ∙ c.requires.all) c.loop-place.auto.cells in
-    let all = along_end c.args.layout.now c.args.report c.loop-place.place-index c.args.places.now _ skips c.requires.plan c.loop-place-test.false c.loop-place.invariant.along in
-    let target = read_view c.args.layout.now c.args.report c.args.bytes.now c.args.cells.now in
-    let len : length target ≡ length c.args.cells.now = read_from-length c.args.layout.now c.args.report c.args.bytes.now 0 c.args.cells.now in
-    all.cells ∙ filled target c.args.cells.now (length c.args.layout.now.items) (omega (arith, c.requires.fits.one_each, c.requires.all)) (omega (arith, len))
+    let skips = taking_skips c.args.received.now.layout.now c.args.received.now.report c.args.received.now.bytes.now c.args.cells.now c.loop-place.cells c.args.out.now.items c.loop-place.out.items (vec_len c.loop-place.out) (vec_capacity c.loop-place.out) (c.requires.fits.one_each ∙ c.requires.all) c.loop-place.auto.cells in
+    let all = along_end c.args.received.now.layout.now c.args.received.now.report c.loop-place.place-index c.args.places.now _ skips c.requires.plan c.loop-place-test.false c.loop-place.invariant.along in
+    let target = read_view c.args.received.now.layout.now c.args.received.now.report c.args.received.now.bytes.now c.args.cells.now in
+    let len : length target ≡ length c.args.cells.now = read_from-length c.args.received.now.layout.now c.args.received.now.report c.args.received.now.bytes.now 0 c.args.cells.now in
+    all.cells ∙ filled target c.args.cells.now (length c.args.received.now.layout.now.items) (omega (arith, c.requires.fits.one_each, c.requires.all)) (omega (arith, len))
 
 pub returns-clause-events : goal.returns-clause-events
 returns-clause-events g c =
-    let skips = taking_skips c.args.layout.now c.args.report c.args.bytes.now c.args.cells.now c.loop-place.cells c.args.out.now.items c.loop-place.out.items (vec_len c.loop-place.out) (vec_capacity c.loop-place.out) (c.requires.fits.one_each ∙ c.requires.all) c.loop-place.auto.cells in
-    let all = along_end c.args.layout.now c.args.report c.loop-place.place-index c.args.places.now _ skips c.requires.plan c.loop-place-test.false c.loop-place.invariant.along in
-    all_told c.args.layout.now c.args.report c.args.bytes.now c.args.cells.now (length c.args.layout.now.items) c.loop-place.out.items _ (omega (arith, c.requires.fits.one_each, c.requires.all)) all.events
+    let skips = taking_skips c.args.received.now.layout.now c.args.received.now.report c.args.received.now.bytes.now c.args.cells.now c.loop-place.cells c.args.out.now.items c.loop-place.out.items (vec_len c.loop-place.out) (vec_capacity c.loop-place.out) (c.requires.fits.one_each ∙ c.requires.all) c.loop-place.auto.cells in
+    let all = along_end c.args.received.now.layout.now c.args.received.now.report c.loop-place.place-index c.args.places.now _ skips c.requires.plan c.loop-place-test.false c.loop-place.invariant.along in
+    all_told c.args.received.now.layout.now c.args.received.now.report c.args.received.now.bytes.now c.args.cells.now (length c.args.received.now.layout.now.items) c.loop-place.out.items _ (omega (arith, c.requires.fits.one_each, c.requires.all)) all.events

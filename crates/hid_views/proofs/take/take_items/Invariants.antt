@@ -6,7 +6,7 @@ use Rattle.hid_views.proofs.take.take_items.Given as goal
 
 abbrev pub invariant-loop-place : goal.invariant-loop-place
 invariant-loop-place g l = record {
-  along : IsAlong l.layout l.report l.place-index (HasTaken l.layout l.report l.bytes l.fn.cells l.cells l.fn.out.items l.out.items (vec_len l.out) (vec_capacity l.out));
+  along : IsAlong l.received.layout.now l.received.report l.place-index (HasTaken l.received.layout.now l.received.report l.received.bytes.now l.fn.cells l.cells l.fn.out.items l.out.items (vec_len l.out) (vec_capacity l.out));
   pairs : ArePairs l.cells l.nexts;
   numbers : vec_capacity l.numbers ≡ vec_capacity l.fn.numbers;
   same_room : vec_capacity l.out ≡ vec_capacity l.fn.out;

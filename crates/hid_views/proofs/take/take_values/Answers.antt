@@ -6,9 +6,9 @@ use Rattle.hid_views.proofs.take.take_values.Goals as goal
 pub value_changes-requires-clause-after : goal.value_changes-requires-clause-after
 value_changes-requires-clause-after c =
     ap length c.read_values.ensures
-    ∙ length_map_zip (λ (p : Option ℤ × ℤ). read_value c.args.has_null c.args.bounds.now.least c.args.bounds.now.greatest p.0 p.1) c.args.held.now c.args.numbers.now (c.requires.numbers ∙ sym c.requires.held) ∙ c.requires.held
+    ∙ length_map_zip (λ (p : Option ℤ × ℤ). read_value c.has_null.result c.args.carried.now.bounds.least c.args.carried.now.bounds.greatest p.0 p.1) c.args.held.now c.args.carried.now.numbers.now (c.requires.numbers ∙ sym c.requires.held) ∙ c.requires.held
 
 pub returns-clause-held_len : goal.returns-clause-held_len
 returns-clause-held_len c =
     ap length c.swap.ensures.x_after ∙ ap length c.read_values.ensures
-    ∙ length_map_zip (λ (p : Option ℤ × ℤ). read_value c.args.has_null c.args.bounds.now.least c.args.bounds.now.greatest p.0 p.1) c.args.held.now c.args.numbers.now (c.requires.numbers ∙ sym c.requires.held)
+    ∙ length_map_zip (λ (p : Option ℤ × ℤ). read_value c.has_null.result c.args.carried.now.bounds.least c.args.carried.now.bounds.greatest p.0 p.1) c.args.held.now c.args.carried.now.numbers.now (c.requires.numbers ∙ sym c.requires.held)

@@ -5,7 +5,7 @@ use Rattle.std.proofs.lemmas.Int.{to_z-of_z}
 use Rattle.hid_layout.specs.declared.control.Controls.TheVariants.{Elements, Keys}
 use Rattle.hid_layout.specs.Fields.{is_padding}
 use Rattle.hid_layout.specs.Usages.{usage_list}
-use Rattle.hid_layout.specs.Controls.{form_of, head_of, element_kind, least_of, greatest_of, spread, has_place, rollover_from, keys_from, key_places}
+use Rattle.hid_layout.specs.Controls.{form_of, head_of, element_kind, least_of, greatest_of, spread, has_place, rollover_from, array_keys}
 use Rattle.hid_layout.proofs.FormLemmas.{spread-length, keys-length, rolls_over}
 use Rattle.hid_layout.proofs.main_item.MainItem.controls.Goals as goal
 
@@ -25,6 +25,6 @@ returns-in-Array c =
     let item = c.args.self.now in
     let us = usage_list c.args.entries.now in
     let rolls : c.is_some.result ≡ has_place (rollover_from item 0 us) = c.is_some.ensures ∙ ap is_some (c.requires.codes (ap is_padding c.in-Array.is)).for_rollover ∙ rolls_over item us in
-    let count : c.min.result ≡ length (keys_from item 0 (key_places us)) = c.min.ensures ∙ ap (λ n. min n 65536) c.usage_count.ensures.value ∙ sym (keys-length item us) in
-    let form : head_of (form_of item us item.shape) ≡ Keys item.count (has_place (rollover_from item 0 us)) (length (keys_from item 0 (key_places us))) = ap (λ s. head_of (form_of item us s)) c.in-Array.is in
+    let count : c.min.result ≡ length (array_keys item us) = c.min.ensures ∙ ap (λ n. min n 65536) c.usage_count.ensures.value ∙ sym (keys-length item us) in
+    let form : head_of (form_of item us item.shape) ≡ Keys item.count (has_place (rollover_from item 0 us)) (length (array_keys item us)) = ap (λ s. head_of (form_of item us s)) c.in-Array.is in
     cc
