@@ -115,24 +115,24 @@ fn is_pressable(item: &MainItem, range: &Bounds, number: &i64, place: usize, usa
     is_encodable && (place < MAX_KEYS && (usage.id != 0 && !usage.tells_error()))
 }
 
+/// An array's item, with its ranges of usages and the numbers that its elements can carry.
+#[derive(Clone, Copy)]
+pub(crate) struct KeyArray<'a> {
+    pub(crate) item: &'a MainItem,
+    pub(crate) entries: &'a [(Usage, Usage)],
+    pub(crate) range: Bounds,
+}
+
 /// Adds the key with this usage at the place that an element of this number names.
-fn press(
-    item: &MainItem,
-    entries: &[(Usage, Usage)],
-    range: &Bounds,
-    number: &i64,
-    place: usize,
-    usage: &Usage,
-    after: &mut Flags,
-)
-    requires range { AreBounds item.now range.now.least range.now.greatest }
-    requires number { number.now ≡ item.now.min +ℤ pos place }
-    requires usage { slice_get (usage_list entries.now) place ≡ Some usage.now }
-    requires after { length after.old ≡ length (array_keys item.now (usage_list entries.now)) }
-    ensures keys { (numbers : List ℤ) → after.old ≡ named_from item.now numbers 0 (array_keys item.now (usage_list entries.now)) → after.new ≡ named_from item.now (numbers ++ number.now ∷ []) 0 (array_keys item.now (usage_list entries.now)) }
+fn press(array: &KeyArray<'_>, number: &i64, place: usize, usage: &Usage, after: &mut Flags)
+    requires range { AreBounds array.now.item.now array.now.range.least array.now.range.greatest }
+    requires number { number.now ≡ array.now.item.now.min +ℤ pos place }
+    requires usage { slice_get (usage_list array.now.entries.now) place ≡ Some usage.now }
+    requires after { length after.old ≡ length (array_keys array.now.item.now (usage_list array.now.entries.now)) }
+    ensures keys { (numbers : List ℤ) → after.old ≡ named_from array.now.item.now numbers 0 (array_keys array.now.item.now (usage_list array.now.entries.now)) → after.new ≡ named_from array.now.item.now (numbers ++ number.now ∷ []) 0 (array_keys array.now.item.now (usage_list array.now.entries.now)) }
     ensures len { length after.new ≡ length after.old }
 {
-    if is_pressable(item, range, number, place, usage) {
+    if is_pressable(array.item, &array.range, number, place, usage) {
         after.set(place, true);
     }
 }
@@ -145,31 +145,24 @@ fn tells_rollover(item: &MainItem, number: &i64, usage: &Usage) -> bool
 }
 
 /// Adds the key that an element of this number names; false where it names ErrorRollOver.
-fn add_key(
-    item: &MainItem,
-    entries: &[(Usage, Usage)],
-    count: usize,
-    range: &Bounds,
-    number: &i64,
-    after: &mut Flags,
-) -> bool
-    requires count { count ≡ length (usage_list entries.now) }
+fn add_key(array: &KeyArray<'_>, count: usize, number: &i64, after: &mut Flags) -> bool
+    requires count { count ≡ length (usage_list array.now.entries.now) }
     requires few { count ≤ 64 * 65536 }
-    requires range { AreBounds item.now range.now.least range.now.greatest }
-    requires after { length after.old ≡ length (array_keys item.now (usage_list entries.now)) }
-    ensures rolls { result ≡ not (names_rollover item.now (usage_list entries.now) number.now) }
-    ensures keys { (numbers : List ℤ) → result ≡ true → after.old ≡ named_from item.now numbers 0 (array_keys item.now (usage_list entries.now)) → after.new ≡ named_from item.now (numbers ++ number.now ∷ []) 0 (array_keys item.now (usage_list entries.now)) }
+    requires range { AreBounds array.now.item.now array.now.range.least array.now.range.greatest }
+    requires after { length after.old ≡ length (array_keys array.now.item.now (usage_list array.now.entries.now)) }
+    ensures rolls { result ≡ not (names_rollover array.now.item.now (usage_list array.now.entries.now) number.now) }
+    ensures keys { (numbers : List ℤ) → result ≡ true → after.old ≡ named_from array.now.item.now numbers 0 (array_keys array.now.item.now (usage_list array.now.entries.now)) → after.new ≡ named_from array.now.item.now (numbers ++ number.now ∷ []) 0 (array_keys array.now.item.now (usage_list array.now.entries.now)) }
     ensures len { length after.new ≡ length after.old }
 {
-    match place_of(item, number, count) {
+    match place_of(array.item, number, count) {
         None => true,
-        Some(place) => match usage_at(entries, place) {
+        Some(place) => match usage_at(array.entries, place) {
             None => true,
             Some(usage) => {
-                if tells_rollover(item, number, &usage) {
+                if tells_rollover(array.item, number, &usage) {
                     false
                 } else {
-                    press(item, entries, range, number, place, &usage, after);
+                    press(array, number, place, &usage, after);
                     true
                 }
             }
@@ -178,25 +171,19 @@ fn add_key(
 }
 
 /// The keys that these numbers name; false where one names ErrorRollOver.
-pub(crate) fn read_keys(
-    item: &MainItem,
-    entries: &[(Usage, Usage)],
-    range: &Bounds,
-    numbers: &[i64],
-    after: &mut Flags,
-) -> bool
-    requires entries { length entries.now ≤ 64 }
-    requires range { AreBounds item.now range.now.least range.now.greatest }
-    requires after { length after.old ≡ length (array_keys item.now (usage_list entries.now)) }
-    ensures rolls { result ≡ not (list_any (names_rollover item.now (usage_list entries.now)) numbers.now) }
-    ensures keys { result ≡ true → after.new ≡ named_from item.now numbers.now 0 (array_keys item.now (usage_list entries.now)) }
+pub(crate) fn read_keys(array: &KeyArray<'_>, numbers: &[i64], after: &mut Flags) -> bool
+    requires entries { length array.now.entries.now ≤ 64 }
+    requires range { AreBounds array.now.item.now array.now.range.least array.now.range.greatest }
+    requires after { length after.old ≡ length (array_keys array.now.item.now (usage_list array.now.entries.now)) }
+    ensures rolls { result ≡ not (list_any (names_rollover array.now.item.now (usage_list array.now.entries.now)) numbers.now) }
+    ensures keys { result ≡ true → after.new ≡ named_from array.now.item.now numbers.now 0 (array_keys array.now.item.now (usage_list array.now.entries.now)) }
     ensures len { length after.new ≡ length after.old }
 {
-    let count = usage_count(entries);
+    let count = usage_count(array.entries);
     after.release_all();
     for k in 0..numbers.len() {
         let number = number_at(numbers, k);
-        if !add_key(item, entries, count, range, &number, after) {
+        if !add_key(array, count, &number, after) {
             return false;
         }
     }

@@ -22,7 +22,7 @@ ghost use Rattle.hid_layout.specs.declared.control.ControlKind.TheVariants as Co
 
 use crate::bits::{are_bits, take_bits};
 use crate::differences::{Bounds, flag_changes, motions, switch_changes, value_changes};
-use crate::read::{read_keys as read_named_keys, read_switches, read_values};
+use crate::read::{KeyArray, read_keys as read_named_keys, read_switches, read_values};
 use hid_cells::{Cell, Event, Flags, Values, item_at};
 use hid_fields::FieldCodec;
 use hid_layout::{ControlKind, Controls, Layout, MainItem, Shape, Usage};
@@ -77,8 +77,12 @@ fn take_flags(
     ensures len { vec_len out.new ≡ vec_len out.old + length (key_events listed.now.place (usages_at listed.now.layout.now listed.now.place) (Cell.Pressed held.old) (Cell.Pressed held.new)) }
     ensures room { vec_capacity out.new ≡ vec_capacity out.old }
 {
-    let range = bounds_of(listed.item);
-    if read_named_keys(listed.item, entries, &range, numbers, named) {
+    let array = KeyArray {
+        item: listed.item,
+        entries,
+        range: bounds_of(listed.item),
+    };
+    if read_named_keys(&array, numbers, named) {
         flag_changes(listed.layout, listed.place, held, named, out);
         mem::swap(held, named);
     }

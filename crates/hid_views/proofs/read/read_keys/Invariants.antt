@@ -6,9 +6,9 @@ use Rattle.hid_views.proofs.read.read_keys.Given as goal
 
 abbrev pub invariant-loop-k : goal.invariant-loop-k
 invariant-loop-k l =
-    let us = usage_list l.entries in
+    let us = usage_list l.array.entries.now in
     record {
-      so_far : l.after ≡ named_from l.item (take l.k l.numbers) 0 (array_keys l.item us);
+      so_far : l.after ≡ named_from l.array.item.now (take l.k l.numbers) 0 (array_keys l.array.item.now us);
       len : length l.after ≡ length l.fn.after;
-      none : list_any (names_rollover l.item us) (drop l.k l.numbers) ≡ list_any (names_rollover l.item us) l.numbers;
+      none : list_any (names_rollover l.array.item.now us) (drop l.k l.numbers) ≡ list_any (names_rollover l.array.item.now us) l.numbers;
     }
