@@ -1,5 +1,5 @@
 -- The keys of an array, by its usage list.
-use Rattle.std.proofs.Common.{◌≡◌, ℕ, ◌+◌, ◌<◌, ◌≤◌, ◌&&◌, nat_lt, not, inl, inr, Bool, true, false, List, [], ◌∷◌, ◌++◌, length, map, Option, Some, None, ℤ, pos, ◌+ℤ◌, int_le, refl, sym, ap, ◌∙◌, arith}
+use Rattle.std.proofs.Common.{◌≡◌, ℕ, ◌<◌, ◌&&◌, nat_lt, not, inl, inr, Bool, true, false, List, [], ◌∷◌, ◌++◌, length, map, Option, Some, None, ℤ, pos, ◌+ℤ◌, int_le, refl, ap, ◌∙◌, arith}
 use Rattle.std.specs.List.{list_any, slice_get, slice_set}
 use Rattle.std.specs.Option.{option_map}
 use Rattle.std.proofs.lemmas.Option.{slice_get_within}
@@ -15,11 +15,10 @@ use Rattle.hid_layout.specs.Usages.{Entry, usage_list}
 use Rattle.hid_views.specs.Taking.{list_at, IsFormOf}
 use Rattle.hid_views.proofs.TakeLemmas.{list_at-is}
 use Rattle.hid_layout.specs.Layout.{Contents}
-use Rattle.hid_layout.specs.Controls.{Form, Key, head_of, form_of, form_at, items_of, is_key, is_encodable, is_rollover}
+use Rattle.hid_layout.specs.Controls.{Key, head_of, form_of, form_at, items_of, is_key, is_encodable, is_rollover}
 use Rattle.hid_layout.proofs.FormLemmas.{key-get, keys-length}
 use Rattle.hid_cells.proofs.CodeLemmas.{both_true}
 use Rattle.hid_cells.proofs.ListLemmas.{map_at}
-use Rattle.hid_cells.specs.declared.cell.Cell.{Cell}
 use Rattle.hid_cells.specs.declared.cell.Cell.TheVariants.{Pressed}
 use Rattle.hid_views.specs.Reading.{array_keys, keys_of, keys_at, named_from, names_rollover, read_keys}
 use Rattle.hid_views.proofs.KeyLemmas.{key_added, no_key_added, no_place_added, rollover_named}

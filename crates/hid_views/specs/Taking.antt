@@ -5,12 +5,14 @@ use Rattle.hid_layout.specs.declared.main_item.MainItem.{MainItem}
 use Rattle.hid_layout.specs.declared.usage.Usage.{Usage}
 use Rattle.hid_layout.specs.Usages.{usage_list}
 use Rattle.hid_layout.specs.Layout.{Contents}
-use Rattle.hid_layout.specs.Controls.{items_of, form_at, form_of}
+use Rattle.hid_layout.specs.Controls.{Form, Key, items_of, form_at, form_of}
 use Rattle.hid_cells.specs.declared.cell.Cell.{Cell}
 use Rattle.hid_cells.specs.declared.event.Event.{Event}
-use Rattle.hid_views.specs.Events.{change_events}
+use Rattle.hid_views.specs.declared.take.Listed.{Listed}
+use Rattle.hid_views.specs.declared.take.Carried.{Carried}
+use Rattle.hid_views.specs.Events.{change_events, usages_at}
 use Rattle.hid_views.specs.Views.{motions_told, HasNext}
-use Rattle.hid_views.specs.Reading.{read_cell, motion_cell, is_data_in, item_numbers, report_named}
+use Rattle.hid_views.specs.Reading.{read_cell, motion_cell, read_elements, motion_elements, keys_at, is_data_in, item_numbers, report_named}
 
 -- the usage list of a listed item
 abbrev pub list_at : Contents → ℕ → List Usage
@@ -26,6 +28,30 @@ read_by_numbers layout i m cell vs = read_cell m (list_at layout i) (form_at (it
 abbrev pub told_by_numbers : Contents → ℕ → MainItem → Cell → Cell → List ℤ → List Event
 told_by_numbers layout i m before after vs =
     change_events i (form_at (items_of layout) i) before after ++ motions_told i (form_at (items_of layout) i) (motion_cell (form_at (items_of layout) i) vs)
+
+-- of a listed item: the usages of its controls, the keys, and the form
+abbrev pub usages_in : Listed → List Usage
+usages_in listed = usages_at listed.layout.now listed.place
+
+abbrev pub keys_in : Listed → List Key
+keys_in listed = keys_at listed.layout.now listed.place
+
+abbrev pub form_in : Listed → Form
+form_in listed = form_at (items_of listed.layout.now) listed.place
+
+-- of a listed item: what is kept of it once these numbers are read, and what they tell
+abbrev pub read_in : Listed → Cell → List ℤ → Cell
+read_in listed cell vs = read_by_numbers listed.layout.now listed.place listed.item.now cell vs
+
+abbrev pub told_in : Listed → Cell → Cell → List ℤ → List Event
+told_in listed before after vs = told_by_numbers listed.layout.now listed.place listed.item.now before after vs
+
+-- what is kept of elements once the numbers that they carry are read, and the motions that these are
+abbrev pub read_carried : Carried → Cell → Cell
+read_carried carried cell = read_elements carried.kind carried.bounds.least carried.bounds.greatest cell carried.numbers.now
+
+abbrev pub motion_carried : Carried → Cell
+motion_carried carried = motion_elements carried.kind carried.bounds.least carried.bounds.greatest carried.numbers.now
 
 -- what is kept of the item at a place once these bytes of report r are read
 abbrev pub read_by_report : Contents → ℕ → List ℕ → ℕ → Cell → Cell

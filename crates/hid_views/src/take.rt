@@ -7,7 +7,7 @@ ghost use Rattle.hid_layout.specs.Index.{plan_of};
 ghost use Rattle.hid_layout.specs.Usages.{usage_list};
 ghost use Rattle.hid_layout.specs.Fields.{is_padding};
 ghost use Rattle.hid_layout.specs.Reports.{HasElements, IsLayout, report_bytes};
-ghost use Rattle.hid_views.specs.Taking.{IsFormOf, read_by_numbers, told_by_numbers, read_by_report, told_by_report, read_view, read_events, ArePairs};
+ghost use Rattle.hid_views.specs.Taking.{IsFormOf, usages_in, keys_in, form_in, read_in, told_in, read_carried, motion_carried, read_by_report, told_by_report, read_view, read_events, ArePairs};
 ghost use Rattle.hid_cells.specs.Parts.{IsInput};
 ghost use Rattle.hid_layout.specs.declared.control.Controls.TheVariants as head;
 ghost use Rattle.hid_cells.specs.Cells.{HasRoom, FitsView};
@@ -65,16 +65,16 @@ fn take_flags(
 )
     requires elements { HasElements listed.now.item.now }
     requires entries { length entries.now ≤ 64 }
-    requires keys { keys_at listed.now.layout.now listed.now.place ≡ array_keys listed.now.item.now (usage_list entries.now) }
-    requires usages { length (usages_at listed.now.layout.now listed.now.place) ≡ length (keys_at listed.now.layout.now listed.now.place) }
-    requires held { length held.old ≡ length (keys_at listed.now.layout.now listed.now.place) }
-    requires named { length named.old ≡ length (keys_at listed.now.layout.now listed.now.place) }
-    requires room { vec_len out.old + length (key_events listed.now.place (usages_at listed.now.layout.now listed.now.place) (Cell.Pressed held.old) (read_keys listed.now.item.now (usage_list entries.now) (keys_at listed.now.layout.now listed.now.place) (Cell.Pressed held.old) numbers.now)) ≤ vec_capacity out.old }
-    ensures held { Cell.Pressed held.new ≡ read_keys listed.now.item.now (usage_list entries.now) (keys_at listed.now.layout.now listed.now.place) (Cell.Pressed held.old) numbers.now }
+    requires keys { keys_in listed.now ≡ array_keys listed.now.item.now (usage_list entries.now) }
+    requires usages { length (usages_in listed.now) ≡ length (keys_in listed.now) }
+    requires held { length held.old ≡ length (keys_in listed.now) }
+    requires named { length named.old ≡ length (keys_in listed.now) }
+    requires room { vec_len out.old + length (key_events listed.now.place (usages_in listed.now) (Cell.Pressed held.old) (read_keys listed.now.item.now (usage_list entries.now) (keys_in listed.now) (Cell.Pressed held.old) numbers.now)) ≤ vec_capacity out.old }
+    ensures held { Cell.Pressed held.new ≡ read_keys listed.now.item.now (usage_list entries.now) (keys_in listed.now) (Cell.Pressed held.old) numbers.now }
     ensures held_len { length held.new ≡ length held.old }
     ensures named_len { length named.new ≡ length held.old }
-    ensures events { out.new.items ≡ out.old.items ++ key_events listed.now.place (usages_at listed.now.layout.now listed.now.place) (Cell.Pressed held.old) (Cell.Pressed held.new) }
-    ensures len { vec_len out.new ≡ vec_len out.old + length (key_events listed.now.place (usages_at listed.now.layout.now listed.now.place) (Cell.Pressed held.old) (Cell.Pressed held.new)) }
+    ensures events { out.new.items ≡ out.old.items ++ key_events listed.now.place (usages_in listed.now) (Cell.Pressed held.old) (Cell.Pressed held.new) }
+    ensures len { vec_len out.new ≡ vec_len out.old + length (key_events listed.now.place (usages_in listed.now) (Cell.Pressed held.old) (Cell.Pressed held.new)) }
     ensures room { vec_capacity out.new ≡ vec_capacity out.old }
 {
     let array = KeyArray {
@@ -107,15 +107,15 @@ fn take_switches(
     next: &mut Flags,
     out: &mut Vec<Event>,
 )
-    requires numbers { length numbers.now ≡ length (usages_at listed.now.layout.now listed.now.place) }
-    requires held { length held.old ≡ length (usages_at listed.now.layout.now listed.now.place) }
-    requires next { length next.old ≡ length (usages_at listed.now.layout.now listed.now.place) }
-    requires room { vec_len out.old + length (switch_events listed.now.place (usages_at listed.now.layout.now listed.now.place) held.old (map (λ p. read_switch p.0 p.1) (zip held.old numbers.now))) ≤ vec_capacity out.old }
+    requires numbers { length numbers.now ≡ length (usages_in listed.now) }
+    requires held { length held.old ≡ length (usages_in listed.now) }
+    requires next { length next.old ≡ length (usages_in listed.now) }
+    requires room { vec_len out.old + length (switch_events listed.now.place (usages_in listed.now) held.old (map (λ p. read_switch p.0 p.1) (zip held.old numbers.now))) ≤ vec_capacity out.old }
     ensures held { held.new ≡ map (λ p. read_switch p.0 p.1) (zip held.old numbers.now) }
     ensures held_len { length held.new ≡ length held.old }
     ensures next_len { length next.new ≡ length held.old }
-    ensures events { out.new.items ≡ out.old.items ++ switch_events listed.now.place (usages_at listed.now.layout.now listed.now.place) held.old held.new }
-    ensures len { vec_len out.new ≡ vec_len out.old + length (switch_events listed.now.place (usages_at listed.now.layout.now listed.now.place) held.old held.new) }
+    ensures events { out.new.items ≡ out.old.items ++ switch_events listed.now.place (usages_in listed.now) held.old held.new }
+    ensures len { vec_len out.new ≡ vec_len out.old + length (switch_events listed.now.place (usages_in listed.now) held.old held.new) }
     ensures room { vec_capacity out.new ≡ vec_capacity out.old }
 {
     read_switches(held, numbers, next);
@@ -131,15 +131,15 @@ fn take_values(
     next: &mut Values,
     out: &mut Vec<Event>,
 )
-    requires numbers { length carried.now.numbers.now ≡ length (usages_at listed.now.layout.now listed.now.place) }
-    requires held { length held.old ≡ length (usages_at listed.now.layout.now listed.now.place) }
-    requires next { length next.old ≡ length (usages_at listed.now.layout.now listed.now.place) }
-    requires room { vec_len out.old + length (value_events listed.now.place (usages_at listed.now.layout.now listed.now.place) held.old (map (λ p. read_value (has_null carried.now.kind) carried.now.bounds.least carried.now.bounds.greatest p.0 p.1) (zip held.old carried.now.numbers.now))) ≤ vec_capacity out.old }
+    requires numbers { length carried.now.numbers.now ≡ length (usages_in listed.now) }
+    requires held { length held.old ≡ length (usages_in listed.now) }
+    requires next { length next.old ≡ length (usages_in listed.now) }
+    requires room { vec_len out.old + length (value_events listed.now.place (usages_in listed.now) held.old (map (λ p. read_value (has_null carried.now.kind) carried.now.bounds.least carried.now.bounds.greatest p.0 p.1) (zip held.old carried.now.numbers.now))) ≤ vec_capacity out.old }
     ensures held { held.new ≡ map (λ p. read_value (has_null carried.now.kind) carried.now.bounds.least carried.now.bounds.greatest p.0 p.1) (zip held.old carried.now.numbers.now) }
     ensures held_len { length held.new ≡ length held.old }
     ensures next_len { length next.new ≡ length held.old }
-    ensures events { out.new.items ≡ out.old.items ++ value_events listed.now.place (usages_at listed.now.layout.now listed.now.place) held.old held.new }
-    ensures len { vec_len out.new ≡ vec_len out.old + length (value_events listed.now.place (usages_at listed.now.layout.now listed.now.place) held.old held.new) }
+    ensures events { out.new.items ≡ out.old.items ++ value_events listed.now.place (usages_in listed.now) held.old held.new }
+    ensures len { vec_len out.new ≡ vec_len out.old + length (value_events listed.now.place (usages_in listed.now) held.old held.new) }
     ensures room { vec_capacity out.new ≡ vec_capacity out.old }
 {
     read_values(
@@ -164,15 +164,15 @@ fn take_array(
 )
     requires elements { HasElements listed.now.item.now }
     requires entries { length entries.now ≤ 64 }
-    requires keys { keys_at listed.now.layout.now listed.now.place ≡ array_keys listed.now.item.now (usage_list entries.now) }
-    requires usages { length (usages_at listed.now.layout.now listed.now.place) ≡ length (keys_at listed.now.layout.now listed.now.place) }
-    requires held { HasPlaces cell.old (length (keys_at listed.now.layout.now listed.now.place)) }
+    requires keys { keys_in listed.now ≡ array_keys listed.now.item.now (usage_list entries.now) }
+    requires usages { length (usages_in listed.now) ≡ length (keys_in listed.now) }
+    requires held { HasPlaces cell.old (length (keys_in listed.now)) }
     requires next { HasNext cell.old next.old }
-    requires room { vec_len out.old + length (key_events listed.now.place (usages_at listed.now.layout.now listed.now.place) cell.old (read_keys listed.now.item.now (usage_list entries.now) (keys_at listed.now.layout.now listed.now.place) cell.old numbers.now)) ≤ vec_capacity out.old }
-    ensures cell { cell.new ≡ read_keys listed.now.item.now (usage_list entries.now) (keys_at listed.now.layout.now listed.now.place) cell.old numbers.now }
+    requires room { vec_len out.old + length (key_events listed.now.place (usages_in listed.now) cell.old (read_keys listed.now.item.now (usage_list entries.now) (keys_in listed.now) cell.old numbers.now)) ≤ vec_capacity out.old }
+    ensures cell { cell.new ≡ read_keys listed.now.item.now (usage_list entries.now) (keys_in listed.now) cell.old numbers.now }
     ensures next { HasNext cell.new next.new }
-    ensures events { out.new.items ≡ out.old.items ++ key_events listed.now.place (usages_at listed.now.layout.now listed.now.place) cell.old cell.new }
-    ensures len { vec_len out.new ≡ vec_len out.old + length (key_events listed.now.place (usages_at listed.now.layout.now listed.now.place) cell.old cell.new) }
+    ensures events { out.new.items ≡ out.old.items ++ key_events listed.now.place (usages_in listed.now) cell.old cell.new }
+    ensures len { vec_len out.new ≡ vec_len out.old + length (key_events listed.now.place (usages_in listed.now) cell.old cell.new) }
     ensures room { vec_capacity out.new ≡ vec_capacity out.old }
 {
     match cell {
@@ -194,14 +194,14 @@ fn take_elements(
     next: &mut Cell,
     out: &mut Vec<Event>,
 )
-    requires numbers { length carried.now.numbers.now ≡ length (usages_at listed.now.layout.now listed.now.place) }
-    requires held { HasRoom (head.Elements carried.now.kind carried.now.bounds.least carried.now.bounds.greatest (length (usages_at listed.now.layout.now listed.now.place))) cell.old }
+    requires numbers { length carried.now.numbers.now ≡ length (usages_in listed.now) }
+    requires held { HasRoom (head.Elements carried.now.kind carried.now.bounds.least carried.now.bounds.greatest (length (usages_in listed.now))) cell.old }
     requires next { HasNext cell.old next.old }
-    requires room { vec_len out.old + length (element_events listed.now.place (usages_at listed.now.layout.now listed.now.place) cell.old (read_elements carried.now.kind carried.now.bounds.least carried.now.bounds.greatest cell.old carried.now.numbers.now) ++ motions_of listed.now.place (usages_at listed.now.layout.now listed.now.place) (motion_elements carried.now.kind carried.now.bounds.least carried.now.bounds.greatest carried.now.numbers.now)) ≤ vec_capacity out.old }
-    ensures cell { cell.new ≡ read_elements carried.now.kind carried.now.bounds.least carried.now.bounds.greatest cell.old carried.now.numbers.now }
+    requires room { vec_len out.old + length (element_events listed.now.place (usages_in listed.now) cell.old (read_carried carried.now cell.old) ++ motions_of listed.now.place (usages_in listed.now) (motion_carried carried.now)) ≤ vec_capacity out.old }
+    ensures cell { cell.new ≡ read_carried carried.now cell.old }
     ensures next { HasNext cell.new next.new }
-    ensures events { out.new.items ≡ out.old.items ++ (element_events listed.now.place (usages_at listed.now.layout.now listed.now.place) cell.old cell.new ++ motions_of listed.now.place (usages_at listed.now.layout.now listed.now.place) (motion_elements carried.now.kind carried.now.bounds.least carried.now.bounds.greatest carried.now.numbers.now)) }
-    ensures len { vec_len out.new ≡ vec_len out.old + length (element_events listed.now.place (usages_at listed.now.layout.now listed.now.place) cell.old cell.new ++ motions_of listed.now.place (usages_at listed.now.layout.now listed.now.place) (motion_elements carried.now.kind carried.now.bounds.least carried.now.bounds.greatest carried.now.numbers.now)) }
+    ensures events { out.new.items ≡ out.old.items ++ (element_events listed.now.place (usages_in listed.now) cell.old cell.new ++ motions_of listed.now.place (usages_in listed.now) (motion_carried carried.now)) }
+    ensures len { vec_len out.new ≡ vec_len out.old + length (element_events listed.now.place (usages_in listed.now) cell.old cell.new ++ motions_of listed.now.place (usages_in listed.now) (motion_carried carried.now)) }
     ensures room { vec_capacity out.new ≡ vec_capacity out.old }
 {
     match carried.kind {
@@ -243,7 +243,7 @@ fn controls_of(listed: &Listed<'_>) -> Controls
     requires layout { IsLayout listed.now.layout.now }
     requires listed { slice_get listed.now.layout.now.items listed.now.place ≡ Some listed.now.item.now }
     requires input { IsFormOf listed.now.layout.now listed.now.place listed.now.item.now }
-    ensures { result ≡ head_of (form_at (items_of listed.now.layout.now) listed.now.place) }
+    ensures { result ≡ head_of (form_in listed.now) }
 {
     let item = listed.item;
     match item.shape {
@@ -270,13 +270,13 @@ fn take_numbers(
     requires input { IsFormOf listed.now.layout.now listed.now.place listed.now.item.now }
     requires data { is_padding listed.now.item.now.shape ≡ false }
     requires numbers { length numbers.now ≡ listed.now.item.now.count }
-    requires held { HasRoom (head_of (form_at (items_of listed.now.layout.now) listed.now.place)) cell.old }
+    requires held { HasRoom (head_of (form_in listed.now)) cell.old }
     requires next { HasNext cell.old next.old }
-    requires room { vec_len out.old + length (told_by_numbers listed.now.layout.now listed.now.place listed.now.item.now cell.old (read_by_numbers listed.now.layout.now listed.now.place listed.now.item.now cell.old numbers.now) numbers.now) ≤ vec_capacity out.old }
-    ensures cell { cell.new ≡ read_by_numbers listed.now.layout.now listed.now.place listed.now.item.now cell.old numbers.now }
+    requires room { vec_len out.old + length (told_in listed.now cell.old (read_in listed.now cell.old numbers.now) numbers.now) ≤ vec_capacity out.old }
+    ensures cell { cell.new ≡ read_in listed.now cell.old numbers.now }
     ensures next { HasNext cell.new next.new }
-    ensures events { out.new.items ≡ out.old.items ++ told_by_numbers listed.now.layout.now listed.now.place listed.now.item.now cell.old cell.new numbers.now }
-    ensures len { vec_len out.new ≡ vec_len out.old + length (told_by_numbers listed.now.layout.now listed.now.place listed.now.item.now cell.old cell.new numbers.now) }
+    ensures events { out.new.items ≡ out.old.items ++ told_in listed.now cell.old cell.new numbers.now }
+    ensures len { vec_len out.new ≡ vec_len out.old + length (told_in listed.now cell.old cell.new numbers.now) }
     ensures room { vec_capacity out.new ≡ vec_capacity out.old }
 {
     match controls_of(listed) {
@@ -303,12 +303,12 @@ fn take_numbers(
 
 /// Switches of one bit each, as their pattern leaves them, and what they tell.
 fn take_pattern(listed: &Listed<'_>, pattern: u32, cell: &mut Cell, out: &mut Vec<Event>)
-    requires held { HasRoom (head.Elements ControlKind.Switch (pos 0) (pos 1) (length (usages_at listed.now.layout.now listed.now.place))) cell.old }
-    requires few { length (usages_at listed.now.layout.now listed.now.place) ≤ 32 }
-    requires room { vec_len out.old + length (element_events listed.now.place (usages_at listed.now.layout.now listed.now.place) cell.old (read_bits pattern cell.old)) ≤ vec_capacity out.old }
+    requires held { HasRoom (head.Elements ControlKind.Switch (pos 0) (pos 1) (length (usages_in listed.now))) cell.old }
+    requires few { length (usages_in listed.now) ≤ 32 }
+    requires room { vec_len out.old + length (element_events listed.now.place (usages_in listed.now) cell.old (read_bits pattern cell.old)) ≤ vec_capacity out.old }
     ensures cell { cell.new ≡ read_bits pattern cell.old }
-    ensures events { out.new.items ≡ out.old.items ++ element_events listed.now.place (usages_at listed.now.layout.now listed.now.place) cell.old cell.new }
-    ensures len { vec_len out.new ≡ vec_len out.old + length (element_events listed.now.place (usages_at listed.now.layout.now listed.now.place) cell.old cell.new) }
+    ensures events { out.new.items ≡ out.old.items ++ element_events listed.now.place (usages_in listed.now) cell.old cell.new }
+    ensures len { vec_len out.new ≡ vec_len out.old + length (element_events listed.now.place (usages_in listed.now) cell.old cell.new) }
     ensures room { vec_capacity out.new ≡ vec_capacity out.old }
 {
     match cell {
@@ -331,14 +331,14 @@ fn take_fields<C: FieldCodec>(
     requires data { IsData listed.now.layout.now listed.now.item.now.report listed.now.place listed.now.item.now }
     requires whole { report_bytes listed.now.layout.now listed.now.item.now.report ≤ length bytes.now }
     requires numbers { 512 ≤ vec_capacity numbers.old }
-    requires held { HasRoom (head_of (form_at (items_of listed.now.layout.now) listed.now.place)) cell.old }
+    requires held { HasRoom (head_of (form_in listed.now)) cell.old }
     requires next { HasNext cell.old next.old }
-    requires room { vec_len out.old + length (told_by_numbers listed.now.layout.now listed.now.place listed.now.item.now cell.old (read_by_numbers listed.now.layout.now listed.now.place listed.now.item.now cell.old (item_numbers listed.now.layout.now bytes.now listed.now.item.now)) (item_numbers listed.now.layout.now bytes.now listed.now.item.now)) ≤ vec_capacity out.old }
+    requires room { vec_len out.old + length (told_in listed.now cell.old (read_in listed.now cell.old (item_numbers listed.now.layout.now bytes.now listed.now.item.now)) (item_numbers listed.now.layout.now bytes.now listed.now.item.now)) ≤ vec_capacity out.old }
     ensures numbers { vec_capacity numbers.new ≡ vec_capacity numbers.old }
-    ensures cell { cell.new ≡ read_by_numbers listed.now.layout.now listed.now.place listed.now.item.now cell.old (item_numbers listed.now.layout.now bytes.now listed.now.item.now) }
+    ensures cell { cell.new ≡ read_in listed.now cell.old (item_numbers listed.now.layout.now bytes.now listed.now.item.now) }
     ensures next { HasNext cell.new next.new }
-    ensures events { out.new.items ≡ out.old.items ++ told_by_numbers listed.now.layout.now listed.now.place listed.now.item.now cell.old cell.new (item_numbers listed.now.layout.now bytes.now listed.now.item.now) }
-    ensures len { vec_len out.new ≡ vec_len out.old + length (told_by_numbers listed.now.layout.now listed.now.place listed.now.item.now cell.old cell.new (item_numbers listed.now.layout.now bytes.now listed.now.item.now)) }
+    ensures events { out.new.items ≡ out.old.items ++ told_in listed.now cell.old cell.new (item_numbers listed.now.layout.now bytes.now listed.now.item.now) }
+    ensures len { vec_len out.new ≡ vec_len out.old + length (told_in listed.now cell.old cell.new (item_numbers listed.now.layout.now bytes.now listed.now.item.now)) }
     ensures room { vec_capacity out.new ≡ vec_capacity out.old }
 {
     let item = listed.item;

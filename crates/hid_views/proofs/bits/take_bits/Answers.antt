@@ -1,6 +1,5 @@
 use Rattle.std.proofs.Common.{◌≡◌, ◌∙◌, ◌++◌, true, Bool, List, sym, ap, length, append-nil, rules, arith}
 use Rattle.hid_cells.specs.declared.event.Event.{Event}
-use Rattle.hid_cells.specs.Words.{bits_in}
 use Rattle.hid_views.specs.Events.{usages_at, switch_events}
 use Rattle.hid_views.specs.Bits.{is_first_word}
 use Rattle.hid_views.proofs.BitLemmas.{first_word, same_switches}

@@ -1,6 +1,5 @@
-use Rattle.std.proofs.Common.{◌≡◌, ◌&&◌, ◌∙◌, sym, ap, true, false, not, int_le, length, Some, None, Option, arith, rules}
+use Rattle.std.proofs.Common.{◌≡◌, ◌&&◌, ◌∙◌, sym, ap, true, false, not, int_le, Some, None, arith}
 use Rattle.std.specs.List.{slice_get}
-use Rattle.hid_layout.specs.declared.usage.Usage.{Usage}
 use Rattle.hid_layout.specs.Usages.{usage_list}
 use Rattle.hid_layout.specs.Controls.{is_rollover}
 use Rattle.hid_layout.proofs.FormLemmas.{keys-length}

@@ -1,4 +1,4 @@
-use Rattle.std.proofs.Common.{◌≡◌, ◌<◌, ◌∙◌, ap, true, false, Bool, List, length, arith, rules}
+use Rattle.std.proofs.Common.{◌≡◌, ◌∙◌, ap, true, false, Bool, List, arith, rules}
 use Rattle.std.specs.List.{slice_set}
 use Rattle.hid_layout.specs.Usages.{usage_list}
 use Rattle.hid_layout.specs.Controls.{is_key}

@@ -1,5 +1,5 @@
-use Rattle.std.proofs.Common.{◌≡◌, ◌++◌, ◌∷◌, [], ◌∙◌, refl, Some, true, false, not, ℤ, List, to_z, of_z, w64, take, replicate, ap, sym, length, rules}
-use Rattle.std.specs.List.{list_any, slice_get}
+use Rattle.std.proofs.Common.{◌≡◌, ◌∙◌, refl, Some, true, false, not, ℤ, List, to_z, of_z, w64, take, replicate, ap, sym, length, rules}
+use Rattle.std.specs.List.{slice_get}
 use Rattle.std.proofs.lemmas.Int.{to_z-of_z}
 use Rattle.std.proofs.lemmas.List.{length-replicate}
 use Rattle.hid_layout.specs.Usages.{usage_list}

@@ -1,4 +1,4 @@
-use Rattle.std.proofs.Common.{◌≡◌, ◌∙◌, ◌++◌, true, false, Bool, List, ap, sym, length, append-nil, arith, rules}
+use Rattle.std.proofs.Common.{◌≡◌, ◌∙◌, ◌++◌, true, false, List, ap, sym, length, append-nil, arith, rules}
 use Rattle.std.specs.List.{list_any}
 use Rattle.hid_cells.specs.declared.cell.Cell.{Cell}
 use Rattle.hid_cells.specs.declared.cell.Cell.TheVariants.{Pressed}
@@ -6,7 +6,7 @@ use Rattle.hid_cells.specs.declared.event.Event.{Event}
 use Rattle.hid_layout.specs.Usages.{usage_list}
 use Rattle.hid_layout.specs.Controls.{Key}
 use Rattle.hid_views.specs.Events.{usages_at, key_events}
-use Rattle.hid_views.specs.Reading.{array_keys, keys_at, named_from, names_rollover, read_keys}
+use Rattle.hid_views.specs.Reading.{keys_at, named_from, names_rollover, read_keys}
 use Rattle.hid_views.proofs.ViewLemmas.{same_keys}
 use Rattle.hid_views.proofs.PressLemmas.{keys_stay, keys_named, is_not, is_so}
 use Rattle.hid_views.proofs.take.take_flags.Goals as goal

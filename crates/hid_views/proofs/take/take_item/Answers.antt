@@ -1,4 +1,4 @@
-use Rattle.std.proofs.Common.{◌≡◌, ◌∙◌, sym, ap, subst, arith}
+use Rattle.std.proofs.Common.{◌∙◌, sym, ap, subst, arith}
 use Rattle.hid_layout.specs.Reports.{report_bytes}
 use Rattle.hid_parts.specs.Encoding.{IsData}
 use Rattle.hid_parts.proofs.EncodingLemmas.{data_if}
