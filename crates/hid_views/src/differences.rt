@@ -1,6 +1,6 @@
 //! What changed from one view to another, in events.
 
-ghost use Rattle.std.specs.Prelude.{◌≡◌, ◌<◌, ◌≤◌, ◌+◌, ◌++◌, ℕ, Bool, List, length, slice_get, map, Some, vec_len, vec_capacity, unwrap_or, pos};
+ghost use Rattle.std.specs.Prelude.{◌≡◌, ◌<◌, ◌≤◌, ◌+◌, ◌++◌, ℕ, Bool, List, length, slice_get, map, Some, vec_len, vec_capacity};
 ghost use Rattle.hid_layout.specs.declared.usage.Usage.{Usage as UsageValue};
 ghost use Rattle.hid_layout.specs.Usages.{usage_list};
 ghost use Rattle.hid_layout.specs.Reports.{usage_of};
@@ -132,15 +132,14 @@ fn value_event(
     }
 }
 
-fn motion_event(control: ControlId, usage: Usage, by: Option<i64>, out: &mut Vec<Event>)
-    requires { vec_len out.old + length (motion_event control usage (unwrap_or by (pos 0))) ≤ vec_capacity out.old }
-    ensures events { out.new.items ≡ out.old.items ++ motion_event control usage (unwrap_or by (pos 0)) }
-    ensures len { vec_len out.new ≡ vec_len out.old + length (motion_event control usage (unwrap_or by (pos 0))) }
+fn motion_event(control: ControlId, usage: Usage, by: i64, out: &mut Vec<Event>)
+    requires { vec_len out.old + length (motion_event control usage by) ≤ vec_capacity out.old }
+    ensures events { out.new.items ≡ out.old.items ++ motion_event control usage by }
+    ensures len { vec_len out.new ≡ vec_len out.old + length (motion_event control usage by) }
     ensures room { vec_capacity out.new ≡ vec_capacity out.old }
 {
-    match by {
-        Some(by) if by != 0 => out.push_reserved(Event::Motion { control, usage, by }),
-        _ => {}
+    if by != 0 {
+        out.push_reserved(Event::Motion { control, usage, by });
     }
 }
 
@@ -253,17 +252,17 @@ pub(crate) struct Bounds {
     pub(crate) greatest: i64,
 }
 
-/// The motion that an element's number is read as.
+/// The motion that an element's number is read as: none, 0, where it is out of the range.
 #[tactic(auto, using(hid_cells::proofs::ListLemmas::map_at))]
-fn motion(bounds: &Bounds, numbers: &[i64], index: usize) -> Option<i64>
+fn motion(bounds: &Bounds, numbers: &[i64], index: usize) -> i64
     requires { index < length numbers.now }
-    ensures { slice_get (map (read_motion bounds.now.least bounds.now.greatest) numbers.now) index ≡ Some (unwrap_or result (pos 0)) }
+    ensures { slice_get (map (read_motion bounds.now.least bounds.now.greatest) numbers.now) index ≡ Some result }
 {
     let number = numbers[index];
     if bounds.least <= number && number <= bounds.greatest {
-        Some(number)
+        number
     } else {
-        None
+        0
     }
 }
 

@@ -1,5 +1,6 @@
-use Rattle.std.proofs.Common.{◌∙◌}
-use Rattle.std.proofs.Common.{map, unwrap_or, pos}
+use Rattle.std.proofs.Common.{◌≡◌, ◌∙◌, ap, sym, map, Some, ℤ, to_z, of_z, w64, rules}
+use Rattle.std.specs.List.{slice_get}
+use Rattle.std.proofs.lemmas.Int.{to_z-of_z}
 use Rattle.hid_views.specs.Reading.{read_motion}
 use Rattle.hid_views.specs.Events.{usages_at, at, motion_event}
 use Rattle.hid_views.proofs.EventLemmas.{each-from, room_for, room_left, len_left, told}
@@ -7,11 +8,19 @@ use Rattle.hid_views.proofs.differences.motions.Goals as goal
 
 pub motion_event-requires : goal.motion_event-requires
 motion_event-requires c =
-    room_for _ _ _ _ _ (each-from (λ j u m. motion_event (at c.args.item j) u m) (usages_at c.args.layout.now c.args.item) (map (read_motion c.args.bounds.now.least c.args.bounds.now.greatest) c.args.numbers.now) c.loop-index.index c.usage_at.result (unwrap_or c.motion.result (pos 0)) c.usage_at.ensures c.motion.ensures) c.loop-index.invariant.room
+    let all = map (read_motion c.args.bounds.now.least c.args.bounds.now.greatest) c.args.numbers.now in
+    let by = to_z w64 (of_z w64 c.motion.result) in
+    let same : by ≡ c.motion.result = search (rules, to_z-of_z) in
+    let here : slice_get all c.loop-index.index ≡ Some by = c.motion.ensures ∙ ap (λ (v : ℤ). Some v) (sym same) in
+    room_for _ _ _ _ _ (each-from (λ j u m. motion_event (at c.args.item j) u m) (usages_at c.args.layout.now c.args.item) all c.loop-index.index c.usage_at.result by c.usage_at.ensures here) c.loop-index.invariant.room
 
 pub loop-index-preserved : goal.loop-index-preserved
 loop-index-preserved c =
-    let step = each-from (λ j u m. motion_event (at c.args.item j) u m) (usages_at c.args.layout.now c.args.item) (map (read_motion c.args.bounds.now.least c.args.bounds.now.greatest) c.args.numbers.now) c.loop-index.index c.usage_at.result (unwrap_or c.motion.result (pos 0)) c.usage_at.ensures c.motion.ensures in
+    let all = map (read_motion c.args.bounds.now.least c.args.bounds.now.greatest) c.args.numbers.now in
+    let by = to_z w64 (of_z w64 c.motion.result) in
+    let same : by ≡ c.motion.result = search (rules, to_z-of_z) in
+    let here : slice_get all c.loop-index.index ≡ Some by = c.motion.ensures ∙ ap (λ (v : ℤ). Some v) (sym same) in
+    let step = each-from (λ j u m. motion_event (at c.args.item j) u m) (usages_at c.args.layout.now c.args.item) all c.loop-index.index c.usage_at.result by c.usage_at.ensures here in
     record {
       events = told _ _ _ _ _ _ step c.loop-index.invariant.events c.motion_event.ensures.events;
       room = room_left _ _ _ _ _ _ _ step c.loop-index.invariant.room c.motion_event.ensures.len c.motion_event.ensures.room;
