@@ -4,7 +4,7 @@
 ghost use Rattle.std.specs.Prelude.{◌≡◌, ◌<◌, ◌≤◌, ◌+◌, ◌-◌, ◌*◌, ◌^◌, ◌+ℤ◌, ◌-ℤ◌, ◌≤ℤ◌, ◌<ℤ◌, pos, neg_ℤ, ℕ, ℤ, List, true, false, length, IfSome, IfNone, Some, None};
 ghost use Rattle.std.specs.Int.{int_min};
 ghost use Rattle.hid_layout.specs.Usages.{entry_count, usage_list};
-ghost use Rattle.hid_layout.specs.Controls.{rollover_from, is_rollover, tells_error, least_of, greatest_of, is_encodable};
+ghost use Rattle.hid_layout.specs.Controls.{rollover_from, least_of, greatest_of, is_encodable};
 ghost use Rattle.hid_layout.specs.Faults.{least_value, greatest_value};
 ghost use Rattle.hid_layout.specs.Reports.{HasElements};
 ghost use Rattle.hid_fields.specs.Value.{is_negative};
