@@ -106,8 +106,8 @@ encoded layout r k numbers bytes e whole s = record { whole = whole; shows = rw 
 pub cell_numbers : (layout : Contents) (parts : List Cell) (i : ℕ) (cell : Cell) → slice_get parts i ≡ Some cell → part_numbers layout parts i ≡ sent_at layout i cell
 cell_numbers layout parts i cell h = ap (λ (o : Option Cell). elim o as (λ _. List ℤ) [ None ↦ [] | Some x ↦ sent_at layout i x ]) h
 
--- the pressed keys of an array that can be sent are few
-pub keys_few : (item : MainItem) (ps : List Bool) (rest : ℕ) (v : ℤ) → HasElements item → CanSend item (placed_from item.min 0 ps ++ replicate rest v) → pressed_count ps ≤ 512
-keys_few item ps rest v has can = omega (arith, has.few, can.one_each, placed_from-length item.min 0 ps, length-append (placed_from item.min 0 ps) (replicate rest v))
+-- an array that can be sent has no more pressed keys than elements
+pub keys_few : (item : MainItem) (ps : List Bool) (rest : ℕ) (v : ℤ) → CanSend item (placed_from item.min 0 ps ++ replicate rest v) → pressed_count ps ≤ item.count
+keys_few item ps rest v can = omega (arith, can.one_each, placed_from-length item.min 0 ps, length-append (placed_from item.min 0 ps) (replicate rest v))
 
 pub ruleset keys_sent = (keys_few)

@@ -1,4 +1,5 @@
 pub mod PlaceLemmas
+pub mod DrawLemmas
 pub mod SnapshotLemmas
 pub mod SendLemmas
 pub mod NumberLemmas

@@ -3,12 +3,10 @@ use Rattle.std.proofs.Common.{◌≡◌, ℕ, zero, suc, ◌+◌, ◌-◌, ◌*�
 use Rattle.std.specs.List.{slice_get}
 use Rattle.std.proofs.lemmas.Option.{slice_get_within}
 use Rattle.hid_layout.specs.declared.main_item.MainItem.{MainItem}
-use Rattle.hid_layout.specs.declared.report.Report.{Report}
 use Rattle.hid_layout.specs.Usages.{Entry, usage_list}
-use Rattle.hid_layout.specs.Fields.{is_padding, same_kind}
+use Rattle.hid_layout.specs.Fields.{is_padding}
 use Rattle.hid_layout.specs.Layout.{Contents}
 use Rattle.hid_layout.specs.Reports.{IsLayout, HasElements}
-use Rattle.hid_layout.specs.declared.report.ReportKind.TheVariants.{Input}
 use Rattle.hid_layout.specs.Controls.{Form, NoControls, Item, items_of, item_of, form_of, head_of, is_input}
 use Rattle.hid_cells.specs.declared.cell.Cell.{Cell}
 use Rattle.hid_cells.specs.declared.cell.Cell.TheVariants.{Vacant, Pressed, Holding, Moved, RolledOver}

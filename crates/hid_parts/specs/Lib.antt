@@ -1,3 +1,4 @@
 pub mod Numbers
 pub mod Sending
+pub mod Sources
 pub mod Encoding

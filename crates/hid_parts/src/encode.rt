@@ -19,7 +19,7 @@ ghost use Rattle.hid_parts.specs.Sending.{sent};
 ghost use Rattle.hid_parts.specs.Encoding.{is_data_in, place, bare_report, sent_at, part_numbers, CanSend, CanSendAll, HasFewPlaces, AreBytes, IsEncoding, IsData, Shows};
 
 use crate::numbers::put_all;
-use crate::send::{Numbers, fill_up, send_keys, send_motions, send_switches, send_values};
+use crate::send::Sending;
 use crate::shown::Shown;
 use arrayvec::ArrayVec;
 use hid_cells::{Cell, item_at, plan_of};
@@ -105,7 +105,8 @@ fn write_item<C: FieldCodec>(
         bytes,
         first_bit(layout) + item.offset as usize,
         item.size,
-        &numbers,
+        item.count as usize,
+        numbers,
     );
 }
 
@@ -162,61 +163,61 @@ pub fn encode_report<C: FieldCodec>(
 }
 
 /// The numbers of an item's elements.
-fn send_item(layout: &Layout, i: usize, item: &MainItem, cell: &Cell) -> Numbers
+fn send_item<'a>(layout: &Layout, i: usize, item: &MainItem, cell: &'a Cell) -> Sending<'a>
     requires listed { slice_get layout.now.items i ≡ Some item.now }
     requires layout { IsLayout layout.now }
     requires elements { HasElements item.now }
     requires can { CanSend item.now (sent_at layout.now i cell.now) }
     requires places { HasFewPlaces cell.now }
-    ensures { result.items ≡ sent_at layout.now i cell.now }
+    ensures { result ≡ sent_at layout.now i cell.now }
 {
     let entries = layout.entries(i);
     match item.shape {
-        Shape::Padding => ArrayVec::new(),
+        Shape::Padding => Sending::none(),
         Shape::Variable => send_elements(item, entries, &layout.codes(i), cell),
         Shape::Array => send_array(item, entries, &layout.codes(i), cell),
     }
 }
 
-fn send_elements(item: &MainItem, entries: &[(Usage, Usage)], codes: &Codes, cell: &Cell) -> Numbers
+fn send_elements<'a>(
+    item: &MainItem,
+    entries: &[(Usage, Usage)],
+    codes: &Codes,
+    cell: &'a Cell,
+) -> Sending<'a>
     requires codes { AreCodes item.now (usage_list entries.now) codes.now }
     requires elements { HasElements item.now }
     requires can { CanSend item.now (sent item.now (usage_list entries.now) (form_of item.now (usage_list entries.now) Shape.Variable) cell.now) }
-    ensures { result.items ≡ sent item.now (usage_list entries.now) (form_of item.now (usage_list entries.now) Shape.Variable) cell.now }
+    ensures { result ≡ sent item.now (usage_list entries.now) (form_of item.now (usage_list entries.now) Shape.Variable) cell.now }
 {
     match cell {
-        Cell::Pressed(flags) => send_switches(flags),
-        Cell::Holding(values) => send_values(values, codes.null),
-        Cell::Moved(motions) => send_motions(motions),
-        Cell::Vacant | Cell::RolledOver(_) => ArrayVec::new(),
+        Cell::Pressed(flags) => Sending::switches(flags),
+        Cell::Holding(values) => Sending::values(values, codes.null.unwrap_or(0)),
+        Cell::Moved(motions) => Sending::motions(motions),
+        Cell::Vacant | Cell::RolledOver(_) => Sending::none(),
     }
 }
 
 #[tactic(auto, using(crate::proofs::EncodingLemmas::keys_sent))]
-fn send_array(item: &MainItem, entries: &[(Usage, Usage)], codes: &Codes, cell: &Cell) -> Numbers
+fn send_array<'a>(
+    item: &MainItem,
+    entries: &[(Usage, Usage)],
+    codes: &Codes,
+    cell: &'a Cell,
+) -> Sending<'a>
     requires codes { AreCodes item.now (usage_list entries.now) codes.now }
     requires elements { HasElements item.now }
     requires few_entries { length entries.now ≤ 64 }
     requires can { CanSend item.now (sent item.now (usage_list entries.now) (form_of item.now (usage_list entries.now) Shape.Array) cell.now) }
     requires places { HasFewPlaces cell.now }
-    ensures { result.items ≡ sent item.now (usage_list entries.now) (form_of item.now (usage_list entries.now) Shape.Array) cell.now }
+    ensures { result ≡ sent item.now (usage_list entries.now) (form_of item.now (usage_list entries.now) Shape.Array) cell.now }
 {
     match cell {
         Cell::Pressed(flags) => {
-            let mut numbers = send_keys(flags, item);
-            let rest = item.count as usize - numbers.len();
-            fill_up(&mut numbers, rest, codes.empty.unwrap_or(0));
-            numbers
+            let rest = item.count as usize - flags.count();
+            Sending::keys(flags, item.min, rest, codes.empty.unwrap_or(0))
         }
-        Cell::RolledOver(_) => {
-            let mut numbers = ArrayVec::new();
-            fill_up(
-                &mut numbers,
-                item.count as usize,
-                codes.rollover.unwrap_or(0),
-            );
-            numbers
-        }
-        _ => ArrayVec::new(),
+        Cell::RolledOver(_) => Sending::same(item.count as usize, codes.rollover.unwrap_or(0)),
+        _ => Sending::none(),
     }
 }

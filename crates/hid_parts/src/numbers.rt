@@ -4,6 +4,7 @@ ghost use Rattle.hid_fields.specs.Field.{bit_of, pattern_of, IsOutside};
 ghost use Rattle.hid_fields.specs.Value.{FitsEitherSign, FitsField};
 ghost use Rattle.hid_parts.specs.Numbers.{number_at, numbers_in};
 
+use crate::send::Sending;
 use hid_fields::{FieldCodec, to_pattern, to_value};
 
 /// Puts the numbers of these fields, one behind the other, in place of what the list has. There is room for them.
@@ -45,16 +46,23 @@ fn put_number<C: FieldCodec>(bytes: &mut [u8], at: usize, width: u32, number: i6
 }
 
 /// Makes these the numbers of the fields, and leaves every other bit.
-pub(crate) fn put_all<C: FieldCodec>(bytes: &mut [u8], at: usize, width: u32, numbers: &[i64])
+pub(crate) fn put_all<C: FieldCodec>(
+    bytes: &mut [u8],
+    at: usize,
+    width: u32,
+    count: usize,
+    mut numbers: Sending,
+)
     requires some { 0 < width }
     requires width { width ≤ 32 }
-    requires inside { at + width * length numbers.now ≤ 8 * length bytes.old }
+    requires one_each { length numbers ≡ count }
+    requires inside { at + width * count ≤ 8 * length bytes.old }
     requires short { length bytes.old ≤ 4096 }
-    requires fits { All (λ v. FitsEitherSign v width) numbers.now }
-    ensures numbers { (signed : Bool) → All (λ v. FitsField v width signed) numbers.now → numbers_in bytes.new at width signed (length numbers.now) ≡ numbers.now }
-    ensures others { (n : ℕ) → IsOutside at (width * length numbers.now) n → bit_of bytes.new n ≡ bit_of bytes.old n }
+    requires fits { All (λ v. FitsEitherSign v width) numbers }
+    ensures numbers { (signed : Bool) → All (λ v. FitsField v width signed) numbers.entry → numbers_in bytes.new at width signed count ≡ numbers.entry }
+    ensures others { (n : ℕ) → IsOutside at (width * count) n → bit_of bytes.new n ≡ bit_of bytes.old n }
 {
-    for k in 0..numbers.len() {
-        put_number::<C>(bytes, at + width as usize * k, width, numbers[k]);
+    for k in 0..count {
+        put_number::<C>(bytes, at + width as usize * k, width, numbers.next());
     }
 }

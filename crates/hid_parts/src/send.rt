@@ -1,15 +1,148 @@
-//! The numbers by which a report shows what is kept of an item.
+//! The numbers by which a report shows what is kept of an item, drawn one after another.
 
-ghost use Rattle.std.specs.Prelude.{◌≡◌, ◌<◌, ◌≤◌, ◌+◌, ◌-◌, ◌++◌, ◌^◌, ◌+ℤ◌, ◌≤ℤ◌, neg_ℤ, pos, ℕ, Bool, List, map, length, replicate, unwrap_or, slice_get, Some};
-ghost use Rattle.arrayvec.specs.ArrayVec.{array_vec_len};
-ghost use Rattle.hid_parts.specs.Sending.{switch_number, placed_from, pressed_count};
+ghost use Rattle.std.specs.Prelude.{◌≡◌, ◌<◌, ◌≤◌, ◌++◌, ◌^◌, ◌≤ℤ◌, neg_ℤ, pos, List, [], ◌∷◌, map, length, replicate, unwrap_or};
+ghost use Rattle.hid_parts.specs.Sending.{switch_number, placed_from};
+ghost use Rattle.hid_parts.specs.Sources.{repeats};
 
-use arrayvec::ArrayVec;
 use hid_cells::{Flags, Motions, Values};
-use hid_layout::MainItem;
+use std::marker::Model;
 
-/// The numbers of the elements of one item.
-pub(crate) type Numbers = ArrayVec<i64, 512>;
+/// What numbers are drawn from.
+#[derive(Clone, Copy)]
+enum Source<'a> {
+    /// The switches from an index on.
+    Switches(&'a Flags, usize),
+    /// The values from an index on, with a number for null.
+    Values(&'a Values, usize, i64),
+    /// The motions from an index on.
+    Motions(&'a Motions, usize),
+    /// The pressed keys from a place on, as numbers from the minimum on, and what the elements behind them have.
+    Keys(&'a Flags, usize, i64, Repeated),
+    Same(Repeated),
+}
+
+/// A number, so many times.
+#[derive(Clone, Copy)]
+struct Repeated {
+    count: usize,
+    number: i64,
+}
+
+/// The numbers of an item's elements that have yet to come. It takes no memory.
+#[derive(Drop)]
+pub(crate) struct Sending<'a> {
+    source: Source<'a>,
+}
+
+impl<'a> Model for Sending<'a> {
+    ghost use Rattle.std.specs.Prelude.{List, ℤ};
+
+    ghost Value = { List ℤ };
+
+    ghost use Rattle.hid_parts.specs.Sources.{numbers_of, IsSource};
+
+    ghost view = { λ s. numbers_of s.source };
+
+    ghost invariant = { λ s. IsSource s.source };
+}
+
+impl<'a> Sending<'a> {
+    /// No number.
+    pub(crate) fn none() -> Sending<'a>
+        ensures { result ≡ [] }
+    {
+        Sending::same(0, 0)
+    }
+
+    /// The same number, so many times.
+    pub(crate) fn same(count: usize, number: i64) -> Sending<'a>
+        ensures { result ≡ replicate count number }
+    {
+        Sending {
+            source: Source::Same(Repeated { count, number }),
+        }
+    }
+
+    /// 1 for each pressed switch, and 0 for each other.
+    pub(crate) fn switches(flags: &'a Flags) -> Sending<'a>
+        requires { length flags.now ≤ 512 }
+        ensures { result ≡ map switch_number flags.now }
+    {
+        Sending {
+            source: Source::Switches(flags, 0),
+        }
+    }
+
+    /// The values, with this number for null.
+    pub(crate) fn values(values: &'a Values, null: i64) -> Sending<'a>
+        requires { length values.now ≤ 512 }
+        ensures { result ≡ map (λ v. unwrap_or v null) values.now }
+    {
+        Sending {
+            source: Source::Values(values, 0, null),
+        }
+    }
+
+    pub(crate) fn motions(motions: &'a Motions) -> Sending<'a>
+        requires { length motions.now ≤ 512 }
+        ensures { result ≡ motions.now }
+    {
+        Sending {
+            source: Source::Motions(motions, 0),
+        }
+    }
+
+    /// The pressed keys by rising place, as numbers from the minimum on, and behind them the same number so many times.
+    pub(crate) fn keys(flags: &'a Flags, min: i64, rest: usize, empty: i64) -> Sending<'a>
+        requires places { length flags.now ≤ 65536 }
+        requires small { neg_ℤ (pos (2 ^ 32)) ≤ℤ min }
+        requires not_large { min ≤ℤ pos (2 ^ 32) }
+        ensures { result ≡ placed_from min 0 flags.now ++ replicate rest empty }
+    {
+        let then = Repeated {
+            count: rest,
+            number: empty,
+        };
+        Sending {
+            source: Source::Keys(flags, 0, min, then),
+        }
+    }
+
+    /// Draws the next number.
+    pub(crate) fn next(&mut self) -> i64
+        requires { 0 < length self.old }
+        ensures { self.old ≡ result ∷ self.new }
+    {
+        match self.source {
+            Source::Switches(flags, index) => {
+                self.source = Source::Switches(flags, index + 1);
+                switch_number(flags.get(index))
+            }
+            Source::Values(values, index, null) => {
+                self.source = Source::Values(values, index + 1, null);
+                values.get(index).unwrap_or(null)
+            }
+            Source::Motions(motions, index) => {
+                self.source = Source::Motions(motions, index + 1);
+                motions.get(index)
+            }
+            Source::Keys(flags, from, min, then) => match flags.next(from) {
+                Some(place) => {
+                    self.source = Source::Keys(flags, place + 1, min, then);
+                    min + place as i64
+                }
+                None => {
+                    self.source = Source::Same(one_fewer(then));
+                    then.number
+                }
+            },
+            Source::Same(then) => {
+                self.source = Source::Same(one_fewer(then));
+                then.number
+            }
+        }
+    }
+}
 
 fn switch_number(pressed: bool) -> i64
     ensures { result ≡ switch_number pressed }
@@ -17,73 +150,12 @@ fn switch_number(pressed: bool) -> i64
     if pressed { 1 } else { 0 }
 }
 
-fn value_number(value: Option<i64>, null: Option<i64>) -> i64
-    ensures { result ≡ unwrap_or value (unwrap_or null (pos 0)) }
+fn one_fewer(repeated: Repeated) -> Repeated
+    requires { 0 < repeated.count }
+    ensures { repeats repeated ≡ repeated.number ∷ repeats result }
 {
-    value.or(null).unwrap_or(0)
-}
-
-#[tactic(auto, using(hid_cells::proofs::ListLemmas::pushes))]
-pub(crate) fn send_switches(flags: &Flags) -> Numbers
-    requires { length flags.now ≤ 512 }
-    ensures { result.items ≡ map switch_number flags.now }
-{
-    let mut numbers = ArrayVec::new();
-    for index in 0..flags.len() {
-        numbers.push(switch_number(flags.get(index)));
+    Repeated {
+        count: repeated.count - 1,
+        number: repeated.number,
     }
-    numbers
-}
-
-#[tactic(auto, using(hid_cells::proofs::ListLemmas::pushes))]
-pub(crate) fn send_values(values: &Values, null: Option<i64>) -> Numbers
-    requires { length values.now ≤ 512 }
-    ensures { result.items ≡ map (λ v. unwrap_or v (unwrap_or null (pos 0))) values.now }
-{
-    let mut numbers = ArrayVec::new();
-    for index in 0..values.len() {
-        numbers.push(value_number(values.get(index), null));
-    }
-    numbers
-}
-
-#[tactic(auto, using(hid_cells::proofs::ListLemmas::pushes))]
-pub(crate) fn send_motions(motions: &Motions) -> Numbers
-    requires { length motions.now ≤ 512 }
-    ensures { result.items ≡ motions.now }
-{
-    let mut numbers = ArrayVec::new();
-    for index in 0..motions.len() {
-        numbers.push(motions.get(index));
-    }
-    numbers
-}
-
-/// The same number for each of so many elements behind these.
-pub(crate) fn fill_up(numbers: &mut Numbers, count: usize, number: i64)
-    requires { array_vec_len numbers.old + count ≤ 512 }
-    ensures { numbers.new.items ≡ numbers.old.items ++ replicate count number }
-{
-    for i in 0..count {
-        numbers.push(number);
-    }
-}
-
-/// The pressed keys by rising place, as numbers from the minimum on.
-#[tactic(auto, using(crate::proofs::PlaceLemmas::keys))]
-pub(crate) fn send_keys(flags: &Flags, item: &MainItem) -> Numbers
-    requires few { pressed_count flags.now ≤ 512 }
-    requires places { length flags.now ≤ 65536 }
-    requires small { neg_ℤ (pos (2 ^ 32)) ≤ℤ item.now.min }
-    requires not_large { item.now.min ≤ℤ pos (2 ^ 32) }
-    ensures numbers { result.items ≡ placed_from item.now.min 0 flags.now }
-    ensures len { array_vec_len result ≡ pressed_count flags.now }
-{
-    let mut numbers = ArrayVec::new();
-    let mut from = 0;
-    while let Some(place) = flags.next(from) {
-        numbers.push(item.min + place as i64);
-        from = place + 1;
-    }
-    numbers
 }

@@ -2,7 +2,7 @@ use Rattle.std.proofs.Common.{rules, ◌≡◌, length, get_or, arith, refl}
 use Rattle.std.specs.List.{refill}
 use Rattle.arrayvec.specs.ArrayVec.{array_vec_len}
 use Rattle.hid_layout.specs.Reports.{report_bytes}
-use Rattle.hid_parts.specs.Encoding.{part_numbers, AreBytes, IsEncoding, bare_report}
+use Rattle.hid_parts.specs.Encoding.{part_numbers, bare_report}
 use Rattle.hid_cells.proofs.PlanLemmas.{input_there, along_next, along_step, along_end}
 use Rattle.hid_parts.proofs.EncodingLemmas.{encoded, other_passed, shows_put, whole_report}
 use Rattle.hid_parts.proofs.ReportLemmas.{can_send_all, only_one}

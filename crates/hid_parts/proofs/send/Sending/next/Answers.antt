@@ -1,0 +1,44 @@
+use Rattle.std.proofs.Common.{◌≡◌, ◌∷◌, ◌∙◌, sym, ap, to_z, of_z, w64, ◌+◌, length, map, drop, unwrap_or, ℤ, pos, ◌+ℤ◌, rules, arith}
+use Rattle.std.proofs.lemmas.Int.{to_z-of_z}
+use Rattle.std.proofs.lemmas.List.{length-replicate}
+use Rattle.hid_parts.specs.Sending.{switch_number}
+use Rattle.hid_parts.specs.Sources.{numbers_of, repeats}
+use Rattle.hid_parts.proofs.DrawLemmas.{map_drawn, key_drawn, keys_drawn}
+use Rattle.hid_cells.proofs.ListLemmas.{drop_at}
+use Rattle.hid_parts.proofs.send.Sending.next.Goals as goal
+
+pub one_fewer-requires : goal.one_fewer-requires
+one_fewer-requires c =
+    let left : c.args.self.now ≡ repeats c.in-Keys.then =
+    sym c.self.view_is ∙ ap numbers_of c.in-Keys.is ∙ keys_drawn c.in-Keys.min c.in-Keys.flags.now c.in-Keys.from (repeats c.in-Keys.then) c.in-None.ensures.first in
+    omega (arith, c.requires, ap length left, length-replicate c.in-Keys.then.count c.in-Keys.then.number)
+
+pub returns-in-Switches : goal.returns-in-Switches
+returns-in-Switches c =
+    let number : to_z w64 (of_z w64 c.switch_number.result) ≡ switch_number c.get.result = search rules in
+    sym c.self.view_is ∙ ap numbers_of c.in-Switches.is ∙ map_drawn switch_number c.in-Switches.flags.now c.in-Switches.index c.get.result _ c.get.ensures number
+
+pub returns-in-Values : goal.returns-in-Values
+returns-in-Values c =
+    let null : to_z w64 (of_z w64 c.in-Values.null) ≡ c.in-Values.null = search (rules, to_z-of_z) in
+    let number : to_z w64 (of_z w64 c.unwrap_or.result) ≡ unwrap_or c.get-in-Values.result c.in-Values.null = search (rules, to_z-of_z) in
+    sym c.self.view_is ∙ ap numbers_of c.in-Values.is ∙ map_drawn (λ v. unwrap_or v c.in-Values.null) c.in-Values.values.now c.in-Values.index c.get-in-Values.result _ c.get-in-Values.ensures number
+    ∙ ap (λ (n : ℤ). to_z w64 (of_z w64 c.unwrap_or.result) ∷ map (λ v. unwrap_or v n) (drop (c.in-Values.index + 1) c.in-Values.values.now)) (sym null)
+
+pub returns-in-Motions : goal.returns-in-Motions
+returns-in-Motions c =
+    let number : to_z w64 (of_z w64 c.get-in-Motions.result) ≡ c.get-in-Motions.result = search (rules, to_z-of_z) in
+    sym c.self.view_is ∙ ap numbers_of c.in-Motions.is ∙ rw number (drop_at c.in-Motions.motions.now c.in-Motions.index c.get-in-Motions.result c.get-in-Motions.ensures)
+
+pub returns-in-Some : goal.returns-in-Some
+returns-in-Some c =
+    let min : to_z w64 (of_z w64 c.in-Keys.min) ≡ c.in-Keys.min = search (rules, to_z-of_z) in
+    let number : to_z w64 (of_z w64 (to_z w64 (of_z w64 c.in-Keys.min) +ℤ to_z w64 c.in-Some.place)) ≡ c.in-Keys.min +ℤ pos c.in-Some.place = search (rules, to_z-of_z) in
+    sym c.self.view_is ∙ ap numbers_of c.in-Keys.is
+    ∙ key_drawn c.in-Keys.min _ _ c.in-Keys.flags.now c.in-Keys.from c.in-Some.place _ c.in-Some.ensures.first min number
+
+pub returns-in-None : goal.returns-in-None
+returns-in-None c =
+    let number : to_z w64 (of_z w64 c.in-Keys.then.number) ≡ c.in-Keys.then.number = search (rules, to_z-of_z) in
+    sym c.self.view_is ∙ ap numbers_of c.in-Keys.is ∙ keys_drawn c.in-Keys.min c.in-Keys.flags.now c.in-Keys.from (repeats c.in-Keys.then) c.in-None.ensures.first
+    ∙ c.one_fewer.ensures ∙ ap (λ (n : ℤ). n ∷ repeats c.one_fewer.result) (sym number)
