@@ -1,8 +1,7 @@
 -- Lists that are filled from the front.
-use Rattle.std.proofs.Common.{◌≡◌, ℕ, zero, suc, ◌+◌, ◌<◌, List, [], ◌∷◌, ◌++◌, map, take, drop, Some, Bool, true, false, cond, refl, sym, ap, ◌∙◌, arith}
+use Rattle.std.proofs.Common.{◌≡◌, ℕ, zero, suc, ◌+◌, List, [], ◌∷◌, ◌++◌, map, take, drop, Some, Bool, true, false, cond, refl, sym, ap, ◌∙◌, arith}
 use Rattle.std.specs.List.{slice_get, zip}
-use Rattle.std.proofs.lemmas.List.Sums.{count_by_more_yes, count_by_more_no, sum_by-append, sum_by-take-drop}
-use Rattle.std.proofs.lemmas.Option.{slice_get_within, get_or_from_slice_get}
+use Rattle.std.proofs.lemmas.List.Sums.{sum_by-append}
 use Rattle.std.proofs.lemmas.Int.{to_z-of_z}
 use Rattle.hid_cells.specs.Cells.{pressed_count}
 
@@ -28,7 +27,8 @@ map_at f (y ∷ ys) (suc j) x h = map_at f ys j x h
 pub mapped_at : {A B : Type 0} (f : A → B) (xs : List A) (done : List B) (j : ℕ) (x : A) (y : B) → slice_get xs j ≡ Some x → y ≡ f x → done ≡ map f (take j xs) → done ++ y ∷ [] ≡ map f (take (j + 1) xs)
 mapped_at f xs done j x y h e so_far = rw (take_at xs j x h, map_push f (take j xs) x, so_far, e) refl
 
-pub ruleset pushes = (to_z-of_z, take_at, map_push)
+-- a number that is kept in 64 bits
+pub ruleset kept = (to_z-of_z)
 
 -- a list from one of its elements on
 pub drop_at : {A : Type 0} (xs : List A) (j : ℕ) (x : A) → slice_get xs j ≡ Some x → drop j xs ≡ x ∷ drop (j + 1) xs
@@ -41,16 +41,6 @@ zip_at [] ys j x y h k = absurd (cc)
 zip_at (a ∷ xs) [] j x y h k = absurd (cc)
 zip_at (a ∷ xs) (b ∷ ys) zero x y h k = cc
 zip_at (a ∷ xs) (b ∷ ys) (suc j) x y h k = zip_at xs ys j x y h k
-
--- how many are pressed
-pub count_pressed : (ps : List Bool) (j : ℕ) → slice_get ps j ≡ Some true → pressed_count (take (j + 1) ps) ≡ pressed_count (take j ps) + 1
-count_pressed ps j h = count_by_more_yes (λ (p : Bool). p) ps j false (slice_get_within ps j true h) (get_or_from_slice_get ps j true false h)
-
-pub count_not_pressed : (ps : List Bool) (j : ℕ) → slice_get ps j ≡ Some false → pressed_count (take (j + 1) ps) ≡ pressed_count (take j ps)
-count_not_pressed ps j h = count_by_more_no (λ (p : Bool). p) ps j false (slice_get_within ps j false h) (get_or_from_slice_get ps j false false h)
-
-pub count_before : (ps : List Bool) (j : ℕ) → slice_get ps j ≡ Some true → pressed_count (take j ps) < pressed_count ps
-count_before ps j h = omega (arith, count_pressed ps j h, sum_by-take-drop (λ (p : Bool). cond p 1 0) ps (j + 1))
 
 pub cons_count : (p : Bool) (ps : List Bool) → pressed_count (p ∷ ps) ≡ cond p 1 0 + pressed_count ps
 cons_count true ps = omega (arith, sum_by-append (λ (q : Bool). cond q 1 0) (true ∷ []) ps)

@@ -7,7 +7,6 @@ use Rattle.hid_layout.specs.Controls.{Item, form_at, head_of}
 use Rattle.hid_cells.specs.declared.cell.Cell.{Cell}
 use Rattle.hid_cells.specs.Cells.{blank_cell}
 use Rattle.hid_cells.specs.Parts.{clamp, shown_cell, blank_parts}
-use Rattle.std.proofs.lemmas.List.{length-map}
 use Rattle.hid_cells.proofs.FillLemmas.{fill_next}
 use Rattle.hid_cells.proofs.ItemLemmas.{got, form_at-is}
 use Rattle.hid_cells.proofs.ListLemmas.{map_at}

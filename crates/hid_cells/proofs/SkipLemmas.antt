@@ -1,13 +1,12 @@
 -- What an item of another report leaves as it was.
-use Rattle.std.proofs.Common.{◌≡◌, ℕ, ◌+◌, ◌<◌, ◌==◌, ◌&&◌, Bool, true, false, not, cond, ◌||◌, List, ◌++◌, length, take, drop, get_or, Some, refl, sym, ap, ◌∙◌, arith}
-use Rattle.std.specs.List.{slice_get, list_any}
+use Rattle.std.proofs.Common.{◌≡◌, ℕ, ◌<◌, Bool, false, List, ◌++◌, length, take, drop, get_or, Some, refl, sym, ◌∙◌, arith}
+use Rattle.std.specs.List.{list_any}
 use Rattle.std.proofs.lemmas.Option.{slice_get_within, slice_get-get_or}
-use Rattle.hid_layout.specs.declared.main_item.MainItem.{MainItem}
 use Rattle.hid_layout.specs.Layout.{Contents}
 use Rattle.hid_layout.specs.Reports.{IsLayout}
-use Rattle.hid_layout.specs.Controls.{Item, items_of, head_of}
+use Rattle.hid_layout.specs.Controls.{Item, items_of}
 use Rattle.hid_cells.specs.declared.cell.Cell.{Cell}
-use Rattle.hid_cells.specs.Parts.{IsInput, is_of, item_at, by_item, shown_of, taken_of, calls_for, minus_motion, shown_cell, has_motion, is_shown}
+use Rattle.hid_cells.specs.Parts.{IsInput, is_of, item_at, by_item, shown_of, taken_of, calls_for}
 use Rattle.hid_cells.proofs.FillLemmas.{any_from_miss}
 use Rattle.hid_cells.proofs.ItemLemmas.{got, items_of-length, set_same}
 use Rattle.hid_cells.proofs.PartLemmas.{show_next, of_report, called_there}

@@ -56,7 +56,7 @@ fn motion(cell: &Cell, index: usize) -> i64
     }
 }
 
-#[tactic(auto, using(hid_cells::proofs::ListLemmas::pushes))]
+#[tactic(auto, using(hid_cells::proofs::ListLemmas::kept))]
 fn set_motion(cell: &mut Cell, index: usize, amount: i64)
     requires { HasIndex cell.old index }
     ensures { cell.new ≡ with_motion cell.old index amount }

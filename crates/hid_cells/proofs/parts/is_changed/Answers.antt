@@ -1,4 +1,4 @@
-use Rattle.std.proofs.Common.{rules, ◌≡◌, length, get_or, ◌∙◌, sym, arith}
+use Rattle.std.proofs.Common.{rules, length, get_or, ◌∙◌, sym, arith}
 use Rattle.hid_layout.specs.Controls.{items_of}
 use Rattle.hid_cells.specs.Parts.{by_item, calls_for, is_changed}
 use Rattle.hid_cells.proofs.FillLemmas.{any_from_hit, any_from_miss, any_past}

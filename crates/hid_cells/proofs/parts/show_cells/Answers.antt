@@ -1,6 +1,6 @@
-use Rattle.std.proofs.Common.{rules, ◌≡◌, ◌++◌, length, take, drop, get_or, sym, ◌∙◌, arith}
+use Rattle.std.proofs.Common.{rules, length, get_or, sym, arith}
 use Rattle.hid_layout.specs.Controls.{items_of}
-use Rattle.hid_cells.specs.Parts.{shown_of, by_item}
+use Rattle.hid_cells.specs.Parts.{shown_of}
 use Rattle.hid_cells.proofs.PartLemmas.{show_room, show_next, show_all}
 use Rattle.hid_cells.proofs.PlanLemmas.{along_next, along_step, along_end}
 use Rattle.hid_cells.proofs.SkipLemmas.{shown_skips}

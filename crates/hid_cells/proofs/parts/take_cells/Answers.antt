@@ -1,4 +1,4 @@
-use Rattle.std.proofs.Common.{rules, ◌≡◌, length, get_or, ◌∙◌, sym, arith}
+use Rattle.std.proofs.Common.{rules, length, get_or, ◌∙◌, sym, arith}
 use Rattle.hid_layout.specs.Controls.{items_of}
 use Rattle.hid_cells.specs.Parts.{taken_of}
 use Rattle.hid_cells.proofs.PartLemmas.{show_start, show_next, show_all, by_item_turned}
