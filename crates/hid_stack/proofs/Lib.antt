@@ -7,6 +7,7 @@ pub mod SlotLemmas
 pub mod ItemMotionLemmas
 pub mod MotionLemmas
 pub mod SumLemmas
+pub mod RoomLemmas
 pub mod RigLemmas
 pub mod AnswerLemmas
 mod Vectors

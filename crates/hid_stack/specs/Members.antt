@@ -106,6 +106,17 @@ HasRoomFor members (Change dev change) used capacity = Unit {0}
 HasRoomFor members Frame used capacity = Unit {0}
 HasRoomFor members (Poll dev fate) used capacity = IfSome (member_at members dev) (λ m. used + max_events (items_of m.layout) ≤ capacity)
 
+-- how many events a step delivers at most
+abbrev pub most_events : List Member → Step → ℕ
+most_events members (Change dev change) = 0
+most_events members Frame = 0
+most_events members (Poll dev fate) = elim (member_at members dev) [ None ↦ 0 | Some m ↦ max_events (items_of m.layout) ]
+
+-- and steps, one after another: none of them changes a layout
+abbrev pub most_in : List Member → List Step → ℕ
+most_in members [] = 0
+most_in members (x ∷ steps) = most_events members x + most_in members steps
+
 -- A run stops at a step that is refused behind those before it.
 abbrev pub StopsAt : List Member → List Step → ℕ → StackFault → Type 0
 StopsAt members steps i e = (i < length steps) × IfSome (slice_get steps i) (λ x. IsRefusal (bus_after_all members (take i steps)) x e)

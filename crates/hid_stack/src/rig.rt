@@ -6,7 +6,7 @@ ghost use Rattle.hid_cells.specs.declared.cell.Cell.{Cell};
 ghost use Rattle.hid_device.specs.Rounds.{events_of_epoch, Frame as FrameStep};
 ghost use Rattle.hid_stack.specs.declared.fault.StackFault.{StackFault};
 ghost use Rattle.hid_stack.specs.Attaching.{Attaches, Finds};
-ghost use Rattle.hid_stack.specs.Members.{Member, member_at, member_after, bus_after, delivered_at, bus_after_all, delivered_in, refusal, IsRefusal, StopsAt, HasRoomFor, own, from_device, IsIsolated};
+ghost use Rattle.hid_stack.specs.Members.{Member, member_at, member_after, bus_after, delivered_at, bus_after_all, delivered_in, refusal, IsRefusal, StopsAt, HasRoomFor, most_events, most_in, own, from_device, IsIsolated};
 ghost use Rattle.hid_stack.specs.Showing.{ShowsDevice, ShowsHost, GivesOf};
 ghost use Rattle.hid_stack.specs.Stations.{fresh};
 ghost use Rattle.hid_stack.specs.Sums.{SumsUp};
@@ -141,8 +141,10 @@ impl Rig {
         ensures only { IfErr result (λ e. IsRefusal self.old step.now e) }
         ensures err { OnErr result ((self.new ≡ self.old) × (out.new.items ≡ out.old.items)) }
 
-        // With room for what a poll delivers, memory is never wanting.
+        // With room for what a poll delivers, memory is never wanting; the room is not given away.
         ensures room { HasRoomFor self.old step.now (vec_len out.old) (vec_capacity out.old) → result ≢ Err StackFault.Memory }
+        ensures few { vec_len out.new ≤ vec_len out.old + most_events self.old step.now }
+        ensures capacity { vec_capacity out.old ≤ vec_capacity out.new }
     {
         match *step {
             Step::Change { dev, change } => {
@@ -195,6 +197,9 @@ impl Rig {
             → from_device device out.new.items
             ≡ from_device device out.old.items ++ events_of_epoch (items_of m.layout) snapshot idle (own device (take e.at steps.now))) }
         ensures err_isolated { IfErr result (λ e. IsIsolated self.old self.new (take e.at steps.now) out.old.items out.new.items) }
+
+        // With room for all that its polls can deliver, memory is never wanting.
+        ensures room { vec_len out.old + most_in self.old steps.now ≤ vec_capacity out.old → IfErr result (λ e. e.fault ≢ StackFault.Memory) }
     {
         let _slots = &self.slots;
         for (at, step) in steps.iter().enumerate() {

@@ -167,6 +167,8 @@ impl Slot {
         ensures memory { IfErr result (λ fault. fault ≡ StackFault.Memory) }
         ensures err { OnErr result ((self.new ≡ self.old) × (out.new.items ≡ out.old.items)) }
         ensures room { vec_len out.old + max_events (items_of self.old.layout) ≤ vec_capacity out.old → IsOk result }
+        ensures few { vec_len out.new ≤ vec_len out.old + max_events (items_of self.old.layout) }
+        ensures capacity { vec_capacity out.old ≤ vec_capacity out.new }
     {
         let room = self.device.layout().max_events();
         if out.reserve(room).is_err() {
@@ -181,7 +183,9 @@ impl Slot {
 /// Hands events on under their device's number, into reserved room.
 fn hand_over(dev: u8, events: &[Event], out: &mut Vec<Delivered>)
     requires { vec_len out.old + length events.now ≤ vec_capacity out.old }
-    ensures { out.new.items ≡ out.old.items ++ map (tagged dev) events.now }
+    ensures items { out.new.items ≡ out.old.items ++ map (tagged dev) events.now }
+    ensures len { vec_len out.new ≡ vec_len out.old + length events.now }
+    ensures capacity { vec_capacity out.new ≡ vec_capacity out.old }
 {
     for event in events {
         out.push_reserved(Delivered { dev, event: *event });

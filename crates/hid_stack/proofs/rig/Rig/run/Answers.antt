@@ -1,8 +1,9 @@
-use Rattle.std.proofs.Common.{◌≡◌, ◌++◌, ◌∙◌, arith, take, subst}
+use Rattle.std.proofs.Common.{◌≡◌, ◌++◌, ◌∙◌, ap, arith, take, subst, Err}
 use Rattle.std.proofs.lemmas.Grind.{common_steps}
 use Rattle.hid_stack.specs.Members.{bus_after_all, delivered_in}
 use Rattle.hid_stack.specs.Sums.{AllHaveMotions}
 use Rattle.hid_stack.proofs.Isolation.{ran_more, told_more, headline, isolated}
+use Rattle.hid_stack.proofs.RoomLemmas.{most_more, room_at}
 use Rattle.hid_stack.proofs.SumLemmas.{sums_up}
 use Rattle.hid_stack.proofs.rig.Rig.run.Goals as goal
 
@@ -10,6 +11,8 @@ pub loop-at-preserved : goal.loop-at-preserved
 loop-at-preserved c = record {
   now = ran_more _ _ _ _ _ _ c.loop-at-test.true c.loop-at.invariant.now c.in-Ok.ensures.after;
   told = told_more _ _ _ _ _ _ _ _ c.loop-at-test.true c.loop-at.invariant.now c.loop-at.invariant.told c.in-Ok.ensures.events;
+  few = most_more _ _ _ _ _ _ _ _ c.loop-at-test.true c.loop-at.invariant.now c.loop-at.invariant.few c.step.ensures.few;
+  capacity = omega (arith, c.loop-at.invariant.capacity, c.step.ensures.capacity);
 }
 
 pub returns-clause-headline : goal.returns-clause-headline
@@ -42,3 +45,7 @@ pub returns-in-Err-clause-err_conserves : goal.returns-in-Err-clause-err_conserv
 returns-in-Err-clause-err_conserves c =
     sums_up c.args.self.now c.step.new.self (take c.loop-at.at c.args.steps.now) c.args.out.now.items c.step.new.out.items (subst AllHaveMotions c.self.view_is c.self.invariant.2)
     (c.in-Err.ensures.err.0 ∙ c.loop-at.invariant.now) (c.in-Err.ensures.err.1 ∙ c.loop-at.invariant.told)
+
+pub returns-in-Err-clause-room : goal.returns-in-Err-clause-room
+returns-in-Err-clause-room c room memory =
+    c.step.ensures.room (room_at _ _ _ _ _ _ _ _ _ c.loop-at-test.true c.loop-at.invariant.now c.loop-at.invariant.few c.loop-at.invariant.capacity room) (c.in-Err.is ∙ ap Err memory)

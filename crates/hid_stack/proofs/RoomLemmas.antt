@@ -1,0 +1,107 @@
+-- Room for what steps deliver: no step changes a layout, so behind any steps a device delivers as many events at most.
+use Rattle.std.proofs.Common.{◌≡◌, ◌∙◌, ◌≤◌, ◌<◌, ◌+◌, ◌-◌, ◌++◌, ℕ, zero, suc, Bool, true, false, List, [], ◌∷◌, length, map, take, get_or, cond, eqb, Option, Some, None, refl, ap, sym, arith}
+use Rattle.std.specs.Prelude.{slice_get, IfSome}
+use Rattle.std.specs.Option.{option_map}
+use Rattle.std.proofs.Math.Seq.{map-set_same}
+use Rattle.std.proofs.lemmas.List.{take_more}
+use Rattle.std.proofs.lemmas.Option.{slice_get-map, get_or_from_slice_get}
+use Rattle.std.proofs.lemmas.Simd.{map-map}
+use Rattle.hid_layout.specs.Controls.{items_of, max_events}
+use Rattle.hid_layout.specs.Layout.{Contents}
+use Rattle.hid_device.specs.Rounds.{OwnStep, Changes, Polls}
+use Rattle.hid_device.specs.Rounds as own_steps
+use Rattle.hid_stack.specs.declared.step.Step.{Step}
+use Rattle.hid_stack.specs.declared.step.Step.TheVariants.{Change, Frame, Poll}
+use Rattle.hid_stack.specs.Members.{Member, member_after, member_at, with_member, one_after, bus_after, bus_after_all, HasRoomFor, most_events, most_in}
+
+abbrev layout_of_member : Member → Contents
+layout_of_member m = m.layout
+
+abbrev layouts : List Member → List Contents
+layouts members = map layout_of_member members
+
+found_layout : (members : List Member) (i : ℕ) (m : Member) → slice_get members i ≡ Some m → m.layout ≡ (get_or members i m).layout
+found_layout members i m h = ap layout_of_member (sym (get_or_from_slice_get members i m m h))
+
+one_layouts : (members : List Member) (dev : ℕ) (x : OwnStep) → layouts (one_after members dev x) ≡ layouts members
+one_layouts members dev x = by_member (member_at members dev) refl
+  where
+    by_number : (b : Bool) (m : Member) → cond b None (slice_get members (dev - 1)) ≡ Some m → m.layout ≡ (get_or members (dev - 1) m).layout
+    by_number true m h = absurd (cc)
+    by_number false m h = found_layout members (dev - 1) m h
+
+    by_member : (o : Option Member) → member_at members dev ≡ o → layouts (elim o as (λ _. List Member) [ None ↦ members | Some m ↦ with_member members dev (member_after m x) ]) ≡ layouts members
+    by_member None e = refl
+    by_member (Some m) e = map-set_same layout_of_member members (dev - 1) (member_after m x) m (by_number (eqb dev 0) m e)
+
+bus_layouts : (members : List Member) (x : Step) → layouts (bus_after members x) ≡ layouts members
+bus_layouts members (Change dev change) = one_layouts members dev (Changes change)
+bus_layouts members Frame = map-map layout_of_member (λ (m : Member). member_after m own_steps.Frame) members
+bus_layouts members (Poll dev fate) = one_layouts members dev (Polls fate)
+
+all_layouts : (members : List Member) (steps : List Step) → layouts (bus_after_all members steps) ≡ layouts members
+all_layouts members [] = refl
+all_layouts members (x ∷ steps) = all_layouts (bus_after members x) steps ∙ bus_layouts members x
+
+-- what a device can deliver, by its layout alone
+abbrev most_of : Option Contents → ℕ
+most_of None = 0
+most_of (Some layout) = max_events (items_of layout)
+
+abbrev polled_most : Option Member → ℕ
+polled_most found = elim found [ None ↦ 0 | Some m ↦ max_events (items_of m.layout) ]
+
+most_named : (members : List Member) (dev : ℕ) → polled_most (member_at members dev) ≡ most_of (cond (eqb dev 0) None (slice_get (layouts members) (dev - 1)))
+most_named members dev = by_number (eqb dev 0)
+  where
+    by_member : (o : Option Member) → polled_most o ≡ most_of (option_map layout_of_member o)
+    by_member None = refl
+    by_member (Some m) = refl
+
+    by_number : (b : Bool) → polled_most (cond b None (slice_get members (dev - 1))) ≡ most_of (cond b None (slice_get (layouts members) (dev - 1)))
+    by_number true = refl
+    by_number false = by_member (slice_get members (dev - 1)) ∙ sym (ap most_of (slice_get-map layout_of_member members (dev - 1)))
+
+-- what a step can deliver is the same behind any steps
+most_same : (members : List Member) (steps : List Step) (x : Step) → most_events (bus_after_all members steps) x ≡ most_events members x
+most_same members steps (Change dev change) = refl
+most_same members steps Frame = refl
+most_same members steps (Poll dev fate) =
+    most_named (bus_after_all members steps) dev
+    ∙ ap (λ (ls : List Contents). most_of (cond (eqb dev 0) None (slice_get ls (dev - 1)))) (all_layouts members steps)
+    ∙ sym (most_named members dev)
+
+most_push : (members : List Member) (steps : List Step) (x : Step) → most_in members (steps ++ x ∷ []) ≡ most_in members steps + most_events members x
+most_push members [] x = omega arith
+most_push members (y ∷ steps) x = omega (arith, most_push members steps x)
+
+-- one more step of a run
+pub most_more : (members mid : List Member) (steps : List Step) (i : ℕ) (d : Step) (first used new : ℕ) → i < length steps → mid ≡ bus_after_all members (take i steps)
+    → used ≤ first + most_in members (take i steps) → new ≤ used + most_events mid (get_or steps i d) → new ≤ first + most_in members (take (i + 1) steps)
+most_more members mid steps i d first used new lt before few one =
+    let more = ap (most_in members) (take_more steps i d lt) ∙ most_push members (take i steps) (get_or steps i d) in
+    let same = ap (λ (ms : List Member). most_events ms (get_or steps i d)) before ∙ most_same members (take i steps) (get_or steps i d) in
+    omega (arith, few, one, more, same)
+
+-- the steps up to one of them deliver no more than all of them
+most_part : (members : List Member) (steps : List Step) (i : ℕ) (d : Step) → i < length steps → most_in members (take i steps) + most_events members (get_or steps i d) ≤ most_in members steps
+most_part members [] i d lt = absurd (omega arith)
+most_part members (x ∷ steps) zero d lt = omega arith
+most_part members (x ∷ steps) (suc i) d lt = omega (arith, most_part members steps i d (omega arith))
+
+has_room : (members : List Member) (x : Step) (used capacity : ℕ) → used + most_events members x ≤ capacity → HasRoomFor members x used capacity
+has_room members (Change dev change) used capacity room = tt
+has_room members Frame used capacity room = tt
+has_room members (Poll dev fate) used capacity room = by_member (member_at members dev) room
+  where
+    by_member : (o : Option Member) → used + polled_most o ≤ capacity → IfSome o (λ (m : Member). used + max_events (items_of m.layout) ≤ capacity)
+    by_member None h = tt
+    by_member (Some m) h = h
+
+-- where there is room for all steps, there is room for each as it comes
+pub room_at : (members mid : List Member) (steps : List Step) (i : ℕ) (d : Step) (first used capacity now : ℕ) → i < length steps → mid ≡ bus_after_all members (take i steps)
+    → used ≤ first + most_in members (take i steps) → capacity ≤ now → first + most_in members steps ≤ capacity → HasRoomFor mid (get_or steps i d) used now
+room_at members mid steps i d first used capacity now lt before few grows room =
+    let same = ap (λ (ms : List Member). most_events ms (get_or steps i d)) before ∙ most_same members (take i steps) (get_or steps i d) in
+    let part = most_part members steps i d lt in
+    has_room mid (get_or steps i d) used now (omega (arith, few, grows, room, same, part))
