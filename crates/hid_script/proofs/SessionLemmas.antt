@@ -240,9 +240,9 @@ last_member members m =
     cond-false _ _ _ (ne_eqb (length members + 1) 0 (λ none. omega arith)) ∙ ap (slice_get (members ++ m ∷ [])) back ∙ at_last members m
 
 -- a device that is attached is there
-device_there : (members after : List Member) (boot : Boot) (bytes : List ℕ) (dev : ℕ) (h : Attaches MAX_DEVICES (config_of boot) bytes members (Ok dev) after) → member_at after dev ≡ Some (fresh_member dev h.2.0)
+device_there : (members after : List Member) (boot : Boot) (bytes : List ℕ) (dev : ℕ) (h : Attaches MAX_DEVICES (config_of boot) bytes members (Ok dev) after) → member_at after dev ≡ Some (fresh_member dev (config_of boot) bytes h.2.0)
 device_there members after boot bytes dev h =
-    subst (λ d. member_at after d ≡ Some (fresh_member dev h.2.0)) (sym h.1) (subst (λ ms. member_at ms (length members + 1) ≡ Some (fresh_member dev h.2.0)) (sym h.2.2) (last_member members (fresh_member dev h.2.0)))
+    subst (λ d. member_at after d ≡ Some (fresh_member dev (config_of boot) bytes h.2.0)) (sym h.1) (subst (λ ms. member_at ms (length members + 1) ≡ Some (fresh_member dev (config_of boot) bytes h.2.0)) (sym h.2.2) (last_member members (fresh_member dev (config_of boot) bytes h.2.0)))
 
 pub device_missing : (members after : List Member) (boot : Boot) (bytes : List ℕ) (dev : ℕ) → Attaches MAX_DEVICES (config_of boot) bytes members (Ok dev) after → member_at after dev ≡ None → ⊥
 device_missing members after boot bytes dev h none = let there = device_there members after boot bytes dev h in cc
@@ -253,7 +253,7 @@ pub device_written : (old new : Option (List ℕ)) (session : Session) (boot : B
     → OnOk r (Appends old new text) → IfErr r (λ cause. cause ≡ causes.Write) → AppendsFront old new text → AppendsOnce old new (TellsDevice boot bytes session) r (record session { members = after })
 device_written old new session boot bytes dev after layout text r asked h m there shows said ok cause front =
     let found = device_there session.members after boot bytes dev h in
-    let same : m ≡ fresh_member dev h.2.0 = some_same m (fresh_member dev h.2.0) (sym there ∙ found) in
+    let same : m ≡ fresh_member dev (config_of boot) bytes h.2.0 = some_same m (fresh_member dev (config_of boot) bytes h.2.0) (sym there ∙ found) in
     let laid : layout ≡ h.2.0 = shows ∙ ap (λ (x : Member). x.layout) same in
     let outcome : (accepted text (record session { members = after })) ≡ attaches session h.2.0 after = rw (asked, said, laid) refl in
     text_written old new (TellsDevice boot bytes session) text r (record session { members = after }) (inl (dev, h.2.0, after, h, h.2.2, outcome)) ok cause front

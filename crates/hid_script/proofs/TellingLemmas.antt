@@ -7,6 +7,7 @@ use Rattle.hid_layout.specs.declared.control.ControlId.{ControlId}
 use Rattle.hid_layout.specs.Layout.{Contents, layout_of}
 use Rattle.hid_layout.specs.Laws.{HasOneReading, AcceptsNoRefused, HasOneCause, HasOnePlace}
 use Rattle.hid_device.specs.declared.config.Boot.{Boot}
+use Rattle.hid_device.specs.declared.config.Config.{Config}
 use Rattle.hid_stack.specs.declared.fault.StackFault.{StackFault}
 use Rattle.hid_stack.specs.declared.step.Step.{Step}
 use Rattle.hid_stack.specs.declared.step.Step.TheVariants.{Change}
@@ -72,16 +73,19 @@ at_last : (members : List Member) (m : Member) → slice_get (members ++ m ∷ [
 at_last [] m = refl
 at_last (x ∷ members) m = at_last members m
 
-one_fresh : (members : List Member) (dev other : ℕ) (layout next : Contents) → members ++ fresh_member dev layout ∷ [] ≡ members ++ fresh_member other next ∷ [] → layout ≡ next
-one_fresh members dev other layout next e =
-    let same : (let a : Option Member = Some (fresh_member dev layout) in a) ≡ Some (fresh_member other next) = sym (at_last members (fresh_member dev layout)) ∙ ap (λ ms. slice_get ms (length members)) e ∙ at_last members (fresh_member other next) in
-    let fresh : fresh_member dev layout ≡ fresh_member other next = cc in
+one_fresh : (members : List Member) (config : Config) (bytes : List ℕ) (dev other : ℕ) (layout next : Contents)
+    → members ++ fresh_member dev config bytes layout ∷ [] ≡ members ++ fresh_member other config bytes next ∷ [] → layout ≡ next
+one_fresh members config bytes dev other layout next e =
+    let first : Member = fresh_member dev config bytes layout in
+    let second : Member = fresh_member other config bytes next in
+    let same : (let a : Option Member = Some first in a) ≡ Some second = sym (at_last members first) ∙ ap (λ ms. slice_get ms (length members)) e ∙ at_last members second in
+    let fresh : first ≡ second = cc in
     ap (λ (m : Member). m.layout) fresh
 
 one_device : HasOneAnswer → (boot : Boot) (bytes : List ℕ) → IsOne (TellsDevice boot bytes)
 one_device one boot bytes session o other (inl h) (inl k) =
     let same = one.attaches MAX_DEVICES (config_of boot) bytes session.members h.2 k.2 (Ok h.0) (Ok k.0) h.3 k.3 (λ e. cc) (λ e. cc) in
-    let layout = one_fresh session.members h.0 k.0 h.1 k.1 (sym h.4 ∙ same.1 ∙ k.4) in
+    let layout = one_fresh session.members (config_of boot) bytes h.0 k.0 h.1 k.1 (sym h.4 ∙ same.1 ∙ k.4) in
     h.5 ∙ ap (λ l. attaches session l h.2) layout ∙ ap (attaches session k.1) same.1 ∙ sym k.5
 one_device one boot bytes session o other (inl h) (inr k) =
     let same = (one.attaches MAX_DEVICES (config_of boot) bytes session.members h.2 k.1 (Ok h.0) (Err k.0) h.3 k.2 (λ e. cc) (λ e. k.3 (cc))).0 in absurd (cc)

@@ -76,7 +76,7 @@ abbrev pub TellsDevice : Boot → List ℕ → Session → Outcome → Type 0
 TellsDevice boot bytes session o =
     ((dev : ℕ) × (layout : Contents) × (after : List Member)
     × Attaches MAX_DEVICES (config_of boot) bytes session.members (Ok dev) after
-    × (after ≡ session.members ++ fresh_member dev layout ∷ []) × (o ≡ attaches session layout after))
+    × (after ≡ session.members ++ fresh_member dev (config_of boot) bytes layout ∷ []) × (o ≡ attaches session layout after))
     ⊎ ((fault : StackFault) × (after : List Member)
     × Attaches MAX_DEVICES (config_of boot) bytes session.members (Err fault) after × (fault ≢ stack.Memory) × (o ≡ refuses_step fault))
 

@@ -219,7 +219,7 @@ serves_or_refused one addr config descriptor layout causes.RelativeWithoutZero a
 -- what attaching a device comes to, want of memory aside: a member more, no room, or a refusal
 data Attached (room : ℕ) (config : Config) (descriptor : List ℕ) (old : List Member) (r : Result ℕ StackFault) (new : List Member) : Type 0 where
   OneMore : length old < room → r ≡ Ok (length old + 1) → (layout : Contents) → Suits (length old + 1) config descriptor layout
-      → new ≡ old ++ fresh_member (length old + 1) layout ∷ [] → Attached room config descriptor old r new
+      → new ≡ old ++ fresh_member (length old + 1) config descriptor layout ∷ [] → Attached room config descriptor old r new
   NoRoom : room ≤ length old → r ≡ Err TooManyDevices → new ≡ old → Attached room config descriptor old r new
   NoPair : length old < room → (fault : DeviceFault) → r ≡ Err (BadDescriptor (Device fault)) → wants_memory fault.cause ≡ false
       → making.Refuses (length old + 1) config descriptor fault.cause fault.at → new ≡ old → Attached room config descriptor old r new
@@ -227,7 +227,7 @@ data Attached (room : ℕ) (config : Config) (descriptor : List ℕ) (old : List
 attached : (room : ℕ) (config : Config) (descriptor : List ℕ) (old new : List Member) (r : Result ℕ StackFault)
     → r ≢ Err Memory → Attaches room config descriptor old r new → Attached room config descriptor old r new
 attached room config descriptor old new (Ok dev) aside (within, number, (layout, suits, is)) =
-    OneMore within (ap Ok number) layout (subst (λ n. Suits n config descriptor layout) number suits) (is ∙ ap (λ n. old ++ fresh_member n layout ∷ []) number)
+    OneMore within (ap Ok number) layout (subst (λ n. Suits n config descriptor layout) number suits) (is ∙ ap (λ n. old ++ fresh_member n config descriptor layout ∷ []) number)
 attached room config descriptor old new (Err TooManyDevices) aside (full, is) = NoRoom full refl is
 attached room config descriptor old new (Err (BadDescriptor (Device fault))) aside (within, none, is) = NoPair within fault refl none.1 none.0 is
 attached room config descriptor old new (Err (BadDescriptor (Layout fault))) aside (within, none, is) = absurd none
@@ -244,7 +244,7 @@ one_attached : OneReading → (room : ℕ) (config : Config) (descriptor : List 
     → Attached room config descriptor old r after → Attached room config descriptor old other others → (r ≡ other) × (after ≡ others)
 one_attached one room config descriptor old after others r other (OneMore within is layout suits stands) (OneMore within' is' layout' suits' stands') =
     let same = one_layout one.reading descriptor layout layout' suits.serves.lays suits'.serves.lays in
-    (is ∙ sym is', stands ∙ ap (λ l. old ++ fresh_member (length old + 1) l ∷ []) same ∙ sym stands')
+    (is ∙ sym is', stands ∙ ap (λ l. old ++ fresh_member (length old + 1) config descriptor l ∷ []) same ∙ sym stands')
 one_attached one room config descriptor old after others r other (OneMore within is layout suits stands) (NoRoom full is' stands') = absurd (omega arith)
 one_attached one room config descriptor old after others r other (OneMore within is layout suits stands) (NoPair within' fault is' aside refused stands') =
     absurd (serves_or_refused one (length old + 1) config descriptor layout fault.cause fault.at aside suits refused)

@@ -1,15 +1,17 @@
 -- Each device of a bus by itself, and one more step of a run.
-use Rattle.std.proofs.Common.{◌≡◌, ◌++◌, ℕ, zero, suc, ◌+◌, ◌-◌, ◌<◌, Bool, true, false, List, [], ◌∷◌, Option, Some, None, length, cond, get_or, take, map, eqb, refl, sym, ap, ◌∙◌, subst, inl, inr, ◌⊎◌, arith, append_assoc, append-nil}
-use Rattle.std.specs.Prelude.{slice_get, slice_set}
+use Rattle.std.proofs.Common.{◌≡◌, ◌++◌, ℕ, ◌+◌, ◌-◌, ◌<◌, Bool, true, false, List, [], ◌∷◌, Option, Some, None, length, cond, get_or, take, map, eqb, refl, sym, ap, ◌∙◌, subst, inl, inr, ◌⊎◌, arith, append_assoc, append-nil}
+use Rattle.std.specs.Prelude.{slice_get}
 use Rattle.std.specs.List.{cons_option}
 use Rattle.std.specs.Option.{option_map}
 use Rattle.std.proofs.lemmas.List.{take_more}
-use Rattle.std.proofs.lemmas.Option.{slice_get-map}
+use Rattle.std.proofs.lemmas.Option.{slice_get-map, slice_get_within}
 use Rattle.std.proofs.lemmas.Bool.Decides.{nat_tests}
+use Rattle.std.proofs.lemmas.Bool.{cases_Bool}
 use Rattle.hid_layout.specs.Controls.{items_of}
 use Rattle.hid_layout.specs.Layout.{Contents}
 use Rattle.hid_cells.specs.declared.cell.Cell.{Cell}
 use Rattle.hid_cells.specs.declared.event.Event.{Event}
+use Rattle.hid_cells.proofs.ItemLemmas.{set_here, set_there}
 use Rattle.hid_device.specs.Rounds.{OwnStep, Changes, Polls, events_of_epoch}
 use Rattle.hid_device.specs.Rounds as own_steps
 use Rattle.hid_stack.specs.declared.step.Step.{Step}
@@ -19,28 +21,12 @@ use Rattle.hid_stack.specs.Stations.{Station, fresh, after, events_at, events_in
 use Rattle.hid_stack.specs.Members.{Member, member_after, member_after_all, member_at, with_member, one_after, bus_after, tagged, one_delivers, delivered_at, bus_after_all, delivered_in, own_step, own, own_event, from_device, IsIsolated}
 use Rattle.hid_stack.proofs.Delivery.{delivers_epoch}
 
-slice_get_set_same : {X : Type 0} (xs : List X) (i : ℕ) (y x : X) → slice_get xs i ≡ Some x → slice_get (slice_set xs i y) i ≡ Some y
-slice_get_set_same [] i y x h = cc
-slice_get_set_same (a ∷ xs) zero y x h = refl
-slice_get_set_same (a ∷ xs) (suc i) y x h = slice_get_set_same xs i y x h
-
-slice_get_set_other : {X : Type 0} (xs : List X) (i j : ℕ) (y : X) → (i ≡ j → ⊥) → slice_get (slice_set xs i y) j ≡ slice_get xs j
-slice_get_set_other [] i j y ne = refl
-slice_get_set_other (a ∷ xs) zero zero y ne = absurd (ne refl)
-slice_get_set_other (a ∷ xs) zero (suc j) y ne = refl
-slice_get_set_other (a ∷ xs) (suc i) zero y ne = refl
-slice_get_set_other (a ∷ xs) (suc i) (suc j) y ne = slice_get_set_other xs i j y (λ e. ne (ap suc e))
-
-bool_cases : (b : Bool) → (b ≡ true) ⊎ (b ≡ false)
-bool_cases true = inl refl
-bool_cases false = inr refl
-
 same_places : (d e : ℕ) → eqb d 0 ≡ false → eqb e 0 ≡ false → d - 1 ≡ e - 1 → d ≡ e
 same_places d e some_d some_e same = grind (arith, nat_tests)
 
 -- a device's number is not 0
 no_zero : (members : List Member) (dev : ℕ) (m : Member) → member_at members dev ≡ Some m → eqb dev 0 ≡ false
-no_zero members dev m h = elim (bool_cases (eqb dev 0)) [
+no_zero members dev m h = elim (cases_Bool (eqb dev 0)) [
   | inl z ↦ let none : None ≡ Some m = sym (ap (λ (b : Bool). cond b None (slice_get members (dev - 1))) z) ∙ h in cc
   | inr some ↦ some
 ]
@@ -51,14 +37,14 @@ at_place members dev some = ap (λ (b : Bool). cond b None (slice_get members (d
 with_same : (members : List Member) (dev : ℕ) (m n : Member) → member_at members dev ≡ Some m → member_at (with_member members dev n) dev ≡ Some n
 with_same members dev m n h =
     let some = no_zero members dev m h in
-    at_place (with_member members dev n) dev some ∙ slice_get_set_same members (dev - 1) n m (sym (at_place members dev some) ∙ h)
+    at_place (with_member members dev n) dev some ∙ set_here members (dev - 1) n (slice_get_within members (dev - 1) m (sym (at_place members dev some) ∙ h))
 
 with_other : (members : List Member) (d dev : ℕ) (m k n : Member) → (d ≡ dev → ⊥) → member_at members d ≡ Some k → member_at members dev ≡ Some m → member_at (with_member members d n) dev ≡ Some m
 with_other members d dev m k n ne g h =
     let some = no_zero members dev m h in
     let some_d = no_zero members d k g in
     let apart : d - 1 ≡ dev - 1 → ⊥ = λ e. ne (same_places d dev some_d some e) in
-    at_place (with_member members d n) dev some ∙ slice_get_set_other members (d - 1) (dev - 1) n apart ∙ sym (at_place members dev some) ∙ h
+    at_place (with_member members d n) dev some ∙ set_there members (d - 1) (dev - 1) n apart ∙ sym (at_place members dev some) ∙ h
 
 -- one step of the bus, at one device
 abbrev after_own : Member → Option OwnStep → Member

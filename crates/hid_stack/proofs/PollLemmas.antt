@@ -1,8 +1,8 @@
 -- A poll at the two ends is a poll of their station (USB 2.0, 8.5.4 and 8.6).
-use Rattle.std.proofs.Common.{◌≡◌, ◌∙◌, ℕ, Bool, true, false, not, List, [], Option, Some, None, Result, Ok, Err, refl, ap, sym, subst, cond, inl, inr, ◌⊎◌}
+use Rattle.std.proofs.Common.{◌≡◌, ◌∙◌, ℕ, Bool, true, false, not, List, [], Option, Some, None, Result, Ok, Err, refl, ap, sym, subst, cond, inl, inr}
 use Rattle.std.specs.Bool.{beq}
+use Rattle.std.proofs.lemmas.Bool.{cases_Bool}
 use Rattle.arrayvec.specs.declared.array_vec.ArrayVec.{ArrayVec}
-use Rattle.hid_layout.specs.Layout.{Contents}
 use Rattle.hid_layout.specs.Controls.{items_of}
 use Rattle.hid_layout.specs.Reports.{IsLayout}
 use Rattle.hid_cells.specs.declared.cell.Cell.{Cell}
@@ -36,7 +36,8 @@ use Rattle.hid_stack.specs.declared.step.Told.{Told}
 use Rattle.hid_stack.specs.declared.step.Told.TheVariants.{Polled}
 use Rattle.hid_stack.specs.declared.host.Phase.TheVariants.{Ready}
 use Rattle.hid_stack.specs.Host.{HostEnd, ready_after}
-use Rattle.hid_stack.specs.Joint.{joined, joint, IsEven, ArePaired, IsPair}
+use Rattle.hid_stack.specs.Joint.{joined, member_with, joint, IsEven, ArePaired, IsPair}
+use Rattle.hid_stack.specs.Members.{Member}
 use Rattle.hid_stack.specs.Known.{Known, told_of, view_read, events_behind, read_or_refused}
 use Rattle.hid_stack.specs.Polls.{Hears, HearsAck, Ends, spelled, told_with}
 use Rattle.hid_stack.specs.Stations.{Station, Open, opened, opened_by, answered, round_events, part_events, after}
@@ -110,11 +111,11 @@ pub record Arrives (fate : Fate) (c : CoreState) (known : Known) (addr home : �
   pub ended : Ends (arrives_under fate) (told_of c.layout (taken known.pipe.expects reply)) (polled addr c) device_then
 
 -- what a poll makes of the station, once a round was opened for it
-pub record Lands (fate : Fate) (home : ℕ) (layout : Contents) (s : Station)
+pub record Lands (fate : Fate) (of : Station → Member) (s : Station)
     (result : Result Told StackFault) (device_then : DeviceState) (host_then : HostEnd) (events : List Event) : Type 0 where
-  pub member : joint device_then host_then ≡ record { addr = home; layout = layout; station = answered (items_of layout) s fate }
-  pub delivered : events ≡ round_events (items_of layout) s fate
-  pub told : (report : List ℕ) × ShowsRound layout s report × (result ≡ Ok (told_by s fate report))
+  pub member : joint device_then host_then ≡ of (answered (items_of (of s).layout) s fate)
+  pub delivered : events ≡ round_events (items_of (of s).layout) s fate
+  pub told : (report : List ℕ) × ShowsRound (of s).layout s report × (result ≡ Ok (told_by s fate report))
   pub pair : IsPair device_then host_then.phase
 
 -- the two ends after a poll, put together
@@ -197,7 +198,7 @@ fresh_clean : (c : CoreState) (known : Known) (addr home r : ℕ) (bytes : List 
     → result ≡ told_with (Some (packets.Data c.toggle (payload bytes))) (told_of c.layout (Fresh (payload bytes)))
     → host_then ≡ ready_after home (sharing c known) (Fresh (payload bytes)) → events ≡ events_behind (sharing c known) (Fresh (payload bytes))
     → HearsAck (arrives_under Clean) (waiting addr c r) device_then
-    → Lands Clean addr c.layout (open_station c known r true) result device_then host_then events
+    → Lands Clean (member_with addr c) (open_station c known r true) result device_then host_then events
 fresh_clean c known addr home r bytes result device_then host_then events meets reads shows same told moved delivers hears =
     let closes = ack_closes (arrives_under Clean) addr c r device_then refl hears in
     let host_is = moved ∙ fresh_host (sharing c known) home r c.standing.fixed bytes reads in
@@ -224,23 +225,19 @@ fresh_ack_lost : (c : CoreState) (known : Known) (addr home r : ℕ) (bytes : Li
     → result ≡ told_with (Some (packets.Data c.toggle (payload bytes))) (told_of c.layout (Fresh (payload bytes)))
     → host_then ≡ ready_after home (sharing c known) (Fresh (payload bytes)) → events ≡ events_behind (sharing c known) (Fresh (payload bytes))
     → HearsAck (arrives_under AckLost) (waiting addr c r) device_then
-    → Lands AckLost addr c.layout (open_station c known r true) result device_then host_then events
+    → Lands AckLost (member_with addr c) (open_station c known r true) result device_then host_then events
 fresh_ack_lost c known addr home r bytes result device_then host_then events meets reads shows same told moved delivers hears =
     let stays = ack_lost (arrives_under AckLost) addr c r device_then refl hears in
     let host_is = moved ∙ fresh_host (sharing c known) home r c.standing.fixed bytes reads in
     let crossed = other_differs c.toggle known.pipe.expects same in
     record {
       member = member_of device_then (waiting addr c r) host_then home (seeing (sharing c known) r c.standing.fixed) stays host_is
-          ∙ ap (λ (b : Bool). record {
-            addr = addr;
-            layout = c.layout;
-            station = record {
-              standing = c.standing;
-              current = Some (record { report = r; crossed = not b });
-              odd = c.toggle;
-              view = seen (items_of c.layout) r known.view c.standing.fixed;
-            };
-          }) crossed;
+          ∙ ap (λ (b : Bool). member_with addr c (record {
+            standing = c.standing;
+            current = Some (record { report = r; crossed = not b });
+            odd = c.toggle;
+            view = seen (items_of c.layout) r known.view c.standing.fixed;
+          })) crossed;
       delivered = delivers ∙ fresh_events (sharing c known) r c.standing.fixed bytes reads;
       told = (bytes, shows, told ∙ ap (told_with (Some (packets.Data c.toggle (payload bytes)))) (fresh_told (sharing c known) r c.standing.fixed bytes reads));
       pair = pair_of device_then (waiting addr c r) host_then home (seeing (sharing c known) r c.standing.fixed) stays host_is (record {
@@ -262,7 +259,7 @@ again_clean : (c : CoreState) (known : Known) (addr home r : ℕ) (bytes : List 
     → result ≡ Ok (Polled (spelled (Some (packets.Data c.toggle (payload bytes)))) Again)
     → host_then ≡ ready_with home (sharing c known) → events ≡ []
     → HearsAck (arrives_under Clean) (waiting addr c r) device_then
-    → Lands Clean addr c.layout (open_station c known r false) result device_then host_then events
+    → Lands Clean (member_with addr c) (open_station c known r false) result device_then host_then events
 again_clean c known addr home r bytes result device_then host_then events meets shows differ told moved delivers hears =
     let closes = ack_closes (arrives_under Clean) addr c r device_then refl hears in
     record {
@@ -287,12 +284,12 @@ again_ack_lost : (c : CoreState) (known : Known) (addr home r : ℕ) (bytes : Li
     → result ≡ Ok (Polled (spelled (Some (packets.Data c.toggle (payload bytes)))) Again)
     → host_then ≡ ready_with home (sharing c known) → events ≡ []
     → HearsAck (arrives_under AckLost) (waiting addr c r) device_then
-    → Lands AckLost addr c.layout (open_station c known r false) result device_then host_then events
+    → Lands AckLost (member_with addr c) (open_station c known r false) result device_then host_then events
 again_ack_lost c known addr home r bytes result device_then host_then events meets shows differ told moved delivers hears =
     let stays = ack_lost (arrives_under AckLost) addr c r device_then refl hears in
     record {
       member = member_of device_then (waiting addr c r) host_then home (sharing c known) stays moved
-          ∙ ap (λ (b : Bool). record { addr = addr; layout = c.layout; station = open_station c known r b }) differ;
+          ∙ ap (λ (b : Bool). member_with addr c (open_station c known r b)) differ;
       delivered = delivers;
       told = (bytes, shows, told);
       pair = pair_of device_then (waiting addr c r) host_then home (sharing c known) stays moved (record {
@@ -321,7 +318,7 @@ stays : (c : CoreState) (known : Known) (addr home : ℕ) (current : Option ℕ)
     → IsEven c.toggle known.pipe.expects current → Meets addr (record c { current = current }) known → IsArmed c.layout c.standing.fixed current armed
     → result ≡ Ok (Polled (spelled (Some (answer_with c.toggle armed))) Silent)
     → device_then ≡ polled addr (record c { current = current }) → host_then ≡ ready_with home (sharing c known) → events ≡ []
-    → Lands ReplyLost addr c.layout (joined (record c { current = current }) known) result device_then host_then events
+    → Lands ReplyLost (member_with addr c) (joined (record c { current = current }) known) result device_then host_then events
 stays c known addr home None None result device_then host_then events even meets arms told device_is host_is none = record {
   member = member_of device_then (polled addr (record c { current = None })) host_then home (sharing c known) device_is host_is;
   delivered = none;
@@ -361,7 +358,7 @@ pub reply_lost : (c : CoreState) (known : Known) (addr home : ℕ) (current : Op
     → IsEven c.toggle known.pipe.expects current → Meets addr (record c { current = current }) known
     → IsArmed c.layout c.standing.fixed current armed → packet ≡ answer_with c.toggle armed
     → Arrives ReplyLost (record c { current = current }) known addr home packet result device_then host_then events
-    → Lands ReplyLost addr c.layout (joined (record c { current = current }) known) result device_then host_then events
+    → Lands ReplyLost (member_with addr c) (joined (record c { current = current }) known) result device_then host_then events
 reply_lost c known addr home current armed packet result device_then host_then events even meets arms packet_is t =
     let lost = read_lost (arrives_under ReplyLost) Reply packet t.reply refl t.replied in
     let took : taken known.pipe.expects t.reply ≡ Silent = ap (taken known.pipe.expects) lost in
@@ -411,7 +408,7 @@ nak : (fate : Fate) (c : CoreState) (known : Known) (addr home : ℕ)
     (result : Result Told StackFault) (device_then : DeviceState) (host_then : HostEnd) (events : List Event)
     → IsEven c.toggle known.pipe.expects None → Meets addr (record c { current = None }) known
     → Comes fate (record c { current = None }) known addr home packets.Nak Nak result device_then host_then events
-    → (joint device_then host_then ≡ record { addr = addr; layout = c.layout; station = joined (record c { current = None }) known })
+    → (joint device_then host_then ≡ member_with addr c (joined (record c { current = None }) known))
     × (events ≡ []) × (result ≡ Ok (Polled (spelled (Some packets.Nak)) Nak)) × IsPair device_then host_then.phase
 nak fate c known addr home result device_then host_then events even meets t = (
   member_of device_then (polled addr (record c { current = None })) host_then home (sharing c known) t.ended t.host_moved,
@@ -429,17 +426,13 @@ nak fate c known addr home result device_then host_then events even meets t = (
   }),
 )
 
-bool_cases : (b : Bool) → (b ≡ true) ⊎ (b ≡ false)
-bool_cases true = inl refl
-bool_cases false = inr refl
-
 -- the station of an open round, by the toggles
 opens_station : (fate : Fate) (addr : ℕ) (c : CoreState) (known : Known) (r : ℕ) (b : Bool)
     (result : Result Told StackFault) (device_then : DeviceState) (host_then : HostEnd) (events : List Event)
-    → beq c.toggle known.pipe.expects ≡ b → Lands fate addr c.layout (open_station c known r b) result device_then host_then events
-    → Lands fate addr c.layout (joined (record c { current = Some r }) known) result device_then host_then events
+    → beq c.toggle known.pipe.expects ≡ b → Lands fate (member_with addr c) (open_station c known r b) result device_then host_then events
+    → Lands fate (member_with addr c) (joined (record c { current = Some r }) known) result device_then host_then events
 opens_station fate addr c known r b result device_then host_then events is lands =
-    subst (λ (x : Bool). Lands fate addr c.layout (open_station c known r x) result device_then host_then events) (sym is) lands
+    subst (λ (x : Bool). Lands fate (member_with addr c) (open_station c known r x) result device_then host_then events) (sym is) lands
 
 -- the row of data, by the toggles
 abbrev row : Bool → List ℕ → Took
@@ -450,7 +443,7 @@ pub clean : (c : CoreState) (known : Known) (addr home : ℕ) (current : Option 
     → IsEven c.toggle known.pipe.expects current → Meets addr (record c { current = current }) known → IsArmed c.layout c.standing.fixed current armed
     → ((r : ℕ) (bytes : List ℕ) → current ≡ Some r → armed ≡ Some bytes → ReadsAsShown c.layout r c.standing.fixed bytes known.view)
     → Comes Clean (record c { current = current }) known addr home (answer_with c.toggle armed) (took_where known.pipe.expects c.toggle armed) result device_then host_then events
-    → Lands Clean addr c.layout (joined (record c { current = current }) known) result device_then host_then events
+    → Lands Clean (member_with addr c) (joined (record c { current = current }) known) result device_then host_then events
 clean c known addr home None None result device_then host_then events even meets arms reads t =
     let done = nak Clean c known addr home result device_then host_then events even meets t in
     record { member = done.0; delivered = done.1; told = ([], refl, done.2); pair = done.3 }
@@ -458,7 +451,7 @@ clean c known addr home None (Some bytes) result device_then host_then events ev
 clean c known addr home (Some r) None result device_then host_then events even meets arms reads t = absurd arms
 clean c known addr home (Some r) (Some bytes) result device_then host_then events even meets arms reads t =
     let shown = reads r bytes refl refl in
-    elim (bool_cases (beq c.toggle known.pipe.expects)) [
+    elim (cases_Bool (beq c.toggle known.pipe.expects)) [
       | inl same ↦
           let f = comes_as Clean (record c { current = Some r }) known addr home (answer_with c.toggle (Some bytes)) (took_where known.pipe.expects c.toggle (Some bytes)) (Fresh (payload bytes))
           result device_then host_then events (ap (λ (b : Bool). row b bytes) same) t in
@@ -478,7 +471,7 @@ pub ack_lost_poll : (c : CoreState) (known : Known) (addr home : ℕ) (current :
     → IsEven c.toggle known.pipe.expects current → Meets addr (record c { current = current }) known → IsArmed c.layout c.standing.fixed current armed
     → ((r : ℕ) (bytes : List ℕ) → current ≡ Some r → armed ≡ Some bytes → ReadsAsShown c.layout r c.standing.fixed bytes known.view)
     → Comes AckLost (record c { current = current }) known addr home (answer_with c.toggle armed) (took_where known.pipe.expects c.toggle armed) result device_then host_then events
-    → Lands AckLost addr c.layout (joined (record c { current = current }) known) result device_then host_then events
+    → Lands AckLost (member_with addr c) (joined (record c { current = current }) known) result device_then host_then events
 ack_lost_poll c known addr home None None result device_then host_then events even meets arms reads t =
     let done = nak AckLost c known addr home result device_then host_then events even meets t in
     record { member = done.0; delivered = done.1; told = ([], refl, done.2); pair = done.3 }
@@ -486,7 +479,7 @@ ack_lost_poll c known addr home None (Some bytes) result device_then host_then e
 ack_lost_poll c known addr home (Some r) None result device_then host_then events even meets arms reads t = absurd arms
 ack_lost_poll c known addr home (Some r) (Some bytes) result device_then host_then events even meets arms reads t =
     let shown = reads r bytes refl refl in
-    elim (bool_cases (beq c.toggle known.pipe.expects)) [
+    elim (cases_Bool (beq c.toggle known.pipe.expects)) [
       | inl same ↦
           let f = comes_as AckLost (record c { current = Some r }) known addr home (answer_with c.toggle (Some bytes)) (took_where known.pipe.expects c.toggle (Some bytes)) (Fresh (payload bytes))
           result device_then host_then events (ap (λ (b : Bool). row b bytes) same) t in

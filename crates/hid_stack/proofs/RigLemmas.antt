@@ -4,6 +4,7 @@ use Rattle.std.specs.Prelude.{slice_set}
 use Rattle.std.proofs.lemmas.List.Elements.{All-get_or, All-set}
 use Rattle.hid_layout.specs.Controls.{items_of}
 use Rattle.hid_layout.specs.Layout.{Contents}
+use Rattle.hid_device.specs.declared.config.Config.{Config}
 use Rattle.hid_device.specs.Rounds.{OwnStep}
 use Rattle.hid_stack.specs.declared.fault.StackFault.{StackFault}
 use Rattle.hid_stack.specs.declared.step.Told.{Told}
@@ -37,6 +38,7 @@ pub polled_have : (members : List Member) (i : ℕ) (m n : Member) (x : OwnStep)
 polled_have members i m n x result P all within is after err = All-set HasItsMotions members i n (polled_has m n x result P after err (at_place members i m all within is)) all
 
 -- where a device was attached
-pub attached_have : (members new : List Member) (m : Member) (addr : ℕ) (layout : Contents) → AllHaveMotions members → m ≡ fresh_member addr layout → new ≡ members ++ m ∷ [] → AllHaveMotions new
-attached_have members new m addr layout all is new_is =
+pub attached_have : (members new : List Member) (m : Member) (addr : ℕ) (config : Config) (descriptor : List ℕ) (layout : Contents) → AllHaveMotions members
+    → m ≡ fresh_member addr config descriptor layout → new ≡ members ++ m ∷ [] → AllHaveMotions new
+attached_have members new m addr config descriptor layout all is new_is =
     subst AllHaveMotions (sym new_is) (attached_has members m all (subst HasItsMotions (sym is) (fresh_has (items_of layout) _)))

@@ -40,7 +40,7 @@ no_pair addr config descriptor faults.TooManyDevices made law makes none = absur
 pub record Made (addr : ℕ) (config : Config) (descriptor : List ℕ) (device : DeviceState) (host : HostEnd) : Type 0 where
   pub layout : Contents
   pub suits : Suits addr config descriptor layout
-  pub member : joint device host ≡ fresh_member addr layout
+  pub member : joint device host ≡ fresh_member addr config descriptor layout
   pub pair : IsPair device host.phase
   pub home : host.addr ≡ device.addr
 

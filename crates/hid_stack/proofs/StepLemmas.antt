@@ -33,10 +33,11 @@ use Rattle.hid_stack.specs.declared.host.Phase.TheVariants.{Cold, Ready}
 use Rattle.hid_stack.specs.declared.step.Told.{Told}
 use Rattle.hid_stack.specs.declared.step.Told.TheVariants.{Polled}
 use Rattle.hid_stack.specs.Host.{HostEnd, IfReady, ready_after}
-use Rattle.hid_stack.specs.Joint.{joined, station_of, joint, IsEven, ArePaired, IsPair}
+use Rattle.hid_stack.specs.Joint.{joined, station_of, member_with, joint, IsEven, ArePaired, IsPair}
 use Rattle.hid_stack.specs.Known.{Known, told_of, events_behind}
 use Rattle.hid_stack.specs.Polls.{Hears, Replies, Ends, Transacts, HasBytes, spelled, told_with}
 use Rattle.hid_stack.specs.Stations.{Station, opened, answered, round_events, after, events_at}
+use Rattle.hid_stack.specs.Members.{Member}
 use Rattle.hid_stack.specs.Tells.{ShowsRound, TellsOpened, TellsPoll, told_by}
 use Rattle.hid_stack.proofs.PollLemmas.{opens, Meets, Arrives, Lands, sharing, ready_with, member_of, pair_of, comes, clean, ack_lost_poll, reply_lost}
 
@@ -56,6 +57,18 @@ keeps_at c (Some r) = record { layout = refl; configured = refl; toggle = refl }
 
 keeps : (c : CoreState) → Keeps c (opening_of c)
 keeps c = keeps_at c c.current
+
+-- and all that the device was made with
+member_kept_if : (addr : ℕ) (c : CoreState) (due : Option ℕ) → member_with addr (opened_if c due) ≡ member_with addr c
+member_kept_if addr c None = refl
+member_kept_if addr c (Some r) = refl
+
+member_kept_at : (addr : ℕ) (c : CoreState) (current : Option ℕ) → member_with addr (opening_of (record c { current = current })) ≡ member_with addr c
+member_kept_at addr c None = member_kept_if addr (record c { current = None }) (first_due (items_of c.layout) c.standing)
+member_kept_at addr c (Some r) = refl
+
+member_kept : (addr : ℕ) (c : CoreState) → member_with addr (opening_of c) ≡ member_with addr c
+member_kept addr c = member_kept_at addr c c.current
 
 -- where no round is open then, the toggles are still the same
 even_if : (c : CoreState) (expects : Bool) (due : Option ℕ) → c.toggle ≡ expects
@@ -96,7 +109,7 @@ reads_at c known packet armed sound laid fits arms has packet_is r bytes current
 -- what a poll comes to at the two ends
 pub record PollsAs (fate : Fate) (device : DeviceState) (s : Station)
     (result : Result Told StackFault) (device_then : DeviceState) (host_then : HostEnd) (events : List Event) : Type 0 where
-  pub member : joint device_then host_then ≡ record { addr = device.addr; layout = device.core.layout; station = after (items_of device.core.layout) s (Polls fate) }
+  pub member : joint device_then host_then ≡ member_with device.addr device.core (after (items_of device.core.layout) s (Polls fate))
   pub delivered : events ≡ events_at (items_of device.core.layout) s (Polls fate)
   pub told : (told : Told) × (result ≡ Ok told) × TellsPoll device.core.layout s fate told
   pub pair : IsPair device_then host_then.phase
@@ -126,7 +139,7 @@ token_lost device known home result device_then host_then events pair t =
     let host_is : host_then ≡ ready_with home known = t.host_moved ∙ ap (ready_after home known) took in
     record {
       member = member_of device_then device host_then home known device_is host_is
-          ∙ ap (λ (s : Station). record { addr = device.addr; layout = device.core.layout; station = s }) (stays_closed device.core.layout device.core known device.core.current);
+          ∙ ap (member_with device.addr device.core) (stays_closed device.core.layout device.core known device.core.current);
       delivered = t.delivers ∙ ap (events_behind known) took ∙ tells_none device.core.layout device.core known device.core.current;
       told = (Polled None Silent, t.told ∙ ap (λ (x : Took). told_with t.answer (told_of known.layout x)) took ∙ ap (λ (o : Option Packet). Ok (Polled (spelled o) Silent)) heard.0, refl);
       pair = pair_of device_then device host_then home known device_is host_is pair;
@@ -193,11 +206,11 @@ meets device known pair sound =
 
 -- the station from before the token
 landed : (fate : Fate) (device : DeviceState) (known : Known) (result : Result Told StackFault) (device_then : DeviceState) (host_then : HostEnd) (events : List Event)
-    → ArePaired device known → Lands fate device.addr (opening_of device.core).layout (joined (opening_of device.core) known) result device_then host_then events
-    → Lands fate device.addr device.core.layout (opened (items_of device.core.layout) (joined device.core known)) result device_then host_then events
+    → ArePaired device known → Lands fate (member_with device.addr (opening_of device.core)) (joined (opening_of device.core) known) result device_then host_then events
+    → Lands fate (member_with device.addr device.core) (opened (items_of device.core.layout) (joined device.core known)) result device_then host_then events
 landed fate device known result device_then host_then events pair lands =
-    subst (λ (s : Station). Lands fate device.addr device.core.layout s result device_then host_then events) (opens device.core known pair.even)
-    (subst (λ (l : Contents). Lands fate device.addr l (joined (opening_of device.core) known) result device_then host_then events) (keeps device.core).layout lands)
+    subst (λ (s : Station). Lands fate (member_with device.addr device.core) s result device_then host_then events) (opens device.core known pair.even)
+    (subst (λ (of : Station → Member). Lands fate of (joined (opening_of device.core) known) result device_then host_then events) (member_kept device.addr device.core) lands)
 
 -- what is told, by the bytes that show the part
 abbrev TellsSome : Contents → Station → Fate → Result Told StackFault → Type 0

@@ -41,7 +41,7 @@ IsNoPair addr config descriptor _ = ⊥
 abbrev pub Attaches : ℕ → Config → List ℕ → List Member → Result ℕ StackFault → List Member → Type 0
 Attaches room config descriptor old (Ok dev) new =
     (length old < room) × (dev ≡ length old + 1)
-    × ((layout : Contents) × Suits dev config descriptor layout × (new ≡ old ++ fresh_member dev layout ∷ []))
+    × ((layout : Contents) × Suits dev config descriptor layout × (new ≡ old ++ fresh_member dev config descriptor layout ∷ []))
 Attaches room config descriptor old (Err TooManyDevices) new = (room ≤ length old) × (new ≡ old)
 Attaches room config descriptor old (Err fault) new = (length old < room) × IsNoPair (length old + 1) config descriptor fault × (new ≡ old)
 

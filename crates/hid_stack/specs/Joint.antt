@@ -27,8 +27,12 @@ abbrev pub station_of : CoreState → Phase → Station
 station_of core (Ready known) = joined core known
 station_of core Cold = record { standing = core.standing; current = round_between core.toggle core.toggle core.current; odd = core.toggle; view = blank (items_of core.layout) }
 
+-- the member of a device that stands so
+abbrev pub member_with : ℕ → CoreState → Station → Member
+member_with addr core s = record { addr = addr; config = core.config; descriptor = core.descriptor; layout = core.layout; station = s }
+
 abbrev pub joint : DeviceState → HostEnd → Member
-joint device host = record { addr = device.addr; layout = device.core.layout; station = station_of device.core host.phase }
+joint device host = member_with device.addr device.core (station_of device.core host.phase)
 
 -- where no round is open the toggles are the same
 abbrev pub IsEven : Bool → Bool → Option ℕ → Type 0

@@ -8,6 +8,7 @@ use Rattle.hid_cells.specs.declared.change.ChangeFault.{ChangeFault}
 use Rattle.hid_cells.specs.declared.event.Event.{Event}
 use Rattle.hid_usages.specs.Cells.{blank}
 use Rattle.hid_usages.specs.Snapshots.{changed}
+use Rattle.hid_device.specs.declared.config.Config.{Config}
 use Rattle.hid_device.specs.Inputs.{input_count}
 use Rattle.hid_device.specs.Rounds.{OwnStep, Changes, Polls}
 use Rattle.hid_device.specs.Rounds as own_steps
@@ -18,9 +19,12 @@ use Rattle.hid_stack.specs.declared.step.Step.TheVariants.{Change, Frame, Poll}
 use Rattle.hid_stack.specs.declared.step.Delivered.{Delivered}
 use Rattle.hid_stack.specs.Stations.{Station, fresh, after, after_all, events_at, events_in}
 
--- a device with its host: its address, the layout that both have, and how the two stand
+-- a device with its host: its address, the configuration and the descriptor that it was made with, the layout that both
+-- have, and how the two stand
 pub record Member : Type 0 where
   pub addr : ℕ
+  pub config : Config
+  pub descriptor : List ℕ
   pub layout : Contents
   pub station : Station
 
@@ -31,9 +35,11 @@ abbrev pub member_after_all : Member → List OwnStep → Member
 member_after_all m steps = record m { station = after_all (items_of m.layout) m.station steps }
 
 -- a device that was just attached: both ends are freshly configured, nothing is pressed and nothing has moved
-abbrev pub fresh_member : ℕ → Contents → Member
-fresh_member addr layout = record {
+abbrev pub fresh_member : ℕ → Config → List ℕ → Contents → Member
+fresh_member addr config descriptor layout = record {
   addr = addr;
+  config = config;
+  descriptor = descriptor;
   layout = layout;
   station = fresh (items_of layout) (blank (items_of layout)) (replicate (input_count layout.reports) 0);
 }

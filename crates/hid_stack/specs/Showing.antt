@@ -8,10 +8,12 @@ use Rattle.hid_stack.specs.Known.{Known}
 use Rattle.hid_stack.specs.Stations.{expected}
 use Rattle.hid_stack.specs.Members.{Member, member_at}
 
--- The device of a member: it is configured and stands as its station does, the round that is open there is open here, and
--- its toggle is set where the rounds closed are odd in number.
+-- The device of a member: it was made as the member says, is configured and stands as its station does, the round that is
+-- open there is open here, and its toggle is set where the rounds closed are odd in number.
 pub record ShowsDevice (m : Member) (d : DeviceState) : Type 0 where
   pub home : d.addr ≡ m.addr
+  pub config : d.core.config ≡ m.config
+  pub descriptor : d.core.descriptor ≡ m.descriptor
   pub layout : d.core.layout ≡ m.layout
   pub configured : d.core.is_configured ≡ true
   pub standing : d.core.standing ≡ m.station.standing

@@ -91,7 +91,7 @@ impl Slot {
         config: &Config,
         descriptor: &[u8],
     ) -> Result<Slot, StackFault>
-        ensures ready { IfOk result (λ slot. (layout : Contents) × Suits addr config.now descriptor.now layout × (slot ≡ fresh_member addr layout)) }
+        ensures ready { IfOk result (λ slot. (layout : Contents) × Suits addr config.now descriptor.now layout × (slot ≡ fresh_member addr config.now descriptor.now layout)) }
         ensures refused { IfErr result (λ fault. IsNoPair addr config.now descriptor.now fault) }
     {
         one_reading();
