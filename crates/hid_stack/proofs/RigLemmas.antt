@@ -9,13 +9,9 @@ use Rattle.hid_device.specs.Rounds.{OwnStep}
 use Rattle.hid_stack.specs.declared.fault.StackFault.{StackFault}
 use Rattle.hid_stack.specs.declared.step.Told.{Told}
 use Rattle.hid_stack.specs.Members.{Member, member_after, fresh_member}
-use Rattle.hid_stack.specs.Motion.{HasMotions}
 use Rattle.hid_stack.specs.Sums.{AllHaveMotions}
 use Rattle.hid_stack.proofs.MotionLemmas.{step_moving, fresh_has}
-use Rattle.hid_stack.proofs.SumLemmas.{attached_has}
-
-abbrev HasItsMotions : Member → Type 0
-HasItsMotions m = HasMotions (items_of m.layout) m.station
+use Rattle.hid_stack.proofs.SumLemmas.{HasItsMotions, attached_has}
 
 -- one device behind a step
 stepped : (m n : Member) (x : OwnStep) → n ≡ member_after m x → HasItsMotions m → HasItsMotions n

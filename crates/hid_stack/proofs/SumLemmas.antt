@@ -19,7 +19,7 @@ use Rattle.hid_stack.proofs.Isolation.{isolated}
 use Rattle.hid_stack.proofs.ItemMotionLemmas.{given_append}
 use Rattle.hid_stack.proofs.MotionLemmas.{kept, step_moving}
 
-abbrev HasItsMotions : Member → Type 0
+abbrev pub HasItsMotions : Member → Type 0
 HasItsMotions m = HasMotions (items_of m.layout) m.station
 
 all_at : (members : List Member) (i : ℕ) (m : Member) → AllHaveMotions members → slice_get members i ≡ Some m → HasItsMotions m

@@ -136,7 +136,7 @@ impl HostDevice {
         ensures is_ready { IsReady self.new.phase }
     {
         match &mut self.phase {
-            Phase::Cold => Err(StackFault::NotReady),
+            Phase::Cold => unreachable!(),
             Phase::Ready(host) => host.reply(packet, out),
         }
     }

@@ -141,7 +141,7 @@ impl Rig {
         ensures only { IfErr result (λ e. IsRefusal self.old step.now e) }
         ensures err { OnErr result ((self.new ≡ self.old) × (out.new.items ≡ out.old.items)) }
 
-        // With room for what a poll delivers, memory is never wanting; the room is not given away.
+        // With room for what a poll delivers, memory is never wanting. A step fills no more than that, and gives none back.
         ensures room { HasRoomFor self.old step.now (vec_len out.old) (vec_capacity out.old) → result ≢ Err StackFault.Memory }
         ensures few { vec_len out.new ≤ vec_len out.old + most_events self.old step.now }
         ensures capacity { vec_capacity out.old ≤ vec_capacity out.new }
