@@ -3,9 +3,9 @@ use Rattle.std.proofs.Common.{◌≡◌, ℕ, ◌+◌, ◌&&◌, Bool, true, fal
 use Rattle.std.specs.List.{slice_get}
 use Rattle.std.specs.Option.{is_some}
 use Rattle.hid_layout.specs.declared.main_item.MainItem.{MainItem}
-use Rattle.hid_layout.specs.declared.main_item.Shape.TheVariants.{Array}
-use Rattle.hid_layout.specs.declared.report.Report.{Report}
-use Rattle.hid_layout.specs.Usages.{Entry, usage_list}
+use Rattle.hid_descriptor.specs.declared.shape.Shape.TheVariants.{Array}
+use Rattle.hid_descriptor.specs.declared.report.Report.{Report}
+use Rattle.hid_descriptor.specs.Usages.{Entry, usage_list}
 use Rattle.hid_layout.specs.Controls.{is_input}
 use Rattle.hid_layout.specs.Sent.{empty_number}
 use Rattle.hid_cells.specs.Codes.{is_array, has_empty_code, empty_codes_from}

@@ -5,7 +5,7 @@ use Rattle.std.proofs.Common.{unwrap_or, get_or}
 use Rattle.std.proofs.lemmas.Option.{slice_get_within, slice_get-get_or}
 use Rattle.hid_layout.specs.declared.control.ControlKind.TheVariants.{Switch, Value, NullValue, Relative}
 use Rattle.hid_layout.specs.declared.main_item.MainItem.{MainItem}
-use Rattle.hid_layout.specs.Usages.{Entry, usage_list}
+use Rattle.hid_descriptor.specs.Usages.{Entry, usage_list}
 use Rattle.std.proofs.lemmas.Bool.Decides.{Decides-eqb}
 use Rattle.hid_cells.proofs.FillLemmas.{unfilled_at, fill_next, filled}
 use Rattle.hid_cells.proofs.ItemLemmas.{got, items_from-at}

@@ -1,11 +1,11 @@
 -- The codes of arrays, one pair for each listed item.
 use Rattle.std.specs.Prelude.{List, [], ◌∷◌, Bool, true, false, ◌&&◌, if◌then◌else◌, is_some}
-use Rattle.hid_layout.specs.declared.main_item.Shape.{Shape}
-use Rattle.hid_layout.specs.declared.main_item.Shape.TheVariants.{Padding, Variable, Array}
-use Rattle.hid_layout.specs.declared.report.Report.{Report}
+use Rattle.hid_descriptor.specs.declared.shape.Shape.{Shape}
+use Rattle.hid_descriptor.specs.declared.shape.Shape.TheVariants.{Padding, Variable, Array}
+use Rattle.hid_descriptor.specs.declared.report.Report.{Report}
 use Rattle.hid_layout.specs.Controls.{is_input}
 use Rattle.hid_layout.specs.declared.main_item.MainItem.{MainItem}
-use Rattle.hid_layout.specs.Usages.{Entry, usage_list}
+use Rattle.hid_descriptor.specs.Usages.{Entry, usage_list}
 use Rattle.hid_layout.specs.Layout.{Contents}
 use Rattle.hid_layout.specs.Sent.{empty_number}
 

@@ -1,7 +1,7 @@
 -- The controls of known layouts: the boot keyboard and mouse (HID 1.11, appendix B), a hat switch, and a wheel beside a button.
 use Rattle.std.specs.Prelude.{ℕ, true, nat_lt, List, [], ◌∷◌, map, pos, negsuc, Some, None}
 use Rattle.std.specs.List.{range_with_len}
-use Rattle.hid_layout.specs.declared.usage.Usage.{Usage}
+use Rattle.hid_descriptor.specs.declared.usage.Usage.{Usage}
 use Rattle.hid_layout.specs.declared.control.ControlKind.TheVariants.{Switch, NullValue, Relative}
 use Rattle.hid_layout.specs.Controls.{Item, Form, NoControls, Elements, Keys}
 

@@ -2,7 +2,7 @@
 
 ghost use Rattle.std.specs.Prelude.{◌≡◌, ◌<◌, ℕ, List, length, slice_get, Some};
 ghost use Rattle.hid_layout.specs.declared.main_item.MainItem.{MainItem as ItemValue};
-ghost use Rattle.hid_layout.specs.Usages.{Entry};
+ghost use Rattle.hid_descriptor.specs.Usages.{Entry};
 ghost use Rattle.hid_cells.specs.Codes.{has_empty_code, has_empty_codes};
 
 use crate::items::{is_input, item_at, item_count};

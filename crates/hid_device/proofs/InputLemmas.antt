@@ -2,14 +2,15 @@
 use Rattle.std.proofs.Common.{◌≡◌, ℕ, zero, suc, ◌<◌, Bool, true, false, cond, List, [], ◌∷◌, ◌++◌, length, ◌==◌, refl, sym, ◌∙◌, subst, append_assoc, arith}
 use Rattle.std.specs.List.{flat_map}
 use Rattle.std.proofs.lemmas.List.Sums.{sum_by-cons}
-use Rattle.hid_layout.specs.declared.report.Report.{Report}
-use Rattle.hid_layout.specs.declared.report.ReportKind.{ReportKind}
-use Rattle.hid_layout.specs.declared.report.ReportKind.TheVariants.{Input, Output, Feature}
-use Rattle.hid_layout.specs.Kinds.{same_kind}
+use Rattle.hid_descriptor.specs.declared.report.Report.{Report}
+use Rattle.hid_descriptor.specs.declared.report.ReportKind.{ReportKind}
+use Rattle.hid_descriptor.specs.declared.report.ReportKind.TheVariants.{Input, Output, Feature}
+use Rattle.hid_descriptor.specs.Kinds.{same_kind}
 use Rattle.hid_layout.specs.Controls.{is_input}
-use Rattle.hid_layout.specs.Fields.{Field, fields, report_bits}
-use Rattle.hid_layout.specs.Faults.{upward}
-use Rattle.hid_layout.specs.Layout.{Contents, report_if_any, reports_of_kind, reports_of}
+use Rattle.hid_descriptor.specs.Fields.{Field, fields, report_bits}
+use Rattle.hid_descriptor.specs.Faults.{upward}
+use Rattle.hid_layout.specs.Layout.{Contents}
+use Rattle.hid_descriptor.specs.Reporting.{report_if_any, reports_of_kind, reports_of}
 use Rattle.hid_device.specs.Inputs.{input_count, AreInputsFirst}
 use Rattle.hid_device.specs.Making.{Lays}
 

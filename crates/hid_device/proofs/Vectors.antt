@@ -1,8 +1,8 @@
 -- Worked schedules of known devices, their rounds and their events: each is worked out by hand, and a wrong one fails the check.
 use Rattle.std.specs.Prelude.{◌≡◌, ℕ, Bool, true, false, List, [], ◌∷◌, ◌++◌, map, length, replicate, Some, ℤ, pos, negsuc, refl}
-use Rattle.hid_layout.specs.declared.report.Report.{Report}
-use Rattle.hid_layout.specs.declared.report.ReportKind.{ReportKind}
-use Rattle.hid_layout.specs.declared.report.ReportKind.TheVariants.{Input, Output}
+use Rattle.hid_descriptor.specs.declared.report.Report.{Report}
+use Rattle.hid_descriptor.specs.declared.report.ReportKind.{ReportKind}
+use Rattle.hid_descriptor.specs.declared.report.ReportKind.TheVariants.{Input, Output}
 use Rattle.hid_layout.specs.Controls.{Item}
 use Rattle.hid_cells.specs.declared.cell.Cell.TheVariants.{Vacant, Pressed, Moved}
 use Rattle.hid_cells.specs.declared.change.Change.TheVariants as change

@@ -1,8 +1,8 @@
 -- What a refusal of a device is printed as (our choice).
 use Rattle.std.specs.Prelude.{ℕ, Bool, true, false, if◌then◌else◌, List, ◌++◌, codes}
 use Rattle.std.specs.Fmt.{decimal}
-use Rattle.hid_layout.specs.declared.fault.Cause.{Cause}
-use Rattle.hid_layout.specs.declared.fault.Cause.TheVariants as cause
+use Rattle.hid_descriptor.specs.declared.fault.Cause.{Cause}
+use Rattle.hid_descriptor.specs.declared.fault.Cause.TheVariants as cause
 use Rattle.hid_device.specs.declared.fault.DeviceCause.{DeviceCause}
 use Rattle.hid_device.specs.declared.fault.DeviceCause.TheVariants.{BadConfig, Layout, NoEmptyCode, RelativeWithoutZero, Memory}
 

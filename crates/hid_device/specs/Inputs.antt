@@ -1,8 +1,8 @@
 -- The Input reports of a layout: they come first among its reports.
 use Rattle.std.specs.Prelude.{◌≡◌, ℕ, ◌<◌, true, List, count_by}
-use Rattle.hid_layout.specs.declared.report.Report.{Report}
-use Rattle.hid_layout.specs.declared.report.ReportKind.TheVariants.{Input}
-use Rattle.hid_layout.specs.Kinds.{same_kind}
+use Rattle.hid_descriptor.specs.declared.report.Report.{Report}
+use Rattle.hid_descriptor.specs.declared.report.ReportKind.TheVariants.{Input}
+use Rattle.hid_descriptor.specs.Kinds.{same_kind}
 use Rattle.hid_layout.specs.Controls.{is_input}
 
 abbrev pub input_count : List Report → ℕ

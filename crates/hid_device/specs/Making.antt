@@ -1,7 +1,7 @@
 -- Which descriptors and configurations make a device, and why others don't (our choice).
 use Rattle.std.specs.Prelude.{◌≡◌, ℕ, true, false, List, replicate, None, Result, Ok, Err}
-use Rattle.hid_layout.specs.Items.{Item}
-use Rattle.hid_layout.specs.Faults.{Accepts, Explains}
+use Rattle.hid_descriptor.specs.Items.{Item}
+use Rattle.hid_descriptor.specs.Faults.{Accepts, Explains}
 use Rattle.hid_layout.specs.Layout.{Contents, layout_of}
 use Rattle.hid_layout.specs.Controls.{items_of}
 use Rattle.hid_usages.specs.Cells.{blank}

@@ -1,7 +1,7 @@
 //! The Input reports of a layout.
 
 ghost use Rattle.std.specs.Prelude.{◌≡◌};
-ghost use Rattle.hid_layout.specs.Kinds.{same_kind};
+ghost use Rattle.hid_descriptor.specs.Kinds.{same_kind};
 ghost use Rattle.hid_device.specs.Inputs.{input_count};
 
 use hid_layout::{Layout, Report, ReportKind};

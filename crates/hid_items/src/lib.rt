@@ -8,7 +8,7 @@
 //!                                                         the first byte of every long item
 //! ```
 //! An item is known by its spelling, a slice of the descriptor: nothing is copied, and nothing
-//! takes memory. What an item means is said in `hid_layout`, and never here.
+//! takes memory. What an item means is said in `hid_descriptor`, and never here.
 //! [`Items`] gives exactly the items whose spellings, one after another, are the descriptor, each
 //! at its place: `next_gives` of its `Iterator`, with [`laws::one_reading`]. Where bytes are left
 //! in which no item begins, it ends with [`ItemFault::Truncated`].

@@ -6,10 +6,11 @@ use Rattle.std.specs.List.{slice_get}
 use Rattle.std.proofs.lemmas.Int.{ints, clamps}
 use Rattle.std.proofs.lemmas.Float.{T_from_true}
 use Rattle.std.proofs.Math.Pow.{pow_mono}
-use Rattle.hid_layout.specs.declared.usage.Usage.{Usage}
+use Rattle.hid_descriptor.specs.declared.usage.Usage.{Usage}
 use Rattle.hid_layout.specs.declared.main_item.MainItem.{MainItem}
-use Rattle.hid_layout.specs.Controls.{is_key, is_encodable, tells_error, least_of, greatest_of}
-use Rattle.hid_layout.specs.Faults.{least_value, greatest_value}
+use Rattle.hid_layout.specs.Controls.{is_key, is_encodable, least_of, greatest_of}
+use Rattle.hid_descriptor.specs.Usages.{tells_error}
+use Rattle.hid_descriptor.specs.Faults.{least_value, greatest_value}
 use Rattle.hid_layout.specs.Sent.{is_in, at_zero, place_named, names_nothing}
 use Rattle.hid_layout.specs.Stretches.{is_nothing, IsFirst}
 

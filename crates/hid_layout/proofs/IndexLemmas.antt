@@ -7,9 +7,9 @@ use Rattle.std.proofs.lemmas.Option.{slice_get_within, slice_get-map}
 use Rattle.std.specs.Option.{option_map}
 use Rattle.hid_layout.specs.declared.main_item.MainItem.{MainItem}
 use Rattle.hid_layout.specs.declared.sent.Codes.{Codes}
-use Rattle.hid_layout.specs.Usages.{Entry, usage_list}
-use Rattle.hid_layout.specs.Fields.{is_padding}
-use Rattle.hid_layout.specs.Faults.{upward}
+use Rattle.hid_descriptor.specs.Usages.{Entry, usage_list}
+use Rattle.hid_descriptor.specs.Fields.{is_padding}
+use Rattle.hid_descriptor.specs.Faults.{upward}
 use Rattle.hid_layout.specs.Sent.{AreCodes}
 use Rattle.hid_layout.specs.Index.{AreAllCodes}
 

@@ -8,8 +8,8 @@ use Rattle.std.proofs.lemmas.Nat.{pow_pos}
 use Rattle.hid_fields.specs.Value.{value_of, is_negative}
 use Rattle.hid_fields.proofs.ValueLemmas.{value_of-low, value_of-high, twice_half}
 use Rattle.hid_layout.specs.declared.main_item.MainItem.{MainItem}
-use Rattle.hid_layout.specs.declared.usage.Usage.{Usage}
-use Rattle.hid_layout.specs.Faults.{least_value, greatest_value}
+use Rattle.hid_descriptor.specs.declared.usage.Usage.{Usage}
+use Rattle.hid_descriptor.specs.Faults.{least_value, greatest_value}
 use Rattle.hid_layout.specs.Sent.{first_passing, names_nothing, number_of, empty_number}
 use Rattle.hid_layout.specs.Stretches.{IsLeastNothing, NamesAll}
 

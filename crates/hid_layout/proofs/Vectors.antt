@@ -1,14 +1,15 @@
 -- Layouts and refusals worked out by hand from descriptors (HID 1.11, 6.2.2, B.1, B.2 and E.10). A list of items stands nearest first, as the definitions look back.
 use Rattle.std.proofs.Common.{◌≡◌, ℕ, List, [], ◌∷◌, refl, Some, None, pos, negsuc, true, false}
-use Rattle.hid_layout.specs.Usages.{Entry}
-use Rattle.hid_layout.specs.Fields.{fields, add_field}
-use Rattle.hid_layout.specs.Faults.{fault_of, field_fault, report_limit, are_too_many, upward, report_ids, first_fault, is_mixed}
-use Rattle.hid_layout.specs.declared.limits.TheConstants.{MAX_DESCRIPTOR, MAX_ITEMS, MAX_ELEMENTS, MAX_ENTRIES, MAX_OPEN_PUSHES, MAX_OPEN_COLLECTIONS, MAX_REPORT_IDS, MAX_REPORT_BYTES, MAX_WIDTH, MAX_KEYS}
-use Rattle.hid_layout.specs.Layout.{layout_of, reports_of, reports_of_kind}
-use Rattle.hid_layout.specs.declared.collection.Collection.{Collection}
-use Rattle.hid_layout.specs.declared.report.ReportKind.TheVariants.{Input, Output}
-use Rattle.hid_layout.specs.declared.main_item.Shape.TheVariants.{Padding, Variable, Array}
-use Rattle.hid_layout.specs.declared.fault.Cause.TheVariants.{PopEmpty, PushDepth, CollectionDepth, EndWithout, BadReportId, BadRange, BadSize, BadUsageRange, UnpairedUsage, Delimiter, ReportTooLong, TooMany}
+use Rattle.hid_descriptor.specs.Usages.{Entry}
+use Rattle.hid_descriptor.specs.Fields.{fields, add_field}
+use Rattle.hid_descriptor.specs.Faults.{fault_of, field_fault, report_limit, are_too_many, upward, report_ids, first_fault, is_mixed}
+use Rattle.hid_descriptor.specs.declared.limits.TheConstants.{MAX_DESCRIPTOR, MAX_ITEMS, MAX_ELEMENTS, MAX_ENTRIES, MAX_OPEN_PUSHES, MAX_OPEN_COLLECTIONS, MAX_REPORT_IDS, MAX_REPORT_BYTES, MAX_WIDTH, MAX_KEYS}
+use Rattle.hid_layout.specs.Layout.{layout_of}
+use Rattle.hid_descriptor.specs.Reporting.{reports_of, reports_of_kind}
+use Rattle.hid_descriptor.specs.declared.collection.Collection.{Collection}
+use Rattle.hid_descriptor.specs.declared.report.ReportKind.TheVariants.{Input, Output}
+use Rattle.hid_descriptor.specs.declared.shape.Shape.TheVariants.{Padding, Variable, Array}
+use Rattle.hid_descriptor.specs.declared.fault.Cause.TheVariants.{PopEmpty, PushDepth, CollectionDepth, EndWithout, BadReportId, BadRange, BadSize, BadUsageRange, UnpairedUsage, Delimiter, ReportTooLong, TooMany}
 
 abbrev range : ℕ → ℕ → ℕ → Entry
 range page low high = (record { page = page; id = low }, record { page = page; id = high })

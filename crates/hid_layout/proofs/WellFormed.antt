@@ -8,28 +8,27 @@ use Rattle.std.proofs.Math.Nat.{one-le-pow, le-mul_of_pos_right, mul_comm}
 use Rattle.std.proofs.Math.Pow.{pow_mono}
 use Rattle.std.specs.Int.{int_max, int_min}
 use Rattle.std.specs.List.{list_all}
-use Rattle.hid_layout.specs.Usages.{Entry, entry_count, rising, usage_list, are_ranges}
+use Rattle.hid_descriptor.specs.Usages.{Entry, entry_count, rising, usage_list, are_ranges}
 use Rattle.hid_layout.specs.Reports.{HasElements, IsLayout, first_bit, report_bytes, bits_of as bits_of_report}
-use Rattle.hid_layout.proofs.Taking.{reverse_more}
-use Rattle.hid_layout.proofs.Places.{rising-length}
+use Rattle.hid_descriptor.proofs.Taking.{reverse_more}
+use Rattle.hid_descriptor.proofs.Places.{rising-length}
 use Rattle.std.proofs.lemmas.Grind.{common_steps}
 use Rattle.std.proofs.lemmas.List.Concat.{flat_map-cons}
 use Rattle.std.proofs.lemmas.Bool.Decides.{nat_tests}
-use Rattle.hid_layout.specs.declared.report.Report.{Report}
-use Rattle.hid_layout.specs.declared.report.ReportKind.{ReportKind}
-use Rattle.hid_layout.specs.declared.report.ReportKind.TheVariants.{Input, Output, Feature}
+use Rattle.hid_descriptor.specs.declared.report.Report.{Report}
+use Rattle.hid_descriptor.specs.declared.report.ReportKind.{ReportKind}
+use Rattle.hid_descriptor.specs.declared.report.ReportKind.TheVariants.{Input, Output, Feature}
 use Rattle.hid_layout.specs.declared.main_item.MainItem.{MainItem}
-use Rattle.hid_layout.specs.Kinds.{same_kind}
-use Rattle.hid_layout.specs.Fields.{Field, bits_of, report_bits, is_padding}
-use Rattle.hid_layout.specs.Faults.{upward, report_limit, least_value, greatest_value, has_value}
-use Rattle.hid_layout.specs.Layout.{report_if_any, reports_of_kind, reports_of, place_of, main_item, contents_of, layout_of}
-use Rattle.hid_layout.proofs.Shares.{same_kind_itself, kinds_equal, some_field, up_to, before_later}
-use Rattle.hid_layout.proofs.FieldFacts.{AreListed, AreSpelled}
-use Rattle.hid_layout.proofs.ListedFields.{id_of, listed}
-use Rattle.hid_layout.proofs.ReportIdLemmas.{one_place, byte_id, fields_unnumbered}
-use Rattle.hid_layout.specs.Items.{Item, is, REPORT_ID}
-use Rattle.hid_layout.specs.Fields.{fields}
-use Rattle.hid_layout.specs.Faults.{Accepts}
+use Rattle.hid_descriptor.specs.Kinds.{same_kind}
+use Rattle.hid_descriptor.specs.Fields.{Field, bits_of, report_bits, is_padding, fields}
+use Rattle.hid_descriptor.specs.Faults.{upward, report_limit, least_value, greatest_value, has_value, Accepts}
+use Rattle.hid_descriptor.specs.Reporting.{report_if_any, reports_of_kind, reports_of}
+use Rattle.hid_layout.specs.Layout.{place_of, main_item, contents_of, layout_of}
+use Rattle.hid_descriptor.proofs.Shares.{same_kind_itself, kinds_equal, some_field, up_to, before_later}
+use Rattle.hid_descriptor.proofs.FieldFacts.{AreListed, AreSpelled}
+use Rattle.hid_descriptor.proofs.ListedLemmas.{id_of, listed}
+use Rattle.hid_descriptor.proofs.ReportIdLemmas.{one_place, byte_id, fields_unnumbered}
+use Rattle.hid_descriptor.specs.Items.{Item, is, REPORT_ID}
 use Rattle.std.specs.Prelude.{All}
 use Rattle.std.proofs.lemmas.List.Elements.{All-nil, All-cons, All-head, All-tail}
 use Rattle.hid_items.specs.Spelling.{IsSpelling}

@@ -3,23 +3,23 @@ use Rattle.std.specs.Prelude.{ℕ, zero, suc, ◌+◌, ◌*◌, Bool, true, fals
 use Rattle.std.specs.Int.{int_min, int_max}
 use Rattle.std.specs.Ordering.{int_eq}
 use Rattle.std.specs.Option.{option_map}
-use Rattle.hid_layout.specs.declared.limits.TheConstants.{MAX_KEYS}
-use Rattle.hid_layout.specs.declared.usage.Usage.{Usage}
-use Rattle.hid_layout.specs.declared.report.Report.{Report}
+use Rattle.hid_descriptor.specs.declared.limits.TheConstants.{MAX_KEYS}
+use Rattle.hid_descriptor.specs.declared.usage.Usage.{Usage}
+use Rattle.hid_descriptor.specs.declared.report.Report.{Report}
 use Rattle.hid_layout.specs.declared.main_item.MainItem.{MainItem}
-use Rattle.hid_layout.specs.declared.report.ReportKind.TheVariants.{Input}
-use Rattle.hid_layout.specs.declared.main_item.Shape.{Shape}
-use Rattle.hid_layout.specs.declared.main_item.Shape.TheVariants.{Padding, Variable, Array}
+use Rattle.hid_descriptor.specs.declared.report.ReportKind.TheVariants.{Input}
+use Rattle.hid_descriptor.specs.declared.shape.Shape.{Shape}
+use Rattle.hid_descriptor.specs.declared.shape.Shape.TheVariants.{Padding, Variable, Array}
 use Rattle.hid_layout.specs.declared.control.Control.{Control}
 use Rattle.hid_layout.specs.declared.control.Controls.{Controls}
 use Rattle.hid_layout.specs.declared.control.Controls.TheVariants as head
 use Rattle.hid_layout.specs.declared.control.ControlId.{ControlId}
 use Rattle.hid_layout.specs.declared.control.ControlKind.{ControlKind}
 use Rattle.hid_layout.specs.declared.control.ControlKind.TheVariants.{Switch, Value, NullValue, Relative}
-use Rattle.hid_layout.specs.Kinds.{same_kind}
-use Rattle.hid_layout.specs.Usages.{Entry, usage_list}
-use Rattle.hid_layout.specs.Flags.{has_flag, RELATIVE, NULL_STATE}
-use Rattle.hid_layout.specs.Faults.{least_value, greatest_value}
+use Rattle.hid_descriptor.specs.Kinds.{same_kind}
+use Rattle.hid_descriptor.specs.Usages.{Entry, usage_list, is_rollover, tells_error}
+use Rattle.hid_descriptor.specs.Flags.{has_flag, RELATIVE, NULL_STATE}
+use Rattle.hid_descriptor.specs.Faults.{least_value, greatest_value}
 use Rattle.hid_layout.specs.Layout.{Contents}
 
 -- A place of an array's usage list: its usage, and whether an element can press it.
@@ -66,13 +66,6 @@ spread zero us = []
 spread (suc n) [] = []
 spread (suc n) (u ∷ []) = u ∷ spread n (u ∷ [])
 spread (suc n) (u ∷ v ∷ us) = u ∷ spread n (v ∷ us)
-
--- the usages ErrorRollOver, POSTFail and ErrorUndefined of a keyboard, which tell an error
-abbrev pub is_rollover : Usage → Bool
-is_rollover u = (u.page == 7) && (u.id == 1)
-
-abbrev pub tells_error : Usage → Bool
-tells_error u = (u.page == 7) && ((u.id == 1) || ((u.id == 2) || (u.id == 3)))
 
 abbrev pub is_key : MainItem → ℕ → Usage → Bool
 is_key item i u = is_encodable item (item.min +ℤ pos i) && (nat_lt i MAX_KEYS && (not (u.id == 0) && not (tells_error u)))

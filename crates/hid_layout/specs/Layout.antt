@@ -1,16 +1,15 @@
 -- The layout that a list of items gives.
-use Rattle.std.specs.Prelude.{ℕ, Bool, List, [], ◌∷◌, ◌++◌, map, ◌==◌, if◌then◌else◌}
-use Rattle.std.specs.List.{list_any, flat_map}
-use Rattle.hid_layout.specs.declared.collection.Collection.{Collection}
-use Rattle.hid_layout.specs.declared.report.Report.{Report}
+use Rattle.std.specs.Prelude.{Bool, List, map}
+use Rattle.std.specs.List.{list_any}
+use Rattle.hid_descriptor.specs.declared.collection.Collection.{Collection}
+use Rattle.hid_descriptor.specs.declared.report.Report.{Report}
 use Rattle.hid_layout.specs.declared.main_item.MainItem.{MainItem}
-use Rattle.hid_layout.specs.declared.report.ReportKind.{ReportKind}
-use Rattle.hid_layout.specs.declared.report.ReportKind.TheVariants.{Input, Output, Feature}
-use Rattle.hid_layout.specs.Items.{Item, is, REPORT_ID}
-use Rattle.hid_layout.specs.Usages.{Entry}
-use Rattle.hid_layout.specs.Fields.{Field, fields, report_bits}
-use Rattle.hid_layout.specs.Faults.{upward}
-pub use Rattle.hid_layout.specs.Totals.{place_of}
+use Rattle.hid_descriptor.specs.Items.{Item, is, REPORT_ID}
+use Rattle.hid_descriptor.specs.Usages.{Entry}
+use Rattle.hid_descriptor.specs.declared.field.KeptField.{KeptField}
+use Rattle.hid_descriptor.specs.Fields.{Field, fields}
+use Rattle.hid_descriptor.specs.Reporting.{reports_of}
+pub use Rattle.hid_descriptor.specs.Totals.{place_of}
 
 -- what callers see of a layout
 pub record Contents : Type 0 where
@@ -19,20 +18,6 @@ pub record Contents : Type 0 where
   pub items : List MainItem
   pub entries : List (List Entry)
   pub paths : List (List Collection)
-
--- the report of a kind with an ID, where it has bits
-abbrev pub report_if_any : List Field → ReportKind → ℕ → List Report
-report_if_any fs kind id =
-    let bits = report_bits kind id fs in
-    if bits == 0 then [] else record { kind = kind; id = id; bits = bits } ∷ []
-
--- the reports of a kind among these fields, by ID
-unfoldable pub reports_of_kind : List Field → ReportKind → List Report
-reports_of_kind fs kind = flat_map (report_if_any fs kind) (upward 0 256)
-
--- the reports that have bits, by kind and then by ID
-unfoldable pub reports_of : List Field → List Report
-reports_of fs = reports_of_kind fs Input ++ reports_of_kind fs Output ++ reports_of_kind fs Feature
 
 -- an item of a layout with these reports
 abbrev pub main_item : List Report → Field → MainItem
@@ -46,6 +31,10 @@ main_item reports field = record {
   max = field.max;
   shape = field.shape;
 }
+
+-- an item of a layout with these reports, by what is kept
+abbrev pub item_of : List Report → KeptField → MainItem
+item_of reports head = record { report = place_of head.kind head.id reports; offset = head.offset; size = head.size; count = head.count; flags = head.flags; min = head.min; max = head.max; shape = head.shape }
 
 -- the layout of these fields
 abbrev pub contents_of : List Field → Bool → Contents

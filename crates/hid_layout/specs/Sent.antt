@@ -4,9 +4,10 @@ use Rattle.std.specs.Prelude.{◌≡◌, ℕ, zero, suc, ◌+◌, ◌^◌, Bool,
 use Rattle.std.specs.Option.{option_map}
 use Rattle.hid_fields.specs.Value.{value_of, is_negative}
 use Rattle.hid_layout.specs.declared.main_item.MainItem.{MainItem}
-use Rattle.hid_layout.specs.declared.usage.Usage.{Usage}
+use Rattle.hid_descriptor.specs.declared.usage.Usage.{Usage}
 use Rattle.hid_layout.specs.declared.sent.Codes.{Codes}
-use Rattle.hid_layout.specs.Controls.{is_key, tells_error, rollover_from}
+use Rattle.hid_layout.specs.Controls.{is_key, rollover_from}
+use Rattle.hid_descriptor.specs.Usages.{tells_error}
 
 abbrev pub is_in : ℤ → ℤ → ℤ → Bool
 is_in least greatest v = int_le least v && int_le v greatest

@@ -1,9 +1,9 @@
 -- Places of an array's usage list that name neither a key nor an error.
 use Rattle.std.specs.Prelude.{◌≡◌, ◌≢◌, ℕ, ◌+◌, ◌-◌, ◌<◌, ◌≤◌, Bool, true, false, not, ◌==◌, ◌&&◌, ◌||◌, nat_lt, List, ◌++◌, slice_get, Option, Some, None, ℤ, ◌≤ℤ◌, ◌<ℤ◌}
-use Rattle.hid_layout.specs.declared.limits.TheConstants.{MAX_KEYS}
-use Rattle.hid_layout.specs.declared.usage.Usage.{Usage}
-use Rattle.hid_layout.specs.Controls.{tells_error, is_rollover, rollover_from}
-use Rattle.hid_layout.specs.Usages.{Entry, entry_count, rising}
+use Rattle.hid_descriptor.specs.declared.limits.TheConstants.{MAX_KEYS}
+use Rattle.hid_descriptor.specs.declared.usage.Usage.{Usage}
+use Rattle.hid_descriptor.specs.Usages.{tells_error, is_rollover, Entry, entry_count, rising}
+use Rattle.hid_layout.specs.Controls.{rollover_from}
 use Rattle.hid_layout.specs.declared.main_item.MainItem.{MainItem}
 use Rattle.hid_layout.specs.Sent.{names_nothing}
 

@@ -1,6 +1,6 @@
 //! The controls of a layout (HID 1.11, 6.2.2.5 and 8).
 
-use crate::usage::Usage;
+use hid_descriptor::Usage;
 
 /// Names a control.
 #[derive(Clone, Copy, Debug, PartialEq, Eq)]

@@ -1,26 +1,18 @@
 //! The controls that a layout gives.
 
 ghost use Rattle.std.specs.Prelude.{◌≡◌, false, ◌<◌, ◌≤◌, ◌*◌, ◌^◌, ◌+◌, ◌+ℤ◌, pos, ℕ, List, [], ◌∷◌, length, slice_get, Option, Some, None};
-ghost use Rattle.hid_layout.specs.Usages.{entry_count, usage_list};
-ghost use Rattle.hid_layout.specs.Flags.{has_flag};
-ghost use Rattle.hid_layout.specs.Faults.{least_value, greatest_value};
+ghost use Rattle.hid_descriptor.specs.Usages.{usage_list};
+ghost use Rattle.hid_descriptor.specs.Flags.{has_flag};
+ghost use Rattle.hid_descriptor.specs.Faults.{least_value, greatest_value};
 ghost use Rattle.hid_layout.specs.Controls.{least_of, greatest_of, is_encodable, has_outside, element_kind, is_key};
 
 use crate::control::{Control, ControlKind, Controls};
-use crate::limits::{MAX_ENTRIES, MAX_KEYS, MAX_WIDTH};
-use crate::main_item::{MainItem, Shape};
+use crate::main_item::MainItem;
 use crate::search::{count_by_starts, usage_by_starts};
 use crate::sent::{Codes, is_encodable};
-use crate::usage::Usage;
-use crate::values::{greatest_value, least_value};
-
-pub(crate) fn entry_count(entry: &(Usage, Usage)) -> usize
-    ensures value { result ≡ entry_count entry.now }
-    ensures few { result ≤ 2 ^ 16 }
-    ensures within { entry.now.0.id + result ≤ 2 ^ 16 }
-{
-    (entry.1.id as usize + 1).saturating_sub(entry.0.id as usize)
-}
+use hid_descriptor::{
+    MAX_ENTRIES, MAX_KEYS, MAX_WIDTH, Shape, Usage, entry_count, greatest_value, least_value,
+};
 
 /// How many usages there are in the ranges.
 pub fn usage_count(entries: &[(Usage, Usage)]) -> usize
@@ -102,10 +94,10 @@ impl MainItem {
 
 impl MainItem {
     ghost use Rattle.hid_layout.specs.Controls.{form_of, head_of, control_in};
-    ghost use Rattle.hid_layout.specs.Fields.{is_padding};
+    ghost use Rattle.hid_descriptor.specs.Fields.{is_padding};
     ghost use Rattle.hid_layout.specs.Reports.{HasElements};
     ghost use Rattle.hid_layout.specs.Sent.{AreCodes};
-    ghost use Rattle.hid_layout.specs.Usages.{starts_of};
+    ghost use Rattle.hid_descriptor.specs.Usages.{starts_of};
 
     /// The controls of an item of an Input report, without their usages.
     pub(crate) fn controls(&self, entries: &[(Usage, Usage)], codes: &Codes) -> Controls

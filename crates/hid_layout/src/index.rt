@@ -2,19 +2,17 @@
 //! codes of each item.
 
 ghost use Rattle.std.specs.Prelude.{◌≡◌, ◌<◌, ◌≤◌, ℕ, List, false, length, map, slice_get, IfOk, OnOk, Some};
-ghost use Rattle.hid_layout.specs.Usages.{Entry, usage_list};
-ghost use Rattle.hid_layout.specs.Fields.{is_padding};
-ghost use Rattle.hid_layout.specs.Faults.{upward};
+ghost use Rattle.hid_descriptor.specs.Usages.{Entry, usage_list};
+ghost use Rattle.hid_descriptor.specs.Fields.{is_padding};
+ghost use Rattle.hid_descriptor.specs.Faults.{upward};
 ghost use Rattle.hid_layout.specs.Reports.{HasElements};
 ghost use Rattle.hid_layout.specs.Sent.{AreCodes};
 ghost use Rattle.hid_layout.specs.Index.{places_from, AreAllCodes};
 
-use crate::item_lists::ItemLists;
-use crate::limits::MAX_ENTRIES;
-use crate::main_item::{MainItem, Shape};
+use crate::main_item::MainItem;
 use crate::plans::Plans;
 use crate::sent::{Codes, codes_of};
-use crate::usage::Usage;
+use hid_descriptor::{ItemLists, MAX_ENTRIES, Shape, Usage};
 use std::alloc::{AllocError, Global};
 
 /// For each report the places of its items.

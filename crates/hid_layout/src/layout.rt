@@ -1,35 +1,27 @@
 //! Layouts, and how they are read.
 
 ghost use Rattle.std.specs.Prelude.{◌≡◌, ◌^◌, false, ◌<◌, ◌≤◌, ℕ, List, ◌++◌, length, map, slice_get, IfOk, IfErr, Some};
-ghost use Rattle.hid_layout.specs.Items.{Item as Spelled};
-ghost use Rattle.hid_layout.specs.Fields.{Field};
-ghost use Rattle.hid_layout.specs.Kept.{AreKept};
-ghost use Rattle.hid_layout.specs.Heads.{item_of};
+ghost use Rattle.hid_descriptor.specs.Items.{Item as Spelled};
+ghost use Rattle.hid_descriptor.specs.Listing.{ListsFields};
 ghost use Rattle.hid_layout.specs.Reports.{report_bytes, usage_of, element_of, IsLayout};
-ghost use Rattle.hid_layout.specs.Usages.{Entry, usage_list, starts_of};
-ghost use Rattle.hid_layout.specs.Fields.{is_padding};
+ghost use Rattle.hid_descriptor.specs.Usages.{Entry, usage_list, starts_of};
+ghost use Rattle.hid_descriptor.specs.Fields.{is_padding};
 ghost use Rattle.hid_layout.specs.Sent.{AreCodes};
 ghost use Rattle.hid_layout.specs.Index.{plan_of};
-ghost use Rattle.hid_layout.specs.Faults.{Accepts, Explains};
-ghost use Rattle.hid_layout.specs.Totals.{place_of};
-ghost use Rattle.hid_layout.specs.Layout.{contents_of, layout_of};
+ghost use Rattle.hid_descriptor.specs.Faults.{Accepts, Explains};
+ghost use Rattle.hid_descriptor.specs.Totals.{place_of};
+ghost use Rattle.hid_layout.specs.Layout.{item_of, layout_of};
 
-use crate::collection::Collection;
 use crate::control::{Control, ControlId, Controls};
-use crate::fault::{Cause, LayoutFault};
-use crate::field::KeptField;
 use crate::index::{all_codes, all_plans};
-use crate::item_lists::ItemLists;
-use crate::kept::KeptFields;
-use crate::limits::MAX_DESCRIPTOR;
-use crate::main_item::{Element, MainItem, Shape};
-use crate::parse::parse_items;
-use crate::parser::Parser;
+use crate::main_item::{Element, MainItem};
 use crate::plans::Plans;
-use crate::report::{Report, ReportKind};
 use crate::search::{holds, usage_by_starts};
 use crate::sent::Codes;
-use crate::usage::Usage;
+use hid_descriptor::{
+    Cause, Collection, ItemLists, KeptField, LayoutFault, ListedFields, Report, ReportKind, Shape,
+    Usage, list_fields,
+};
 use std::alloc::{AllocError, Global};
 use std::marker::Model;
 
@@ -49,7 +41,7 @@ impl Model for Layout {
     ghost use Rattle.hid_layout.specs.Layout.{Contents};
     ghost use Rattle.hid_layout.specs.Reports.{IsLayout};
     ghost use Rattle.hid_layout.specs.Index.{IsIndexed};
-    ghost use Rattle.hid_layout.specs.declared.limits.TheConstants.{MAX_ITEMS};
+    ghost use Rattle.hid_descriptor.specs.declared.limits.TheConstants.{MAX_ITEMS};
 
     ghost Value = { Contents };
 
@@ -302,16 +294,21 @@ fn items_of(
 }
 
 /// Puts the fields together.
-fn lay_out(alloc: Global, kept: KeptFields, numbered: bool) -> Result<Layout, AllocError>
-    requires { (fs : List Field) × AreKept fs kept × IsLayout (contents_of fs numbered) }
-    ensures { IfOk result (λ layout. (fs : List Field) → AreKept fs kept → layout ≡ contents_of fs numbered) }
+fn lay_out(alloc: Global, listed: ListedFields) -> Result<Layout, AllocError>
+    requires { (before : List Spelled) × ListsFields before listed × IsLayout (layout_of before) }
+    ensures { IfOk result (λ layout. (before : List Spelled) → ListsFields before listed → layout ≡ layout_of before) }
 {
-    let items = items_of(alloc, &kept.reports.list, &kept.list)?;
-    let KeptFields { lists, reports, .. } = kept;
-    let plans = all_plans(alloc, reports.list.len(), &items)?;
+    let items = items_of(alloc, &listed.reports, &listed.fields)?;
+    let ListedFields {
+        reports,
+        lists,
+        numbered,
+        ..
+    } = listed;
+    let plans = all_plans(alloc, reports.len(), &items)?;
     let codes = all_codes(alloc, &items, &lists)?;
     Ok(Layout {
-        reports: reports.list,
+        reports,
         numbered,
         items,
         lists,
@@ -329,35 +326,11 @@ impl Layout {
         // Memory was wanting, or this is the one refusal.
         ensures err { IfErr result (λ f. Explains descriptor.now f.cause f.at) }
     {
-        if descriptor.len() > MAX_DESCRIPTOR {
-            return Err(LayoutFault {
-                cause: Cause::TooLong,
-                at: MAX_DESCRIPTOR,
-            });
-        }
-        let parser = match parse_items(alloc, descriptor) {
-            Ok(parser) => parser,
+        let listed = match list_fields(alloc, descriptor) {
+            Ok(listed) => listed,
             Err(f) => return Err(f),
         };
-        let at = descriptor.len();
-        if parser.collections.open.len() != 0 {
-            return Err(LayoutFault {
-                cause: Cause::Unclosed,
-                at,
-            });
-        }
-        if parser.mixes_ids() {
-            return Err(LayoutFault {
-                cause: Cause::MixedReportId,
-                at,
-            });
-        }
-        let Parser {
-            fields,
-            numbered,
-            ..
-        } = parser;
-        match lay_out(alloc, fields, numbered) {
+        match lay_out(alloc, listed) {
             Ok(layout) => Ok(layout),
             Err(_) => Err(LayoutFault {
                 cause: Cause::Memory,

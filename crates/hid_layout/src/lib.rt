@@ -1,10 +1,9 @@
 //! The layout of a device's reports, by its report descriptor (HID 1.11, 5 and 6.2.2).
 //! ```text
-//!                 hid_items            Parser::take, item by item                lay_out
-//!   descriptor -------------> items ---------------------------------> fields ------------> Layout
-//!                                     globals in force, open Pushes
-//!                                     local items, open collections
-//!                                     the bits of each report so far
+//!               hid_descriptor: list_fields            lay_out
+//!   descriptor -----------------------------> fields ------------> Layout
+//!                                                      the items of each report
+//!                                                      the codes of each item
 //!
 //!   reports   by kind, then by ID       Input 0: 24 bits
 //!   items     in descriptor order       buttons         padding      motion
@@ -12,9 +11,9 @@
 //!             usages                    09:01-09:03     none         01:30 01:31
 //!             open collections          1/01:02 0/01:01
 //! ```
-//! The rule to know: what a main item means is settled at the main item, by looking back. The Usage
-//! Page, the sign of the Logical Maximum and every other global are those in force there, and a Pop
-//! brings back the globals of its matching Push, but never a usage.
+//! The rule to know: an item is named by its place among the listed items, the Input, Output and Feature
+//! items that have bits, and a control by its item and its place there. What is read again and again, as
+//! the items of a report, is worked out once, when the layout is made.
 //!
 //! [`Layout::parse`] accepts exactly the descriptors in which no cause of [`Cause`] stands, and gives the
 //! layout that the definitions of `specs/` give (`ok`); it refuses every other one with the cause and
@@ -30,48 +29,25 @@
 //! ```
 #![tactic(auto)]
 
-mod collection;
 mod control;
 mod controls;
-mod fault;
-mod field;
-mod flags;
-mod globals;
 mod index;
-mod item_lists;
-mod kept;
-pub mod laws;
 mod layout;
-mod limits;
-mod locals;
 mod main_item;
-mod parse;
-mod parser;
-mod path;
 mod plans;
-mod prefix;
-mod report;
 mod search;
 mod sent;
-mod span;
-mod totals;
-mod usage;
-mod values;
 
-pub use collection::Collection;
 pub use control::{Control, ControlId, ControlKind, Controls};
 pub use controls::{usage_at, usage_count};
-pub use fault::{Cause, LayoutFault};
-pub use flags::MainFlags;
-pub use layout::Layout;
-pub use limits::{
-    MAX_DESCRIPTOR, MAX_ELEMENTS, MAX_ENTRIES, MAX_ITEMS, MAX_KEYS, MAX_OPEN_COLLECTIONS,
-    MAX_OPEN_PUSHES, MAX_REPORT_BYTES, MAX_REPORT_IDS, MAX_WIDTH,
+pub use hid_descriptor::{
+    Cause, Collection, LayoutFault, MAX_DESCRIPTOR, MAX_ELEMENTS, MAX_ENTRIES, MAX_ITEMS, MAX_KEYS,
+    MAX_OPEN_COLLECTIONS, MAX_OPEN_PUSHES, MAX_REPORT_BYTES, MAX_REPORT_IDS, MAX_WIDTH, MainFlags,
+    Report, ReportKind, Shape, Usage, laws,
 };
-pub use main_item::{Element, MainItem, Shape};
-pub use report::{Report, ReportKind};
+pub use layout::Layout;
+pub use main_item::{Element, MainItem};
 pub use sent::Codes;
-pub use usage::Usage;
 
 #[cfg(test)]
 mod control_tests;

@@ -3,19 +3,7 @@
 ghost use Rattle.std.specs.Prelude.{◌≡◌, ◌+◌, ◌*◌, ◌≤◌};
 ghost use Rattle.hid_layout.specs.Reports.{field_at, element_in};
 
-use crate::flags::MainFlags;
-use crate::limits::MAX_REPORT_BYTES;
-
-/// What the fields of a main item are.
-#[derive(Clone, Copy, Debug, PartialEq, Eq)]
-pub enum Shape {
-    /// Bits that mean nothing: the item is Constant, or it has no usage.
-    Padding,
-    /// Each field is a control of its own.
-    Variable,
-    /// Each field names a control of a list.
-    Array,
-}
+use hid_descriptor::{MAX_REPORT_BYTES, MainFlags, Shape};
 
 /// An Input, Output or Feature item that has at least one bit.
 #[derive(Clone, Copy, Debug, PartialEq, Eq)]

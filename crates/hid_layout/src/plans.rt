@@ -4,7 +4,7 @@ ghost use Rattle.std.specs.Prelude.{◌≡◌, ◌≤◌, ◌<◌, ℕ, List, []
 ghost use Rattle.hid_layout.specs.Index.{places_from};
 
 use crate::main_item::MainItem;
-use crate::span::Span;
+use hid_descriptor::Span;
 use std::alloc::{AllocError, Global};
 use std::marker::Model;
 
@@ -17,7 +17,7 @@ pub(crate) struct Plans {
 
 impl Model for Plans {
     ghost use Rattle.std.specs.Prelude.{ℕ, List};
-    ghost use Rattle.hid_layout.specs.Lists.{AreWithin, lists_at};
+    ghost use Rattle.hid_descriptor.specs.Lists.{AreWithin, lists_at};
 
     ghost Value = { List (List ℕ) };
 

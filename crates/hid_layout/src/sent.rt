@@ -3,20 +3,20 @@
 
 ghost use Rattle.std.specs.Prelude.{◌≡◌, ◌<◌, ◌≤◌, ◌+◌, ◌-◌, ◌*◌, ◌^◌, ◌+ℤ◌, ◌-ℤ◌, ◌≤ℤ◌, ◌<ℤ◌, pos, neg_ℤ, ℕ, ℤ, List, true, false, length, IfSome, IfNone, Some, None};
 ghost use Rattle.std.specs.Int.{int_min};
-ghost use Rattle.hid_layout.specs.Usages.{entry_count, usage_list};
+ghost use Rattle.hid_descriptor.specs.Usages.{entry_count, usage_list};
 ghost use Rattle.hid_layout.specs.Controls.{rollover_from, least_of, greatest_of, is_encodable};
-ghost use Rattle.hid_layout.specs.Faults.{least_value, greatest_value};
+ghost use Rattle.hid_descriptor.specs.Faults.{least_value, greatest_value};
 ghost use Rattle.hid_layout.specs.Reports.{HasElements};
 ghost use Rattle.hid_fields.specs.Value.{is_negative};
-ghost use Rattle.hid_layout.specs.declared.usage.Usage.{Usage as Named};
+ghost use Rattle.hid_descriptor.specs.declared.usage.Usage.{Usage as Named};
 ghost use Rattle.hid_layout.specs.Stretches.{RollsOverAt, RollsOverIn, IsFirst, IsLeastNothing, NamesAll};
 ghost use Rattle.hid_layout.specs.Sent.{AreCodes, names_nothing as names_nothing_at, number_of, empty_number, null_number, rollover_number};
 
-use crate::controls::entry_count;
-use crate::limits::{MAX_ENTRIES, MAX_KEYS};
 use crate::main_item::MainItem;
-use crate::usage::{ERROR_ROLL_OVER, FIRST_KEY, KEYBOARD, Usage};
-use crate::values::{greatest_value, least_value};
+use hid_descriptor::{
+    ERROR_ROLL_OVER, FIRST_KEY, KEYBOARD, MAX_ENTRIES, MAX_KEYS, Usage, entry_count,
+    greatest_value, least_value,
+};
 use hid_fields::{null_pattern, to_value};
 
 /// The numbers by which elements tell what no key and no value tells; where an item has no such number, none.

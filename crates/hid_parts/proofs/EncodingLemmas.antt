@@ -11,7 +11,7 @@ use Rattle.std.proofs.lemmas.Nat.{pow_pos}
 use Rattle.hid_layout.specs.declared.main_item.MainItem.{MainItem}
 use Rattle.hid_layout.specs.Layout.{Contents}
 use Rattle.hid_layout.specs.Reports.{IsLayout, HasElements, first_bit, report_bytes}
-use Rattle.hid_layout.specs.Fields.{is_padding}
+use Rattle.hid_descriptor.specs.Fields.{is_padding}
 use Rattle.std.proofs.lemmas.Bool.Decides.{nat_tests}
 use Rattle.hid_parts.specs.Numbers.{numbers_in}
 use Rattle.hid_parts.specs.Encoding.{IsData, Shows, CanSend, IsEncoding, bare_report, part_numbers, sent_at, place}

@@ -3,8 +3,8 @@ use Rattle.std.proofs.Common.{◌≡◌, ℕ, zero, suc, ◌+◌, ◌-◌, ◌*�
 use Rattle.std.specs.List.{slice_get}
 use Rattle.std.proofs.lemmas.Option.{slice_get_within}
 use Rattle.hid_layout.specs.declared.main_item.MainItem.{MainItem}
-use Rattle.hid_layout.specs.Usages.{Entry, usage_list}
-use Rattle.hid_layout.specs.Fields.{is_padding}
+use Rattle.hid_descriptor.specs.Usages.{Entry, usage_list}
+use Rattle.hid_descriptor.specs.Fields.{is_padding}
 use Rattle.hid_layout.specs.Layout.{Contents}
 use Rattle.hid_layout.specs.Reports.{IsLayout, HasElements}
 use Rattle.hid_layout.specs.Controls.{Form, NoControls, Item, items_of, item_of, form_of, head_of, is_input}

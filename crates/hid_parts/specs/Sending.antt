@@ -1,7 +1,7 @@
 -- The numbers of the elements by which a report shows what is kept of an item.
 use Rattle.std.specs.Prelude.{ℕ, ◌+◌, ◌-◌, Bool, true, false, List, [], ◌∷◌, ◌++◌, map, replicate, unwrap_or, Option, ℤ, pos, ◌+ℤ◌}
 use Rattle.hid_layout.specs.declared.main_item.MainItem.{MainItem}
-use Rattle.hid_layout.specs.declared.usage.Usage.{Usage}
+use Rattle.hid_descriptor.specs.declared.usage.Usage.{Usage}
 use Rattle.hid_layout.specs.Controls.{Form, Elements, Keys}
 pub use Rattle.hid_cells.specs.Cells.{pressed_count}
 pub use Rattle.hid_layout.specs.Sent.{number_of, first_passing, least_pattern, null_code, names_nothing, empty_code, null_number, empty_number, rollover_number}

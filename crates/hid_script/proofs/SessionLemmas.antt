@@ -4,15 +4,15 @@ use Rattle.std.specs.Prelude.{position, slice_get}
 use Rattle.std.specs.Io.KnownBytes.{Appends}
 use Rattle.std.proofs.KnownBytes.{Appends-nil}
 use Rattle.std.proofs.lemmas.Bool.{ltb-false, cond-false, ne_eqb}
-use Rattle.hid_layout.specs.declared.fault.Cause as layouts
-use Rattle.hid_layout.specs.declared.fault.Cause.TheVariants as whys
-use Rattle.hid_layout.specs.declared.fault.LayoutFault.{LayoutFault}
-use Rattle.hid_layout.specs.declared.usage.Usage.{Usage}
+use Rattle.hid_descriptor.specs.declared.fault.Cause as layouts
+use Rattle.hid_descriptor.specs.declared.fault.Cause.TheVariants as whys
+use Rattle.hid_descriptor.specs.declared.fault.LayoutFault.{LayoutFault}
+use Rattle.hid_descriptor.specs.declared.usage.Usage.{Usage}
 use Rattle.hid_layout.specs.declared.control.ControlId.{ControlId}
-use Rattle.hid_layout.specs.Items.{Item}
+use Rattle.hid_descriptor.specs.Items.{Item}
 use Rattle.hid_layout.specs.Layout.{Contents, layout_of}
 use Rattle.hid_layout.specs.Reports.{report_bytes}
-use Rattle.hid_layout.specs.Faults.{Accepts, Explains}
+use Rattle.hid_descriptor.specs.Faults.{Accepts, Explains}
 use Rattle.hid_cells.specs.declared.fault.ReportFault.{ReportFault}
 use Rattle.hid_cells.specs.declared.fault.ReportFault.TheVariants.{Short}
 use Rattle.hid_usages.specs.Reading.{first_byte, is_input_with, whole_report, report_named}

@@ -2,10 +2,10 @@
 use Rattle.std.proofs.Common.{◌≡◌, [], ◌∷◌, ◌++◌, None, Some, refl, pos, negsuc}
 use Rattle.std.specs.Prelude.{codes}
 use Rattle.std.specs.Fmt.{digits}
-use Rattle.hid_layout.specs.declared.report.ReportKind.TheVariants.{Input}
+use Rattle.hid_descriptor.specs.declared.report.ReportKind.TheVariants.{Input}
 use Rattle.hid_layout.specs.declared.main_item.MainItem.{MainItem}
-use Rattle.hid_layout.specs.declared.main_item.Shape.TheVariants.{Variable}
-use Rattle.hid_layout.specs.declared.fault.Cause.TheVariants as layouts
+use Rattle.hid_descriptor.specs.declared.shape.Shape.TheVariants.{Variable}
+use Rattle.hid_descriptor.specs.declared.fault.Cause.TheVariants as layouts
 use Rattle.hid_script.specs.declared.fault.Cause.TheVariants as causes
 use Rattle.hid_script.specs.declared.fault.StepFault.TheVariants as faults
 use Rattle.hid_cells.specs.declared.fault.ReportFault.TheVariants.{Short}

@@ -2,17 +2,17 @@
 use Rattle.std.specs.Prelude.{ℕ, Bool, List, [], ◌∷◌, ◌++◌, ◌==◌, length, if◌then◌else◌, Option, None, Some, slice_get, codes}
 use Rattle.std.specs.List.{flat_map}
 use Rattle.std.specs.Fmt.{decimal, signed_decimal}
-use Rattle.hid_layout.specs.declared.report.ReportKind.{ReportKind}
-use Rattle.hid_layout.specs.declared.report.ReportKind.TheVariants.{Input, Output, Feature}
-use Rattle.hid_layout.specs.declared.report.Report.{Report}
+use Rattle.hid_descriptor.specs.declared.report.ReportKind.{ReportKind}
+use Rattle.hid_descriptor.specs.declared.report.ReportKind.TheVariants.{Input, Output, Feature}
+use Rattle.hid_descriptor.specs.declared.report.Report.{Report}
 use Rattle.hid_layout.specs.declared.main_item.MainItem.{MainItem}
-use Rattle.hid_layout.specs.declared.main_item.Shape.{Shape}
-use Rattle.hid_layout.specs.declared.main_item.Shape.TheVariants.{Padding, Variable, Array}
-use Rattle.hid_layout.specs.declared.collection.Collection.{Collection}
+use Rattle.hid_descriptor.specs.declared.shape.Shape.{Shape}
+use Rattle.hid_descriptor.specs.declared.shape.Shape.TheVariants.{Padding, Variable, Array}
+use Rattle.hid_descriptor.specs.declared.collection.Collection.{Collection}
 use Rattle.hid_layout.specs.Layout.{Contents}
-use Rattle.hid_layout.specs.Flags.{has_flag, RELATIVE, NULL_STATE}
+use Rattle.hid_descriptor.specs.Flags.{has_flag, RELATIVE, NULL_STATE}
 use Rattle.hid_layout.specs.Reports.{report_bytes}
-use Rattle.hid_layout.specs.Usages.{Entry}
+use Rattle.hid_descriptor.specs.Usages.{Entry}
 use Rattle.hid_script.specs.Text.{usage_or_dash, range_text, joined_below}
 
 abbrev pub kind_word : ReportKind → List ℕ

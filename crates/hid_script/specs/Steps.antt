@@ -1,10 +1,10 @@
 -- What the parts of a script tell: layouts, values, devices, and steps of the bus.
 use Rattle.std.specs.Prelude.{◌≡◌, ◌≢◌, ◌⊎◌, ◌∷◌, ◌++◌, ℕ, ◌+◌, ◌-◌, ◌^◌, min, List, [], length, if◌then◌else◌, Option, None, Some, Result, Ok, Err}
-use Rattle.hid_layout.specs.Items.{Item}
+use Rattle.hid_descriptor.specs.Items.{Item}
 use Rattle.hid_layout.specs.Layout.{Contents, layout_of}
-use Rattle.hid_layout.specs.Faults.{Accepts, Refuses}
-use Rattle.hid_layout.specs.declared.fault.LayoutFault.{LayoutFault}
-use Rattle.hid_layout.specs.declared.usage.Usage.{Usage}
+use Rattle.hid_descriptor.specs.Faults.{Accepts, Refuses}
+use Rattle.hid_descriptor.specs.declared.fault.LayoutFault.{LayoutFault}
+use Rattle.hid_descriptor.specs.declared.usage.Usage.{Usage}
 use Rattle.hid_layout.specs.declared.control.ControlId.{ControlId}
 use Rattle.hid_cells.specs.declared.fault.ReportFault.{ReportFault}
 use Rattle.hid_cells.specs.declared.change.Change.{Change as OneChange}

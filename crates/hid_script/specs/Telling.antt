@@ -1,8 +1,8 @@
 -- What a line of a script tells.
 use Rattle.std.specs.Prelude.{◌≡◌, ℕ, ◌≤◌, List, [], Result, Ok, Err}
-use Rattle.hid_layout.specs.declared.fault.LayoutFault.{LayoutFault}
-use Rattle.hid_layout.specs.declared.fault.Cause as layouts
-use Rattle.hid_layout.specs.declared.fault.Cause.TheVariants as causes_of
+use Rattle.hid_descriptor.specs.declared.fault.LayoutFault.{LayoutFault}
+use Rattle.hid_descriptor.specs.declared.fault.Cause as layouts
+use Rattle.hid_descriptor.specs.declared.fault.Cause.TheVariants as causes_of
 use Rattle.hid_stack.specs.declared.fault.StackFault.{StackFault}
 use Rattle.hid_stack.specs.declared.fault.StackFault.TheVariants as stack
 use Rattle.hid_stack.specs.declared.step.Step.TheVariants as step

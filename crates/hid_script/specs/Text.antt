@@ -1,8 +1,8 @@
 -- Numbers in hex and usages, as they are printed (our choice: docs/SCRIPT.md).
 use Rattle.std.specs.Prelude.{ℕ, zero, suc, List, [], ◌∷◌, ◌++◌, ◌==◌, ◌&&◌, nat_lt, if◌then◌else◌, true, Option, None, Some, codes}
 use Rattle.std.specs.Fmt.{digits}
-use Rattle.hid_layout.specs.declared.usage.Usage.{Usage}
-use Rattle.hid_layout.specs.Usages.{Entry}
+use Rattle.hid_descriptor.specs.declared.usage.Usage.{Usage}
+use Rattle.hid_descriptor.specs.Usages.{Entry}
 
 -- upper-case hex, of two digits at least
 unfoldable pub hex_text : ℕ → List ℕ

@@ -1,14 +1,14 @@
 -- The values of a report as they are printed (HID 1.11, 5.8 and 6.2.2.5; the text: our choice, docs/SCRIPT.md).
 use Rattle.std.specs.Prelude.{ℕ, ◌-◌, List, [], ◌∷◌, ◌++◌, ◌==◌, length, min, if◌then◌else◌, Option, None, Some, slice_get, codes, ℤ}
 use Rattle.std.specs.Fmt.{decimal, signed_decimal}
-use Rattle.hid_layout.specs.declared.usage.Usage.{Usage}
+use Rattle.hid_descriptor.specs.declared.usage.Usage.{Usage}
 use Rattle.hid_layout.specs.declared.main_item.MainItem.{MainItem}
-use Rattle.hid_layout.specs.declared.main_item.Shape.{Shape}
-use Rattle.hid_layout.specs.declared.main_item.Shape.TheVariants.{Padding, Variable, Array}
+use Rattle.hid_descriptor.specs.declared.shape.Shape.{Shape}
+use Rattle.hid_descriptor.specs.declared.shape.Shape.TheVariants.{Padding, Variable, Array}
 use Rattle.hid_layout.specs.Layout.{Contents}
 use Rattle.hid_layout.specs.declared.main_item.Element.{Element}
 use Rattle.hid_layout.specs.Reports.{element_in}
-use Rattle.hid_layout.specs.Usages.{Entry, usage_list}
+use Rattle.hid_descriptor.specs.Usages.{Entry, usage_list}
 use Rattle.hid_usages.specs.Reading.{usage_named, element_number}
 use Rattle.hid_script.specs.Text.{usage_or_dash, joined_below}
 

@@ -1,7 +1,7 @@
 //! A layout, as it is printed.
 
 ghost use Rattle.std.specs.Prelude.{◌≡◌, ◌++◌, ◌<◌, length, Some, OnOk, slice_get, string_bytes};
-ghost use Rattle.hid_layout.specs.Flags.{has_flag, RELATIVE};
+ghost use Rattle.hid_descriptor.specs.Flags.{has_flag, RELATIVE};
 ghost use Rattle.hid_script.specs.LayoutText.{kind_word, report_name, collection_text, shape_word, range_words, entries_text, details_text, path_text, item_head, item_line, report_line, report_at, item_at, layout_lines, layout_text};
 
 use super::text::{RangeText, UsageOrDash};

@@ -1,7 +1,7 @@
 //! The values of a report, as they are printed.
 
 ghost use Rattle.std.specs.Prelude.{◌≡◌, ◌++◌, ◌<◌, ◌≤◌, length, IfSome, OnOk, slice_get, string_bytes};
-ghost use Rattle.hid_layout.specs.Usages.{usage_list};
+ghost use Rattle.hid_descriptor.specs.Usages.{usage_list};
 ghost use Rattle.hid_layout.specs.Reports.{report_bytes};
 ghost use Rattle.hid_script.specs.Text.{joined_below};
 ghost use Rattle.hid_usages.specs.Reading.{usage_named};

@@ -1,12 +1,12 @@
 -- A bus answers one thing: what a step tells, which control a usage names, and how a device is attached.
 use Rattle.std.proofs.Common.{◌≡◌, ◌≢◌, ◌∙◌, ◌+◌, ◌++◌, ◌<◌, ◌≤◌, ℕ, zero, suc, Bool, true, false, List, [], ◌∷◌, length, Option, Some, None, Result, Ok, Err, refl, ap, sym, subst, inl, inr, ◌⊎◌, arith}
 use Rattle.hid_layout.specs.declared.control.ControlId.{ControlId}
-use Rattle.hid_layout.specs.declared.fault.Cause.{Cause}
-use Rattle.hid_layout.specs.declared.usage.Usage.{Usage}
+use Rattle.hid_descriptor.specs.declared.fault.Cause.{Cause}
+use Rattle.hid_descriptor.specs.declared.usage.Usage.{Usage}
 use Rattle.hid_layout.specs.Controls.{items_of}
-use Rattle.hid_layout.specs.Faults.{Explains, Refuses}
+use Rattle.hid_descriptor.specs.Faults.{Explains, Refuses}
 use Rattle.hid_layout.specs.Finding.{shown_at}
-use Rattle.hid_layout.specs.Laws.{HasOneReading, AcceptsNoRefused, HasOneCause, HasOnePlace}
+use Rattle.hid_descriptor.specs.Laws.{HasOneReading, AcceptsNoRefused, HasOneCause, HasOnePlace}
 use Rattle.hid_layout.specs.Layout.{Contents, layout_of}
 use Rattle.hid_cells.specs.declared.change.ChangeFault.TheVariants as change
 use Rattle.usb_transact.specs.declared.transaction.Fate.{Fate}

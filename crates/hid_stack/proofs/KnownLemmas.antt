@@ -1,9 +1,9 @@
 -- A host's reading of fresh data.
 use Rattle.std.proofs.Common.{◌≡◌, ◌≤◌, ◌+◌, ℕ, List, refl, Ok, length, arith, ap, length-append}
-use Rattle.hid_layout.specs.declared.fault.Cause.{Cause}
-use Rattle.hid_layout.specs.declared.fault.Cause.TheVariants.{Memory}
+use Rattle.hid_descriptor.specs.declared.fault.Cause.{Cause}
+use Rattle.hid_descriptor.specs.declared.fault.Cause.TheVariants.{Memory}
 use Rattle.hid_layout.specs.Controls.{items_of, max_events}
-use Rattle.hid_layout.specs.Faults.{Explains, Refuses}
+use Rattle.hid_descriptor.specs.Faults.{Explains, Refuses}
 use Rattle.hid_layout.specs.Layout.{Contents}
 use Rattle.hid_layout.specs.Reports.{IsLayout}
 use Rattle.hid_cells.specs.declared.cell.Cell.{Cell}

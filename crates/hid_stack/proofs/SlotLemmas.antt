@@ -1,9 +1,9 @@
 -- A device and its host as one slot of the bus.
 use Rattle.std.proofs.Common.{◌≡◌, ◌∙◌, ◌≤◌, ℕ, List, Ok, refl, ap, sym, subst}
 use Rattle.hid_layout.specs.Controls.{items_of, max_events}
-use Rattle.hid_layout.specs.Faults.{Accepts}
-use Rattle.hid_layout.specs.Items.{Item as Spelled}
-use Rattle.hid_layout.specs.Laws.{HasOneReading, AcceptsNoRefused}
+use Rattle.hid_descriptor.specs.Faults.{Accepts}
+use Rattle.hid_descriptor.specs.Items.{Item as Spelled}
+use Rattle.hid_descriptor.specs.Laws.{HasOneReading, AcceptsNoRefused}
 use Rattle.hid_layout.specs.Layout.{Contents, layout_of}
 use Rattle.hid_layout.specs.Reports.{IsLayout}
 use Rattle.hid_layout.proofs.WellFormed.{layout_of_accepted}

@@ -1,6 +1,6 @@
 -- What refusals are printed as: the codes from the outermost to the innermost.
 use Rattle.std.specs.Prelude.{ℕ, List, ◌++◌, codes}
-use Rattle.hid_layout.specs.Codes.{fault_text}
+use Rattle.hid_descriptor.specs.Codes.{fault_text}
 use Rattle.hid_usages.specs.Faults.{change_code, report_code}
 use Rattle.hid_device.specs.Fault.{fault_text as device_text}
 use Rattle.hid_stack.specs.declared.fault.DescriptorFault.{DescriptorFault}

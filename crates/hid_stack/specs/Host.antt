@@ -1,7 +1,7 @@
 -- The host of one device, by how far it has come with it (USB 2.0, 9.1.1; the phases are our choice).
 use Rattle.std.specs.Prelude.{ℕ, List, Result, Ok, Err}
 use Rattle.hid_layout.specs.Layout.{Contents}
-use Rattle.hid_layout.specs.Faults.{Refuses}
+use Rattle.hid_descriptor.specs.Faults.{Refuses}
 use Rattle.usb_packet.specs.declared.packet.Packet.{Packet}
 use Rattle.usb_transact.specs.declared.host.Took.{Took}
 use Rattle.usb_transact.specs.Host.{token_to}

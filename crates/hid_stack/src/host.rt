@@ -2,8 +2,8 @@
 ghost use Rattle.std.specs.Prelude.{◌≡◌, ◌≤◌, ◌<◌, ◌+◌, ◌++◌, ℕ, List, length, IfOk, IfErr, vec_len, vec_capacity};
 ghost use Rattle.std.specs.Option.{option_copied};
 ghost use Rattle.hid_layout.specs.Controls.{items_of, max_events};
-ghost use Rattle.hid_layout.specs.Faults.{Accepts, Explains};
-ghost use Rattle.hid_layout.specs.Items.{Item as Spelled};
+ghost use Rattle.hid_descriptor.specs.Faults.{Accepts, Explains};
+ghost use Rattle.hid_descriptor.specs.Items.{Item as Spelled};
 ghost use Rattle.hid_layout.specs.Layout.{layout_of};
 ghost use Rattle.usb_packet.specs.Spelling.{Fits};
 ghost use Rattle.usb_transact.specs.Taken.{taken};

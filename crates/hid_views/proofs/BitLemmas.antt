@@ -15,7 +15,7 @@ use Rattle.hid_cells.specs.Words.{words_of, bits_in}
 use Rattle.hid_cells.proofs.WordLemmas.{bits_in-at, bits_in-length, word_keeps}
 use Rattle.hid_cells.proofs.FillLemmas.{map_zip_at, length_map_zip}
 use Rattle.hid_cells.proofs.ItemLemmas.{got}
-use Rattle.hid_layout.specs.declared.usage.Usage.{Usage}
+use Rattle.hid_descriptor.specs.declared.usage.Usage.{Usage}
 use Rattle.hid_cells.specs.declared.event.Event.{Event}
 use Rattle.hid_views.specs.Events.{at, each, switch_event, switch_events, usages_of, usages_at, element_events, change_events}
 use Rattle.hid_views.specs.Reading.{read_switch, read_cell, motion_cell, item_numbers}
@@ -25,16 +25,15 @@ use Rattle.hid_views.specs.Taking.{list_at, IsFormOf, read_by_numbers, told_by_n
 use Rattle.hid_views.proofs.TakeLemmas.{list_at-is}
 use Rattle.hid_parts.proofs.SendLemmas.{spread-length}
 use Rattle.hid_fields.specs.Value.{is_negative}
-use Rattle.hid_layout.specs.Flags.{has_flag, RELATIVE, NULL_STATE}
+use Rattle.hid_descriptor.specs.Flags.{has_flag, RELATIVE, NULL_STATE}
 use Rattle.hid_layout.specs.declared.main_item.MainItem.{MainItem}
-use Rattle.hid_layout.specs.declared.main_item.Shape.{Shape}
-use Rattle.hid_layout.specs.declared.main_item.Shape.TheVariants.{Padding, Variable, Array}
+use Rattle.hid_descriptor.specs.declared.shape.Shape.{Shape}
+use Rattle.hid_descriptor.specs.declared.shape.Shape.TheVariants.{Padding, Variable, Array}
 use Rattle.hid_layout.specs.declared.control.ControlKind.{ControlKind}
 use Rattle.hid_layout.specs.declared.control.ControlKind.TheVariants.{Switch, Value, NullValue, Relative}
 use Rattle.hid_layout.specs.declared.control.Controls.TheVariants as head
 use Rattle.hid_layout.specs.Layout.{Contents}
-use Rattle.hid_layout.specs.Flags.{has_flag}
-use Rattle.hid_layout.specs.Fields.{is_padding}
+use Rattle.hid_descriptor.specs.Fields.{is_padding}
 use Rattle.hid_layout.specs.Reports.{IsLayout, first_bit}
 use Rattle.hid_layout.specs.Controls.{Form, Elements, form_of, form_at, items_of, head_of, element_kind, has_outside, least_of, greatest_of, spread}
 use Rattle.hid_cells.specs.declared.cell.Cell.{Cell}

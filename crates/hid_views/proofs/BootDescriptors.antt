@@ -2,11 +2,12 @@
 use Rattle.std.proofs.Common.{◌≡◌, List, [], ◌∷◌, reverse, refl, ap, ◌∙◌, lit≤}
 use Rattle.std.proofs.lemmas.List.Elements.{All-from_recursion}
 use Rattle.hid_items.specs.Spelling.{IsSpelling}
-use Rattle.hid_layout.specs.Items.{Item}
-use Rattle.hid_layout.specs.Fields.{add_field}
-use Rattle.hid_layout.specs.Faults.{Accepts, AreAccepted, field_fault, are_too_many, upward, report_ids}
-use Rattle.hid_layout.specs.Layout.{layout_of, reports_of, reports_of_kind}
-use Rattle.hid_layout.specs.Laws.{HasOneReading}
+use Rattle.hid_descriptor.specs.Items.{Item}
+use Rattle.hid_descriptor.specs.Fields.{add_field}
+use Rattle.hid_descriptor.specs.Faults.{Accepts, AreAccepted, field_fault, are_too_many, upward, report_ids}
+use Rattle.hid_layout.specs.Layout.{layout_of}
+use Rattle.hid_descriptor.specs.Reporting.{reports_of, reports_of_kind}
+use Rattle.hid_descriptor.specs.Laws.{HasOneReading}
 use Rattle.hid_views.specs.declared.boot.TheConstants.{KEYBOARD, MOUSE}
 use Rattle.hid_views.specs.Boot.{keyboard_layout, mouse_layout, GivesOnly}
 

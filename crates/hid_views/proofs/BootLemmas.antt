@@ -15,8 +15,8 @@ use Rattle.hid_fields.proofs.ValueLemmas.{value_of-low, value_of-high}
 use Rattle.hid_layout.specs.declared.control.ControlKind.TheVariants.{Switch, Relative}
 use Rattle.hid_layout.specs.declared.control.Control.{Control}
 use Rattle.hid_layout.specs.declared.main_item.MainItem.{MainItem}
-use Rattle.hid_layout.specs.declared.main_item.Shape.TheVariants.{Array}
-use Rattle.hid_layout.specs.declared.usage.Usage.{Usage}
+use Rattle.hid_descriptor.specs.declared.shape.Shape.TheVariants.{Array}
+use Rattle.hid_descriptor.specs.declared.usage.Usage.{Usage}
 use Rattle.hid_layout.specs.Controls.{Item, Key, Elements, Keys, items_of, items_from, keys_from, rollover_from, spread, control_of_key, head_of}
 use Rattle.hid_layout.specs.Finding.{shown_at}
 use Rattle.hid_cells.specs.declared.cell.Cell.{Cell}

@@ -14,16 +14,17 @@ use Rattle.std.proofs.lemmas.List.Folds.{list_any-append}
 use Rattle.hid_fields.specs.Value.{is_negative}
 use Rattle.hid_fields.proofs.ValueLemmas.{twice_half}
 use Rattle.hid_layout.specs.declared.main_item.MainItem.{MainItem}
-use Rattle.hid_layout.specs.declared.main_item.Shape.{Shape}
-use Rattle.hid_layout.specs.declared.main_item.Shape.TheVariants.{Padding, Variable, Array}
-use Rattle.hid_layout.specs.declared.usage.Usage.{Usage}
+use Rattle.hid_descriptor.specs.declared.shape.Shape.{Shape}
+use Rattle.hid_descriptor.specs.declared.shape.Shape.TheVariants.{Padding, Variable, Array}
+use Rattle.hid_descriptor.specs.declared.usage.Usage.{Usage}
 use Rattle.hid_layout.specs.declared.control.ControlKind.{ControlKind}
 use Rattle.hid_layout.specs.declared.control.ControlKind.TheVariants.{Switch, Value, NullValue, Relative}
-use Rattle.hid_layout.specs.Faults.{least_value, greatest_value}
-use Rattle.hid_layout.specs.Flags.{has_flag, RELATIVE, NULL_STATE}
-use Rattle.hid_layout.specs.Fields.{is_padding}
+use Rattle.hid_descriptor.specs.Faults.{least_value, greatest_value}
+use Rattle.hid_descriptor.specs.Flags.{has_flag, RELATIVE, NULL_STATE}
+use Rattle.hid_descriptor.specs.Fields.{is_padding}
 use Rattle.hid_layout.specs.Reports.{HasElements}
-use Rattle.hid_layout.specs.Controls.{Elements, Keys, least_of, greatest_of, is_encodable, has_outside, element_kind, is_key, tells_error, is_rollover, keys_from, key_places, rollover_from, has_place, form_of, head_of, spread, array_keys}
+use Rattle.hid_layout.specs.Controls.{Elements, Keys, least_of, greatest_of, is_encodable, has_outside, element_kind, is_key, keys_from, key_places, rollover_from, has_place, form_of, head_of, spread, array_keys}
+use Rattle.hid_descriptor.specs.Usages.{tells_error, is_rollover}
 use Rattle.hid_layout.specs.Sent.{is_in, at_zero, place_named, number_of, first_passing, least_pattern, names_nothing, null_number, empty_number, rollover_number}
 use Rattle.hid_layout.proofs.PatternLemmas.{greatest_at, least_at, plain, low, high}
 use Rattle.hid_cells.specs.declared.cell.Cell.{Cell}

@@ -1,7 +1,7 @@
 -- Reports of the boot keyboard and mouse (HID 1.11, appendices B and E), read as they show their parts, worked out by hand.
 use Rattle.std.specs.Prelude.{◌≡◌, ℕ, Bool, true, false, List, [], ◌∷◌, ◌++◌, replicate, Ok, pos, negsuc, refl}
-use Rattle.hid_layout.specs.declared.main_item.Shape.TheVariants.{Padding, Variable, Array}
-use Rattle.hid_layout.specs.declared.report.ReportKind.TheVariants.{Input, Output}
+use Rattle.hid_descriptor.specs.declared.shape.Shape.TheVariants.{Padding, Variable, Array}
+use Rattle.hid_descriptor.specs.declared.report.ReportKind.TheVariants.{Input, Output}
 use Rattle.hid_layout.specs.Layout.{Contents}
 use Rattle.hid_layout.specs.Controls.{items_of, items_from, spread, keys_from, rollover_from}
 use Rattle.hid_layout.specs.Sent.{first_passing}

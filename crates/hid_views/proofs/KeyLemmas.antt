@@ -15,8 +15,8 @@ use Rattle.hid_layout.specs.Controls.{Form, NoControls, Elements, Keys, Key, Ite
 use Rattle.hid_views.specs.Reading.{at_zero, is_rollover_at, names_rollover, names_key, named_from, keys_of, keys_at}
 use Rattle.hid_cells.proofs.CodeLemmas.{bool_cases, test_true, true_test, both_true}
 use Rattle.std.specs.Int.Signed.{le_z}
-use Rattle.hid_layout.specs.declared.usage.Usage.{Usage}
-use Rattle.hid_layout.specs.Controls.{is_rollover}
+use Rattle.hid_descriptor.specs.declared.usage.Usage.{Usage}
+use Rattle.hid_descriptor.specs.Usages.{is_rollover}
 use Rattle.hid_cells.specs.Cells.{is_in}
 use Rattle.hid_cells.specs.Cells.{pressed_count}
 use Rattle.std.proofs.Math.Seq.{take-length}

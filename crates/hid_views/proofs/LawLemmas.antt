@@ -6,7 +6,7 @@ use Rattle.std.specs.Ordering.{int_eq}
 use Rattle.std.proofs.lemmas.Int.{ints}
 use Rattle.std.proofs.lemmas.Bool.Decides.{Decides-int_eq}
 use Rattle.hid_layout.specs.declared.main_item.MainItem.{MainItem}
-use Rattle.hid_layout.specs.declared.usage.Usage.{Usage}
+use Rattle.hid_descriptor.specs.declared.usage.Usage.{Usage}
 use Rattle.hid_layout.specs.Controls.{NoControls, Elements, Keys, Key}
 use Rattle.hid_cells.specs.Cells.{is_value, are_values, are_motions, are_pressable}
 use Rattle.hid_views.specs.Law.{names_no_key, ReadsBack}

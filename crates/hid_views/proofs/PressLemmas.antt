@@ -7,15 +7,15 @@ use Rattle.std.proofs.lemmas.Bool.{cases_lt}
 use Rattle.std.proofs.lemmas.Int.{ints}
 use Rattle.std.proofs.lemmas.Bool.Decides.{nat_tests}
 use Rattle.hid_layout.specs.declared.main_item.MainItem.{MainItem}
-use Rattle.hid_layout.specs.declared.usage.Usage.{Usage}
-use Rattle.hid_layout.specs.declared.main_item.Shape.{Shape}
-use Rattle.hid_layout.specs.declared.main_item.Shape.TheVariants.{Padding, Variable, Array}
+use Rattle.hid_descriptor.specs.declared.usage.Usage.{Usage}
+use Rattle.hid_descriptor.specs.declared.shape.Shape.{Shape}
+use Rattle.hid_descriptor.specs.declared.shape.Shape.TheVariants.{Padding, Variable, Array}
 use Rattle.hid_layout.specs.declared.control.Controls.TheVariants as head
-use Rattle.hid_layout.specs.Usages.{Entry, usage_list}
+use Rattle.hid_descriptor.specs.Usages.{Entry, usage_list, is_rollover}
 use Rattle.hid_views.specs.Taking.{list_at, IsFormOf}
 use Rattle.hid_views.proofs.TakeLemmas.{list_at-is}
 use Rattle.hid_layout.specs.Layout.{Contents}
-use Rattle.hid_layout.specs.Controls.{Key, head_of, form_of, form_at, items_of, is_key, is_encodable, is_rollover}
+use Rattle.hid_layout.specs.Controls.{Key, head_of, form_of, form_at, items_of, is_key, is_encodable}
 use Rattle.hid_layout.proofs.FormLemmas.{key-get, keys-length}
 use Rattle.hid_cells.proofs.CodeLemmas.{both_true}
 use Rattle.hid_cells.proofs.ListLemmas.{map_at}

@@ -4,16 +4,16 @@ use Rattle.std.specs.List.{slice_get, slice_set}
 use Rattle.std.proofs.lemmas.List.{length-map, drop_all}
 use Rattle.std.proofs.lemmas.Option.{slice_get_within}
 use Rattle.hid_layout.specs.declared.main_item.MainItem.{MainItem}
-use Rattle.hid_layout.specs.declared.main_item.Shape.{Shape}
-use Rattle.hid_layout.specs.declared.main_item.Shape.TheVariants.{Padding, Variable, Array}
+use Rattle.hid_descriptor.specs.declared.shape.Shape.{Shape}
+use Rattle.hid_descriptor.specs.declared.shape.Shape.TheVariants.{Padding, Variable, Array}
 use Rattle.hid_layout.specs.declared.control.ControlKind.{ControlKind}
 use Rattle.hid_layout.specs.declared.control.Controls.TheVariants as head
-use Rattle.hid_layout.specs.declared.usage.Usage.{Usage}
-use Rattle.hid_layout.specs.Usages.{Entry, usage_list}
-use Rattle.hid_layout.specs.Fields.{is_padding}
+use Rattle.hid_descriptor.specs.declared.usage.Usage.{Usage}
+use Rattle.hid_descriptor.specs.Usages.{Entry, usage_list}
+use Rattle.hid_descriptor.specs.Fields.{is_padding}
 use Rattle.hid_layout.specs.Layout.{Contents}
-use Rattle.hid_layout.specs.Reports.{IsLayout, HasElements}
-use Rattle.hid_layout.specs.Controls.{Form, NoControls, Elements, Keys, Item, items_of, item_of, form_of, form_at, head_of, array_keys}
+use Rattle.hid_layout.specs.Reports.{IsLayout, HasElements, first_bit, report_bytes}
+use Rattle.hid_layout.specs.Controls.{Form, NoControls, Elements, Keys, Item, items_of, item_of, form_of, form_at, head_of, array_keys, max_events, Key, has_place, rollover_from, element_kind, least_of, greatest_of, events_in, is_input_report}
 use Rattle.hid_views.specs.Events.{usages_of, usages_at}
 use Rattle.hid_views.specs.Reading.{keys_of, keys_at}
 use Rattle.hid_views.specs.Taking.{list_at, IsFormOf, read_by_report, told_by_report, read_from, told_from, read_view, read_events, ArePairs}
@@ -28,7 +28,6 @@ use Rattle.hid_cells.proofs.FillLemmas.{unfilled_at, fill_next, set_length}
 use Rattle.std.specs.List.{list_any}
 use Rattle.std.proofs.Common.{append-nil, ◌==◌, ◌&&◌, not}
 use Rattle.hid_layout.specs.declared.control.ControlKind.TheVariants.{Switch, Value, NullValue, Relative}
-use Rattle.hid_layout.specs.Controls.{max_events, Key, has_place, rollover_from, element_kind, least_of, greatest_of, events_in}
 use Rattle.hid_cells.specs.declared.cell.Cell.TheVariants.{Vacant, Pressed, Holding, Moved, RolledOver}
 use Rattle.hid_cells.specs.Cells.{blank, blank_cell, pressed_count, HasRoom, InView, Suits}
 use Rattle.hid_views.specs.Events.{element_events, key_events, key_usages, change_events}
@@ -41,21 +40,18 @@ use Rattle.hid_cells.proofs.ListLemmas.{map_at}
 use Rattle.hid_views.proofs.ViewLemmas.{sum_cons, element_few, motions_few, change_few}
 use Rattle.hid_cells.specs.Parts.{IsInput}
 use Rattle.hid_fields.specs.Value.{is_negative}
-use Rattle.hid_layout.specs.Reports.{first_bit}
 use Rattle.hid_views.specs.Reading.{is_data_in, item_numbers}
 use Rattle.hid_views.specs.Taking.{read_by_numbers, told_by_numbers}
 use Rattle.hid_parts.proofs.NumberLemmas.{numbers_in-length}
 use Rattle.hid_parts.proofs.EncodingLemmas.{data_if}
-use Rattle.hid_layout.specs.Reports.{report_bytes}
-use Rattle.hid_layout.specs.declared.report.Report.{Report}
-use Rattle.hid_layout.specs.declared.report.ReportKind.TheVariants.{Input}
+use Rattle.hid_descriptor.specs.declared.report.Report.{Report}
+use Rattle.hid_descriptor.specs.declared.report.ReportKind.TheVariants.{Input}
 use Rattle.std.specs.List.{position}
 use Rattle.hid_views.specs.Reading.{first_byte, is_input_with, whole_report, report_named}
 use Rattle.std.proofs.Common.{nat_lt, Result, Ok, Err}
 use Rattle.hid_cells.specs.declared.fault.ReportFault.{ReportFault}
 use Rattle.hid_cells.specs.declared.fault.ReportFault.TheVariants.{Short}
 use Rattle.std.proofs.lemmas.List.Quantifiers.{position-Some}
-use Rattle.hid_layout.specs.Controls.{is_input_report}
 use Rattle.hid_cells.proofs.CodeLemmas.{both_true}
 use Rattle.hid_parts.specs.Encoding.{IsData}
 use Rattle.hid_cells.proofs.ItemLemmas.{items_of-length, set_same, set_here, set_there, got, items_from-at, form_at-is}

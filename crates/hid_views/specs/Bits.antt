@@ -3,8 +3,8 @@ use Rattle.std.specs.Prelude.{ℕ, ◌==◌, ◌&&◌, nat_le, Bool, true, false
 use Rattle.hid_layout.specs.declared.control.ControlKind.{ControlKind}
 use Rattle.hid_layout.specs.declared.control.ControlKind.TheVariants.{Switch, Value, NullValue, Relative}
 use Rattle.hid_layout.specs.declared.main_item.MainItem.{MainItem}
-use Rattle.hid_layout.specs.declared.main_item.Shape.{Shape}
-use Rattle.hid_layout.specs.declared.main_item.Shape.TheVariants.{Padding, Variable, Array}
+use Rattle.hid_descriptor.specs.declared.shape.Shape.{Shape}
+use Rattle.hid_descriptor.specs.declared.shape.Shape.TheVariants.{Padding, Variable, Array}
 use Rattle.hid_layout.specs.Controls.{element_kind}
 use Rattle.hid_cells.specs.declared.cell.Cell.{Cell}
 use Rattle.hid_cells.specs.declared.cell.Cell.TheVariants.{Vacant, Pressed, Holding, Moved, RolledOver}

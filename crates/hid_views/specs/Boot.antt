@@ -4,17 +4,17 @@ use Rattle.std.specs.Int.{bit_at}
 use Rattle.std.specs.List.{list_any, range_with_len}
 use Rattle.std.specs.Ordering.{int_eq}
 use Rattle.hid_fields.specs.Value.{value_of, pattern_for}
-use Rattle.hid_layout.specs.declared.collection.Collection.{Collection}
+use Rattle.hid_descriptor.specs.declared.collection.Collection.{Collection}
 use Rattle.hid_layout.specs.declared.control.ControlId.{ControlId}
 use Rattle.hid_layout.specs.declared.main_item.MainItem.{MainItem}
-use Rattle.hid_layout.specs.declared.main_item.Shape.{Shape}
-use Rattle.hid_layout.specs.declared.main_item.Shape.TheVariants.{Padding, Variable, Array}
-use Rattle.hid_layout.specs.declared.report.ReportKind.TheVariants.{Input, Output}
-use Rattle.hid_layout.specs.declared.usage.Usage.{Usage}
-use Rattle.hid_layout.specs.Items.{Item}
-use Rattle.hid_layout.specs.Usages.{Entry}
+use Rattle.hid_descriptor.specs.declared.shape.Shape.{Shape}
+use Rattle.hid_descriptor.specs.declared.shape.Shape.TheVariants.{Padding, Variable, Array}
+use Rattle.hid_descriptor.specs.declared.report.ReportKind.TheVariants.{Input, Output}
+use Rattle.hid_descriptor.specs.declared.usage.Usage.{Usage}
+use Rattle.hid_descriptor.specs.Items.{Item}
+use Rattle.hid_descriptor.specs.Usages.{Entry}
 use Rattle.hid_layout.specs.Layout.{Contents, layout_of}
-use Rattle.hid_layout.specs.Faults.{Accepts}
+use Rattle.hid_descriptor.specs.Faults.{Accepts}
 use Rattle.hid_layout.specs.Controls.{items_of}
 use Rattle.hid_layout.specs.Finding.{shown_at}
 use Rattle.hid_views.specs.declared.boot.KeyboardReport.{KeyboardReport}

@@ -5,18 +5,19 @@ use Rattle.std.specs.List.{list_any, zip}
 use Rattle.hid_fields.specs.Value.{is_negative}
 use Rattle.hid_layout.specs.declared.main_item.MainItem.{MainItem}
 use Rattle.hid_layout.specs.declared.main_item.Element.{Element}
-use Rattle.hid_layout.specs.declared.report.Report.{Report}
-use Rattle.hid_layout.specs.declared.report.ReportKind.TheVariants.{Input}
-use Rattle.hid_layout.specs.Fields.{same_kind}
+use Rattle.hid_descriptor.specs.declared.report.Report.{Report}
+use Rattle.hid_descriptor.specs.declared.report.ReportKind.TheVariants.{Input}
+use Rattle.hid_descriptor.specs.Fields.{same_kind}
 use Rattle.hid_layout.specs.Layout.{Contents}
 use Rattle.hid_layout.specs.Reports.{first_bit, report_bytes}
 use Rattle.hid_parts.specs.Numbers.{number_at, numbers_in}
 use Rattle.hid_cells.specs.declared.fault.ReportFault.{ReportFault}
 use Rattle.hid_cells.specs.declared.fault.ReportFault.TheVariants.{Short, UnknownReport}
-use Rattle.hid_layout.specs.declared.usage.Usage.{Usage}
+use Rattle.hid_descriptor.specs.declared.usage.Usage.{Usage}
 use Rattle.hid_layout.specs.declared.control.ControlKind.{ControlKind}
 use Rattle.hid_layout.specs.declared.control.ControlKind.TheVariants.{Switch, Value, NullValue, Relative}
-use Rattle.hid_layout.specs.Controls.{Form, NoControls, Elements, Keys, Key, is_rollover, least_of, greatest_of}
+use Rattle.hid_layout.specs.Controls.{Form, NoControls, Elements, Keys, Key, least_of, greatest_of}
+use Rattle.hid_descriptor.specs.Usages.{is_rollover}
 pub use Rattle.hid_layout.specs.Controls.{array_keys}
 pub use Rattle.hid_cells.specs.Cells.{is_in, has_null}
 pub use Rattle.hid_layout.specs.Sent.{at_zero, place_named}

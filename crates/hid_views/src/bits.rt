@@ -2,9 +2,9 @@
 
 ghost use Rattle.std.specs.Prelude.{◌≡◌, ◌<◌, ◌≤◌, ◌+◌, ◌++◌, ◌==◌, Bool, length, slice_get, slice_set, Some, vec_len, vec_capacity};
 ghost use Rattle.std.specs.Int.{bit_at};
-ghost use Rattle.hid_layout.specs.declared.usage.Usage.{Usage as UsageValue};
+ghost use Rattle.hid_descriptor.specs.declared.usage.Usage.{Usage as UsageValue};
 ghost use Rattle.hid_layout.specs.Reports.{HasElements};
-ghost use Rattle.hid_layout.specs.Fields.{is_padding};
+ghost use Rattle.hid_descriptor.specs.Fields.{is_padding};
 ghost use Rattle.hid_cells.specs.Words.{bits_in};
 ghost use Rattle.hid_views.specs.Events.{at, usages_at, switch_event, switch_events};
 ghost use Rattle.hid_views.specs.Bits.{are_bits, is_switch, is_first_word};

@@ -1,8 +1,8 @@
 //! What changed from one view to another, in events.
 
 ghost use Rattle.std.specs.Prelude.{◌≡◌, ◌<◌, ◌≤◌, ◌+◌, ◌++◌, ℕ, Bool, List, length, slice_get, map, Some, vec_len, vec_capacity};
-ghost use Rattle.hid_layout.specs.declared.usage.Usage.{Usage as UsageValue};
-ghost use Rattle.hid_layout.specs.Usages.{usage_list};
+ghost use Rattle.hid_descriptor.specs.declared.usage.Usage.{Usage as UsageValue};
+ghost use Rattle.hid_descriptor.specs.Usages.{usage_list};
 ghost use Rattle.hid_layout.specs.Reports.{usage_of};
 ghost use Rattle.hid_layout.specs.Controls.{items_of, form_at, head_of};
 ghost use Rattle.hid_cells.specs.Cells.{HasRoom, FitsView};

@@ -5,8 +5,8 @@ ghost use Rattle.std.specs.List.{zip};
 ghost use Rattle.std.specs.Prelude.{◌≢◌, ◌≤◌, ◌*◌, ◌+ℤ◌, pos, ◌++◌, [], ◌∷◌, ℤ, List, MatchOption};
 ghost use Rattle.std.specs.Prelude.{not, true, ◌&&◌, int_le};
 ghost use Rattle.std.specs.List.{list_any};
-ghost use Rattle.hid_layout.specs.Usages.{usage_list};
-ghost use Rattle.hid_layout.specs.Controls.{is_key, is_rollover};
+ghost use Rattle.hid_descriptor.specs.Usages.{usage_list, is_rollover};
+ghost use Rattle.hid_layout.specs.Controls.{is_key};
 ghost use Rattle.hid_views.specs.Reading.{array_keys, AreBounds, named_from, names_rollover, read_switch, read_value};
 
 use crate::differences::Bounds;

@@ -4,8 +4,8 @@ ghost use Rattle.std.specs.Prelude.{All, pos, ◌≡◌, ◌<◌, ◌≤◌, ◌
 ghost use Rattle.std.specs.List.{list_any, zip};
 ghost use Rattle.hid_layout.specs.Controls.{items_of, form_at, head_of};
 ghost use Rattle.hid_layout.specs.Index.{plan_of};
-ghost use Rattle.hid_layout.specs.Usages.{usage_list};
-ghost use Rattle.hid_layout.specs.Fields.{is_padding};
+ghost use Rattle.hid_descriptor.specs.Usages.{usage_list};
+ghost use Rattle.hid_descriptor.specs.Fields.{is_padding};
 ghost use Rattle.hid_layout.specs.Reports.{HasElements, IsLayout, report_bytes};
 ghost use Rattle.hid_views.specs.Taking.{IsFormOf, usages_in, keys_in, form_in, read_in, told_in, read_carried, motion_carried, read_by_report, told_by_report, read_view, read_events, ArePairs};
 ghost use Rattle.hid_cells.specs.Parts.{IsInput};

@@ -1,7 +1,7 @@
 use Rattle.std.proofs.Common.{◌≡◌, ◌∙◌, sym, ap, subst}
 use Rattle.std.specs.Option.{is_some}
 use Rattle.hid_layout.specs.declared.main_item.MainItem.{MainItem}
-use Rattle.hid_layout.specs.Fields.{is_padding}
+use Rattle.hid_descriptor.specs.Fields.{is_padding}
 use Rattle.hid_cells.specs.Codes.{has_empty_code}
 use Rattle.hid_cells.proofs.ItemLemmas.{same_item}
 use Rattle.hid_cells.proofs.EmptyLemmas.{empty_code_there}

@@ -1,5 +1,5 @@
 use Rattle.std.proofs.Common.{◌≡◌, map}
-use Rattle.hid_layout.specs.Faults.{upward}
+use Rattle.hid_descriptor.specs.Faults.{upward}
 use Rattle.hid_layout.specs.Index.{places_from}
 use Rattle.hid_layout.proofs.index.all_plans.Given as goal
 

@@ -1,5 +1,5 @@
 use Rattle.std.proofs.Common.{◌≡◌, map, take}
-use Rattle.hid_layout.specs.Heads.{item_of}
+use Rattle.hid_layout.specs.Layout.{item_of}
 use Rattle.hid_layout.proofs.layout.items_of.Given as goal
 
 -- the items so far are those of the fields so far

@@ -1,17 +1,19 @@
 use Rattle.std.proofs.Common.{◌≡◌, length, map, sym, subst, ap, ◌∙◌, arith}
 use Rattle.std.specs.List.{slice_get}
 use Rattle.std.proofs.lemmas.List.{length-map}
-use Rattle.hid_layout.specs.Heads.{head_of, item_of}
-use Rattle.hid_layout.specs.Faults.{upward}
+use Rattle.hid_descriptor.specs.Heads.{head_of}
+use Rattle.hid_layout.specs.Layout.{item_of}
+use Rattle.hid_descriptor.specs.Faults.{upward}
+use Rattle.hid_descriptor.specs.Fields.{fields}
 use Rattle.hid_layout.specs.Index.{places_from, AreAllCodes}
 use Rattle.hid_layout.specs.Reports.{IsLayout}
-use Rattle.hid_layout.proofs.Ends.{laid}
+use Rattle.hid_layout.proofs.LaidLemmas.{laid}
 use Rattle.hid_layout.proofs.layout.lay_out.Goals as goal
 
 pub all_codes-requires-clause-elements : goal.all_codes-requires-clause-elements
 all_codes-requires-clause-elements c i item at =
-    let items = c.in_ok-items.ensures ∙ ap (λ r. map (item_of r) c.deref-2.result.now) c.deref.ensures.value ∙ ap (map (item_of c.args.kept.reports.list.items)) c.deref-2.ensures.value in
-    let all = laid c.requires.0 c.args.kept c.args.numbered c.in_ok-items.items.items c.requires.1 items in
+    let items = c.in_ok-items.ensures ∙ ap (λ r. map (item_of r) c.deref-2.result.now) c.deref.ensures.value ∙ ap (map (item_of c.args.listed.reports.items)) c.deref-2.ensures.value in
+    let all = laid c.requires.0 c.args.listed c.in_ok-items.items.items c.requires.1 items in
     (subst IsLayout (sym all) c.requires.2).elements i item (ap (λ l. slice_get l i) (sym c.deref-4.ensures.value) ∙ at)
 
 pub all_codes-requires-clause-few : goal.all_codes-requires-clause-few
@@ -19,27 +21,27 @@ all_codes-requires-clause-few c i es at = c.requires.2.few_entries i es (ap (λ 
 
 pub all_codes-requires-clause-one_each : goal.all_codes-requires-clause-one_each
 all_codes-requires-clause-one_each c =
-    let items = c.in_ok-items.ensures ∙ ap (λ r. map (item_of r) c.deref-2.result.now) c.deref.ensures.value ∙ ap (map (item_of c.args.kept.reports.list.items)) c.deref-2.ensures.value in
-    let all = laid c.requires.0 c.args.kept c.args.numbered c.in_ok-items.items.items c.requires.1 items in
+    let items = c.in_ok-items.ensures ∙ ap (λ r. map (item_of r) c.deref-2.result.now) c.deref.ensures.value ∙ ap (map (item_of c.args.listed.reports.items)) c.deref-2.ensures.value in
+    let all = laid c.requires.0 c.args.listed c.in_ok-items.items.items c.requires.1 items in
     (subst IsLayout (sym all) c.requires.2).entries_there ∙ ap length (sym c.deref-4.ensures.value)
 
 pub invariant_of-result : goal.invariant_of-result
 invariant_of-result c =
     let k = c.requires.1 in
-    let items = c.in_ok-items.ensures ∙ ap (λ r. map (item_of r) c.deref-2.result.now) c.deref.ensures.value ∙ ap (map (item_of c.args.kept.reports.list.items)) c.deref-2.ensures.value in
-    let n : length c.in_ok-items.items.items ≡ length c.requires.0 = ap length items ∙ length-map c.args.kept.list.items _ ∙ ap length k.heads ∙ length-map c.requires.0 head_of in
-    let all = laid c.requires.0 c.args.kept c.args.numbered c.in_ok-items.items.items k items in
-    let reports : c.len.result ≡ length c.args.kept.reports.list.items = omega (arith, c.len.ensures) in (
-      ap length k.paths ∙ length-map c.requires.0 _ ∙ sym n,
+    let items = c.in_ok-items.ensures ∙ ap (λ r. map (item_of r) c.deref-2.result.now) c.deref.ensures.value ∙ ap (map (item_of c.args.listed.reports.items)) c.deref-2.ensures.value in
+    let n : length c.in_ok-items.items.items ≡ length (fields c.requires.0) = ap length items ∙ length-map c.args.listed.fields.items _ ∙ ap length k.heads ∙ length-map (fields c.requires.0) head_of in
+    let all = laid c.requires.0 c.args.listed c.in_ok-items.items.items k items in
+    let reports : c.len.result ≡ length c.args.listed.reports.items = omega (arith, c.len.ensures) in (
+      ap length k.paths ∙ length-map (fields c.requires.0) _ ∙ sym n,
       subst IsLayout (sym all) c.requires.2,
       record {
         plans_there = c.in_ok-plans.ensures ∙ ap (λ l. map (λ r. places_from 0 r l) (upward 0 c.len.result)) c.deref-3.ensures.value ∙ ap (λ m. map (λ r. places_from 0 r c.in_ok-items.items.items) (upward 0 m)) reports;
-        codes_there = subst (λ l. AreAllCodes l c.args.kept.lists.entries c.in_ok-codes.codes.items) c.deref-4.ensures.value c.in_ok-codes.ensures;
+        codes_there = subst (λ l. AreAllCodes l c.args.listed.lists.entries c.in_ok-codes.codes.items) c.deref-4.ensures.value c.in_ok-codes.ensures;
       },
-      omega (arith, n, ap length k.heads, length-map c.requires.0 head_of, c.args.kept.bounded),
+      omega (arith, n, ap length k.heads, length-map (fields c.requires.0) head_of, k.few),
     )
 
 pub returns : goal.returns
-returns c fs k =
-    laid fs c.args.kept c.args.numbered c.in_ok-items.items.items k
-    (c.in_ok-items.ensures ∙ ap (λ r. map (item_of r) c.deref-2.result.now) c.deref.ensures.value ∙ ap (map (item_of c.args.kept.reports.list.items)) c.deref-2.ensures.value)
+returns c before k =
+    laid before c.args.listed c.in_ok-items.items.items k
+    (c.in_ok-items.ensures ∙ ap (λ r. map (item_of r) c.deref-2.result.now) c.deref.ensures.value ∙ ap (map (item_of c.args.listed.reports.items)) c.deref-2.ensures.value)

@@ -1,4 +1,4 @@
-use Rattle.hid_layout.specs.Usages.{usage_list}
+use Rattle.hid_descriptor.specs.Usages.{usage_list}
 use Rattle.std.proofs.Common.{sym}
 use Rattle.hid_layout.proofs.PatternLemmas.{by_first, by_none, by_second}
 use Rattle.hid_layout.proofs.sent.empty_number.Goals as goal

@@ -2,7 +2,7 @@ use Rattle.std.proofs.Common.{◌≡◌, ◌<◌, ◌^◌, ◌-◌, arith, rules
 use Rattle.std.specs.Prelude.{ℤ, pos, ◌+ℤ◌, ◌≤ℤ◌}
 use lib.Signed.{mag}
 use Rattle.std.proofs.lemmas.Int.{ints}
-use Rattle.hid_layout.specs.Faults.{greatest_value}
+use Rattle.hid_descriptor.specs.Faults.{greatest_value}
 use Rattle.hid_layout.proofs.CodeLemmas.{greatest_small}
 use Rattle.hid_layout.proofs.sent.from_zero.Goals as goal
 

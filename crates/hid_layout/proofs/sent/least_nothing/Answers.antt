@@ -2,7 +2,7 @@ use Rattle.std.proofs.Common.{◌≡◌, ◌<◌, ◌^◌, arith, subst, sym, to
 use Rattle.std.specs.Prelude.{ℤ, ◌<ℤ◌}
 use lib.Signed.{mag}
 use Rattle.std.proofs.lemmas.Int.{ints}
-use Rattle.hid_layout.specs.Usages.{usage_list}
+use Rattle.hid_descriptor.specs.Usages.{usage_list}
 use Rattle.hid_layout.specs.Stretches.{IsLeastNothing}
 use Rattle.hid_layout.proofs.sent.least_nothing.Goals as goal
 

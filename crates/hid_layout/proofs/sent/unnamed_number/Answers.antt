@@ -2,7 +2,7 @@ use Rattle.std.proofs.Common.{◌≡◌, ◌<◌, ◌^◌, ◌-◌, true, arith,
 use Rattle.std.specs.Prelude.{ℤ, pos, ◌+ℤ◌, ◌≤ℤ◌, ◌<ℤ◌}
 use lib.Signed.{mag}
 use Rattle.std.proofs.lemmas.Int.{ints}
-use Rattle.hid_layout.specs.Usages.{usage_list}
+use Rattle.hid_descriptor.specs.Usages.{usage_list}
 use Rattle.hid_layout.specs.Controls.{greatest_of}
 use Rattle.hid_layout.specs.Sent.{names_nothing}
 use Rattle.hid_layout.proofs.CodeLemmas.{IsPlaced, by_range, all_named, by_greatest, first_within, greatest_of_small, first_small}

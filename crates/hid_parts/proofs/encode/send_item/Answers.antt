@@ -1,6 +1,6 @@
 use Rattle.std.proofs.Common.{ap}
 use Rattle.std.proofs.lemmas.Option.{slice_get_within}
-use Rattle.hid_layout.specs.Fields.{is_padding}
+use Rattle.hid_descriptor.specs.Fields.{is_padding}
 use Rattle.hid_parts.proofs.encode.send_item.Goals as goal
 
 pub codes-requires : goal.codes-requires

@@ -1,7 +1,6 @@
 use Rattle.std.proofs.Common.{◌≡◌, ◌&&◌, ◌∙◌, sym, ap, true, false, not, int_le, Some, None, arith}
 use Rattle.std.specs.List.{slice_get}
-use Rattle.hid_layout.specs.Usages.{usage_list}
-use Rattle.hid_layout.specs.Controls.{is_rollover}
+use Rattle.hid_descriptor.specs.Usages.{usage_list, is_rollover}
 use Rattle.hid_layout.proofs.FormLemmas.{keys-length}
 use Rattle.hid_cells.proofs.ItemLemmas.{got}
 use Rattle.hid_views.specs.Reading.{array_keys}

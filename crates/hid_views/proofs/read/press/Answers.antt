@@ -1,6 +1,6 @@
 use Rattle.std.proofs.Common.{◌≡◌, ◌∙◌, ap, true, false, Bool, List, arith, rules}
 use Rattle.std.specs.List.{slice_set}
-use Rattle.hid_layout.specs.Usages.{usage_list}
+use Rattle.hid_descriptor.specs.Usages.{usage_list}
 use Rattle.hid_layout.specs.Controls.{is_key}
 use Rattle.hid_views.proofs.PressLemmas.{key_place, pressed, not_pressed}
 use Rattle.hid_views.proofs.read.press.Goals as goal

@@ -2,7 +2,7 @@ use Rattle.std.proofs.Common.{◌≡◌, ◌∙◌, refl, Some, true, false, not
 use Rattle.std.specs.List.{slice_get}
 use Rattle.std.proofs.lemmas.Int.{to_z-of_z}
 use Rattle.std.proofs.lemmas.List.{length-replicate}
-use Rattle.hid_layout.specs.Usages.{usage_list}
+use Rattle.hid_descriptor.specs.Usages.{usage_list}
 use Rattle.hid_cells.proofs.ListLemmas.{take_at}
 use Rattle.hid_cells.proofs.FillLemmas.{any_from_hit, any_from_miss}
 use Rattle.hid_views.specs.Reading.{array_keys, named_from, names_rollover}

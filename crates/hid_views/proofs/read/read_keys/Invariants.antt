@@ -1,6 +1,6 @@
 use Rattle.std.proofs.Common.{◌≡◌, take, drop, length}
 use Rattle.std.specs.List.{list_any}
-use Rattle.hid_layout.specs.Usages.{usage_list}
+use Rattle.hid_descriptor.specs.Usages.{usage_list}
 use Rattle.hid_views.specs.Reading.{array_keys, named_from, names_rollover}
 use Rattle.hid_views.proofs.read.read_keys.Given as goal
 

@@ -3,7 +3,7 @@ use Rattle.std.specs.List.{list_any}
 use Rattle.hid_cells.specs.declared.cell.Cell.{Cell}
 use Rattle.hid_cells.specs.declared.cell.Cell.TheVariants.{Pressed}
 use Rattle.hid_cells.specs.declared.event.Event.{Event}
-use Rattle.hid_layout.specs.Usages.{usage_list}
+use Rattle.hid_descriptor.specs.Usages.{usage_list}
 use Rattle.hid_layout.specs.Controls.{Key}
 use Rattle.hid_views.specs.Events.{usages_at, key_events}
 use Rattle.hid_views.specs.Reading.{keys_at, named_from, names_rollover, read_keys}

@@ -3,8 +3,8 @@ use mir.Val.{to_z, of_z}
 use Rattle.std.specs.Prelude.{is_some}
 use Rattle.std.proofs.lemmas.Int.{to_z-of_z}
 use Rattle.hid_layout.specs.declared.control.Controls.TheVariants.{Elements, Keys}
-use Rattle.hid_layout.specs.Fields.{is_padding}
-use Rattle.hid_layout.specs.Usages.{usage_list}
+use Rattle.hid_descriptor.specs.Fields.{is_padding}
+use Rattle.hid_descriptor.specs.Usages.{usage_list}
 use Rattle.hid_layout.specs.Controls.{form_of, head_of, element_kind, least_of, greatest_of, spread, has_place, rollover_from, array_keys}
 use Rattle.hid_layout.proofs.FormLemmas.{spread-length, keys-length, rolls_over}
 use Rattle.hid_layout.proofs.main_item.MainItem.controls.Goals as goal

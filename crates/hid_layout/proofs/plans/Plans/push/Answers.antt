@@ -1,7 +1,7 @@
 use Rattle.std.proofs.Common.{◌≡◌, arith, ◌∙◌, ap, ◌++◌, [], ◌∷◌, length, length-append}
-use Rattle.hid_layout.specs.Lists.{lists_at}
+use Rattle.hid_descriptor.specs.Lists.{lists_at}
 use Rattle.hid_layout.specs.Index.{places_from}
-use Rattle.hid_layout.proofs.ListsLemmas.{lists_more}
+use Rattle.hid_descriptor.proofs.ListsLemmas.{lists_more}
 use Rattle.hid_layout.proofs.plans.Plans.push.Goals as goal
 
 pub returns : goal.returns

@@ -1,0 +1,12 @@
+use Rattle.std.proofs.Common.{arith}
+use Rattle.hid_descriptor.proofs.listed.listed_by.Goals as goal
+
+pub returns : goal.returns
+returns c before s = record {
+  heads = s.fields_there.heads;
+  reports = s.fields_there.reports;
+  entries = s.fields_there.entries;
+  paths = s.fields_there.paths;
+  numbered = s.numbered_there;
+  few = omega (arith, c.args.parser.fields.bounded);
+}

@@ -1,0 +1,41 @@
+-- What the parser keeps of the local items.
+use Rattle.std.specs.Prelude.{◌≡◌, ℕ, ◌/◌, ◌%◌, ◌^◌, List, [], ◌∷◌, ◌++◌, map, length, slice_get, Some, None, unwrap_or, ◌==◌, if◌then◌else◌}
+use Rattle.std.specs.Option.{option_map}
+use Rattle.hid_items.specs.Spelling.{data_of, unsigned_of}
+use Rattle.hid_descriptor.specs.declared.usage.Usage.{Usage}
+use Rattle.hid_descriptor.specs.declared.locals.NamedUsage.{NamedUsage}
+use Rattle.hid_descriptor.specs.declared.locals.Locals.{Locals}
+use Rattle.hid_descriptor.specs.Items.{Item, USAGE, USAGE_MINIMUM, USAGE_MAXIMUM}
+use Rattle.hid_descriptor.specs.Usages.{Entry, to_list, locals, minima, maxima, entries_behind}
+
+-- the usage that an item names, before its page is known
+abbrev pub named : Item → NamedUsage
+named item =
+    let n = unsigned_of (data_of item) in
+    if length (data_of item) == 4 then record { page = Some (n / 2 ^ 16); id = n % 2 ^ 16 } else record { page = None; id = n }
+
+abbrev pub on_page : ℕ → NamedUsage → Usage
+on_page page usage = record { page = unwrap_or usage.page page; id = usage.id }
+
+abbrev pub entry_on_page : ℕ → NamedUsage × NamedUsage → Entry
+entry_on_page page e = (on_page page (e.0), on_page page (e.1))
+
+-- the locals behind these items, for whatever page will be in force
+pub record AreLocals (before : List Item) (kept : Locals) : Type 0 where
+  pub all_minima : kept.minima.items ≡ map named (minima (locals before))
+  pub all_maxima : kept.maxima.items ≡ map named (maxima (locals before))
+  pub all_entries : (page : ℕ) → map (entry_on_page page) kept.entries.items ≡ entries_behind page [] (locals before)
+
+-- the entry that a local item makes whole, behind these minima and maxima
+abbrev pub entry_completed : ℕ → NamedUsage → List NamedUsage → List NamedUsage → List (NamedUsage × NamedUsage)
+entry_completed prefix usage lows highs =
+    if prefix == USAGE then (usage, usage) ∷ []
+    else (if prefix == USAGE_MINIMUM then to_list (option_map (λ high. (usage, high)) (slice_get highs (length lows)))
+    else (if prefix == USAGE_MAXIMUM then to_list (option_map (λ low. (low, usage)) (slice_get lows (length highs)))
+    else []))
+
+-- one more local item is kept
+pub record AddsLocal (prefix : ℕ) (usage : NamedUsage) (old new : Locals) : Type 0 where
+  pub entries_after : new.entries.items ≡ old.entries.items ++ entry_completed prefix usage old.minima.items old.maxima.items
+  pub minima_after : new.minima.items ≡ old.minima.items ++ (if prefix == USAGE_MINIMUM then usage ∷ [] else [])
+  pub maxima_after : new.maxima.items ≡ old.maxima.items ++ (if prefix == USAGE_MAXIMUM then usage ∷ [] else [])

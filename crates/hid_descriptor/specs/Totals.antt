@@ -1,0 +1,46 @@
+-- What the parser keeps of the reports and their IDs.
+use Rattle.std.specs.Prelude.{ℕ, ◌+◌, Bool, false, not, Option, Some, None, List, [], ◌∷◌, ◌++◌, ◌==◌, nat_lt, ◌&&◌, ◌||◌, if◌then◌else◌}
+use Rattle.std.specs.List.{list_any}
+use Rattle.hid_descriptor.specs.declared.report.Report.{Report}
+use Rattle.hid_descriptor.specs.declared.report.ReportKind.{ReportKind}
+use Rattle.hid_descriptor.specs.Kinds.{same_kind, rank}
+
+-- the report of a kind with an ID
+abbrev pub is_report : ReportKind → ℕ → Report → Bool
+is_report kind id r = same_kind r.kind kind && (r.id == id)
+
+-- there is a report, and it is that of a kind with an ID
+abbrev pub has_report : ReportKind → ℕ → Option Report → Bool
+has_report kind id None = false
+has_report kind id (Some r) = is_report kind id r
+
+-- a report stands before that of a kind with an ID, by kind and then by ID
+abbrev pub comes_before : ReportKind → ℕ → Report → Bool
+comes_before kind id r = nat_lt (rank r.kind) (rank kind) || (same_kind r.kind kind && nat_lt r.id id)
+
+-- the bits of the report of a kind with an ID
+abbrev pub bits_in : ReportKind → ℕ → List Report → ℕ
+bits_in kind id [] = 0
+bits_in kind id (r ∷ rs) = if is_report kind id r then r.bits else bits_in kind id rs
+
+-- the reports, once that of a kind with an ID has so many bits more
+abbrev pub with_bits : ReportKind → ℕ → ℕ → List Report → List Report
+with_bits kind id bits [] = record { kind = kind; id = id; bits = bits } ∷ []
+with_bits kind id bits (r ∷ rs) =
+    if comes_before kind id r then r ∷ with_bits kind id bits rs
+    else (if is_report kind id r then record r { bits = r.bits + bits } ∷ rs
+    else record { kind = kind; id = id; bits = bits } ∷ r ∷ rs)
+
+-- the place of the first report that doesn't stand before that of a kind with an ID
+abbrev pub place_for : ReportKind → ℕ → List Report → ℕ
+place_for kind id [] = 0
+place_for kind id (r ∷ rs) = if comes_before kind id r then place_for kind id rs + 1 else 0
+
+-- the place of the report of a kind with an ID
+abbrev pub place_of : ReportKind → ℕ → List Report → ℕ
+place_of kind id [] = 0
+place_of kind id (r ∷ rs) = if is_report kind id r then 0 else place_of kind id rs + 1
+
+-- the IDs, once one more is there
+abbrev pub with_id : ℕ → List ℕ → List ℕ
+with_id id ids = if not (id == 0) && not (list_any (λ other. other == id) ids) then ids ++ id ∷ [] else ids

@@ -1,0 +1,89 @@
+-- The usages of a main item (HID 1.11, 6.2.2.8).
+use Rattle.std.specs.Prelude.{ℕ, zero, suc, ◌+◌, ◌-◌, ◌/◌, ◌%◌, ◌^◌, Bool, not, ◌||◌, List, [], ◌∷◌, ◌++◌, length, reverse, filter, Option, Some, None, ◌==◌, nat_le, ◌&&◌, if◌then◌else◌, slice_get}
+use Rattle.std.specs.List.{take_while, list_all, flat_map}
+use Rattle.std.specs.Option.{option_map}
+use Rattle.hid_items.specs.Spelling.{data_of, unsigned_of}
+use Rattle.hid_descriptor.specs.declared.usage.Usage.{Usage}
+use Rattle.hid_descriptor.specs.Items.{Item, is, is_main, USAGE, USAGE_MINIMUM, USAGE_MAXIMUM}
+use Rattle.hid_descriptor.specs.Globals.{usage_page}
+
+-- the items after the last main item, in order
+abbrev pub locals : List Item → List Item
+locals before = reverse (take_while (λ item. not (is_main item)) before)
+
+-- The usage that an item names. One of four bytes has its page in the high word; another is on the given page.
+abbrev pub usage_named : ℕ → Item → Usage
+usage_named page item =
+    let n = unsigned_of (data_of item) in
+    if length (data_of item) == 4 then record { page = n / 2 ^ 16; id = n % 2 ^ 16 } else record { page = page; id = n }
+
+-- a range of usages, from the first to the second
+abbrev pub Entry : Type 0
+Entry = Usage × Usage
+
+abbrev pub entry_of : ℕ → Item → Item → Entry
+entry_of page low high = (usage_named page low, usage_named page high)
+
+abbrev pub minima : List Item → List Item
+minima items = filter (is USAGE_MINIMUM) items
+
+abbrev pub maxima : List Item → List Item
+maxima items = filter (is USAGE_MAXIMUM) items
+
+abbrev pub to_list : {A : Type 0} → Option A → List A
+to_list None = []
+to_list (Some x) = x ∷ []
+
+-- The entry that is whole at a local item, behind the locals in front of it: a Usage's own, or that of the k-th Usage Minimum with the k-th Usage Maximum, at the later of the two.
+abbrev pub entry_at : ℕ → List Item → Item → List Entry
+entry_at page front item =
+    if is USAGE item then entry_of page item item ∷ []
+    else (if is USAGE_MINIMUM item then to_list (option_map (λ high. entry_of page item high) (slice_get (maxima front) (length (minima front))))
+    else (if is USAGE_MAXIMUM item then to_list (option_map (λ low. entry_of page low item) (slice_get (minima front) (length (maxima front))))
+    else []))
+
+abbrev pub entries_behind : ℕ → List Item → List Item → List Entry
+entries_behind page front [] = []
+entries_behind page front (item ∷ items) = entry_at page front item ++ entries_behind page (front ++ item ∷ []) items
+
+-- the entries of the main item after these, on the Usage Page in force at that item
+abbrev pub entries : List Item → List Entry
+entries before = entries_behind (usage_page before) [] (locals before)
+
+-- each Usage Minimum has its Usage Maximum
+abbrev pub are_paired : List Item → Bool
+are_paired before = length (minima (locals before)) == length (maxima (locals before))
+
+-- the minimum isn't over its maximum, and the two are on one page
+abbrev pub is_range : Entry → Bool
+is_range e = e.0.page == e.1.page && nat_le e.0.id e.1.id
+
+abbrev pub are_ranges : List Entry → Bool
+are_ranges es = list_all is_range es
+
+-- `n` usages of a page by rising number
+abbrev pub rising : ℕ → ℕ → ℕ → List Usage
+rising page id zero = []
+rising page id (suc n) = record { page = page; id = id } ∷ rising page (id + 1) n
+
+abbrev pub entry_count : Entry → ℕ
+entry_count e = (e.1.id + 1) - e.0.id
+
+-- the usage list: each range written out, on its minimum's page
+abbrev pub usage_list : List Entry → List Usage
+usage_list es = flat_map (λ e. rising e.0.page e.0.id (entry_count e)) es
+
+-- for each range how many usages stand before it
+abbrev pub starts_from : ℕ → List Entry → List ℕ
+starts_from n [] = []
+starts_from n (e ∷ es) = n ∷ starts_from (n + entry_count e) es
+
+abbrev pub starts_of : List Entry → List ℕ
+starts_of es = starts_from 0 es
+
+-- the usages ErrorRollOver, POSTFail and ErrorUndefined of a keyboard, which tell an error
+abbrev pub is_rollover : Usage → Bool
+is_rollover u = (u.page == 7) && (u.id == 1)
+
+abbrev pub tells_error : Usage → Bool
+tells_error u = (u.page == 7) && ((u.id == 1) || ((u.id == 2) || (u.id == 3)))

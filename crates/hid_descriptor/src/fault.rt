@@ -1,0 +1,102 @@
+//! Why a descriptor is refused.
+
+ghost use Rattle.std.specs.Prelude.{◌≡◌, Some};
+ghost use Rattle.hid_descriptor.specs.Codes.{code_of, fault_text};
+
+use std::alloc::AllocError;
+use std::fmt;
+
+/// Why a descriptor is refused. TooLong comes first; then the item that comes first decides; behind the last item
+/// Unclosed comes before MixedReportId. Of one Input, Output or Feature item the order is UnpairedUsage, BadUsageRange,
+/// BadSize, BadRange, ReportTooLong, TooMany. It is printed as its code.
+#[derive(Clone, Copy, Debug, PartialEq, Eq)]
+pub enum Cause {
+    /// L1: what is left begins with no whole item (HID 1.11, 6.2.2.2 and 6.2.2.3).
+    Truncated,
+    /// L2: more than 4,096 bytes (our choice).
+    TooLong,
+    /// L3: a Pop that no Push matches (HID 1.11, 6.2.2.7).
+    PopEmpty,
+    /// L4: more than 8 open Pushes (our choice).
+    PushDepth,
+    /// L5: more than 16 open collections (our choice).
+    CollectionDepth,
+    /// L6: an End Collection that no Collection matches (HID 1.11, 6.2.2.6).
+    EndWithout,
+    /// L7: a Collection that nothing ends (HID 1.11, 6.2.2.6).
+    Unclosed,
+    /// L8: a Report ID of 0 or over 255 (HID 1.11, 6.2.2.7).
+    BadReportId,
+    /// L9: an item with bits and no Report ID in force, though a Report ID item stands somewhere (HID 1.11, 5.6).
+    MixedReportId,
+    /// L10: the minimum is over the maximum, or no pattern of the width is in the range (HID 1.11, 6.2.2.7).
+    BadRange,
+    /// L11: data fields of 0 or over 32 bits (HID 1.11, 6.2.2.7; the limit is our choice).
+    BadSize,
+    /// L12: a Usage Minimum over its Usage Maximum, or the two on different pages (HID 1.11, 6.2.2.8).
+    BadUsageRange,
+    /// L13: a Usage Minimum without its Usage Maximum, or the other way round (HID 1.11, 6.2.2.8).
+    UnpairedUsage,
+    /// L14: a Delimiter item (HID 1.11, 6.2.2.8), which this reader doesn't know.
+    Delimiter,
+    /// L15: a report of more than 64 bytes with its ID (our choice).
+    ReportTooLong,
+    /// L16: more than 512 listed items, 4,096 data fields, 64 usage entries of one item or 64 report IDs (our choice).
+    TooMany,
+    /// L17: memory was wanting.
+    Memory,
+}
+
+impl From<AllocError> for Cause {
+    ghost use Rattle.hid_descriptor.specs.declared.fault.Cause.TheVariants.{Memory};
+
+    ghost from_gives = { λ _ cause. cause ≡ Memory };
+
+    fn from(_: AllocError) -> Cause {
+        Cause::Memory
+    }
+}
+
+impl fmt::Display for Cause {
+    ghost output = { λ cause. Some (code_of cause) };
+
+    fn fmt<W: fmt::Write>(&self, f: &mut fmt::Formatter<W>) -> fmt::Result {
+        match self {
+            Cause::Truncated => write!(f, "L1"),
+            Cause::TooLong => write!(f, "L2"),
+            Cause::PopEmpty => write!(f, "L3"),
+            Cause::PushDepth => write!(f, "L4"),
+            Cause::CollectionDepth => write!(f, "L5"),
+            Cause::EndWithout => write!(f, "L6"),
+            Cause::Unclosed => write!(f, "L7"),
+            Cause::BadReportId => write!(f, "L8"),
+            Cause::MixedReportId => write!(f, "L9"),
+            Cause::BadRange => write!(f, "L10"),
+            Cause::BadSize => write!(f, "L11"),
+            Cause::BadUsageRange => write!(f, "L12"),
+            Cause::UnpairedUsage => write!(f, "L13"),
+            Cause::Delimiter => write!(f, "L14"),
+            Cause::ReportTooLong => write!(f, "L15"),
+            Cause::TooMany => write!(f, "L16"),
+            Cause::Memory => write!(f, "L17"),
+        }
+    }
+}
+
+/// A refusal of a descriptor. It is printed as its cause and its place, as in `L10 at 12`.
+#[derive(Clone, Copy, Debug, PartialEq, Eq)]
+pub struct LayoutFault {
+    pub cause: Cause,
+    /// The byte at which the refused item begins; 4,096 for TooLong, the descriptor's length for Unclosed and
+    /// MixedReportId, 0 for Memory.
+    pub at: usize,
+}
+
+impl fmt::Display for LayoutFault {
+    ghost output = { λ fault. Some (fault_text fault) };
+
+    fn fmt<W: fmt::Write>(&self, f: &mut fmt::Formatter<W>) -> fmt::Result {
+        let LayoutFault { cause, at } = *self;
+        write!(f, "{cause} at {at}")
+    }
+}

@@ -1,0 +1,87 @@
+//! The fields that a report descriptor lists, or why it is refused (HID 1.11, 6.2.2).
+
+ghost use Rattle.std.specs.Prelude.{List, IfOk, IfErr};
+ghost use Rattle.hid_descriptor.specs.Items.{Item as Spelled};
+ghost use Rattle.hid_descriptor.specs.Faults.{Accepts, Explains};
+ghost use Rattle.hid_descriptor.specs.Parser.{StandsAt};
+ghost use Rattle.hid_descriptor.specs.Listing.{ListsFields};
+
+use crate::fault::{Cause, LayoutFault};
+use crate::field::KeptField;
+use crate::item_lists::ItemLists;
+use crate::kept::KeptFields;
+use crate::limits::MAX_DESCRIPTOR;
+use crate::parse::parse_items;
+use crate::parser::Parser;
+use crate::report::Report;
+use std::alloc::Global;
+
+/// The fields that a report descriptor lists: those of the Input, Output and Feature items that have bits.
+#[derive(Debug, Drop)]
+pub struct ListedFields {
+    /// The reports that have bits, by kind and then by ID (HID 1.11, 5.6).
+    pub reports: Vec<Report>,
+    /// In descriptor order, those of each item together.
+    pub fields: Vec<KeptField>,
+    /// The usages and the open collections of each.
+    pub lists: ItemLists,
+    /// Whether some item sets a Report ID, so that each report begins with its ID (HID 1.11, 5.6).
+    pub numbered: bool,
+}
+
+/// The fields of a parser that has taken all items.
+fn listed_by(parser: Parser) -> ListedFields
+    ensures { (before : List Spelled) → StandsAt before parser → ListsFields before result }
+{
+    let Parser {
+        fields,
+        numbered,
+        ..
+    } = parser;
+    let KeptFields {
+        list,
+        lists,
+        reports,
+        ..
+    } = fields;
+    ListedFields {
+        reports: reports.list,
+        fields: list,
+        lists,
+        numbered,
+    }
+}
+
+/// The fields that a report descriptor lists. A refusal has the first cause in the order of [`Cause`]; where memory is
+/// wanting the cause is Memory, at 0.
+pub fn list_fields(alloc: Global, descriptor: &[u8]) -> Result<ListedFields, LayoutFault>
+    // The descriptor's items are accepted, and the fields are theirs.
+    ensures ok { IfOk result (λ listed. (before : List Spelled) × Accepts descriptor.now before × ListsFields before listed) }
+    // Memory was wanting, or this is the one refusal.
+    ensures err { IfErr result (λ f. Explains descriptor.now f.cause f.at) }
+{
+    if descriptor.len() > MAX_DESCRIPTOR {
+        return Err(LayoutFault {
+            cause: Cause::TooLong,
+            at: MAX_DESCRIPTOR,
+        });
+    }
+    let parser = match parse_items(alloc, descriptor) {
+        Ok(parser) => parser,
+        Err(f) => return Err(f),
+    };
+    let at = descriptor.len();
+    if parser.collections.open.len() != 0 {
+        return Err(LayoutFault {
+            cause: Cause::Unclosed,
+            at,
+        });
+    }
+    if parser.mixes_ids() {
+        return Err(LayoutFault {
+            cause: Cause::MixedReportId,
+            at,
+        });
+    }
+    Ok(listed_by(parser))
+}

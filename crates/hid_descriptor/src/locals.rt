@@ -1,0 +1,157 @@
+//! The usages behind the last main item.
+
+ghost use Rattle.std.specs.Prelude.{◌≡◌, ◌≢◌, ℕ, List, [], ◌∷◌, ◌++◌, true, false, OnOk, IfOk, map, slice_get, length, ◌==◌};
+ghost use Rattle.std.specs.Option.{option_map};
+ghost use Rattle.hid_items.specs.Spelling.{prefix_of};
+ghost use Rattle.hid_items.specs.Reading.{IsShort};
+ghost use Rattle.hid_descriptor.specs.Items.{Item as Spelled, is_main};
+ghost use Rattle.hid_descriptor.specs.Usages.{to_list};
+ghost use Rattle.hid_descriptor.specs.Locals.{entry_on_page};
+
+use crate::prefix;
+use crate::usage::Usage;
+use hid_items::Item;
+use smallvec::SmallVec;
+use std::alloc::{AllocError, Global};
+
+/// The entries for which room is made at first.
+const FIRST_ENTRIES: usize = 8;
+
+/// A usage as an item names it: with a page of its own, or to be put on the Usage Page in force.
+#[derive(Clone, Copy, Debug, Default)]
+pub(crate) struct NamedUsage {
+    pub(crate) page: Option<u16>,
+    pub(crate) id: u16,
+}
+
+impl NamedUsage {
+    ghost use Rattle.hid_descriptor.specs.Locals.{named, on_page};
+
+    pub(crate) fn of(item: &Item) -> NamedUsage
+        requires { IsShort item.now }
+        ensures { result ≡ named item.now.bytes.now }
+    {
+        let n = item.unsigned();
+        if item.bytes.len() == 5 {
+            NamedUsage {
+                page: Some((n / 0x1_0000) as u16),
+                id: (n % 0x1_0000) as u16,
+            }
+        } else {
+            NamedUsage {
+                page: None,
+                id: n as u16,
+            }
+        }
+    }
+
+    pub(crate) fn on_page(self, page: u16) -> Usage
+        ensures { result ≡ on_page page self }
+    {
+        Usage {
+            page: self.page.unwrap_or(page),
+            id: self.id,
+        }
+    }
+}
+
+pub(crate) fn entry_on_page(entry: &(NamedUsage, NamedUsage), page: u16) -> (Usage, Usage)
+    ensures { result ≡ entry_on_page page entry.now }
+{
+    (entry.0.on_page(page), entry.1.on_page(page))
+}
+
+fn usage_at(usages: &[NamedUsage], n: usize) -> Option<NamedUsage>
+    ensures { result ≡ slice_get usages.now n }
+{
+    usages.get(n).copied()
+}
+
+/// The local items that count, since the last main item.
+#[derive(Debug, Drop)]
+pub(crate) struct Locals {
+    /// The ranges from a first to a last usage.
+    pub(crate) entries: Vec<(NamedUsage, NamedUsage)>,
+    pub(crate) minima: SmallVec<NamedUsage, 1>,
+    pub(crate) maxima: SmallVec<NamedUsage, 1>,
+}
+
+impl Locals {
+    ghost use Rattle.hid_descriptor.specs.Locals.{AreLocals, AddsLocal, named};
+
+    pub(crate) fn new(alloc: Global) -> Result<Locals, AllocError>
+        ensures { IfOk result (AreLocals []) }
+    {
+        Ok(Locals {
+            entries: Vec::with_capacity(alloc, FIRST_ENTRIES)?,
+            minima: SmallVec::new(alloc),
+            maxima: SmallVec::new(alloc),
+        })
+    }
+
+    /// Whether each Usage Minimum has its Usage Maximum.
+    pub(crate) fn are_paired(&self) -> bool
+        ensures { result ≡ (length self.now.minima.items == length self.now.maxima.items) }
+    {
+        self.minima.len() == self.maxima.len()
+    }
+
+    fn add_minimum(&mut self, low: NamedUsage) -> Result<(), AllocError>
+        ensures minima { OnOk result (self.new.minima.items ≡ self.old.minima.items ++ low ∷ []) }
+        ensures maxima { self.new.maxima.items ≡ self.old.maxima.items }
+        ensures entries { OnOk result (self.new.entries.items ≡ self.old.entries.items ++ to_list (option_map (λ high. (low, high)) (slice_get self.old.maxima.items (length self.old.minima.items)))) }
+    {
+        if let Some(high) = usage_at(self.maxima.as_slice(), self.minima.len()) {
+            self.entries.push((low, high))?;
+        }
+        self.minima.push(low)?;
+        Ok(())
+    }
+
+    fn add_maximum(&mut self, high: NamedUsage) -> Result<(), AllocError>
+        ensures maxima { OnOk result (self.new.maxima.items ≡ self.old.maxima.items ++ high ∷ []) }
+        ensures minima { self.new.minima.items ≡ self.old.minima.items }
+        ensures entries { OnOk result (self.new.entries.items ≡ self.old.entries.items ++ to_list (option_map (λ low. (low, high)) (slice_get self.old.minima.items (length self.old.maxima.items)))) }
+    {
+        if let Some(low) = usage_at(self.minima.as_slice(), self.maxima.len()) {
+            self.entries.push((low, high))?;
+        }
+        self.maxima.push(high)?;
+        Ok(())
+    }
+
+    /// Adds the usage that a local item names; another item has none that is read.
+    fn add(&mut self, prefix: u8, item: &Item) -> Result<(), AllocError>
+        requires { IsShort item.now }
+        ensures { OnOk result (AddsLocal prefix (named item.now.bytes.now) self.old self.new) }
+    {
+        match prefix {
+            prefix::USAGE => {
+                let usage = NamedUsage::of(item);
+                self.entries.push((usage, usage))?;
+                Ok(())
+            }
+            prefix::USAGE_MINIMUM => self.add_minimum(NamedUsage::of(item)),
+            prefix::USAGE_MAXIMUM => self.add_maximum(NamedUsage::of(item)),
+            _ => Ok(()),
+        }
+    }
+
+    /// Takes an item that is no main item.
+    pub(crate) fn take(&mut self, prefix: u8, item: &Item) -> Result<(), AllocError>
+        requires short { IsShort item.now }
+        requires prefix { prefix ≡ prefix_of item.now.bytes.now }
+        ensures { OnOk result ((before : List Spelled) → is_main item.now.bytes.now ≡ false → AreLocals before self.old → AreLocals (item.now.bytes.now ∷ before) self.new) }
+    {
+        self.add(prefix, item)
+    }
+
+    /// Ends the locals, at a main item.
+    pub(crate) fn clear(&mut self)
+        ensures { (before : List Spelled) (item : Spelled) → is_main item ≡ true → AreLocals (item ∷ before) self.new }
+    {
+        self.entries.clear();
+        self.minima.clear();
+        self.maxima.clear();
+    }
+}

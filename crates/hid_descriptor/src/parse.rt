@@ -1,0 +1,67 @@
+//! The parser behind all items of a descriptor.
+
+ghost use Rattle.std.specs.Prelude.{◌≡◌, ◌≢◌, ℕ, List, [], ◌∷◌, ◌<◌, ◌≤◌, true, false, length, IfOk, IfErr};
+ghost use Rattle.hid_descriptor.specs.Items.{Item as Spelled};
+ghost use Rattle.hid_descriptor.specs.Faults.{Reaches, Explains};
+ghost use Rattle.hid_descriptor.specs.Parser.{StandsAt, told_place, place_of};
+
+use crate::fault::{Cause, LayoutFault};
+use crate::limits::MAX_DESCRIPTOR;
+use crate::parser::Parser;
+use hid_items::{Item, ItemFault, Items};
+use std::alloc::Global;
+
+fn fault(cause: Cause, at: usize) -> LayoutFault
+    ensures cause { result.cause ≡ cause }
+    ensures at { result.at ≡ told_place cause at }
+{
+    let at = match cause {
+        Cause::Memory => 0,
+        _ => at,
+    };
+    LayoutFault { cause, at }
+}
+
+fn truncated_at(e: ItemFault) -> usize
+    ensures { result ≡ place_of e }
+{
+    match e {
+        ItemFault::Truncated { at } => at,
+    }
+}
+
+/// The parser behind all items, from one that has taken none.
+fn take_items(mut parser: Parser, descriptor: &[u8]) -> Result<Parser, LayoutFault>
+    requires short { length descriptor.now ≤ MAX_DESCRIPTOR }
+    requires fresh { StandsAt [] parser }
+    ensures ok { IfOk result (λ parser. (before : List Spelled) × Reaches descriptor.now (length descriptor.now) before × StandsAt before parser) }
+    ensures err { IfErr result (λ f. Explains descriptor.now f.cause f.at) }
+{
+    for next in Items::new(descriptor) {
+        match next {
+            Ok(item) => {
+                match parser.take(&item) {
+                    Ok(()) => {}
+                    Err(cause) => return Err(fault(cause, item.at)),
+                }
+            }
+            Err(e) => return Err(fault(Cause::Truncated, truncated_at(e))),
+        }
+    }
+    Ok(parser)
+}
+
+/// The parser behind all items.
+pub(crate) fn parse_items(alloc: Global, descriptor: &[u8]) -> Result<Parser, LayoutFault>
+    requires { length descriptor.now ≤ MAX_DESCRIPTOR }
+    ensures ok { IfOk result (λ parser. (before : List Spelled) × Reaches descriptor.now (length descriptor.now) before × StandsAt before parser) }
+    ensures err { IfErr result (λ f. Explains descriptor.now f.cause f.at) }
+{
+    match Parser::new(alloc) {
+        Ok(parser) => take_items(parser, descriptor),
+        Err(_) => Err(LayoutFault {
+            cause: Cause::Memory,
+            at: 0,
+        }),
+    }
+}

@@ -1,0 +1,8 @@
+//! Where a list stands in a longer one.
+
+/// The place of a list among all values: from the start to before the end.
+#[derive(Clone, Copy, Debug)]
+pub struct Span {
+    pub start: usize,
+    pub end: usize,
+}
