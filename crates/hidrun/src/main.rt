@@ -45,11 +45,21 @@ fn main(rt: HostRuntime) -> ExitCode {
 fn run_script(rt: &HostRuntime, options: Options) -> ExitCode {
     match run_buffered(rt, options) {
         Ok(_) => ExitCode::SUCCESS,
-        Err(fault) => {
-            if let Ok(line) = fault_line(rt.alloc(), &fault) {
-                let _ = rt.stderr().write_all(line.as_slice());
-            }
-            ExitCode::from(exit_of(&fault))
+        Err(fault) => ExitCode::from(exit_of(&told(rt, fault))),
+    }
+}
+
+/// Writes the fault's line to standard error, and gives the fault that was written: where the line's text finds no
+/// memory, X7 of the same line, which is written without any.
+fn told(rt: &HostRuntime, fault: ScriptFault) -> ScriptFault {
+    match fault_line(rt.alloc(), &fault) {
+        Ok(line) => {
+            let _ = rt.stderr().write_all(line.as_slice());
+            fault
+        }
+        Err(wanting) => {
+            let _ = eprintln!(rt; "{wanting}");
+            wanting
         }
     }
 }
