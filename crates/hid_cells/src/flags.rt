@@ -163,7 +163,8 @@ fn lowest_from(word: u64, from: usize) -> Option<usize>
 /// The bits of a word that are 1 here and not in the other, which may have fewer words.
 fn word_alone(words: &[u64], others: &[u64], k: usize) -> u64
     requires { k < length words.now }
-    ensures { (b : ℕ) → b < 64 → (bit_at result b == 1) ≡ are_alone words.now others.now (64 * k + b) }
+    ensures { (b : ℕ) → b < 64
+        → (bit_at result b == 1) ≡ are_alone words.now others.now (64 * k + b) }
 {
     words[k] & !word_or_zero(others, k)
 }

@@ -199,7 +199,8 @@ fn take_item(layout: &Layout, i: usize, report: usize, cell: &mut Cell, part: &C
     requires input { IsInput layout.now report }
     requires room { HasRoomOf cell.old part.now }
     requires amounts { AreMotions cell.old }
-    requires others { IsTrue (is_of report (item_at (items_of layout.now) i)) → AreMotions part.now }
+    requires others { IsTrue (is_of report (item_at (items_of layout.now) i))
+        → AreMotions part.now }
     ensures { cell.new ≡ taken_of report (item_at (items_of layout.now) i) cell.old part.now }
 {
     if is_of(layout, i, report) {

@@ -52,8 +52,10 @@ impl KeptField {
 
     /// Whether the report is too long with these fields.
     pub(crate) fn is_too_long(&self) -> bool
-        ensures value { result ≡ nat_lt (report_limit self.now.id) (self.now.offset + self.now.size * self.now.count) }
-        ensures short { OnFalse result (self.now.offset + self.now.size * self.now.count ≤ 8 * MAX_REPORT_BYTES) }
+        ensures value { result
+            ≡ nat_lt (report_limit self.now.id) (self.now.offset + self.now.size * self.now.count) }
+        ensures short { OnFalse result (self.now.offset + self.now.size * self.now.count
+            ≤ 8 * MAX_REPORT_BYTES) }
     {
         let id_bytes = if self.id == 0 { 0 } else { 1 };
         let limit = 8 * (MAX_REPORT_BYTES - id_bytes);
@@ -75,7 +77,10 @@ impl KeptField {
     }
 
     fn test_values(&self, locals: &Locals, page: u16) -> Result<(), Cause>
-        ensures { Tells result (first_met (value_tests (whole_field self.now [] []) (length locals.now.minima.items == length locals.now.maxima.items) (map (entry_on_page page) locals.now.entries.items))) }
+        ensures { Tells result (first_met
+            (value_tests (whole_field self.now [] [])
+            (length locals.now.minima.items == length locals.now.maxima.items)
+            (map (entry_on_page page) locals.now.entries.items))) }
     {
         if !locals.are_paired() {
             return Err(Cause::UnpairedUsage);
@@ -98,7 +103,10 @@ impl KeptField {
 
     /// Refuses wrong usages, a wrong size and a wrong range, unless the item is Constant or has no fields.
     pub(crate) fn check_values(&self, locals: &Locals, page: u16) -> Result<(), Cause>
-        ensures { Tells result (first_met (checked_values (whole_field self.now [] []) (length locals.now.minima.items == length locals.now.maxima.items) (map (entry_on_page page) locals.now.entries.items))) }
+        ensures { Tells result (first_met
+            (checked_values (whole_field self.now [] [])
+            (length locals.now.minima.items == length locals.now.maxima.items)
+            (map (entry_on_page page) locals.now.entries.items))) }
     {
         if self.flags.is_constant() || self.count == 0 {
             return Ok(());
@@ -146,7 +154,9 @@ pub(crate) fn shown_entries(
     shape: Shape,
     entries: &[(NamedUsage, NamedUsage)],
 ) -> &[(NamedUsage, NamedUsage)]
-    ensures { (page : ℕ) → map (entry_on_page page) result.now ≡ shown_entries shape (map (entry_on_page page) entries.now) }
+    ensures { (page : ℕ)
+        → map (entry_on_page page) result.now
+        ≡ shown_entries shape (map (entry_on_page page) entries.now) }
 {
     match shape {
         Shape::Padding => &entries[..0],

@@ -57,7 +57,8 @@ impl Globals {
         requires no_push { prefix ≢ PUSH }
         requires no_pop { prefix ≢ POP }
         requires small_id { prefix ≡ REPORT_ID → unsigned_of (data_of item.now.bytes.now) < 256 }
-        ensures { (before : List Spelled) → self.old ≡ globals_at before → self.new ≡ globals_at (item.now.bytes.now ∷ before) }
+        ensures { (before : List Spelled) → self.old ≡ globals_at before
+            → self.new ≡ globals_at (item.now.bytes.now ∷ before) }
     {
         match prefix {
             prefix::USAGE_PAGE => self.page = (item.unsigned() % 0x1_0000) as u16,
@@ -96,7 +97,8 @@ impl SavedGlobals {
 
     /// Takes a Push.
     pub(crate) fn push(&mut self) -> Result<(), AllocError>
-        ensures { OnOk result ((before : List Spelled) (item : Spelled) → prefix_of item ≡ PUSH → AreGlobals before self.old → AreGlobals (item ∷ before) self.new) }
+        ensures { OnOk result ((before : List Spelled) (item : Spelled) → prefix_of item ≡ PUSH
+            → AreGlobals before self.old → AreGlobals (item ∷ before) self.new) }
     {
         self.saved.push(self.now)?;
         Ok(())
@@ -104,9 +106,12 @@ impl SavedGlobals {
 
     /// Takes a Pop, and says whether a Push matches it.
     pub(crate) fn pop(&mut self) -> bool
-        ensures matched { (before : List Spelled) (item : Spelled) → prefix_of item ≡ POP → AreGlobals before self.old → OnTrue result (AreGlobals (item ∷ before) self.new) }
-        ensures alone { (before : List Spelled) → AreGlobals before self.old → OnFalse result (open_pushes before ≡ []) }
-        ensures among { (before : List Spelled) → AreGlobals before self.old → OnTrue result (0 < length (open_pushes before)) }
+        ensures matched { (before : List Spelled) (item : Spelled) → prefix_of item ≡ POP
+            → AreGlobals before self.old → OnTrue result (AreGlobals (item ∷ before) self.new) }
+        ensures alone { (before : List Spelled) → AreGlobals before self.old
+            → OnFalse result (open_pushes before ≡ []) }
+        ensures among { (before : List Spelled) → AreGlobals before self.old
+            → OnTrue result (0 < length (open_pushes before)) }
     {
         match self.saved.pop() {
             Some(globals) => {

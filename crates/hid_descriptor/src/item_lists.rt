@@ -93,7 +93,8 @@ impl ItemLists {
         path: &[Collection],
     ) -> Result<(), AllocError>
         requires { length entries.now ≤ MAX_ENTRIES }
-        ensures { OnOk result (self.new ≡ listed_more self.old (map (entry_on_page page) entries.now) path.now) }
+        ensures { OnOk result (self.new
+            ≡ listed_more self.old (map (entry_on_page page) entries.now) path.now) }
     {
         self.spans.reserve(1)?;
         let path_start = self.paths.len();
@@ -146,8 +147,10 @@ fn add_ranges(
     starts: &mut Vec<u32>,
 ) -> Result<(), AllocError>
     requires { length named.now ≤ MAX_ENTRIES }
-    ensures entries { OnOk result (entries.new.items ≡ entries.old.items ++ map (entry_on_page page) named.now) }
-    ensures starts { OnOk result (starts.new.items ≡ starts.old.items ++ starts_of (map (entry_on_page page) named.now)) }
+    ensures entries { OnOk result (entries.new.items
+        ≡ entries.old.items ++ map (entry_on_page page) named.now) }
+    ensures starts { OnOk result (starts.new.items
+        ≡ starts.old.items ++ starts_of (map (entry_on_page page) named.now)) }
     ensures entries_kept { OnErr result (entries.new.items ≡ entries.old.items) }
     ensures starts_kept { OnErr result (starts.new.items ≡ starts.old.items) }
 {

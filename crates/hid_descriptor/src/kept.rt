@@ -74,9 +74,13 @@ impl KeptFields {
         requires room { vec_len self.old.list < MAX_ITEMS }
         requires few { length entries.now ≤ MAX_ENTRIES }
         requires some { field.now.size * field.now.count ≢ 0 }
-        requires short { field.now.offset + field.now.size * field.now.count ≤ 8 * MAX_REPORT_BYTES }
-        requires place { field.now.offset ≡ bits_in field.now.kind field.now.id self.old.reports.list.items }
-        ensures { OnOk result ((fs : List Field) → AreKept fs self.old → AreKept (fs ++ whole_field field.now (map (entry_on_page page) entries.now) path.now ∷ []) self.new) }
+        requires short { field.now.offset + field.now.size * field.now.count
+            ≤ 8 * MAX_REPORT_BYTES }
+        requires place { field.now.offset
+            ≡ bits_in field.now.kind field.now.id self.old.reports.list.items }
+        ensures { OnOk result ((fs : List Field) → AreKept fs self.old
+            → AreKept (fs ++ whole_field field.now (map (entry_on_page page) entries.now) path.now
+            ∷ []) self.new) }
     {
         self.list.push(*field)?;
         self.elements += field.elements();
@@ -97,9 +101,13 @@ impl KeptFields {
     ) -> Result<(), Cause>
         requires few { length entries.now ≤ MAX_ENTRIES }
         requires some { field.now.size * field.now.count ≢ 0 }
-        requires short { field.now.offset + field.now.size * field.now.count ≤ 8 * MAX_REPORT_BYTES }
-        requires place { field.now.offset ≡ bits_in field.now.kind field.now.id self.old.reports.list.items }
-        ensures { (fs : List Field) → AreKept fs self.old → Keeps fs (whole_field field.now (map (entry_on_page page) entries.now) path.now) result self.new }
+        requires short { field.now.offset + field.now.size * field.now.count
+            ≤ 8 * MAX_REPORT_BYTES }
+        requires place { field.now.offset
+            ≡ bits_in field.now.kind field.now.id self.old.reports.list.items }
+        ensures { (fs : List Field) → AreKept fs self.old
+            → Keeps fs (whole_field field.now (map (entry_on_page page) entries.now) path.now)
+            result self.new }
     {
         if self.list.len() >= MAX_ITEMS {
             return Err(Cause::TooMany);

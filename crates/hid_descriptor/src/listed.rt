@@ -56,7 +56,8 @@ fn listed_by(parser: Parser) -> ListedFields
 /// wanting the cause is Memory, at 0.
 pub fn list_fields(alloc: Global, descriptor: &[u8]) -> Result<ListedFields, LayoutFault>
     // The descriptor's items are accepted, and the fields are theirs.
-    ensures ok { IfOk result (λ listed. (before : List Spelled) × Accepts descriptor.now before × ListsFields before listed) }
+    ensures ok { IfOk result (λ listed. (before : List Spelled) × Accepts descriptor.now before
+        × ListsFields before listed) }
     // Memory was wanting, or this is the one refusal.
     ensures err { IfErr result (λ f. Explains descriptor.now f.cause f.at) }
 {

@@ -99,7 +99,10 @@ impl Locals {
     fn add_minimum(&mut self, low: NamedUsage) -> Result<(), AllocError>
         ensures minima { OnOk result (self.new.minima.items ≡ self.old.minima.items ++ low ∷ []) }
         ensures maxima { self.new.maxima.items ≡ self.old.maxima.items }
-        ensures entries { OnOk result (self.new.entries.items ≡ self.old.entries.items ++ to_list (option_map (λ high. (low, high)) (slice_get self.old.maxima.items (length self.old.minima.items)))) }
+        ensures entries { OnOk result (self.new.entries.items
+            ≡ self.old.entries.items
+            ++ to_list (option_map (λ high. (low, high))
+            (slice_get self.old.maxima.items (length self.old.minima.items)))) }
     {
         if let Some(high) = usage_at(self.maxima.as_slice(), self.minima.len()) {
             self.entries.push((low, high))?;
@@ -111,7 +114,10 @@ impl Locals {
     fn add_maximum(&mut self, high: NamedUsage) -> Result<(), AllocError>
         ensures maxima { OnOk result (self.new.maxima.items ≡ self.old.maxima.items ++ high ∷ []) }
         ensures minima { self.new.minima.items ≡ self.old.minima.items }
-        ensures entries { OnOk result (self.new.entries.items ≡ self.old.entries.items ++ to_list (option_map (λ low. (low, high)) (slice_get self.old.minima.items (length self.old.maxima.items)))) }
+        ensures entries { OnOk result (self.new.entries.items
+            ≡ self.old.entries.items
+            ++ to_list (option_map (λ low. (low, high))
+            (slice_get self.old.minima.items (length self.old.maxima.items)))) }
     {
         if let Some(low) = usage_at(self.minima.as_slice(), self.maxima.len()) {
             self.entries.push((low, high))?;
@@ -141,14 +147,16 @@ impl Locals {
     pub(crate) fn take(&mut self, prefix: u8, item: &Item) -> Result<(), AllocError>
         requires short { IsShort item.now }
         requires prefix { prefix ≡ prefix_of item.now.bytes.now }
-        ensures { OnOk result ((before : List Spelled) → is_main item.now.bytes.now ≡ false → AreLocals before self.old → AreLocals (item.now.bytes.now ∷ before) self.new) }
+        ensures { OnOk result ((before : List Spelled) → is_main item.now.bytes.now ≡ false
+            → AreLocals before self.old → AreLocals (item.now.bytes.now ∷ before) self.new) }
     {
         self.add(prefix, item)
     }
 
     /// Ends the locals, at a main item.
     pub(crate) fn clear(&mut self)
-        ensures { (before : List Spelled) (item : Spelled) → is_main item ≡ true → AreLocals (item ∷ before) self.new }
+        ensures { (before : List Spelled) (item : Spelled) → is_main item ≡ true
+            → AreLocals (item ∷ before) self.new }
     {
         self.entries.clear();
         self.minima.clear();

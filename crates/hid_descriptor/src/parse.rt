@@ -34,7 +34,8 @@ fn truncated_at(e: ItemFault) -> usize
 fn take_items(mut parser: Parser, descriptor: &[u8]) -> Result<Parser, LayoutFault>
     requires short { length descriptor.now ≤ MAX_DESCRIPTOR }
     requires fresh { StandsAt [] parser }
-    ensures ok { IfOk result (λ parser. (before : List Spelled) × Reaches descriptor.now (length descriptor.now) before × StandsAt before parser) }
+    ensures ok { IfOk result (λ parser. (before : List Spelled)
+        × Reaches descriptor.now (length descriptor.now) before × StandsAt before parser) }
     ensures err { IfErr result (λ f. Explains descriptor.now f.cause f.at) }
 {
     for next in Items::new(descriptor) {
@@ -54,7 +55,8 @@ fn take_items(mut parser: Parser, descriptor: &[u8]) -> Result<Parser, LayoutFau
 /// The parser behind all items.
 pub(crate) fn parse_items(alloc: Global, descriptor: &[u8]) -> Result<Parser, LayoutFault>
     requires { length descriptor.now ≤ MAX_DESCRIPTOR }
-    ensures ok { IfOk result (λ parser. (before : List Spelled) × Reaches descriptor.now (length descriptor.now) before × StandsAt before parser) }
+    ensures ok { IfOk result (λ parser. (before : List Spelled)
+        × Reaches descriptor.now (length descriptor.now) before × StandsAt before parser) }
     ensures err { IfErr result (λ f. Explains descriptor.now f.cause f.at) }
 {
     match Parser::new(alloc) {

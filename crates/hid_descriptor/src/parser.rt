@@ -46,7 +46,8 @@ impl Parser {
     }
 
     fn take_push(&mut self) -> Result<(), Cause>
-        ensures { (before : List Spelled) (item : Spelled) → prefix_of item ≡ PUSH → StandsAt before self.old → Took before item result self.new }
+        ensures { (before : List Spelled) (item : Spelled) → prefix_of item ≡ PUSH
+            → StandsAt before self.old → Took before item result self.new }
     {
         if self.globals.saved.len() >= MAX_OPEN_PUSHES {
             return Err(Cause::PushDepth);
@@ -56,7 +57,8 @@ impl Parser {
     }
 
     fn take_pop(&mut self) -> Result<(), Cause>
-        ensures { (before : List Spelled) (item : Spelled) → prefix_of item ≡ POP → StandsAt before self.old → Took before item result self.new }
+        ensures { (before : List Spelled) (item : Spelled) → prefix_of item ≡ POP
+            → StandsAt before self.old → Took before item result self.new }
     {
         if self.globals.pop() {
             Ok(())
@@ -77,7 +79,8 @@ impl Parser {
     fn take_report_id(&mut self, item: &Item) -> Result<(), Cause>
         requires short { IsShort item.now }
         requires prefix { prefix_of item.now.bytes.now ≡ REPORT_ID }
-        ensures { (before : List Spelled) → StandsAt before self.old → Took before item.now.bytes.now result self.new }
+        ensures { (before : List Spelled) → StandsAt before self.old
+            → Took before item.now.bytes.now result self.new }
     {
         let id = item.unsigned();
         if id == 0 || id > 255 {
@@ -90,7 +93,8 @@ impl Parser {
 
     fn take_collection(&mut self, item: &Item) -> Result<(), Cause>
         requires { IsShort item.now }
-        ensures { (before : List Spelled) → prefix_of item.now.bytes.now ≡ COLLECTION → StandsAt before self.old → Took before item.now.bytes.now result self.new }
+        ensures { (before : List Spelled) → prefix_of item.now.bytes.now ≡ COLLECTION
+            → StandsAt before self.old → Took before item.now.bytes.now result self.new }
     {
         if self.collections.open.len() >= MAX_OPEN_COLLECTIONS {
             return Err(Cause::CollectionDepth);
@@ -102,7 +106,8 @@ impl Parser {
     }
 
     fn take_end(&mut self) -> Result<(), Cause>
-        ensures { (before : List Spelled) (item : Spelled) → prefix_of item ≡ END_COLLECTION → StandsAt before self.old → Took before item result self.new }
+        ensures { (before : List Spelled) (item : Spelled) → prefix_of item ≡ END_COLLECTION
+            → StandsAt before self.old → Took before item result self.new }
     {
         if self.collections.end() {
             self.locals.clear();
@@ -117,7 +122,8 @@ impl Parser {
         requires short { IsShort item.now }
         requires prefix { prefix ≡ prefix_of item.now.bytes.now }
         requires other { IsOther prefix }
-        ensures { (before : List Spelled) → StandsAt before self.old → Took before item.now.bytes.now result self.new }
+        ensures { (before : List Spelled) → StandsAt before self.old
+            → Took before item.now.bytes.now result self.new }
     {
         self.locals.take(prefix, item)?;
         self.globals.now.set(prefix, item);
@@ -127,7 +133,10 @@ impl Parser {
     /// The fields that an Input, Output or Feature item describes, by the globals in force and its usages.
     fn described(&self, kind: ReportKind, item: &Item) -> KeptField
         requires { IsShort item.now }
-        ensures { (page : ℕ) → IsDescribed kind item.now.bytes.now self.now.globals.now self.now.fields.reports.list.items (map (entry_on_page page) self.now.locals.entries.items) result }
+        ensures { (page : ℕ)
+            → IsDescribed kind item.now.bytes.now self.now.globals.now
+            self.now.fields.reports.list.items
+            (map (entry_on_page page) self.now.locals.entries.items) result }
     {
         let globals = &self.globals.now;
         let flags = MainFlags::of(item);
@@ -147,7 +156,9 @@ impl Parser {
     /// Takes an Input, Output or Feature item.
     fn take_field(&mut self, kind: ReportKind, item: &Item) -> Result<(), Cause>
         requires { IsShort item.now }
-        ensures { (before : List Spelled) → is_field item.now.bytes.now ≡ true → kind ≡ kind_of item.now.bytes.now → StandsAt before self.old → Took before item.now.bytes.now result self.new }
+        ensures { (before : List Spelled) → is_field item.now.bytes.now ≡ true
+            → kind ≡ kind_of item.now.bytes.now → StandsAt before self.old
+            → Took before item.now.bytes.now result self.new }
     {
         let field = self.described(kind, item);
         match field.check_values(&self.locals, self.globals.now.page) {
@@ -164,8 +175,13 @@ impl Parser {
 
     /// Lists the fields of an item whose values are right, where they have bits.
     fn list_field(&mut self, field: &KeptField) -> Result<(), Cause>
-        requires { field.now.offset ≡ bits_in field.now.kind field.now.id self.old.fields.reports.list.items }
-        ensures fields { (fs : List Field) → AreKept fs self.old.fields → Lists fs (whole_field field.now (shown_entries field.now.shape (map (entry_on_page self.old.globals.now.page) self.old.locals.entries.items)) self.old.collections.open.items) result self.new.fields }
+        requires { field.now.offset
+            ≡ bits_in field.now.kind field.now.id self.old.fields.reports.list.items }
+        ensures fields { (fs : List Field) → AreKept fs self.old.fields
+            → Lists fs (whole_field field.now
+            (shown_entries field.now.shape
+            (map (entry_on_page self.old.globals.now.page) self.old.locals.entries.items))
+            self.old.collections.open.items) result self.new.fields }
         ensures others { self.new ≡ record self.old { fields = self.new.fields } }
     {
         if field.is_too_long() {
@@ -192,7 +208,8 @@ impl Parser {
     fn take_short(&mut self, prefix: u8, item: &Item) -> Result<(), Cause>
         requires short { IsShort item.now }
         requires prefix { prefix ≡ prefix_of item.now.bytes.now }
-        ensures { (before : List Spelled) → StandsAt before self.old → Took before item.now.bytes.now result self.new }
+        ensures { (before : List Spelled) → StandsAt before self.old
+            → Took before item.now.bytes.now result self.new }
     {
         match prefix {
             prefix::INPUT => self.take_field(ReportKind::Input, item),
@@ -219,7 +236,8 @@ impl Parser {
     pub(crate) fn take(&mut self, item: &Item) -> Result<(), Cause>
         requires spelled { IsSpelling item.now.bytes.now }
         requires kind { item.now.kind ≡ spelled_kind item.now.bytes.now }
-        ensures { (before : List Spelled) → StandsAt before self.old → Took before item.now.bytes.now result self.new }
+        ensures { (before : List Spelled) → StandsAt before self.old
+            → Took before item.now.bytes.now result self.new }
     {
         match item.kind {
             ItemKind::Short { prefix } => self.take_short(prefix, item),

@@ -46,7 +46,10 @@ impl OpenCollections {
     pub(crate) fn begin(&mut self, item: &Item, usages: &[(NamedUsage, NamedUsage)], page: u16)
         requires short { IsShort item.now }
         requires room { length self.old.open.items < MAX_OPEN_COLLECTIONS }
-        ensures { (before : List Spelled) → prefix_of item.now.bytes.now ≡ COLLECTION → map (entry_on_page page) usages.now ≡ entries before → self.old.open.items ≡ path before → self.new.open.items ≡ path (item.now.bytes.now ∷ before) }
+        ensures { (before : List Spelled) → prefix_of item.now.bytes.now ≡ COLLECTION
+            → map (entry_on_page page) usages.now ≡ entries before
+            → self.old.open.items ≡ path before
+            → self.new.open.items ≡ path (item.now.bytes.now ∷ before) }
     {
         let collection = Collection {
             kind: (item.unsigned() % 0x100) as u8,
@@ -57,7 +60,9 @@ impl OpenCollections {
 
     /// Takes an End Collection, and says whether a Collection matches it.
     pub(crate) fn end(&mut self) -> bool
-        ensures matched { (before : List Spelled) (item : Spelled) → prefix_of item ≡ END_COLLECTION → self.old.open.items ≡ path before → OnTrue result (self.new.open.items ≡ path (item ∷ before)) }
+        ensures matched { (before : List Spelled) (item : Spelled) → prefix_of item ≡ END_COLLECTION
+            → self.old.open.items ≡ path before
+            → OnTrue result (self.new.open.items ≡ path (item ∷ before)) }
         ensures alone { OnFalse result (self.old.open.items ≡ []) }
         ensures among { OnTrue result (0 < length self.old.open.items) }
     {

@@ -76,7 +76,9 @@ impl Device {
     /// Changes a control. A change that is refused changes nothing.
     pub fn change(&mut self, change: Change) -> Result<(), ChangeFault>
         // It is done exactly where no fault stands, else it is refused for the first fault that stands.
-        ensures changes { Changes (items_of self.old.core.layout) self.old.core.standing.snapshot change result self.new.core.standing.snapshot }
+        ensures changes { Changes
+            (items_of self.old.core.layout) self.old.core.standing.snapshot change result
+            self.new.core.standing.snapshot }
         ensures device { self.new ≡ changed_device self.old change }
     {
         self.core.change(change)
@@ -143,7 +145,8 @@ impl Device {
     /// was fixed for it.
     pub fn pipe(&self) -> &DevPipe
         ensures toggle { result.now.toggle ≡ self.now.core.toggle }
-        ensures armed { IsArmed self.now.core.layout self.now.core.standing.fixed self.now.core.current result.now.armed }
+        ensures armed { IsArmed self.now.core.layout self.now.core.standing.fixed
+            self.now.core.current result.now.armed }
     {
         self.core.pipe()
     }

@@ -73,7 +73,8 @@ impl Model for Core {
 /// The layout of a descriptor, of which a device can send every report.
 fn served_layout(alloc: Global, descriptor: &[u8]) -> Result<Layout, DeviceFault>
     ensures served { IfOk result (λ layout. CanServe descriptor.now layout) }
-    ensures refused { IfErr result (λ fault. RefusesDescriptor descriptor.now fault.cause fault.at) }
+    ensures refused { IfErr result
+        (λ fault. RefusesDescriptor descriptor.now fault.cause fault.at) }
 {
     let layout = match Layout::parse(alloc, descriptor) {
         Ok(layout) => layout,
@@ -151,7 +152,8 @@ impl Core {
 
     pub(crate) fn pipe(&self) -> &DevPipe
         ensures toggle { result.now.toggle ≡ self.now.toggle }
-        ensures armed { IsArmed self.now.layout self.now.standing.fixed self.now.current result.now.armed }
+        ensures armed { IsArmed self.now.layout self.now.standing.fixed self.now.current
+            result.now.armed }
     {
         &self.pipe
     }
@@ -174,7 +176,9 @@ impl Core {
 
     /// Changes a control.
     pub(crate) fn change(&mut self, change: Change) -> Result<(), ChangeFault>
-        ensures changes { Changes (items_of self.old.layout) self.old.standing.snapshot change result self.new.standing.snapshot }
+        ensures changes { Changes
+            (items_of self.old.layout) self.old.standing.snapshot change result
+            self.new.standing.snapshot }
         ensures core { self.new ≡ changed_core self.old change }
     {
         change_snapshot(&mut self.snapshot, &self.layout, change)

@@ -104,7 +104,8 @@ impl MainItem {
         requires elements { is_padding self.now.shape ≡ false → HasElements self.now }
         requires few { length entries.now ≤ MAX_ENTRIES }
         requires some { is_padding self.now.shape ≡ false → 0 < length (usage_list entries.now) }
-        requires codes { is_padding self.now.shape ≡ false → AreCodes self.now (usage_list entries.now) codes.now }
+        requires codes { is_padding self.now.shape ≡ false
+            → AreCodes self.now (usage_list entries.now) codes.now }
         ensures { result ≡ head_of (form_of self.now (usage_list entries.now) self.now.shape) }
     {
         match self.shape {
@@ -142,7 +143,8 @@ impl MainItem {
         requires elements { HasElements self.now }
         requires starts { starts.now ≡ starts_of entries.now }
         requires some { 0 < length (usage_list entries.now) }
-        ensures { result ≡ control_in (form_of self.now (usage_list entries.now) Shape.Variable) index }
+        ensures { result
+            ≡ control_in (form_of self.now (usage_list entries.now) Shape.Variable) index }
     {
         if index >= self.count as usize {
             return None;
@@ -166,7 +168,8 @@ impl MainItem {
     ) -> Option<Control>
         requires elements { HasElements self.now }
         requires starts { starts.now ≡ starts_of entries.now }
-        ensures { result ≡ control_in (form_of self.now (usage_list entries.now) Shape.Array) index }
+        ensures { result
+            ≡ control_in (form_of self.now (usage_list entries.now) Shape.Array) index }
     {
         if index >= MAX_KEYS {
             return None;
@@ -190,7 +193,8 @@ impl MainItem {
         requires elements { is_padding self.now.shape ≡ false → HasElements self.now }
         requires starts { starts.now ≡ starts_of entries.now }
         requires some { is_padding self.now.shape ≡ false → 0 < length (usage_list entries.now) }
-        ensures { result ≡ control_in (form_of self.now (usage_list entries.now) self.now.shape) index }
+        ensures { result
+            ≡ control_in (form_of self.now (usage_list entries.now) self.now.shape) index }
     {
         match self.shape {
             Shape::Padding => None,

@@ -21,7 +21,8 @@ pub(crate) fn all_plans(
     reports: usize,
     items: &[MainItem],
 ) -> Result<Plans, AllocError>
-    ensures { IfOk result (λ plans. plans ≡ map (λ r. places_from 0 r items.now) (upward 0 reports)) }
+    ensures { IfOk result (λ plans. plans
+        ≡ map (λ r. places_from 0 r items.now) (upward 0 reports)) }
 {
     let mut plans = Plans::with_room(alloc, reports, items.len())?;
     for r in 0..reports {
@@ -34,7 +35,8 @@ pub(crate) fn all_plans(
 fn item_codes(item: &MainItem, entries: &[(Usage, Usage)]) -> Codes
     requires elements { is_padding item.now.shape ≡ false → HasElements item.now }
     requires few { length entries.now ≤ MAX_ENTRIES }
-    ensures { is_padding item.now.shape ≡ false → AreCodes item.now (usage_list entries.now) result }
+    ensures { is_padding item.now.shape ≡ false
+        → AreCodes item.now (usage_list entries.now) result }
 {
     match item.shape {
         Shape::Padding => Codes {
@@ -52,8 +54,10 @@ pub(crate) fn all_codes(
     items: &[MainItem],
     lists: &ItemLists,
 ) -> Result<Vec<Codes>, AllocError>
-    requires elements { (i : ℕ) (item : MainItem) → slice_get items.now i ≡ Some item → is_padding item.shape ≡ false → HasElements item }
-    requires few { (i : ℕ) (es : List Entry) → slice_get lists.now.entries i ≡ Some es → length es ≤ MAX_ENTRIES }
+    requires elements { (i : ℕ) (item : MainItem) → slice_get items.now i ≡ Some item
+        → is_padding item.shape ≡ false → HasElements item }
+    requires few { (i : ℕ) (es : List Entry) → slice_get lists.now.entries i ≡ Some es
+        → length es ≤ MAX_ENTRIES }
     requires one_each { length lists.now.entries ≡ length items.now }
     ensures { IfOk result (λ codes. AreAllCodes items.now lists.now.entries codes.items) }
 {

@@ -222,9 +222,12 @@ impl Layout {
     /// The least place of a listed item whose control has a usage.
     fn find_in(&self, item: usize, usage: Usage) -> Option<usize>
         requires { item < length self.now.items }
-        ensures found { IfSome result (λ j. shown_in (form_at (items_of self.now) item) j ≡ Some usage) }
-        ensures least { IfSome result (λ j. (i : ℕ) → i < j → shown_in (form_at (items_of self.now) item) i ≡ Some usage → ⊥) }
-        ensures none { IfNone result ((i : ℕ) → shown_in (form_at (items_of self.now) item) i ≡ Some usage → ⊥) }
+        ensures found { IfSome result (λ j. shown_in (form_at (items_of self.now) item) j
+            ≡ Some usage) }
+        ensures least { IfSome result (λ j. (i : ℕ) → i < j
+            → shown_in (form_at (items_of self.now) item) i ≡ Some usage → ⊥) }
+        ensures none { IfNone result ((i : ℕ)
+            → shown_in (form_at (items_of self.now) item) i ≡ Some usage → ⊥) }
     {
         let entries = self.lists.entries(item);
         let starts = self.lists.starts(item);
@@ -245,8 +248,11 @@ impl Layout {
     /// The least control with a usage: the first item that has one, and its least place there.
     pub fn find(&self, usage: Usage) -> Option<ControlId>
         ensures found { IfSome result (λ c. shown_at (items_of self.now) c ≡ Some usage) }
-        ensures least { IfSome result (λ c. (d : ControlId) → (d.item < c.item) ⊎ ((d.item ≡ c.item) × (d.index < c.index)) → shown_at (items_of self.now) d ≡ Some usage → ⊥) }
-        ensures none { IfNone result ((d : ControlId) → shown_at (items_of self.now) d ≡ Some usage → ⊥) }
+        ensures least { IfSome result (λ c. (d : ControlId)
+            → (d.item < c.item) ⊎ ((d.item ≡ c.item) × (d.index < c.index))
+            → shown_at (items_of self.now) d ≡ Some usage → ⊥) }
+        ensures none { IfNone result ((d : ControlId) → shown_at (items_of self.now) d ≡ Some usage
+            → ⊥) }
     {
         for item in 0..self.items.len() {
             if let Some(index) = self.find_in(item, usage) {
@@ -296,7 +302,8 @@ fn items_of(
 /// Puts the fields together.
 fn lay_out(alloc: Global, listed: ListedFields) -> Result<Layout, AllocError>
     requires { (before : List Spelled) × ListsFields before listed × IsLayout (layout_of before) }
-    ensures { IfOk result (λ layout. (before : List Spelled) → ListsFields before listed → layout ≡ layout_of before) }
+    ensures { IfOk result (λ layout. (before : List Spelled) → ListsFields before listed
+        → layout ≡ layout_of before) }
 {
     let items = items_of(alloc, &listed.reports, &listed.fields)?;
     let ListedFields {
@@ -322,7 +329,8 @@ impl Layout {
     /// memory is wanting the cause is Memory, at 0.
     pub fn parse(alloc: Global, descriptor: &[u8]) -> Result<Layout, LayoutFault>
         // The descriptor's items are accepted, and the layout is theirs.
-        ensures ok { IfOk result (λ layout. (before : List Spelled) × Accepts descriptor.now before × (layout ≡ layout_of before)) }
+        ensures ok { IfOk result (λ layout. (before : List Spelled) × Accepts descriptor.now before
+            × (layout ≡ layout_of before)) }
         // Memory was wanting, or this is the one refusal.
         ensures err { IfErr result (λ f. Explains descriptor.now f.cause f.at) }
     {

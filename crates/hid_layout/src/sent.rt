@@ -138,8 +138,10 @@ fn unnamed_number(item: &MainItem, entries: &[(Usage, Usage)], numbers: &Numbers
     requires high { numbers.now.end ≤ℤ (greatest_value item.now.min item.now.size +ℤ pos 1) }
     requires some { numbers.now.first <ℤ numbers.now.end }
     ensures low { numbers.now.first ≤ℤ result }
-    ensures nothing { result <ℤ numbers.now.end → names_nothing_at item.now (usage_list entries.now) result ≡ true }
-    ensures named { (v : ℤ) → numbers.now.first ≤ℤ v → v <ℤ numbers.now.end → v <ℤ result → names_nothing_at item.now (usage_list entries.now) v ≡ false }
+    ensures nothing { result <ℤ numbers.now.end
+        → names_nothing_at item.now (usage_list entries.now) result ≡ true }
+    ensures named { (v : ℤ) → numbers.now.first ≤ℤ v → v <ℤ numbers.now.end → v <ℤ result
+        → names_nothing_at item.now (usage_list entries.now) v ≡ false }
 {
     if numbers.first < item.min || item.max < numbers.first {
         return numbers.first;
@@ -159,8 +161,11 @@ fn least_nothing(item: &MainItem, entries: &[(Usage, Usage)], numbers: &Numbers)
     requires low { least_value item.now.min item.now.size ≤ℤ numbers.now.first }
     requires high { numbers.now.end ≤ℤ (greatest_value item.now.min item.now.size +ℤ pos 1) }
     requires some { numbers.now.first <ℤ numbers.now.end }
-    ensures some { IfSome result (λ v. IsLeastNothing item.now (usage_list entries.now) numbers.now.first numbers.now.end v) }
-    ensures none { IfNone result (NamesAll item.now (usage_list entries.now) numbers.now.first numbers.now.end) }
+    ensures some { IfSome result
+        (λ v. IsLeastNothing item.now
+        (usage_list entries.now) numbers.now.first numbers.now.end v) }
+    ensures none { IfNone result
+        (NamesAll item.now (usage_list entries.now) numbers.now.first numbers.now.end) }
 {
     let number = unnamed_number(item, entries, numbers);
     if number < numbers.end {

@@ -96,9 +96,13 @@ fn write_item<C: FieldCodec>(
     requires places { HasFewPlaces cell.now }
     requires can { CanSend item.now (sent_at layout.now i cell.now) }
     requires short { length bytes.old ≤ 4096 }
-    requires room { place layout.now item.now + item.now.size * item.now.count ≤ 8 * length bytes.old }
-    ensures written { numbers_in bytes.new (place layout.now item.now) item.now.size (is_negative item.now.min) item.now.count ≡ sent_at layout.now i cell.now }
-    ensures others { (n : ℕ) → IsOutside (place layout.now item.now) (item.now.size * item.now.count) n → bit_of bytes.new n ≡ bit_of bytes.old n }
+    requires room { place layout.now item.now + item.now.size * item.now.count
+        ≤ 8 * length bytes.old }
+    ensures written { numbers_in bytes.new (place layout.now item.now) item.now.size
+        (is_negative item.now.min) item.now.count ≡ sent_at layout.now i cell.now }
+    ensures others { (n : ℕ)
+        → IsOutside (place layout.now item.now) (item.now.size * item.now.count) n
+        → bit_of bytes.new n ≡ bit_of bytes.old n }
 {
     let numbers = send_item(layout, i, item, cell);
     put_all::<C>(
@@ -129,7 +133,9 @@ fn show_item<C: FieldCodec>(
     requires part { CanSendAll layout.now report shown.now }
     requires listed { i < length layout.now.items }
     requires whole { length bytes.old ≡ report_bytes layout.now report }
-    ensures shows { (before : List ℕ) → Shows layout.now report (part_numbers layout.now shown.now) i before bytes.old → Shows layout.now report (part_numbers layout.now shown.now) (i + 1) before bytes.new }
+    ensures shows { (before : List ℕ)
+        → Shows layout.now report (part_numbers layout.now shown.now) i before bytes.old
+        → Shows layout.now report (part_numbers layout.now shown.now) (i + 1) before bytes.new }
     ensures bytes { AreBytes bytes.new }
 {
     let item = item_at(layout, i);
@@ -152,7 +158,9 @@ pub fn encode_report<C: FieldCodec>(
     requires zeros { has_zeros (items_of layout.now) ≡ true }
     // These bytes, and no others, show the part.
     ensures shows { IsEncoding layout.now report (part_numbers layout.now shown.now) result.items }
-    ensures only { (other : List ℕ) → AreBytes other → IsEncoding layout.now report (part_numbers layout.now shown.now) other → other ≡ result.items }
+    ensures only { (other : List ℕ) → AreBytes other
+        → IsEncoding layout.now report (part_numbers layout.now shown.now) other
+        → other ≡ result.items }
 {
     let places = plan_of(layout, report);
     let mut bytes = bare_report(layout, report);
@@ -187,8 +195,12 @@ fn send_elements<'a>(
 ) -> Sending<'a>
     requires codes { AreCodes item.now (usage_list entries.now) codes.now }
     requires elements { HasElements item.now }
-    requires can { CanSend item.now (sent item.now (usage_list entries.now) (form_of item.now (usage_list entries.now) Shape.Variable) cell.now) }
-    ensures { result ≡ sent item.now (usage_list entries.now) (form_of item.now (usage_list entries.now) Shape.Variable) cell.now }
+    requires can { CanSend item.now
+        (sent item.now (usage_list entries.now)
+        (form_of item.now (usage_list entries.now) Shape.Variable) cell.now) }
+    ensures { result
+        ≡ sent item.now (usage_list entries.now)
+        (form_of item.now (usage_list entries.now) Shape.Variable) cell.now }
 {
     match cell {
         Cell::Pressed(flags) => Sending::switches(flags),
@@ -208,9 +220,13 @@ fn send_array<'a>(
     requires codes { AreCodes item.now (usage_list entries.now) codes.now }
     requires elements { HasElements item.now }
     requires few_entries { length entries.now ≤ 64 }
-    requires can { CanSend item.now (sent item.now (usage_list entries.now) (form_of item.now (usage_list entries.now) Shape.Array) cell.now) }
+    requires can { CanSend item.now
+        (sent item.now (usage_list entries.now)
+        (form_of item.now (usage_list entries.now) Shape.Array) cell.now) }
     requires places { HasFewPlaces cell.now }
-    ensures { result ≡ sent item.now (usage_list entries.now) (form_of item.now (usage_list entries.now) Shape.Array) cell.now }
+    ensures { result
+        ≡ sent item.now (usage_list entries.now)
+        (form_of item.now (usage_list entries.now) Shape.Array) cell.now }
 {
     match cell {
         Cell::Pressed(flags) => {

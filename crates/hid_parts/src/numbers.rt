@@ -38,7 +38,8 @@ fn put_number<C: FieldCodec>(bytes: &mut [u8], at: usize, width: u32, number: i6
     requires width { width ≤ 32 }
     requires inside { at + width ≤ 8 * length bytes.old }
     requires fits { FitsEitherSign number width }
-    ensures number { (signed : Bool) → FitsField number width signed → number_at bytes.new at width signed ≡ number }
+    ensures number { (signed : Bool) → FitsField number width signed
+        → number_at bytes.new at width signed ≡ number }
     ensures others { (n : ℕ) → IsOutside at width n → bit_of bytes.new n ≡ bit_of bytes.old n }
 {
     let pattern = to_pattern(number, width);
@@ -59,8 +60,10 @@ pub(crate) fn put_all<C: FieldCodec>(
     requires inside { at + width * count ≤ 8 * length bytes.old }
     requires short { length bytes.old ≤ 4096 }
     requires fits { All (λ v. FitsEitherSign v width) numbers }
-    ensures numbers { (signed : Bool) → All (λ v. FitsField v width signed) numbers.entry → numbers_in bytes.new at width signed count ≡ numbers.entry }
-    ensures others { (n : ℕ) → IsOutside at (width * count) n → bit_of bytes.new n ≡ bit_of bytes.old n }
+    ensures numbers { (signed : Bool) → All (λ v. FitsField v width signed) numbers.entry
+        → numbers_in bytes.new at width signed count ≡ numbers.entry }
+    ensures others { (n : ℕ) → IsOutside at (width * count) n
+        → bit_of bytes.new n ≡ bit_of bytes.old n }
 {
     for k in 0..count {
         put_number::<C>(bytes, at + width as usize * k, width, numbers.next());

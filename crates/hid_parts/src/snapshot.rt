@@ -120,7 +120,8 @@ fn has_direction(controls: &Controls, by: i64) -> bool
 
 fn press(cell: &mut Cell, controls: &Controls, control: ControlId) -> Result<(), ChangeFault>
     requires { HasIndex cell.old control.index }
-    ensures { ChangesCell ControlKind.Switch controls.now cell.old (Change.Press control) result cell.new }
+    ensures { ChangesCell ControlKind.Switch controls.now cell.old
+        (Change.Press control) result cell.new }
 {
     if !is_pressed(cell, control.index) && is_full(controls, cell) {
         return Err(ChangeFault::ArrayFull);
@@ -136,8 +137,10 @@ fn set(
     value: i64,
 ) -> Result<(), ChangeFault>
     requires { HasIndex cell.old control.index }
-    ensures value { ChangesCell ControlKind.Value controls.now cell.old (Change.Set control value) result cell.new }
-    ensures null_value { ChangesCell ControlKind.NullValue controls.now cell.old (Change.Set control value) result cell.new }
+    ensures value { ChangesCell ControlKind.Value controls.now cell.old
+        (Change.Set control value) result cell.new }
+    ensures null_value { ChangesCell ControlKind.NullValue controls.now cell.old
+        (Change.Set control value) result cell.new }
 {
     if !can_hold(controls, value) {
         return Err(ChangeFault::OutOfRange);
@@ -153,7 +156,8 @@ fn shift(
     by: i32,
 ) -> Result<(), ChangeFault>
     requires { HasIndex cell.old control.index }
-    ensures { ChangesCell ControlKind.Relative controls.now cell.old (Change.Move control by) result cell.new }
+    ensures { ChangesCell ControlKind.Relative controls.now cell.old
+        (Change.Move control by) result cell.new }
 {
     if !has_direction(controls, by as i64) {
         return Err(ChangeFault::NoDirection);
@@ -267,7 +271,8 @@ impl Snapshot {
     /// Presses a switch; one that is pressed stays so.
     pub fn press(&mut self, layout: &Layout, control: ControlId) -> Result<(), ChangeFault>
         requires { FitsSnapshot (items_of layout.now) self.old }
-        ensures changes { Changes (items_of layout.now) self.old (Change.Press control) result self.new }
+        ensures changes { Changes (items_of layout.now) self.old
+            (Change.Press control) result self.new }
         ensures fits { FitsSnapshot (items_of layout.now) self.new }
     {
         self.change(layout, &Change::Press(control))
@@ -276,7 +281,8 @@ impl Snapshot {
     /// Releases a switch; one that isn't pressed stays so.
     pub fn release(&mut self, layout: &Layout, control: ControlId) -> Result<(), ChangeFault>
         requires { FitsSnapshot (items_of layout.now) self.old }
-        ensures changes { Changes (items_of layout.now) self.old (Change.Release control) result self.new }
+        ensures changes { Changes (items_of layout.now) self.old
+            (Change.Release control) result self.new }
         ensures fits { FitsSnapshot (items_of layout.now) self.new }
     {
         self.change(layout, &Change::Release(control))
@@ -290,7 +296,8 @@ impl Snapshot {
         value: i64,
     ) -> Result<(), ChangeFault>
         requires { FitsSnapshot (items_of layout.now) self.old }
-        ensures changes { Changes (items_of layout.now) self.old (Change.Set control value) result self.new }
+        ensures changes { Changes (items_of layout.now) self.old
+            (Change.Set control value) result self.new }
         ensures fits { FitsSnapshot (items_of layout.now) self.new }
     {
         self.change(layout, &Change::Set(control, value))
@@ -299,7 +306,8 @@ impl Snapshot {
     /// Sets a value to null.
     pub fn set_null(&mut self, layout: &Layout, control: ControlId) -> Result<(), ChangeFault>
         requires { FitsSnapshot (items_of layout.now) self.old }
-        ensures changes { Changes (items_of layout.now) self.old (Change.Null control) result self.new }
+        ensures changes { Changes (items_of layout.now) self.old
+            (Change.Null control) result self.new }
         ensures fits { FitsSnapshot (items_of layout.now) self.new }
     {
         self.change(layout, &Change::Null(control))
@@ -308,7 +316,8 @@ impl Snapshot {
     /// Moves a relative control: the amount is added to the motion that isn't reported yet.
     pub fn shift(&mut self, layout: &Layout, control: ControlId, by: i32) -> Result<(), ChangeFault>
         requires { FitsSnapshot (items_of layout.now) self.old }
-        ensures changes { Changes (items_of layout.now) self.old (Change.Move control by) result self.new }
+        ensures changes { Changes (items_of layout.now) self.old
+            (Change.Move control by) result self.new }
         ensures fits { FitsSnapshot (items_of layout.now) self.new }
     {
         self.change(layout, &Change::Move(control, by))
@@ -358,7 +367,8 @@ impl Snapshot {
         requires fits { FitsSnapshot (items_of layout.now) self.now }
         requires array { has_keys_at (items_of layout.now) item ≡ true }
         ensures words { result.now ≡ key_words self.now item }
-        ensures keys { AreKeyWords (length (keys_at layout.now item)) (is_pressed (cell_at self.now item)) result.now }
+        ensures keys { AreKeyWords (length (keys_at layout.now item))
+            (is_pressed (cell_at self.now item)) result.now }
     {
         key_words(&self.cells, item)
     }

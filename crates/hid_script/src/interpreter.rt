@@ -93,7 +93,9 @@ impl Interpreter {
 
     /// Carries out a line, without its end.
     pub fn line<W: Write>(&mut self, line: &[u8], writer: &mut W) -> Result<(), Cause>
-        ensures { AppendsTold (W.contents writer.old) (W.contents writer.new) (LineTells (session_of self.old) line.now) (LineBegins (session_of self.old) line.now) result (session_of self.new) }
+        ensures { AppendsTold (W.contents writer.old) (W.contents writer.new)
+            (LineTells (session_of self.old) line.now)
+            (LineBegins (session_of self.old) line.now) result (session_of self.new) }
     {
         let line = parse_line(self.alloc, line)?;
         self.carry_out(&line, writer)
@@ -102,7 +104,10 @@ impl Interpreter {
     /// Carries out a line as often as it says, up to the first time that it is refused. What it tells each time is written
     /// before the next.
     fn carry_out<W: Write>(&mut self, line: &Line, writer: &mut W) -> Result<(), Cause>
-        ensures { AppendsTold (W.contents writer.old) (W.contents writer.new) (CarriesOut (session_of self.old) line.now) (Begins (times line.now) (Once line.now) (session_of self.old)) result (session_of self.new) }
+        ensures { AppendsTold (W.contents writer.old) (W.contents writer.new)
+            (CarriesOut (session_of self.old) line.now)
+            (Begins (times line.now) (Once line.now) (session_of self.old)) result
+            (session_of self.new) }
     {
         for _ in 0..times(line) {
             self.carry_out_once(line, writer)?;
@@ -113,7 +118,8 @@ impl Interpreter {
     /// What a line tells each time.
     #[tactic(auto, unfolding(crate::specs::Telling::Once))]
     fn carry_out_once<W: Write>(&mut self, line: &Line, writer: &mut W) -> Result<(), Cause>
-        ensures { AppendsOnce (W.contents writer.old) (W.contents writer.new) (Once line.now (session_of self.old)) result (session_of self.new) }
+        ensures { AppendsOnce (W.contents writer.old) (W.contents writer.new)
+            (Once line.now (session_of self.old)) result (session_of self.new) }
     {
         match line {
             Line::Nothing => Ok(()),
@@ -145,7 +151,8 @@ impl Interpreter {
 
     /// Prints the layout that a descriptor gives, and keeps it.
     fn lay_out<W: Write>(&mut self, descriptor: &[u8], writer: &mut W) -> Result<(), Cause>
-        ensures { AppendsOnce (W.contents writer.old) (W.contents writer.new) (TellsLayout descriptor.now (session_of self.old)) result (session_of self.new) }
+        ensures { AppendsOnce (W.contents writer.old) (W.contents writer.new)
+            (TellsLayout descriptor.now (session_of self.old)) result (session_of self.new) }
     {
         let layout = Layout::parse(self.alloc, descriptor)?;
         self.text.clear();
@@ -156,7 +163,8 @@ impl Interpreter {
 
     /// Prints the values of a report of the layout that is kept.
     fn tell_values<W: Write>(&mut self, bytes: &[u8], writer: &mut W) -> Result<(), Cause>
-        ensures { AppendsOnce (W.contents writer.old) (W.contents writer.new) (TellsValues bytes.now (session_of self.old)) result (session_of self.new) }
+        ensures { AppendsOnce (W.contents writer.old) (W.contents writer.new)
+            (TellsValues bytes.now (session_of self.old)) result (session_of self.new) }
     {
         let Some(layout) = &self.layout else {
             return Err(Cause::NoLayout);
@@ -175,7 +183,8 @@ impl Interpreter {
         descriptor: &[u8],
         writer: &mut W,
     ) -> Result<(), Cause>
-        ensures { AppendsOnce (W.contents writer.old) (W.contents writer.new) (TellsDevice boot descriptor.now (session_of self.old)) result (session_of self.new) }
+        ensures { AppendsOnce (W.contents writer.old) (W.contents writer.new)
+            (TellsDevice boot descriptor.now (session_of self.old)) result (session_of self.new) }
     {
         let config = Config {
             vendor: VENDOR,
@@ -201,7 +210,8 @@ impl Interpreter {
         wanted: Wanted,
         writer: &mut W,
     ) -> Result<(), Cause>
-        ensures { AppendsOnce (W.contents writer.old) (W.contents writer.new) (TellsChange dev usage wanted (session_of self.old)) result (session_of self.new) }
+        ensures { AppendsOnce (W.contents writer.old) (W.contents writer.new)
+            (TellsChange dev usage wanted (session_of self.old)) result (session_of self.new) }
     {
         let control = self.rig.find(dev, usage)?;
         let change = change_of(wanted, control);
@@ -210,7 +220,8 @@ impl Interpreter {
 
     /// Takes a step of the bus, and prints what it tells.
     fn step<W: Write>(&mut self, step: &Step, writer: &mut W) -> Result<(), Cause>
-        ensures { AppendsOnce (W.contents writer.old) (W.contents writer.new) (TellsStep step.now (session_of self.old)) result (session_of self.new) }
+        ensures { AppendsOnce (W.contents writer.old) (W.contents writer.new)
+            (TellsStep step.now (session_of self.old)) result (session_of self.new) }
     {
         self.delivered.clear();
         let told = self.rig.step(step, &mut self.delivered)?;

@@ -76,7 +76,8 @@ fn print_range(text: &mut String, item: &MainItem) -> Result<(), AllocError>
 
 /// Adds each usage entry behind a space.
 fn print_entries(text: &mut String, entries: &[(Usage, Usage)]) -> Result<(), AllocError>
-    ensures { OnOk result (string_bytes text.new ≡ string_bytes text.old ++ entries_text entries.now) }
+    ensures { OnOk result (string_bytes text.new
+        ≡ string_bytes text.old ++ entries_text entries.now) }
 {
     for entry in entries {
         let range = RangeText(*entry);
@@ -91,7 +92,8 @@ fn print_details(
     item: &MainItem,
     entries: &[(Usage, Usage)],
 ) -> Result<(), AllocError>
-    ensures { OnOk result (string_bytes text.new ≡ string_bytes text.old ++ details_text item.now.shape item.now entries.now) }
+    ensures { OnOk result (string_bytes text.new
+        ≡ string_bytes text.old ++ details_text item.now.shape item.now entries.now) }
 {
     match item.shape {
         Shape::Padding => Ok(()),
@@ -125,7 +127,8 @@ fn print_head(
     report: &Report,
     item: &MainItem,
 ) -> Result<(), AllocError>
-    ensures { OnOk result (string_bytes text.new ≡ string_bytes text.old ++ item_head i report.now item.now) }
+    ensures { OnOk result (string_bytes text.new
+        ≡ string_bytes text.old ++ item_head i report.now item.now) }
 {
     let name = ReportName(*report);
     let MainItem {
@@ -147,7 +150,8 @@ fn print_item(
     entries: &[(Usage, Usage)],
     path: &[Collection],
 ) -> Result<(), AllocError>
-    ensures { OnOk result (string_bytes text.new ≡ string_bytes text.old ++ item_line i report.now item.now entries.now path.now) }
+    ensures { OnOk result (string_bytes text.new
+        ≡ string_bytes text.old ++ item_line i report.now item.now entries.now path.now) }
 {
     print_head(text, i, report, item)?;
     print_details(text, item, entries)?;
@@ -158,7 +162,8 @@ fn print_item(
 /// Adds the line of the item i.
 fn print_item_at(text: &mut String, layout: &Layout, i: usize) -> Result<(), AllocError>
     requires { i < length layout.now.items }
-    ensures { OnOk result (string_bytes text.new ≡ string_bytes text.old ++ item_at layout.now i (slice_get layout.now.items i)) }
+    ensures { OnOk result (string_bytes text.new
+        ≡ string_bytes text.old ++ item_at layout.now i (slice_get layout.now.items i)) }
 {
     let item = &layout.items()[i];
     let report = &layout.reports()[item.report];
@@ -167,7 +172,8 @@ fn print_item_at(text: &mut String, layout: &Layout, i: usize) -> Result<(), All
 
 /// Adds the line of a report.
 fn print_report(text: &mut String, report: &Report, size: usize) -> Result<(), AllocError>
-    ensures { OnOk result (string_bytes text.new ≡ string_bytes text.old ++ report_line report.now size) }
+    ensures { OnOk result (string_bytes text.new
+        ≡ string_bytes text.old ++ report_line report.now size) }
 {
     let name = ReportName(*report);
     writeln!(text, "report {name} bytes {size}")
@@ -176,7 +182,8 @@ fn print_report(text: &mut String, report: &Report, size: usize) -> Result<(), A
 /// Adds the line of the report r.
 fn print_report_at(text: &mut String, layout: &Layout, r: usize) -> Result<(), AllocError>
     requires { r < length layout.now.reports }
-    ensures { OnOk result (string_bytes text.new ≡ string_bytes text.old ++ report_at layout.now r (slice_get layout.now.reports r)) }
+    ensures { OnOk result (string_bytes text.new
+        ≡ string_bytes text.old ++ report_at layout.now r (slice_get layout.now.reports r)) }
 {
     print_report(text, &layout.reports()[r], layout.report_bytes(r))
 }
@@ -184,7 +191,8 @@ fn print_report_at(text: &mut String, layout: &Layout, r: usize) -> Result<(), A
 /// Adds a line for each report, and then one for each item.
 #[tactic(auto, unfolding(crate::specs::LayoutText::layout_lines))]
 fn print_lines(text: &mut String, layout: &Layout) -> Result<(), AllocError>
-    ensures { OnOk result (string_bytes text.new ≡ string_bytes text.old ++ layout_lines layout.now) }
+    ensures { OnOk result (string_bytes text.new
+        ≡ string_bytes text.old ++ layout_lines layout.now) }
 {
     for r in 0..layout.reports().len() {
         print_report_at(text, layout, r)?;
@@ -198,7 +206,8 @@ fn print_lines(text: &mut String, layout: &Layout) -> Result<(), AllocError>
 /// Adds what a layout is printed as.
 #[tactic(auto, unfolding(crate::specs::LayoutText::layout_text))]
 pub fn print_layout(text: &mut String, layout: &Layout) -> Result<(), AllocError>
-    ensures { OnOk result (string_bytes text.new ≡ string_bytes text.old ++ layout_text layout.now) }
+    ensures { OnOk result (string_bytes text.new
+        ≡ string_bytes text.old ++ layout_text layout.now) }
 {
     if layout.reports().is_empty() {
         return text.push_str("no reports\n");

@@ -22,7 +22,8 @@ fn print_bytes(text: &mut String, bytes: &[u8]) -> Result<(), AllocError>
 
 /// Adds the name of a packet that a device sends, and of data each byte.
 fn print_packet(text: &mut String, packet: &Packet) -> Result<(), AllocError>
-    ensures { OnOk result (string_bytes text.new ≡ string_bytes text.old ++ packet_words packet.now) }
+    ensures { OnOk result (string_bytes text.new
+        ≡ string_bytes text.old ++ packet_words packet.now) }
 {
     match packet {
         Packet::Data {
@@ -73,7 +74,8 @@ pub fn print_poll(
     reply: Option<&[u8]>,
     took: &Took,
 ) -> Result<(), AllocError>
-    ensures { OnOk result (string_bytes text.new ≡ string_bytes text.old ++ poll_text dev (option_copied reply.entry) took.now) }
+    ensures { OnOk result (string_bytes text.new
+        ≡ string_bytes text.old ++ poll_text dev (option_copied reply.entry) took.now) }
 {
     write!(text, "{dev} poll ")?;
     match reply {

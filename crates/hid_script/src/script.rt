@@ -28,7 +28,8 @@ impl Script {
     ghost use Rattle.hid_script.specs.Script.{place_of};
 
     pub fn new(interpreter: Interpreter) -> Self
-        ensures { place_of result ≡ record { session = session_of interpreter; begun = []; lines = 0 } }
+        ensures { place_of result
+            ≡ record { session = session_of interpreter; begun = []; lines = 0 } }
     {
         Script {
             interpreter,
@@ -40,7 +41,8 @@ impl Script {
     /// Takes the next bytes, and runs each line that they end.
     pub fn feed<W: Write>(&mut self, bytes: &[u8], writer: &mut W) -> Result<(), ScriptFault>
         requires { self.old.lines + length bytes.now < 2 ^ 64 - 1 }
-        ensures taken { AppendsTaken (W.contents writer.old) (W.contents writer.new) (place_of self.old) bytes.now result (place_of self.new) }
+        ensures taken { AppendsTaken (W.contents writer.old) (W.contents writer.new)
+            (place_of self.old) bytes.now result (place_of self.new) }
         ensures count { self.new.lines ≤ self.old.lines + length bytes.now }
     {
         for byte in bytes {
@@ -51,7 +53,8 @@ impl Script {
 
     fn take<W: Write>(&mut self, byte: u8, writer: &mut W) -> Result<(), ScriptFault>
         requires { self.old.lines < 2 ^ 64 - 1 }
-        ensures taken { AppendsTaken (W.contents writer.old) (W.contents writer.new) (place_of self.old) (byte ∷ []) result (place_of self.new) }
+        ensures taken { AppendsTaken (W.contents writer.old) (W.contents writer.new)
+            (place_of self.old) (byte ∷ []) result (place_of self.new) }
         ensures count { self.new.lines ≤ self.old.lines + 1 }
     {
         if byte == LINE_FEED {
@@ -67,7 +70,8 @@ impl Script {
     // A line feed came.
     fn end_line<W: Write>(&mut self, writer: &mut W) -> Result<(), ScriptFault>
         requires { self.old.lines < 2 ^ 64 - 1 }
-        ensures taken { AppendsTaken (W.contents writer.old) (W.contents writer.new) (place_of self.old) (10 ∷ []) result (place_of self.new) }
+        ensures taken { AppendsTaken (W.contents writer.old) (W.contents writer.new)
+            (place_of self.old) (10 ∷ []) result (place_of self.new) }
         ensures count { self.new.lines ≤ self.old.lines + 1 }
     {
         let line = without_return(self.begun.as_slice());
@@ -82,7 +86,8 @@ impl Script {
     /// Runs the line that has begun, if it has a byte: the script is at its end.
     pub fn finish<W: Write>(&mut self, writer: &mut W) -> Result<Summary, ScriptFault>
         requires { self.old.lines < 2 ^ 64 - 1 }
-        ensures ran { AppendsRun (W.contents writer.old) (W.contents writer.new) (place_of self.old) result }
+        ensures ran { AppendsRun (W.contents writer.old) (W.contents writer.new)
+            (place_of self.old) result }
         ensures counted { IfOk result (λ summary. summary.lines ≡ self.new.lines) }
         ensures count { self.new.lines ≤ self.old.lines + 1 }
     {

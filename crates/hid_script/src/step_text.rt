@@ -10,7 +10,8 @@ use std::alloc::AllocError;
 
 /// Adds a line for each event.
 fn print_events(text: &mut String, delivered: &[Delivered]) -> Result<(), AllocError>
-    ensures { OnOk result (string_bytes text.new ≡ string_bytes text.old ++ events_text delivered.now) }
+    ensures { OnOk result (string_bytes text.new
+        ≡ string_bytes text.old ++ events_text delivered.now) }
 {
     for event in delivered {
         let Delivered { dev, event } = *event;
@@ -22,7 +23,8 @@ fn print_events(text: &mut String, delivered: &[Delivered]) -> Result<(), AllocE
 
 /// Adds the line of a poll; other steps have none.
 fn print_told(text: &mut String, step: &Step, told: &Told) -> Result<(), AllocError>
-    ensures { OnOk result (string_bytes text.new ≡ string_bytes text.old ++ told_text step.now told.now) }
+    ensures { OnOk result (string_bytes text.new
+        ≡ string_bytes text.old ++ told_text step.now told.now) }
 {
     match (step, told) {
         (Step::Poll { dev, .. }, Told::Polled { reply, took }) => match reply {
@@ -42,7 +44,8 @@ pub fn print_step(
     told: &Told,
     delivered: &[Delivered],
 ) -> Result<(), AllocError>
-    ensures { OnOk result (string_bytes text.new ≡ string_bytes text.old ++ step_text trace step.now told.now delivered.now) }
+    ensures { OnOk result (string_bytes text.new
+        ≡ string_bytes text.old ++ step_text trace step.now told.now delivered.now) }
 {
     if trace {
         print_told(text, step, told)?;

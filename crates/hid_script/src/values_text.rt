@@ -54,7 +54,8 @@ fn print_value(
     number: i64,
     usage: Option<Usage>,
 ) -> Result<(), AllocError>
-    ensures { OnOk result (string_bytes text.new ≡ string_bytes text.old ++ value_line i j number usage) }
+    ensures { OnOk result (string_bytes text.new
+        ≡ string_bytes text.old ++ value_line i j number usage) }
 {
     let usage = UsageOrDash(usage);
     writeln!(text, "value {i}.{j} {number} {usage}")
@@ -70,8 +71,10 @@ fn print_element(
     j: usize,
 ) -> Result<(), AllocError>
     requires item { i < length layout.now.items }
-    requires whole { IfSome (slice_get layout.now.items i) (λ item. report_bytes layout.now item.report ≤ length bytes.now) }
-    ensures { OnOk result (string_bytes text.new ≡ string_bytes text.old ++ value_at layout.now bytes.now i j) }
+    requires whole { IfSome (slice_get layout.now.items i)
+        (λ item. report_bytes layout.now item.report ≤ length bytes.now) }
+    ensures { OnOk result (string_bytes text.new
+        ≡ string_bytes text.old ++ value_at layout.now bytes.now i j) }
 {
     let item = &layout.items()[i];
     if layout.element(i, j).is_none() {
@@ -91,8 +94,10 @@ fn print_elements(
     count: usize,
 ) -> Result<(), AllocError>
     requires item { i < length layout.now.items }
-    requires whole { IfSome (slice_get layout.now.items i) (λ item. report_bytes layout.now item.report ≤ length bytes.now) }
-    ensures { OnOk result (string_bytes text.new ≡ string_bytes text.old ++ joined_below count (value_at layout.now bytes.now i)) }
+    requires whole { IfSome (slice_get layout.now.items i)
+        (λ item. report_bytes layout.now item.report ≤ length bytes.now) }
+    ensures { OnOk result (string_bytes text.new
+        ≡ string_bytes text.old ++ joined_below count (value_at layout.now bytes.now i)) }
 {
     for j in 0..count {
         print_element(text, layout, bytes, i, j)?;
@@ -111,7 +116,8 @@ fn print_values_at(
 ) -> Result<(), AllocError>
     requires item { i < length layout.now.items }
     requires whole { report_bytes layout.now r ≤ length bytes.now }
-    ensures { OnOk result (string_bytes text.new ≡ string_bytes text.old ++ values_at layout.now r bytes.now i) }
+    ensures { OnOk result (string_bytes text.new
+        ≡ string_bytes text.old ++ values_at layout.now r bytes.now i) }
 {
     let item = &layout.items()[i];
     if item.report == r {
@@ -130,7 +136,8 @@ pub fn print_values(
     bytes: &[u8],
 ) -> Result<(), AllocError>
     requires { report_bytes layout.now r ≤ length bytes.now }
-    ensures { OnOk result (string_bytes text.new ≡ string_bytes text.old ++ values_text layout.now r bytes.now) }
+    ensures { OnOk result (string_bytes text.new
+        ≡ string_bytes text.old ++ values_text layout.now r bytes.now) }
 {
     for i in 0..layout.items().len() {
         print_values_at(text, layout, r, bytes, i)?;

@@ -27,7 +27,8 @@ pub fn run<R: Read, W: Write>(
     writer: &mut W,
     options: Options,
 ) -> Result<Summary, ScriptFault>
-    ensures { AppendsScript options (R.remaining reader.old) (W.contents writer.old) (W.contents writer.new) result }
+    ensures { AppendsScript options (R.remaining reader.old) (W.contents writer.old)
+        (W.contents writer.new) result }
 {
     let end = run_lines(alloc, reader, writer, options);
     let flushed = writer.flush();
@@ -50,7 +51,8 @@ fn run_lines<R: Read, W: Write>(
     writer: &mut W,
     options: Options,
 ) -> Result<Summary, ScriptFault>
-    ensures ran { AppendsScript options (R.remaining reader.old) (W.contents writer.old) (W.contents writer.new) result }
+    ensures ran { AppendsScript options (R.remaining reader.old) (W.contents writer.old)
+        (W.contents writer.new) result }
     ensures count { IfOk result (λ summary. summary.lines ≤ 4096 * 1000000) }
 {
     let interpreter = match Interpreter::new(alloc, options) {

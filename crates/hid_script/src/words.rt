@@ -29,7 +29,8 @@ pub fn words_of_line(alloc: Global, line: &[u8]) -> Result<Vec<&[u8]>, AllocErro
 
 // What stands between spaces and tabs, also where nothing does.
 fn parts_of_line(alloc: Global, line: &[u8]) -> Result<Vec<&[u8]>, AllocError>
-    ensures { IfOk result (λ parts. map (λ part. part.now) parts.items ≡ slice_split is_blank line.now) }
+    ensures { IfOk result (λ parts. map (λ part. part.now) parts.items
+        ≡ slice_split is_blank line.now) }
 {
     line.split(|byte| *byte == b' ' || *byte == b'\t')
         .collect(alloc)
@@ -52,8 +53,10 @@ pub fn look_up<T: Copy>(table: &[(&[u8], T)], word: &[u8]) -> Option<T>
 fn read_hex_word(word: &[u8], bytes: &mut ArrayVec<u8, HEX_LIMIT>) -> Result<(), Cause>
     requires { 2 * array_vec_len bytes.old + length word.now ≤ 1024 }
     ensures pairs { is_ok result ≡ is_ok (decode_of word.now) }
-    ensures bytes { OnOk result (bytes.new.items ≡ bytes.old.items ++ result_unwrap_or (decode_of word.now) []) }
-    ensures count { OnOk result (2 * array_vec_len bytes.new ≤ 2 * array_vec_len bytes.old + length word.now) }
+    ensures bytes { OnOk result (bytes.new.items
+        ≡ bytes.old.items ++ result_unwrap_or (decode_of word.now) []) }
+    ensures count { OnOk result (2 * array_vec_len bytes.new
+        ≤ 2 * array_vec_len bytes.old + length word.now) }
     ensures err { IfErr result (λ cause. cause ≡ Cause.BadHex) }
 {
     let count = word.len() / 2;

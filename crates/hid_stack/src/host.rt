@@ -63,7 +63,8 @@ impl HostDevice {
     pub fn ready(alloc: Global, addr: u8, descriptor: &[u8]) -> Result<HostDevice, StackFault>
         requires above { 0 < addr }
         requires addr { addr ≤ MAX_ADDRESS }
-        ensures ready { IfOk result (λ host. (before : List Spelled) × Accepts descriptor.now before × (host ≡ ready_host addr (layout_of before))) }
+        ensures ready { IfOk result (λ host. (before : List Spelled) × Accepts descriptor.now before
+            × (host ≡ ready_host addr (layout_of before))) }
         ensures is_ready { IfOk result (λ host. IsReady host.phase) }
         ensures refused { IfErr result (λ fault. IsNoLayout descriptor.now fault) }
     {
@@ -125,13 +126,20 @@ impl HostDevice {
         out: &mut Vec<Event>,
     ) -> Result<Took, StackFault>
         requires ready { IsReady self.old.phase }
-        requires room { IfReady self.old.phase (λ host. vec_len out.old + max_events (items_of host.layout) ≤ vec_capacity out.old) }
+        requires room { IfReady self.old.phase (λ host. vec_len out.old
+            + max_events (items_of host.layout) ≤ vec_capacity out.old) }
         // What is told, what the host keeps, and the events.
-        ensures told { IfReady self.old.phase (λ host. result ≡ told_of host.layout (taken host.pipe.expects (option_copied packet.entry))) }
-        ensures after { IfReady self.old.phase (λ host. self.new ≡ ready_after self.old.addr host (taken host.pipe.expects (option_copied packet.entry))) }
-        ensures events { IfReady self.old.phase (λ host. out.new.items ≡ out.old.items ++ events_behind host (taken host.pipe.expects (option_copied packet.entry))) }
+        ensures told { IfReady self.old.phase (λ host. result
+            ≡ told_of host.layout (taken host.pipe.expects (option_copied packet.entry))) }
+        ensures after { IfReady self.old.phase (λ host. self.new
+            ≡ ready_after self.old.addr host
+            (taken host.pipe.expects (option_copied packet.entry))) }
+        ensures events { IfReady self.old.phase (λ host. out.new.items
+            ≡ out.old.items
+            ++ events_behind host (taken host.pipe.expects (option_copied packet.entry))) }
 
-        ensures few { IfReady self.old.phase (λ host. length out.new.items ≤ length out.old.items + max_events (items_of host.layout)) }
+        ensures few { IfReady self.old.phase (λ host. length out.new.items
+            ≤ length out.old.items + max_events (items_of host.layout)) }
         ensures room { vec_capacity out.new ≡ vec_capacity out.old }
         ensures is_ready { IsReady self.new.phase }
     {

@@ -36,11 +36,16 @@ pub fn one_attaching()
 /// Steps neither lose nor double the motion of a control: what a station had of it and what accepted moves added is what
 /// was told of it and what the station still has. A station keeps its motions behind any steps.
 pub fn motion_is_kept()
-    ensures kept { (items : List Item) (s : Station) → HasMotions items s → (steps : List OwnStep) → KeepsMotion items s steps }
-    ensures accepted { (items : List Item) (s : Station) → HasMotions items s → (steps : List OwnStep) → are_accepted items s steps ≡ true → KeepsAccepted items s steps }
-    ensures suits { (items : List Item) (s : Station) → FitsSnapshot items s.standing.snapshot → FitsShown items s.standing.fixed → FitsView items s.view → HasMotions items s }
-    ensures fresh { (items : List Item) (idle : List ℕ) → HasMotions items (fresh items (blank items) idle) }
-    ensures after { (items : List Item) (s : Station) (steps : List OwnStep) → HasMotions items s → HasMotions items (after_all items s steps) }
+    ensures kept { (items : List Item) (s : Station) → HasMotions items s → (steps : List OwnStep)
+        → KeepsMotion items s steps }
+    ensures accepted { (items : List Item) (s : Station) → HasMotions items s
+        → (steps : List OwnStep) → are_accepted items s steps ≡ true → KeepsAccepted items s steps }
+    ensures suits { (items : List Item) (s : Station) → FitsSnapshot items s.standing.snapshot
+        → FitsShown items s.standing.fixed → FitsView items s.view → HasMotions items s }
+    ensures fresh { (items : List Item) (idle : List ℕ)
+        → HasMotions items (fresh items (blank items) idle) }
+    ensures after { (items : List Item) (s : Station) (steps : List OwnStep) → HasMotions items s
+        → HasMotions items (after_all items s steps) }
 {}
 
 /// The same over steps of a bus, of each device and control.
@@ -48,5 +53,6 @@ pub fn motion_sums_up()
     ensures sums { (before behind : List Member) (steps : List BusStep) (old new : List Delivered)
         → AllHaveMotions before → behind ≡ bus_after_all before steps → new ≡ old ++ delivered_in before steps
         → SumsUp before behind steps old new }
-    ensures after { (members : List Member) (steps : List BusStep) → AllHaveMotions members → AllHaveMotions (bus_after_all members steps) }
+    ensures after { (members : List Member) (steps : List BusStep) → AllHaveMotions members
+        → AllHaveMotions (bus_after_all members steps) }
 {}

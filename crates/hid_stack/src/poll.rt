@@ -85,10 +85,12 @@ fn transact<B: Bus>(
 ) -> Result<Told, StackFault>
     requires ready { IsReady host.old.phase }
     requires none { events.old.items ≡ [] }
-    requires room { IfReady host.old.phase (λ known. max_events (items_of known.layout) ≤ vec_capacity events.old) }
+    requires room { IfReady host.old.phase (λ known. max_events (items_of known.layout)
+        ≤ vec_capacity events.old) }
     ensures transacts { IfReady host.old.phase (λ known.
         Transacts (B.arrives bus.now) device.old host.old.addr known result device.new host.new events.new.items) }
-    ensures few { IfReady host.old.phase (λ known. length events.new.items ≤ max_events (items_of known.layout)) }
+    ensures few { IfReady host.old.phase (λ known. length events.new.items
+        ≤ max_events (items_of known.layout)) }
     ensures capacity { vec_capacity events.new ≡ vec_capacity events.old }
 {
     let token = host.token()?;
@@ -112,11 +114,15 @@ pub(crate) fn poll(
 ) -> Told
     requires pair { IsPair device.old host.old.phase }
     requires room { max_events (items_of device.old.core.layout) ≤ vec_capacity events.old }
-    ensures told { TellsPoll device.old.core.layout (station_of device.old.core host.old.phase) fate result }
-    ensures after { joint device.new host.new ≡ member_after (joint device.old host.old) (Polls fate) }
+    ensures told { TellsPoll device.old.core.layout
+        (station_of device.old.core host.old.phase) fate result }
+    ensures after { joint device.new host.new
+        ≡ member_after (joint device.old host.old) (Polls fate) }
     ensures pair { IsPair device.new host.new.phase }
     ensures home { host.new.addr ≡ host.old.addr }
-    ensures events { events.new.items ≡ events_at (items_of device.old.core.layout) (station_of device.old.core host.old.phase) (Polls fate) }
+    ensures events { events.new.items
+        ≡ events_at (items_of device.old.core.layout) (station_of device.old.core host.old.phase)
+        (Polls fate) }
     ensures few { length events.new.items ≤ max_events (items_of device.old.core.layout) }
     ensures capacity { vec_capacity events.new ≡ vec_capacity events.old }
 {

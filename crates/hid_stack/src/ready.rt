@@ -96,11 +96,17 @@ impl ReadyHost {
         packet: Option<&Packet>,
         out: &mut Vec<Event>,
     ) -> Result<Took, StackFault>
-        requires room { vec_len out.old + max_events (items_of self.old.layout) ≤ vec_capacity out.old }
-        ensures told { result ≡ told_of self.old.layout (taken self.old.pipe.expects (option_copied packet.entry)) }
-        ensures after { self.new ≡ known_behind self.old (taken self.old.pipe.expects (option_copied packet.entry)) }
-        ensures events { out.new.items ≡ out.old.items ++ events_behind self.old (taken self.old.pipe.expects (option_copied packet.entry)) }
-        ensures few { length out.new.items ≤ length out.old.items + max_events (items_of self.old.layout) }
+        requires room { vec_len out.old + max_events (items_of self.old.layout)
+            ≤ vec_capacity out.old }
+        ensures told { result
+            ≡ told_of self.old.layout (taken self.old.pipe.expects (option_copied packet.entry)) }
+        ensures after { self.new
+            ≡ known_behind self.old (taken self.old.pipe.expects (option_copied packet.entry)) }
+        ensures events { out.new.items
+            ≡ out.old.items
+            ++ events_behind self.old (taken self.old.pipe.expects (option_copied packet.entry)) }
+        ensures few { length out.new.items
+            ≤ length out.old.items + max_events (items_of self.old.layout) }
         ensures room { vec_capacity out.new ≡ vec_capacity out.old }
     {
         let took = self.pipe.take(packet);

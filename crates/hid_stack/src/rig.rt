@@ -91,7 +91,8 @@ impl Rig {
     /// The place of a device among the slots.
     fn place(&self, dev: u8) -> Result<usize, StackFault>
         ensures place { IfOk result (λ i. (dev ≡ i + 1) × (i < length self.now)) }
-        ensures none { IfErr result (λ fault. (fault ≡ StackFault.NoDevice) × (member_at self.now dev ≡ None)) }
+        ensures none { IfErr result (λ fault. (fault ≡ StackFault.NoDevice)
+            × (member_at self.now dev ≡ None)) }
     {
         let dev = dev as usize;
         if dev == 0 || dev > self.slots.len() {
@@ -114,7 +115,8 @@ impl Rig {
     /// A device.
     pub fn device(&self, dev: u8) -> Result<&Device, StackFault>
         ensures shows { IfOk result (λ device. GivesOf ShowsDevice self.now dev device.now) }
-        ensures none { IfErr result (λ fault. (fault ≡ StackFault.NoDevice) × (member_at self.now dev ≡ None)) }
+        ensures none { IfErr result (λ fault. (fault ≡ StackFault.NoDevice)
+            × (member_at self.now dev ≡ None)) }
     {
         let i = self.place(dev)?;
         Ok(self.slots[i].device())
@@ -123,7 +125,8 @@ impl Rig {
     /// The host of a device.
     pub fn host(&self, dev: u8) -> Result<&HostDevice, StackFault>
         ensures shows { IfOk result (λ host. GivesOf ShowsHost self.now dev host.now) }
-        ensures none { IfErr result (λ fault. (fault ≡ StackFault.NoDevice) × (member_at self.now dev ≡ None)) }
+        ensures none { IfErr result (λ fault. (fault ≡ StackFault.NoDevice)
+            × (member_at self.now dev ≡ None)) }
     {
         let i = self.place(dev)?;
         Ok(self.slots[i].host())
@@ -134,7 +137,8 @@ impl Rig {
         // What it tells, where the bus stands after it, and what it delivers.
         ensures told { IfOk result (λ told. Tells self.old step.now told) }
         ensures after { OnOk result (self.new ≡ bus_after self.old step.now) }
-        ensures events { OnOk result (out.new.items ≡ out.old.items ++ delivered_at self.old step.now) }
+        ensures events { OnOk result (out.new.items
+            ≡ out.old.items ++ delivered_at self.old step.now) }
 
         // Each refusal comes exactly where its cause stands, memory aside, and changes nothing.
         ensures refused { (e : StackFault) → refusal self.old step.now ≡ Some e → result ≡ Err e }
@@ -142,7 +146,8 @@ impl Rig {
         ensures err { OnErr result ((self.new ≡ self.old) × (out.new.items ≡ out.old.items)) }
 
         // With room for what a poll delivers, memory is never wanting. A step fills no more than that, and gives none back.
-        ensures room { HasRoomFor self.old step.now (vec_len out.old) (vec_capacity out.old) → result ≢ Err StackFault.Memory }
+        ensures room { HasRoomFor self.old step.now (vec_len out.old) (vec_capacity out.old)
+            → result ≢ Err StackFault.Memory }
         ensures few { vec_len out.new ≤ vec_len out.old + most_events self.old step.now }
         ensures capacity { vec_capacity out.old ≤ vec_capacity out.new }
     {
@@ -179,27 +184,35 @@ impl Rig {
 
         // Where the bus stands, and what was delivered.
         ensures after { OnOk result (self.new ≡ bus_after_all self.old steps.now) }
-        ensures events { OnOk result (out.new.items ≡ out.old.items ++ delivered_in self.old steps.now) }
+        ensures events { OnOk result (out.new.items
+            ≡ out.old.items ++ delivered_in self.old steps.now) }
 
         // Each device by itself.
-        ensures isolated { OnOk result (IsIsolated self.old self.new steps.now out.old.items out.new.items) }
+        ensures isolated { OnOk result
+            (IsIsolated self.old self.new steps.now out.old.items out.new.items) }
 
         // Motion is neither lost nor doubled.
-        ensures conserves { OnOk result (SumsUp self.old self.new steps.now out.old.items out.new.items) }
-        ensures err_conserves { IfErr result (λ e. SumsUp self.old self.new (take e.at steps.now) out.old.items out.new.items) }
+        ensures conserves { OnOk result
+            (SumsUp self.old self.new steps.now out.old.items out.new.items) }
+        ensures err_conserves { IfErr result
+            (λ e. SumsUp self.old self.new (take e.at steps.now) out.old.items out.new.items) }
 
         // A run stops at its first refusal, and the steps before it stand.
         ensures stops { IfErr result (λ e. StopsAt self.old steps.now e.at e.fault) }
-        ensures err_after { IfErr result (λ e. self.new ≡ bus_after_all self.old (take e.at steps.now)) }
-        ensures err_events { IfErr result (λ e. out.new.items ≡ out.old.items ++ delivered_in self.old (take e.at steps.now)) }
+        ensures err_after { IfErr result (λ e. self.new
+            ≡ bus_after_all self.old (take e.at steps.now)) }
+        ensures err_events { IfErr result (λ e. out.new.items
+            ≡ out.old.items ++ delivered_in self.old (take e.at steps.now)) }
         ensures err_headline { IfErr result (λ e. (device : ℕ) (m : Member) (snapshot : List Cell) (idle : List ℕ)
             → member_at self.old device ≡ Some m → m.station ≡ fresh (items_of m.layout) snapshot idle
             → from_device device out.new.items
             ≡ from_device device out.old.items ++ events_of_epoch (items_of m.layout) snapshot idle (own device (take e.at steps.now))) }
-        ensures err_isolated { IfErr result (λ e. IsIsolated self.old self.new (take e.at steps.now) out.old.items out.new.items) }
+        ensures err_isolated { IfErr result
+            (λ e. IsIsolated self.old self.new (take e.at steps.now) out.old.items out.new.items) }
 
         // With room for all that its polls can deliver, memory is never wanting.
-        ensures room { vec_len out.old + most_in self.old steps.now ≤ vec_capacity out.old → IfErr result (λ e. e.fault ≢ StackFault.Memory) }
+        ensures room { vec_len out.old + most_in self.old steps.now ≤ vec_capacity out.old
+            → IfErr result (λ e. e.fault ≢ StackFault.Memory) }
     {
         let _slots = &self.slots;
         for (at, step) in steps.iter().enumerate() {

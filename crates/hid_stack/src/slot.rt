@@ -52,7 +52,8 @@ impl Model for Slot {
 
 /// What a want of a device is told as.
 fn no_device(fault: DeviceFault) -> StackFault
-    ensures { (addr : ℕ) (config : ConfigValue) (bytes : List ℕ) → Refuses addr config bytes fault.cause fault.at → IsNoPair addr config bytes result }
+    ensures { (addr : ℕ) (config : ConfigValue) (bytes : List ℕ)
+        → Refuses addr config bytes fault.cause fault.at → IsNoPair addr config bytes result }
 {
     let is_memory = match fault.cause {
         DeviceCause::Memory => true,
@@ -91,7 +92,9 @@ impl Slot {
         config: &Config,
         descriptor: &[u8],
     ) -> Result<Slot, StackFault>
-        ensures ready { IfOk result (λ slot. (layout : Contents) × Suits addr config.now descriptor.now layout × (slot ≡ fresh_member addr config.now descriptor.now layout)) }
+        ensures ready { IfOk result (λ slot. (layout : Contents)
+            × Suits addr config.now descriptor.now layout
+            × (slot ≡ fresh_member addr config.now descriptor.now layout)) }
         ensures refused { IfErr result (λ fault. IsNoPair addr config.now descriptor.now fault) }
     {
         one_reading();
@@ -117,7 +120,9 @@ impl Slot {
 
     /// Changes a control of the device. A change that is refused changes nothing.
     pub(crate) fn change(&mut self, change: Change) -> Result<(), ChangeFault>
-        ensures changes { Changes (items_of self.old.layout) self.old.station.standing.snapshot change result self.new.station.standing.snapshot }
+        ensures changes { Changes
+            (items_of self.old.layout) self.old.station.standing.snapshot change result
+            self.new.station.standing.snapshot }
         ensures after { self.new ≡ member_after self.old (ChangeStep change) }
     {
         let result = self.device.change(change);
@@ -166,7 +171,8 @@ impl Slot {
             ≡ out.old.items ++ map (tagged dev) (events_at (items_of self.old.layout) self.old.station (Polls fate))) }
         ensures memory { IfErr result (λ fault. fault ≡ StackFault.Memory) }
         ensures err { OnErr result ((self.new ≡ self.old) × (out.new.items ≡ out.old.items)) }
-        ensures room { vec_len out.old + max_events (items_of self.old.layout) ≤ vec_capacity out.old → IsOk result }
+        ensures room { vec_len out.old + max_events (items_of self.old.layout)
+            ≤ vec_capacity out.old → IsOk result }
         ensures few { vec_len out.new ≤ vec_len out.old + max_events (items_of self.old.layout) }
         ensures capacity { vec_capacity out.old ≤ vec_capacity out.new }
     {

@@ -61,10 +61,24 @@ fn take_bit(
     requires index { index < length (usages_at layout.now i) }
     requires held { length held.old ≡ length (usages_at layout.now i) }
     requires few { length held.old ≤ 32 }
-    requires room { (usage : UsageValue) (before : Bool) → slice_get (usages_at layout.now i) index ≡ Some usage → slice_get held.old index ≡ Some before → vec_len out.old + length (switch_event (at i index) usage before (bit_at pattern index == 1)) ≤ vec_capacity out.old }
+    requires room { (usage : UsageValue) (before : Bool)
+        → slice_get (usages_at layout.now i) index ≡ Some usage
+        → slice_get held.old index ≡ Some before
+        → vec_len out.old
+        + length (switch_event (at i index) usage before (bit_at pattern index == 1))
+        ≤ vec_capacity out.old }
     ensures held { held.new ≡ slice_set held.old index (bit_at pattern index == 1) }
-    ensures events { (usage : UsageValue) (before : Bool) → slice_get (usages_at layout.now i) index ≡ Some usage → slice_get held.old index ≡ Some before → out.new.items ≡ out.old.items ++ switch_event (at i index) usage before (bit_at pattern index == 1) }
-    ensures len { (usage : UsageValue) (before : Bool) → slice_get (usages_at layout.now i) index ≡ Some usage → slice_get held.old index ≡ Some before → vec_len out.new ≡ vec_len out.old + length (switch_event (at i index) usage before (bit_at pattern index == 1)) }
+    ensures events { (usage : UsageValue) (before : Bool)
+        → slice_get (usages_at layout.now i) index ≡ Some usage
+        → slice_get held.old index ≡ Some before
+        → out.new.items
+        ≡ out.old.items ++ switch_event (at i index) usage before (bit_at pattern index == 1) }
+    ensures len { (usage : UsageValue) (before : Bool)
+        → slice_get (usages_at layout.now i) index ≡ Some usage
+        → slice_get held.old index ≡ Some before
+        → vec_len out.new
+        ≡ vec_len out.old
+        + length (switch_event (at i index) usage before (bit_at pattern index == 1)) }
     ensures room { vec_capacity out.new ≡ vec_capacity out.old }
 {
     let before = held.get(index);
@@ -76,10 +90,17 @@ fn take_bit(
 fn take_each_bit(layout: &Layout, i: usize, pattern: u32, held: &mut Flags, out: &mut Vec<Event>)
     requires held { length held.old ≡ length (usages_at layout.now i) }
     requires few { length held.old ≤ 32 }
-    requires room { vec_len out.old + length (switch_events i (usages_at layout.now i) held.old (bits_in (length held.old) pattern)) ≤ vec_capacity out.old }
+    requires room { vec_len out.old
+        + length (switch_events i (usages_at layout.now i) held.old
+        (bits_in (length held.old) pattern)) ≤ vec_capacity out.old }
     ensures held { held.new ≡ bits_in (length held.old) pattern }
-    ensures events { out.new.items ≡ out.old.items ++ switch_events i (usages_at layout.now i) held.old (bits_in (length held.old) pattern) }
-    ensures len { vec_len out.new ≡ vec_len out.old + length (switch_events i (usages_at layout.now i) held.old (bits_in (length held.old) pattern)) }
+    ensures events { out.new.items
+        ≡ out.old.items
+        ++ switch_events i (usages_at layout.now i) held.old (bits_in (length held.old) pattern) }
+    ensures len { vec_len out.new
+        ≡ vec_len out.old
+        + length (switch_events i (usages_at layout.now i) held.old
+        (bits_in (length held.old) pattern)) }
     ensures room { vec_capacity out.new ≡ vec_capacity out.old }
 {
     for index in 0..held.len() {
@@ -97,10 +118,17 @@ pub(crate) fn take_bits(
 )
     requires held { length held.old ≡ length (usages_at layout.now i) }
     requires few { length held.old ≤ 32 }
-    requires room { vec_len out.old + length (switch_events i (usages_at layout.now i) held.old (bits_in (length held.old) pattern)) ≤ vec_capacity out.old }
+    requires room { vec_len out.old
+        + length (switch_events i (usages_at layout.now i) held.old
+        (bits_in (length held.old) pattern)) ≤ vec_capacity out.old }
     ensures held { held.new ≡ bits_in (length held.old) pattern }
-    ensures events { out.new.items ≡ out.old.items ++ switch_events i (usages_at layout.now i) held.old (bits_in (length held.old) pattern) }
-    ensures len { vec_len out.new ≡ vec_len out.old + length (switch_events i (usages_at layout.now i) held.old (bits_in (length held.old) pattern)) }
+    ensures events { out.new.items
+        ≡ out.old.items
+        ++ switch_events i (usages_at layout.now i) held.old (bits_in (length held.old) pattern) }
+    ensures len { vec_len out.new
+        ≡ vec_len out.old
+        + length (switch_events i (usages_at layout.now i) held.old
+        (bits_in (length held.old) pattern)) }
     ensures room { vec_capacity out.new ≡ vec_capacity out.old }
 {
     if !is_first_word(held, pattern) {

@@ -67,9 +67,11 @@ fn usage_at(layout: &Layout, item: usize, index: usize) -> Usage
 }
 
 fn switch_event(control: ControlId, usage: Usage, before: bool, after: bool, out: &mut Vec<Event>)
-    requires { vec_len out.old + length (switch_event control usage before after) ≤ vec_capacity out.old }
+    requires { vec_len out.old + length (switch_event control usage before after)
+        ≤ vec_capacity out.old }
     ensures events { out.new.items ≡ out.old.items ++ switch_event control usage before after }
-    ensures len { vec_len out.new ≡ vec_len out.old + length (switch_event control usage before after) }
+    ensures len { vec_len out.new
+        ≡ vec_len out.old + length (switch_event control usage before after) }
     ensures room { vec_capacity out.new ≡ vec_capacity out.old }
 {
     match (before, after) {
@@ -89,9 +91,14 @@ pub(crate) fn tell_switch(
     out: &mut Vec<Event>,
 )
     requires index { index < length (usages_at layout.now item) }
-    requires room { (usage : UsageValue) → slice_get (usages_at layout.now item) index ≡ Some usage → vec_len out.old + length (switch_event (at item index) usage before after) ≤ vec_capacity out.old }
-    ensures events { (usage : UsageValue) → slice_get (usages_at layout.now item) index ≡ Some usage → out.new.items ≡ out.old.items ++ switch_event (at item index) usage before after }
-    ensures len { (usage : UsageValue) → slice_get (usages_at layout.now item) index ≡ Some usage → vec_len out.new ≡ vec_len out.old + length (switch_event (at item index) usage before after) }
+    requires room { (usage : UsageValue) → slice_get (usages_at layout.now item) index ≡ Some usage
+        → vec_len out.old + length (switch_event (at item index) usage before after)
+        ≤ vec_capacity out.old }
+    ensures events { (usage : UsageValue) → slice_get (usages_at layout.now item) index ≡ Some usage
+        → out.new.items ≡ out.old.items ++ switch_event (at item index) usage before after }
+    ensures len { (usage : UsageValue) → slice_get (usages_at layout.now item) index ≡ Some usage
+        → vec_len out.new
+        ≡ vec_len out.old + length (switch_event (at item index) usage before after) }
     ensures room { vec_capacity out.new ≡ vec_capacity out.old }
 {
     if before != after {
@@ -107,9 +114,11 @@ fn value_event(
     after: Option<i64>,
     out: &mut Vec<Event>,
 )
-    requires { vec_len out.old + length (value_event control usage before after) ≤ vec_capacity out.old }
+    requires { vec_len out.old + length (value_event control usage before after)
+        ≤ vec_capacity out.old }
     ensures events { out.new.items ≡ out.old.items ++ value_event control usage before after }
-    ensures len { vec_len out.new ≡ vec_len out.old + length (value_event control usage before after) }
+    ensures len { vec_len out.new
+        ≡ vec_len out.old + length (value_event control usage before after) }
     ensures room { vec_capacity out.new ≡ vec_capacity out.old }
 {
     match (before, after) {
@@ -153,9 +162,14 @@ pub(crate) fn switch_changes(
 )
     requires before { length before.now ≡ length (usages_at layout.now item) }
     requires after { length after.now ≡ length (usages_at layout.now item) }
-    requires room { vec_len out.old + length (switch_events item (usages_at layout.now item) before.now after.now) ≤ vec_capacity out.old }
-    ensures events { out.new.items ≡ out.old.items ++ switch_events item (usages_at layout.now item) before.now after.now }
-    ensures len { vec_len out.new ≡ vec_len out.old + length (switch_events item (usages_at layout.now item) before.now after.now) }
+    requires room { vec_len out.old
+        + length (switch_events item (usages_at layout.now item) before.now after.now)
+        ≤ vec_capacity out.old }
+    ensures events { out.new.items
+        ≡ out.old.items ++ switch_events item (usages_at layout.now item) before.now after.now }
+    ensures len { vec_len out.new
+        ≡ vec_len out.old
+        + length (switch_events item (usages_at layout.now item) before.now after.now) }
     ensures room { vec_capacity out.new ≡ vec_capacity out.old }
 {
     for index in 0..before.len() {
@@ -180,9 +194,14 @@ pub(crate) fn value_changes(
 )
     requires before { length before.now ≡ length (usages_at layout.now item) }
     requires after { length after.now ≡ length (usages_at layout.now item) }
-    requires room { vec_len out.old + length (value_events item (usages_at layout.now item) before.now after.now) ≤ vec_capacity out.old }
-    ensures events { out.new.items ≡ out.old.items ++ value_events item (usages_at layout.now item) before.now after.now }
-    ensures len { vec_len out.new ≡ vec_len out.old + length (value_events item (usages_at layout.now item) before.now after.now) }
+    requires room { vec_len out.old
+        + length (value_events item (usages_at layout.now item) before.now after.now)
+        ≤ vec_capacity out.old }
+    ensures events { out.new.items
+        ≡ out.old.items ++ value_events item (usages_at layout.now item) before.now after.now }
+    ensures len { vec_len out.new
+        ≡ vec_len out.old
+        + length (value_events item (usages_at layout.now item) before.now after.now) }
     ensures room { vec_capacity out.new ≡ vec_capacity out.old }
 {
     for index in 0..before.len() {
@@ -207,9 +226,13 @@ pub(crate) fn releases(
 )
     requires before { length before.now ≡ length (usages_at layout.now item) }
     requires after { length after.now ≡ length (usages_at layout.now item) }
-    requires room { vec_len out.old + length (ups item (usages_at layout.now item) before.now after.now) ≤ vec_capacity out.old }
-    ensures events { out.new.items ≡ out.old.items ++ ups item (usages_at layout.now item) before.now after.now }
-    ensures len { vec_len out.new ≡ vec_len out.old + length (ups item (usages_at layout.now item) before.now after.now) }
+    requires room { vec_len out.old
+        + length (ups item (usages_at layout.now item) before.now after.now)
+        ≤ vec_capacity out.old }
+    ensures events { out.new.items
+        ≡ out.old.items ++ ups item (usages_at layout.now item) before.now after.now }
+    ensures len { vec_len out.new
+        ≡ vec_len out.old + length (ups item (usages_at layout.now item) before.now after.now) }
     ensures room { vec_capacity out.new ≡ vec_capacity out.old }
 {
     let mut from = 0;
@@ -231,9 +254,13 @@ pub(crate) fn presses(
 )
     requires before { length before.now ≡ length (usages_at layout.now item) }
     requires after { length after.now ≡ length (usages_at layout.now item) }
-    requires room { vec_len out.old + length (downs item (usages_at layout.now item) before.now after.now) ≤ vec_capacity out.old }
-    ensures events { out.new.items ≡ out.old.items ++ downs item (usages_at layout.now item) before.now after.now }
-    ensures len { vec_len out.new ≡ vec_len out.old + length (downs item (usages_at layout.now item) before.now after.now) }
+    requires room { vec_len out.old
+        + length (downs item (usages_at layout.now item) before.now after.now)
+        ≤ vec_capacity out.old }
+    ensures events { out.new.items
+        ≡ out.old.items ++ downs item (usages_at layout.now item) before.now after.now }
+    ensures len { vec_len out.new
+        ≡ vec_len out.old + length (downs item (usages_at layout.now item) before.now after.now) }
     ensures room { vec_capacity out.new ≡ vec_capacity out.old }
 {
     let mut from = 0;
@@ -256,7 +283,8 @@ pub(crate) struct Bounds {
 #[tactic(auto, using(hid_cells::proofs::ListLemmas::map_at))]
 fn motion(bounds: &Bounds, numbers: &[i64], index: usize) -> i64
     requires { index < length numbers.now }
-    ensures { slice_get (map (read_motion bounds.now.least bounds.now.greatest) numbers.now) index ≡ Some result }
+    ensures { slice_get (map (read_motion bounds.now.least bounds.now.greatest) numbers.now) index
+        ≡ Some result }
 {
     let number = numbers[index];
     if bounds.least <= number && number <= bounds.greatest {
@@ -275,9 +303,18 @@ pub(crate) fn motions(
     out: &mut Vec<Event>,
 )
     requires numbers { length numbers.now ≡ length (usages_at layout.now item) }
-    requires room { vec_len out.old + length (motion_events item (usages_at layout.now item) (map (read_motion bounds.now.least bounds.now.greatest) numbers.now)) ≤ vec_capacity out.old }
-    ensures events { out.new.items ≡ out.old.items ++ motion_events item (usages_at layout.now item) (map (read_motion bounds.now.least bounds.now.greatest) numbers.now) }
-    ensures len { vec_len out.new ≡ vec_len out.old + length (motion_events item (usages_at layout.now item) (map (read_motion bounds.now.least bounds.now.greatest) numbers.now)) }
+    requires room { vec_len out.old
+        + length (motion_events item (usages_at layout.now item)
+        (map (read_motion bounds.now.least bounds.now.greatest) numbers.now))
+        ≤ vec_capacity out.old }
+    ensures events { out.new.items
+        ≡ out.old.items
+        ++ motion_events item (usages_at layout.now item)
+        (map (read_motion bounds.now.least bounds.now.greatest) numbers.now) }
+    ensures len { vec_len out.new
+        ≡ vec_len out.old
+        + length (motion_events item (usages_at layout.now item)
+        (map (read_motion bounds.now.least bounds.now.greatest) numbers.now)) }
     ensures room { vec_capacity out.new ≡ vec_capacity out.old }
 {
     for index in 0..numbers.len() {
@@ -301,9 +338,14 @@ pub(crate) fn element_changes(
 )
     requires before { HasPlaces before.now (length (usages_at layout.now item)) }
     requires after { HasPlaces after.now (length (usages_at layout.now item)) }
-    requires room { vec_len out.old + length (element_events item (usages_at layout.now item) before.now after.now) ≤ vec_capacity out.old }
-    ensures events { out.new.items ≡ out.old.items ++ element_events item (usages_at layout.now item) before.now after.now }
-    ensures len { vec_len out.new ≡ vec_len out.old + length (element_events item (usages_at layout.now item) before.now after.now) }
+    requires room { vec_len out.old
+        + length (element_events item (usages_at layout.now item) before.now after.now)
+        ≤ vec_capacity out.old }
+    ensures events { out.new.items
+        ≡ out.old.items ++ element_events item (usages_at layout.now item) before.now after.now }
+    ensures len { vec_len out.new
+        ≡ vec_len out.old
+        + length (element_events item (usages_at layout.now item) before.now after.now) }
     ensures room { vec_capacity out.new ≡ vec_capacity out.old }
 {
     match before {
@@ -329,9 +371,14 @@ pub(crate) fn key_changes(
 )
     requires before { HasPlaces before.now (length (usages_at layout.now item)) }
     requires after { HasPlaces after.now (length (usages_at layout.now item)) }
-    requires room { vec_len out.old + length (key_events item (usages_at layout.now item) before.now after.now) ≤ vec_capacity out.old }
-    ensures events { out.new.items ≡ out.old.items ++ key_events item (usages_at layout.now item) before.now after.now }
-    ensures len { vec_len out.new ≡ vec_len out.old + length (key_events item (usages_at layout.now item) before.now after.now) }
+    requires room { vec_len out.old
+        + length (key_events item (usages_at layout.now item) before.now after.now)
+        ≤ vec_capacity out.old }
+    ensures events { out.new.items
+        ≡ out.old.items ++ key_events item (usages_at layout.now item) before.now after.now }
+    ensures len { vec_len out.new
+        ≡ vec_len out.old
+        + length (key_events item (usages_at layout.now item) before.now after.now) }
     ensures room { vec_capacity out.new ≡ vec_capacity out.old }
 {
     match before {
@@ -352,9 +399,17 @@ pub(crate) fn flag_changes(
 )
     requires before { length before.now ≡ length (usages_at layout.now item) }
     requires after { length after.now ≡ length (usages_at layout.now item) }
-    requires room { vec_len out.old + length (ups item (usages_at layout.now item) before.now after.now ++ downs item (usages_at layout.now item) before.now after.now) ≤ vec_capacity out.old }
-    ensures events { out.new.items ≡ out.old.items ++ (ups item (usages_at layout.now item) before.now after.now ++ downs item (usages_at layout.now item) before.now after.now) }
-    ensures len { vec_len out.new ≡ vec_len out.old + length (ups item (usages_at layout.now item) before.now after.now ++ downs item (usages_at layout.now item) before.now after.now) }
+    requires room { vec_len out.old
+        + length (ups item (usages_at layout.now item) before.now after.now
+        ++ downs item (usages_at layout.now item) before.now after.now) ≤ vec_capacity out.old }
+    ensures events { out.new.items
+        ≡ out.old.items
+        ++ (ups item (usages_at layout.now item) before.now after.now
+        ++ downs item (usages_at layout.now item) before.now after.now) }
+    ensures len { vec_len out.new
+        ≡ vec_len out.old
+        + length (ups item (usages_at layout.now item) before.now after.now
+        ++ downs item (usages_at layout.now item) before.now after.now) }
     ensures room { vec_capacity out.new ≡ vec_capacity out.old }
 {
     releases(layout, item, before, after, out);
@@ -367,9 +422,15 @@ fn item_changes(layout: &Layout, item: usize, before: &Cell, after: &Cell, out: 
     requires listed { item < length layout.now.items }
     requires before { HasRoom (head_of (form_at (items_of layout.now) item)) before.now }
     requires after { HasRoom (head_of (form_at (items_of layout.now) item)) after.now }
-    requires room { vec_len out.old + length (change_events item (form_at (items_of layout.now) item) before.now after.now) ≤ vec_capacity out.old }
-    ensures events { out.new.items ≡ out.old.items ++ change_events item (form_at (items_of layout.now) item) before.now after.now }
-    ensures len { vec_len out.new ≡ vec_len out.old + length (change_events item (form_at (items_of layout.now) item) before.now after.now) }
+    requires room { vec_len out.old
+        + length (change_events item (form_at (items_of layout.now) item) before.now after.now)
+        ≤ vec_capacity out.old }
+    ensures events { out.new.items
+        ≡ out.old.items
+        ++ change_events item (form_at (items_of layout.now) item) before.now after.now }
+    ensures len { vec_len out.new
+        ≡ vec_len out.old
+        + length (change_events item (form_at (items_of layout.now) item) before.now after.now) }
     ensures room { vec_capacity out.new ≡ vec_capacity out.old }
 {
     match layout.controls(item) {
@@ -390,8 +451,11 @@ fn cell_at(cells: &[Cell], i: usize) -> &Cell
 pub(crate) fn all_changes(layout: &Layout, before: &[Cell], after: &[Cell], out: &mut Vec<Event>)
     requires before { FitsView (items_of layout.now) before.now }
     requires after { FitsView (items_of layout.now) after.now }
-    requires room { vec_len out.old + length (changes_between (items_of layout.now) before.now after.now) ≤ vec_capacity out.old }
-    ensures events { out.new.items ≡ out.old.items ++ changes_between (items_of layout.now) before.now after.now }
+    requires room { vec_len out.old
+        + length (changes_between (items_of layout.now) before.now after.now)
+        ≤ vec_capacity out.old }
+    ensures events { out.new.items
+        ≡ out.old.items ++ changes_between (items_of layout.now) before.now after.now }
     ensures room { vec_capacity out.new ≡ vec_capacity out.old }
 {
     for i in 0..item_count(layout) {

@@ -31,7 +31,8 @@ fn input_with(layout: &Layout, id: u8) -> Option<usize>
 }
 
 fn whole_report(layout: &Layout, bytes: &[u8], id: u8) -> Result<usize, ReportFault>
-    ensures { result ≡ whole_report layout.now bytes.now (position (is_input_with id) layout.now.reports) }
+    ensures { result
+        ≡ whole_report layout.now bytes.now (position (is_input_with id) layout.now.reports) }
 {
     match input_with(layout, id) {
         None => Err(ReportFault::UnknownReport),
@@ -63,8 +64,10 @@ pub fn input_report(layout: &Layout, bytes: &[u8]) -> Result<usize, ReportFault>
 /// The number of a data element in the bytes of its report (HID 1.11, 5.8). The element lies in the bytes.
 pub fn element_value<C: FieldCodec>(layout: &Layout, bytes: &[u8], item: usize, j: usize) -> i64
     requires listed { item < length layout.now.items }
-    requires element { IsSomeAnd (element_of layout.now item j) (λ element. IsInside layout.now bytes.now element) }
-    ensures { IfSome (element_of layout.now item j) (λ element. result ≡ element_number layout.now bytes.now element) }
+    requires element { IsSomeAnd (element_of layout.now item j)
+        (λ element. IsInside layout.now bytes.now element) }
+    ensures { IfSome (element_of layout.now item j) (λ element. result
+        ≡ element_number layout.now bytes.now element) }
 {
     match layout.element(item, j) {
         Some(element) => element_number::<C>(layout, bytes, &element),

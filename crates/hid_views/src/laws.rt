@@ -11,7 +11,8 @@ ghost use Rattle.hid_views.specs.Reading.{read_motion};
 #[tactic(auto, using(crate::proofs::LawLemmas::back))]
 pub fn reads_back()
     ensures view { ReadsBack }
-    ensures motions { (least greatest : ℤ) (ms : List ℤ) → are_motions least greatest ms → map (read_motion least greatest) ms ≡ ms }
+    ensures motions { (least greatest : ℤ) (ms : List ℤ) → are_motions least greatest ms
+        → map (read_motion least greatest) ms ≡ ms }
 {}
 
 /// Reading the bytes by which an Input report shows a part names the report, and gives the view that sees the part and

@@ -23,7 +23,8 @@ fn number_at(numbers: &[i64], index: usize) -> i64
 fn switch_at(before: &Flags, numbers: &[i64], index: usize) -> bool
     requires before { index < length before.now }
     requires numbers { index < length numbers.now }
-    ensures { slice_get (map (λ p. read_switch p.0 p.1) (zip before.now numbers.now)) index ≡ Some result }
+    ensures { slice_get (map (λ p. read_switch p.0 p.1) (zip before.now numbers.now)) index
+        ≡ Some result }
 {
     let before = before.get(index);
     let number = number_at(numbers, index);
@@ -57,7 +58,8 @@ fn value_at(
 ) -> Option<i64>
     requires before { index < length before.now }
     requires numbers { index < length numbers.now }
-    ensures { slice_get (map (λ p. read_value has_null bounds.now.least bounds.now.greatest p.0 p.1) (zip before.now numbers.now)) index ≡ Some result }
+    ensures { slice_get (map (λ p. read_value has_null bounds.now.least bounds.now.greatest p.0 p.1)
+        (zip before.now numbers.now)) index ≡ Some result }
 {
     let before = before.get(index);
     let number = number_at(numbers, index);
@@ -81,7 +83,9 @@ pub(crate) fn read_values(
 )
     requires numbers { length numbers.now ≡ length before.now }
     requires after { length after.old ≡ length before.now }
-    ensures { after.new ≡ map (λ p. read_value has_null bounds.now.least bounds.now.greatest p.0 p.1) (zip before.now numbers.now) }
+    ensures { after.new
+        ≡ map (λ p. read_value has_null bounds.now.least bounds.now.greatest p.0 p.1)
+        (zip before.now numbers.now) }
 {
     for index in 0..before.len() {
         after.set(index, value_at(before, has_null, bounds, numbers, index));
@@ -91,7 +95,9 @@ pub(crate) fn read_values(
 /// The place that an element of this number names, of so many.
 fn place_of(item: &MainItem, number: &i64, count: usize) -> Option<usize>
     requires { count ≤ 64 * 65536 }
-    ensures { MatchOption result ((p : ℕ) → p < count → number.now ≢ (item.now.min +ℤ pos p)) (λ p. (p < count) × (number.now ≡ item.now.min +ℤ pos p)) }
+    ensures { MatchOption result ((p : ℕ) → p < count
+        → number.now ≢ (item.now.min +ℤ pos p)) (λ p. (p < count)
+        × (number.now ≡ item.now.min +ℤ pos p)) }
 {
     match number.checked_sub(item.min) {
         Some(place) => {
@@ -128,8 +134,15 @@ fn press(array: &KeyArray<'_>, number: &i64, place: usize, usage: &Usage, after:
     requires range { AreBounds array.now.item.now array.now.range.least array.now.range.greatest }
     requires number { number.now ≡ array.now.item.now.min +ℤ pos place }
     requires usage { slice_get (usage_list array.now.entries.now) place ≡ Some usage.now }
-    requires after { length after.old ≡ length (array_keys array.now.item.now (usage_list array.now.entries.now)) }
-    ensures keys { (numbers : List ℤ) → after.old ≡ named_from array.now.item.now numbers 0 (array_keys array.now.item.now (usage_list array.now.entries.now)) → after.new ≡ named_from array.now.item.now (numbers ++ number.now ∷ []) 0 (array_keys array.now.item.now (usage_list array.now.entries.now)) }
+    requires after { length after.old
+        ≡ length (array_keys array.now.item.now (usage_list array.now.entries.now)) }
+    ensures keys { (numbers : List ℤ)
+        → after.old
+        ≡ named_from array.now.item.now numbers 0
+        (array_keys array.now.item.now (usage_list array.now.entries.now))
+        → after.new
+        ≡ named_from array.now.item.now (numbers ++ number.now
+        ∷ []) 0 (array_keys array.now.item.now (usage_list array.now.entries.now)) }
     ensures len { length after.new ≡ length after.old }
 {
     if is_pressable(array.item, &array.range, number, place, usage) {
@@ -149,9 +162,17 @@ fn add_key(array: &KeyArray<'_>, count: usize, number: &i64, after: &mut Flags) 
     requires count { count ≡ length (usage_list array.now.entries.now) }
     requires few { count ≤ 64 * 65536 }
     requires range { AreBounds array.now.item.now array.now.range.least array.now.range.greatest }
-    requires after { length after.old ≡ length (array_keys array.now.item.now (usage_list array.now.entries.now)) }
-    ensures rolls { result ≡ not (names_rollover array.now.item.now (usage_list array.now.entries.now) number.now) }
-    ensures keys { (numbers : List ℤ) → result ≡ true → after.old ≡ named_from array.now.item.now numbers 0 (array_keys array.now.item.now (usage_list array.now.entries.now)) → after.new ≡ named_from array.now.item.now (numbers ++ number.now ∷ []) 0 (array_keys array.now.item.now (usage_list array.now.entries.now)) }
+    requires after { length after.old
+        ≡ length (array_keys array.now.item.now (usage_list array.now.entries.now)) }
+    ensures rolls { result
+        ≡ not (names_rollover array.now.item.now (usage_list array.now.entries.now) number.now) }
+    ensures keys { (numbers : List ℤ) → result ≡ true
+        → after.old
+        ≡ named_from array.now.item.now numbers 0
+        (array_keys array.now.item.now (usage_list array.now.entries.now))
+        → after.new
+        ≡ named_from array.now.item.now (numbers ++ number.now
+        ∷ []) 0 (array_keys array.now.item.now (usage_list array.now.entries.now)) }
     ensures len { length after.new ≡ length after.old }
 {
     match place_of(array.item, number, count) {
@@ -174,9 +195,15 @@ fn add_key(array: &KeyArray<'_>, count: usize, number: &i64, after: &mut Flags) 
 pub(crate) fn read_keys(array: &KeyArray<'_>, numbers: &[i64], after: &mut Flags) -> bool
     requires entries { length array.now.entries.now ≤ 64 }
     requires range { AreBounds array.now.item.now array.now.range.least array.now.range.greatest }
-    requires after { length after.old ≡ length (array_keys array.now.item.now (usage_list array.now.entries.now)) }
-    ensures rolls { result ≡ not (list_any (names_rollover array.now.item.now (usage_list array.now.entries.now)) numbers.now) }
-    ensures keys { result ≡ true → after.new ≡ named_from array.now.item.now numbers.now 0 (array_keys array.now.item.now (usage_list array.now.entries.now)) }
+    requires after { length after.old
+        ≡ length (array_keys array.now.item.now (usage_list array.now.entries.now)) }
+    ensures rolls { result
+        ≡ not (list_any (names_rollover array.now.item.now (usage_list array.now.entries.now))
+        numbers.now) }
+    ensures keys { result ≡ true
+        → after.new
+        ≡ named_from array.now.item.now numbers.now 0
+        (array_keys array.now.item.now (usage_list array.now.entries.now)) }
     ensures len { length after.new ≡ length after.old }
 {
     let count = usage_count(array.entries);

@@ -69,12 +69,23 @@ fn take_flags(
     requires usages { length (usages_in listed.now) ≡ length (keys_in listed.now) }
     requires held { length held.old ≡ length (keys_in listed.now) }
     requires named { length named.old ≡ length (keys_in listed.now) }
-    requires room { vec_len out.old + length (key_events listed.now.place (usages_in listed.now) (Cell.Pressed held.old) (read_keys listed.now.item.now (usage_list entries.now) (keys_in listed.now) (Cell.Pressed held.old) numbers.now)) ≤ vec_capacity out.old }
-    ensures held { Cell.Pressed held.new ≡ read_keys listed.now.item.now (usage_list entries.now) (keys_in listed.now) (Cell.Pressed held.old) numbers.now }
+    requires room { vec_len out.old
+        + length (key_events listed.now.place (usages_in listed.now) (Cell.Pressed held.old)
+        (read_keys listed.now.item.now (usage_list entries.now) (keys_in listed.now)
+        (Cell.Pressed held.old) numbers.now)) ≤ vec_capacity out.old }
+    ensures held { Cell.Pressed held.new
+        ≡ read_keys listed.now.item.now (usage_list entries.now) (keys_in listed.now)
+        (Cell.Pressed held.old) numbers.now }
     ensures held_len { length held.new ≡ length held.old }
     ensures named_len { length named.new ≡ length held.old }
-    ensures events { out.new.items ≡ out.old.items ++ key_events listed.now.place (usages_in listed.now) (Cell.Pressed held.old) (Cell.Pressed held.new) }
-    ensures len { vec_len out.new ≡ vec_len out.old + length (key_events listed.now.place (usages_in listed.now) (Cell.Pressed held.old) (Cell.Pressed held.new)) }
+    ensures events { out.new.items
+        ≡ out.old.items
+        ++ key_events listed.now.place (usages_in listed.now) (Cell.Pressed held.old)
+        (Cell.Pressed held.new) }
+    ensures len { vec_len out.new
+        ≡ vec_len out.old
+        + length (key_events listed.now.place (usages_in listed.now) (Cell.Pressed held.old)
+        (Cell.Pressed held.new)) }
     ensures room { vec_capacity out.new ≡ vec_capacity out.old }
 {
     let array = KeyArray {
@@ -110,12 +121,17 @@ fn take_switches(
     requires numbers { length numbers.now ≡ length (usages_in listed.now) }
     requires held { length held.old ≡ length (usages_in listed.now) }
     requires next { length next.old ≡ length (usages_in listed.now) }
-    requires room { vec_len out.old + length (switch_events listed.now.place (usages_in listed.now) held.old (map (λ p. read_switch p.0 p.1) (zip held.old numbers.now))) ≤ vec_capacity out.old }
+    requires room { vec_len out.old
+        + length (switch_events listed.now.place (usages_in listed.now) held.old
+        (map (λ p. read_switch p.0 p.1) (zip held.old numbers.now))) ≤ vec_capacity out.old }
     ensures held { held.new ≡ map (λ p. read_switch p.0 p.1) (zip held.old numbers.now) }
     ensures held_len { length held.new ≡ length held.old }
     ensures next_len { length next.new ≡ length held.old }
-    ensures events { out.new.items ≡ out.old.items ++ switch_events listed.now.place (usages_in listed.now) held.old held.new }
-    ensures len { vec_len out.new ≡ vec_len out.old + length (switch_events listed.now.place (usages_in listed.now) held.old held.new) }
+    ensures events { out.new.items
+        ≡ out.old.items ++ switch_events listed.now.place (usages_in listed.now) held.old held.new }
+    ensures len { vec_len out.new
+        ≡ vec_len out.old
+        + length (switch_events listed.now.place (usages_in listed.now) held.old held.new) }
     ensures room { vec_capacity out.new ≡ vec_capacity out.old }
 {
     read_switches(held, numbers, next);
@@ -134,12 +150,21 @@ fn take_values(
     requires numbers { length carried.now.numbers.now ≡ length (usages_in listed.now) }
     requires held { length held.old ≡ length (usages_in listed.now) }
     requires next { length next.old ≡ length (usages_in listed.now) }
-    requires room { vec_len out.old + length (value_events listed.now.place (usages_in listed.now) held.old (map (λ p. read_value (has_null carried.now.kind) carried.now.bounds.least carried.now.bounds.greatest p.0 p.1) (zip held.old carried.now.numbers.now))) ≤ vec_capacity out.old }
-    ensures held { held.new ≡ map (λ p. read_value (has_null carried.now.kind) carried.now.bounds.least carried.now.bounds.greatest p.0 p.1) (zip held.old carried.now.numbers.now) }
+    requires room { vec_len out.old
+        + length (value_events listed.now.place (usages_in listed.now) held.old
+        (map (λ p. read_value (has_null carried.now.kind) carried.now.bounds.least
+        carried.now.bounds.greatest p.0 p.1) (zip held.old carried.now.numbers.now)))
+        ≤ vec_capacity out.old }
+    ensures held { held.new
+        ≡ map (λ p. read_value (has_null carried.now.kind) carried.now.bounds.least
+        carried.now.bounds.greatest p.0 p.1) (zip held.old carried.now.numbers.now) }
     ensures held_len { length held.new ≡ length held.old }
     ensures next_len { length next.new ≡ length held.old }
-    ensures events { out.new.items ≡ out.old.items ++ value_events listed.now.place (usages_in listed.now) held.old held.new }
-    ensures len { vec_len out.new ≡ vec_len out.old + length (value_events listed.now.place (usages_in listed.now) held.old held.new) }
+    ensures events { out.new.items
+        ≡ out.old.items ++ value_events listed.now.place (usages_in listed.now) held.old held.new }
+    ensures len { vec_len out.new
+        ≡ vec_len out.old
+        + length (value_events listed.now.place (usages_in listed.now) held.old held.new) }
     ensures room { vec_capacity out.new ≡ vec_capacity out.old }
 {
     read_values(
@@ -168,11 +193,19 @@ fn take_array(
     requires usages { length (usages_in listed.now) ≡ length (keys_in listed.now) }
     requires held { HasPlaces cell.old (length (keys_in listed.now)) }
     requires next { HasNext cell.old next.old }
-    requires room { vec_len out.old + length (key_events listed.now.place (usages_in listed.now) cell.old (read_keys listed.now.item.now (usage_list entries.now) (keys_in listed.now) cell.old numbers.now)) ≤ vec_capacity out.old }
-    ensures cell { cell.new ≡ read_keys listed.now.item.now (usage_list entries.now) (keys_in listed.now) cell.old numbers.now }
+    requires room { vec_len out.old
+        + length (key_events listed.now.place (usages_in listed.now) cell.old
+        (read_keys listed.now.item.now (usage_list entries.now)
+        (keys_in listed.now) cell.old numbers.now)) ≤ vec_capacity out.old }
+    ensures cell { cell.new
+        ≡ read_keys listed.now.item.now (usage_list entries.now)
+        (keys_in listed.now) cell.old numbers.now }
     ensures next { HasNext cell.new next.new }
-    ensures events { out.new.items ≡ out.old.items ++ key_events listed.now.place (usages_in listed.now) cell.old cell.new }
-    ensures len { vec_len out.new ≡ vec_len out.old + length (key_events listed.now.place (usages_in listed.now) cell.old cell.new) }
+    ensures events { out.new.items
+        ≡ out.old.items ++ key_events listed.now.place (usages_in listed.now) cell.old cell.new }
+    ensures len { vec_len out.new
+        ≡ vec_len out.old
+        + length (key_events listed.now.place (usages_in listed.now) cell.old cell.new) }
     ensures room { vec_capacity out.new ≡ vec_capacity out.old }
 {
     match cell {
@@ -195,13 +228,24 @@ fn take_elements(
     out: &mut Vec<Event>,
 )
     requires numbers { length carried.now.numbers.now ≡ length (usages_in listed.now) }
-    requires held { HasRoom (head.Elements carried.now.kind carried.now.bounds.least carried.now.bounds.greatest (length (usages_in listed.now))) cell.old }
+    requires held { HasRoom (head.Elements carried.now.kind carried.now.bounds.least
+        carried.now.bounds.greatest (length (usages_in listed.now))) cell.old }
     requires next { HasNext cell.old next.old }
-    requires room { vec_len out.old + length (element_events listed.now.place (usages_in listed.now) cell.old (read_carried carried.now cell.old) ++ motions_of listed.now.place (usages_in listed.now) (motion_carried carried.now)) ≤ vec_capacity out.old }
+    requires room { vec_len out.old
+        + length (element_events listed.now.place (usages_in listed.now) cell.old
+        (read_carried carried.now cell.old)
+        ++ motions_of listed.now.place (usages_in listed.now) (motion_carried carried.now))
+        ≤ vec_capacity out.old }
     ensures cell { cell.new ≡ read_carried carried.now cell.old }
     ensures next { HasNext cell.new next.new }
-    ensures events { out.new.items ≡ out.old.items ++ (element_events listed.now.place (usages_in listed.now) cell.old cell.new ++ motions_of listed.now.place (usages_in listed.now) (motion_carried carried.now)) }
-    ensures len { vec_len out.new ≡ vec_len out.old + length (element_events listed.now.place (usages_in listed.now) cell.old cell.new ++ motions_of listed.now.place (usages_in listed.now) (motion_carried carried.now)) }
+    ensures events { out.new.items
+        ≡ out.old.items
+        ++ (element_events listed.now.place (usages_in listed.now) cell.old cell.new
+        ++ motions_of listed.now.place (usages_in listed.now) (motion_carried carried.now)) }
+    ensures len { vec_len out.new
+        ≡ vec_len out.old
+        + length (element_events listed.now.place (usages_in listed.now) cell.old cell.new
+        ++ motions_of listed.now.place (usages_in listed.now) (motion_carried carried.now)) }
     ensures room { vec_capacity out.new ≡ vec_capacity out.old }
 {
     match carried.kind {
@@ -241,7 +285,8 @@ fn has_null(kind: ControlKind) -> bool
 /// The controls of an item, by its shape.
 fn controls_of(listed: &Listed<'_>) -> Controls
     requires layout { IsLayout listed.now.layout.now }
-    requires listed { slice_get listed.now.layout.now.items listed.now.place ≡ Some listed.now.item.now }
+    requires listed { slice_get listed.now.layout.now.items listed.now.place
+        ≡ Some listed.now.item.now }
     requires input { IsFormOf listed.now.layout.now listed.now.place listed.now.item.now }
     ensures { result ≡ head_of (form_in listed.now) }
 {
@@ -266,17 +311,22 @@ fn take_numbers(
     out: &mut Vec<Event>,
 )
     requires layout { IsLayout listed.now.layout.now }
-    requires listed { slice_get listed.now.layout.now.items listed.now.place ≡ Some listed.now.item.now }
+    requires listed { slice_get listed.now.layout.now.items listed.now.place
+        ≡ Some listed.now.item.now }
     requires input { IsFormOf listed.now.layout.now listed.now.place listed.now.item.now }
     requires data { is_padding listed.now.item.now.shape ≡ false }
     requires numbers { length numbers.now ≡ listed.now.item.now.count }
     requires held { HasRoom (head_of (form_in listed.now)) cell.old }
     requires next { HasNext cell.old next.old }
-    requires room { vec_len out.old + length (told_in listed.now cell.old (read_in listed.now cell.old numbers.now) numbers.now) ≤ vec_capacity out.old }
+    requires room { vec_len out.old
+        + length (told_in listed.now cell.old (read_in listed.now cell.old numbers.now) numbers.now)
+        ≤ vec_capacity out.old }
     ensures cell { cell.new ≡ read_in listed.now cell.old numbers.now }
     ensures next { HasNext cell.new next.new }
-    ensures events { out.new.items ≡ out.old.items ++ told_in listed.now cell.old cell.new numbers.now }
-    ensures len { vec_len out.new ≡ vec_len out.old + length (told_in listed.now cell.old cell.new numbers.now) }
+    ensures events { out.new.items
+        ≡ out.old.items ++ told_in listed.now cell.old cell.new numbers.now }
+    ensures len { vec_len out.new
+        ≡ vec_len out.old + length (told_in listed.now cell.old cell.new numbers.now) }
     ensures room { vec_capacity out.new ≡ vec_capacity out.old }
 {
     match controls_of(listed) {
@@ -303,12 +353,19 @@ fn take_numbers(
 
 /// Switches of one bit each, as their pattern leaves them, and what they tell.
 fn take_pattern(listed: &Listed<'_>, pattern: u32, cell: &mut Cell, out: &mut Vec<Event>)
-    requires held { HasRoom (head.Elements ControlKind.Switch (pos 0) (pos 1) (length (usages_in listed.now))) cell.old }
+    requires held { HasRoom (head.Elements ControlKind.Switch (pos 0) (pos 1)
+        (length (usages_in listed.now))) cell.old }
     requires few { length (usages_in listed.now) ≤ 32 }
-    requires room { vec_len out.old + length (element_events listed.now.place (usages_in listed.now) cell.old (read_bits pattern cell.old)) ≤ vec_capacity out.old }
+    requires room { vec_len out.old
+        + length (element_events listed.now.place (usages_in listed.now) cell.old
+        (read_bits pattern cell.old)) ≤ vec_capacity out.old }
     ensures cell { cell.new ≡ read_bits pattern cell.old }
-    ensures events { out.new.items ≡ out.old.items ++ element_events listed.now.place (usages_in listed.now) cell.old cell.new }
-    ensures len { vec_len out.new ≡ vec_len out.old + length (element_events listed.now.place (usages_in listed.now) cell.old cell.new) }
+    ensures events { out.new.items
+        ≡ out.old.items
+        ++ element_events listed.now.place (usages_in listed.now) cell.old cell.new }
+    ensures len { vec_len out.new
+        ≡ vec_len out.old
+        + length (element_events listed.now.place (usages_in listed.now) cell.old cell.new) }
     ensures room { vec_capacity out.new ≡ vec_capacity out.old }
 {
     match cell {
@@ -328,17 +385,31 @@ fn take_fields<C: FieldCodec>(
 )
     requires layout { IsLayout listed.now.layout.now }
     requires input { IsFormOf listed.now.layout.now listed.now.place listed.now.item.now }
-    requires data { IsData listed.now.layout.now listed.now.item.now.report listed.now.place listed.now.item.now }
-    requires whole { report_bytes listed.now.layout.now listed.now.item.now.report ≤ length bytes.now }
+    requires data { IsData listed.now.layout.now listed.now.item.now.report listed.now.place
+        listed.now.item.now }
+    requires whole { report_bytes listed.now.layout.now listed.now.item.now.report
+        ≤ length bytes.now }
     requires numbers { 512 ≤ vec_capacity numbers.old }
     requires held { HasRoom (head_of (form_in listed.now)) cell.old }
     requires next { HasNext cell.old next.old }
-    requires room { vec_len out.old + length (told_in listed.now cell.old (read_in listed.now cell.old (item_numbers listed.now.layout.now bytes.now listed.now.item.now)) (item_numbers listed.now.layout.now bytes.now listed.now.item.now)) ≤ vec_capacity out.old }
+    requires room { vec_len out.old
+        + length (told_in listed.now cell.old
+        (read_in listed.now cell.old
+        (item_numbers listed.now.layout.now bytes.now listed.now.item.now))
+        (item_numbers listed.now.layout.now bytes.now listed.now.item.now)) ≤ vec_capacity out.old }
     ensures numbers { vec_capacity numbers.new ≡ vec_capacity numbers.old }
-    ensures cell { cell.new ≡ read_in listed.now cell.old (item_numbers listed.now.layout.now bytes.now listed.now.item.now) }
+    ensures cell { cell.new
+        ≡ read_in listed.now cell.old
+        (item_numbers listed.now.layout.now bytes.now listed.now.item.now) }
     ensures next { HasNext cell.new next.new }
-    ensures events { out.new.items ≡ out.old.items ++ told_in listed.now cell.old cell.new (item_numbers listed.now.layout.now bytes.now listed.now.item.now) }
-    ensures len { vec_len out.new ≡ vec_len out.old + length (told_in listed.now cell.old cell.new (item_numbers listed.now.layout.now bytes.now listed.now.item.now)) }
+    ensures events { out.new.items
+        ≡ out.old.items
+        ++ told_in listed.now cell.old cell.new
+        (item_numbers listed.now.layout.now bytes.now listed.now.item.now) }
+    ensures len { vec_len out.new
+        ≡ vec_len out.old
+        + length (told_in listed.now cell.old cell.new
+        (item_numbers listed.now.layout.now bytes.now listed.now.item.now)) }
     ensures room { vec_capacity out.new ≡ vec_capacity out.old }
 {
     let item = listed.item;
@@ -363,16 +434,27 @@ fn take_item<C: FieldCodec>(
 )
     requires listed { place < length received.now.layout.now.items }
     requires input { IsInput received.now.layout.now received.now.report }
-    requires whole { report_bytes received.now.layout.now received.now.report ≤ length received.now.bytes.now }
+    requires whole { report_bytes received.now.layout.now received.now.report
+        ≤ length received.now.bytes.now }
     requires numbers { 512 ≤ vec_capacity numbers.old }
     requires held { HasRoom (head_of (form_at (items_of received.now.layout.now) place)) cell.old }
     requires next { HasNext cell.old next.old }
-    requires room { vec_len out.old + length (told_by_report received.now.layout.now received.now.report received.now.bytes.now place cell.old) ≤ vec_capacity out.old }
+    requires room { vec_len out.old
+        + length (told_by_report received.now.layout.now received.now.report received.now.bytes.now
+        place cell.old) ≤ vec_capacity out.old }
     ensures numbers { vec_capacity numbers.new ≡ vec_capacity numbers.old }
-    ensures cell { cell.new ≡ read_by_report received.now.layout.now received.now.report received.now.bytes.now place cell.old }
+    ensures cell { cell.new
+        ≡ read_by_report received.now.layout.now received.now.report received.now.bytes.now place
+        cell.old }
     ensures next { HasNext cell.new next.new }
-    ensures events { out.new.items ≡ out.old.items ++ told_by_report received.now.layout.now received.now.report received.now.bytes.now place cell.old }
-    ensures len { vec_len out.new ≡ vec_len out.old + length (told_by_report received.now.layout.now received.now.report received.now.bytes.now place cell.old) }
+    ensures events { out.new.items
+        ≡ out.old.items
+        ++ told_by_report received.now.layout.now received.now.report received.now.bytes.now place
+        cell.old }
+    ensures len { vec_len out.new
+        ≡ vec_len out.old
+        + length (told_by_report received.now.layout.now received.now.report received.now.bytes.now
+        place cell.old) }
     ensures room { vec_capacity out.new ≡ vec_capacity out.old }
 {
     let layout = received.layout;
@@ -400,16 +482,24 @@ pub(crate) fn take_items<C: FieldCodec>(
     requires input { IsInput received.now.layout.now received.now.report }
     requires plan { places.now ≡ plan_of received.now.layout.now received.now.report }
     requires within { All (λ place. place < length received.now.layout.now.items) places.now }
-    requires all { length (items_of received.now.layout.now) ≡ length received.now.layout.now.items }
-    requires whole { report_bytes received.now.layout.now received.now.report ≤ length received.now.bytes.now }
+    requires all { length (items_of received.now.layout.now)
+        ≡ length received.now.layout.now.items }
+    requires whole { report_bytes received.now.layout.now received.now.report
+        ≤ length received.now.bytes.now }
     requires numbers { 512 ≤ vec_capacity numbers.old }
     requires fits { FitsView (items_of received.now.layout.now) cells.old }
     requires pairs { ArePairs cells.old nexts.old }
-    requires room { vec_len out.old + length (read_events received.now.layout.now received.now.report received.now.bytes.now cells.old) ≤ vec_capacity out.old }
+    requires room { vec_len out.old
+        + length (read_events received.now.layout.now received.now.report received.now.bytes.now
+        cells.old) ≤ vec_capacity out.old }
     ensures numbers { vec_capacity numbers.new ≡ vec_capacity numbers.old }
-    ensures view { cells.new ≡ read_view received.now.layout.now received.now.report received.now.bytes.now cells.old }
+    ensures view { cells.new
+        ≡ read_view received.now.layout.now received.now.report received.now.bytes.now cells.old }
     ensures pairs { ArePairs cells.new nexts.new }
-    ensures events { out.new.items ≡ out.old.items ++ read_events received.now.layout.now received.now.report received.now.bytes.now cells.old }
+    ensures events { out.new.items
+        ≡ out.old.items
+        ++ read_events received.now.layout.now received.now.report received.now.bytes.now
+        cells.old }
     ensures room { vec_capacity out.new ≡ vec_capacity out.old }
 {
     for place in places {

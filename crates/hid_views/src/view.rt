@@ -77,7 +77,8 @@ impl View {
         requires fits { FitsView (items_of layout.now) self.old }
         requires room { vec_len out.old + max_events (items_of layout.now) ≤ vec_capacity out.old }
         // The view read, and the events.
-        ensures taken { TakesReport layout.now bytes.now self.old out.old.items result self.new out.new.items }
+        ensures taken { TakesReport layout.now bytes.now self.old out.old.items result self.new
+            out.new.items }
         ensures fits { FitsView (items_of layout.now) self.new }
         ensures room { vec_capacity out.new ≡ vec_capacity out.old }
     {
@@ -120,7 +121,8 @@ impl View {
         requires fits { FitsView (items_of layout.now) self.now }
         requires array { has_keys_at (items_of layout.now) item ≡ true }
         ensures words { result.now ≡ key_words self.now item }
-        ensures keys { AreKeyWords (length (keys_at layout.now item)) (is_pressed (cell_at self.now item)) result.now }
+        ensures keys { AreKeyWords (length (keys_at layout.now item))
+            (is_pressed (cell_at self.now item)) result.now }
     {
         key_words(&self.cells, item)
     }
@@ -143,7 +145,8 @@ pub fn changes(layout: &Layout, before: &View, after: &View, out: &mut Vec<Event
     requires before { FitsView (items_of layout.now) before.now }
     requires after { FitsView (items_of layout.now) after.now }
     requires room { vec_len out.old + max_events (items_of layout.now) ≤ vec_capacity out.old }
-    ensures events { out.new.items ≡ out.old.items ++ changes_between (items_of layout.now) before.now after.now }
+    ensures events { out.new.items
+        ≡ out.old.items ++ changes_between (items_of layout.now) before.now after.now }
     ensures room { vec_capacity out.new ≡ vec_capacity out.old }
 {
     all_changes(layout, &before.cells, &after.cells, out);

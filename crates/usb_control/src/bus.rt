@@ -33,7 +33,8 @@ pub trait Bus {
 
     /// What arrives of these bytes.
     fn hand_on(&self, phase: Phase, bytes: ArrayVec<u8, 65>) -> Option<ArrayVec<u8, 65>>
-        ensures { option_map (λ arrived. arrived.items) result ≡ arrives self.now phase bytes.items };
+        ensures { option_map (λ arrived. arrived.items) result
+            ≡ arrives self.now phase bytes.items };
 }
 
 impl Bus for Fate {

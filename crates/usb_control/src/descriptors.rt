@@ -37,11 +37,13 @@ impl DeviceInfo {
     /// The first of these that stands: [`InfoFault::TooShort`] under 18 bytes, [`InfoFault::WrongType`] where the
     /// second byte isn't 01.
     pub fn read(bytes: &[u8]) -> Result<DeviceInfo, InfoFault>
-        ensures value { 18 ≤ length bytes.now → IsDevice bytes.now → result ≡ Ok (device_info_of bytes.now) }
+        ensures value { 18 ≤ length bytes.now → IsDevice bytes.now
+            → result ≡ Ok (device_info_of bytes.now) }
 
         // Each refusal, exactly where its cause is the first.
         ensures short { length bytes.now < 18 → result ≡ Err InfoFault.TooShort }
-        ensures wrong { 18 ≤ length bytes.now → ¬ IsDevice bytes.now → result ≡ Err InfoFault.WrongType }
+        ensures wrong { 18 ≤ length bytes.now → ¬ IsDevice bytes.now
+            → result ≡ Err InfoFault.WrongType }
     {
         if bytes.len() < DEVICE_LENGTH {
             return Err(InfoFault::TooShort);
@@ -84,7 +86,8 @@ impl ConfigInfo {
             → result ≡ config_of descriptors }
 
         // The first refusal.
-        ensures short { ¬ (HasWalk bytes.now × (9 ≤ slice_index bytes.now 0)) → result ≡ Err InfoFault.TooShort }
+        ensures short { ¬ (HasWalk bytes.now × (9 ≤ slice_index bytes.now 0))
+            → result ≡ Err InfoFault.TooShort }
     {
         let [size, kind, ..] = bytes else {
             return Err(InfoFault::TooShort);

@@ -284,8 +284,10 @@ impl HostTransfer {
     // Takes an answer to IN in the data stage, where this toggle is expected: whether ACK is sent.
     fn take_data(&mut self, packet: Option<&Packet>, expected: bool) -> bool
         requires { self.old.stage ≡ HostStage.DataIn expected }
-        ensures taken { self.new ≡ in_answered (option_copied packet.entry) (data_in expected) self.old }
-        ensures acknowledged { result ≡ acknowledges_at self.old.stage (option_copied packet.entry) self.new.stage }
+        ensures taken { self.new
+            ≡ in_answered (option_copied packet.entry) (data_in expected) self.old }
+        ensures acknowledged { result
+            ≡ acknowledges_at self.old.stage (option_copied packet.entry) self.new.stage }
     {
         match packet {
             Some(Packet::Data { one, payload }) => {
@@ -306,7 +308,8 @@ impl HostTransfer {
     fn take_status(&mut self, packet: Option<&Packet>) -> bool
         requires { self.old.stage ≡ HostStage.StatusIn }
         ensures taken { self.new ≡ in_answered (option_copied packet.entry) status_in self.old }
-        ensures acknowledged { result ≡ acknowledges_at self.old.stage (option_copied packet.entry) self.new.stage }
+        ensures acknowledged { result
+            ≡ acknowledges_at self.old.stage (option_copied packet.entry) self.new.stage }
     {
         match packet {
             Some(Packet::Data { one: false, .. }) => {
@@ -383,7 +386,8 @@ impl HostTransfer {
 
     /// How far the transfer has come, with the bytes of a read that is done.
     pub fn outcome(&self) -> Outcome<'_>
-        ensures { Shows result self.now.stage (if reads self.now.setup then self.now.bytes else []) }
+        ensures { Shows result self.now.stage
+            (if reads self.now.setup then self.now.bytes else []) }
     {
         match self.stage {
             HostStage::Done if self.setup.is_read() => Outcome::Done(&self.bytes),

@@ -51,7 +51,8 @@ impl Wanted {
 
 // The first descriptor of these bytes, and what is behind it.
 fn next_descriptor(bytes: &[u8]) -> Option<(&[u8], &[u8])>
-    ensures found { IfSome result (λ parts. IsDescriptor parts.0.now × (bytes.now ≡ parts.0.now ++ parts.1.now)) }
+    ensures found { IfSome result (λ parts. IsDescriptor parts.0.now
+        × (bytes.now ≡ parts.0.now ++ parts.1.now)) }
     ensures none { IfNone result ((descriptor behind : List ℕ) → IsDescriptor descriptor
         → bytes.now ≡ descriptor ++ behind → ⊥) }
 {

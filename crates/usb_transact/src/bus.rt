@@ -28,7 +28,8 @@ pub trait Bus {
 
     /// What arrives of these bytes.
     fn hand_on(&self, stage: Stage, bytes: ArrayVec<u8, 65>) -> Option<ArrayVec<u8, 65>>
-        ensures { option_map (λ arrived. arrived.items) result ≡ arrives self.now stage bytes.items };
+        ensures { option_map (λ arrived. arrived.items) result
+            ≡ arrives self.now stage bytes.items };
 }
 
 /// What the other end reads of a packet that is sent.

@@ -89,7 +89,8 @@ fn transact<B: Bus>(bus: &B, host: &mut HostPipe, device: &mut DevPipe) -> Took
 /// | `Clean` | anything | as above | the device's toggle changes, and nothing is armed |
 pub fn exchange(host: &mut HostPipe, device: &mut DevPipe, fate: Fate) -> Took
     // Packet by packet: each is sent as its bytes, and its end acts on what it reads of those that arrive.
-    ensures packets { Transacts (arrives_under fate) host.old device.old result host.new device.new }
+    ensures packets { Transacts
+        (arrives_under fate) host.old device.old result host.new device.new }
 
     // The table.
     ensures took { result ≡ took_of fate host.old device.old }
