@@ -1,5 +1,6 @@
 -- What is kept of the controls at first suits them.
 use Rattle.std.proofs.Common.{◌≡◌, ℕ, zero, suc, ◌+◌, ◌<◌, ◌≤◌, inl, inr, Bool, true, false, cond, List, [], ◌∷◌, ◌++◌, length, map, take, replicate, Option, Some, None, ℤ, pos, negsuc, refl, ap, ◌∙◌, subst, take_all, arith}
+use Rattle.std.proofs.lemmas.Bool.{cases_Bool}
 use Rattle.std.specs.List.{slice_get}
 use Rattle.std.specs.Int.Signed.{le_z}
 use Rattle.std.proofs.lemmas.List.{length-replicate, length-map}
@@ -19,7 +20,7 @@ use Rattle.hid_layout.specs.Controls.{Form, NoControls, Elements, Keys, Key, Ite
 use Rattle.hid_cells.specs.declared.cell.Cell.{Cell}
 use Rattle.hid_cells.specs.Cells.{is_in, pressed_count, blank_cell, blank, HasRoom, is_value, are_values, are_motions, are_pressable, InSnapshot, InView, Suits, FitsSnapshot, FitsView}
 use Rattle.hid_cells.proofs.ListLemmas.{cons_count, map_at, mapped_at}
-use Rattle.hid_cells.proofs.CodeLemmas.{test_true, bool_cases}
+use Rattle.hid_cells.proofs.CodeLemmas.{test_true}
 use Rattle.hid_cells.proofs.ItemLemmas.{items_from-at, items_of-length, got, form_at-is}
 
 -- What holds of the controls of every listed item: some value can be sent, and an array has an element.
@@ -55,7 +56,7 @@ int_same (pos n) = grind (arith, nat_tests)
 int_same (negsuc n) = grind (arith, nat_tests)
 
 first_in : (least greatest : ℤ) → le_z least greatest ≡ true → is_in least greatest (cond (is_in least greatest (pos 0)) (pos 0) least) ≡ true
-first_in least greatest some = elim (bool_cases (is_in least greatest (pos 0))) [
+first_in least greatest some = elim (cases_Bool (is_in least greatest (pos 0))) [
   | inl e ↦ rw e e
   | inr e ↦ rw (e, int_same least, some) refl
 ]

@@ -1,5 +1,5 @@
 -- Tests as facts.
-use Rattle.std.proofs.Common.{◌≡◌, ◌&&◌, Bool, true, false, refl, inl, inr, T, ◌⊎◌}
+use Rattle.std.proofs.Common.{◌≡◌, ◌&&◌, Bool, true, false, refl, T}
 
 pub test_true : (b : Bool) → T b → b ≡ true
 test_true true h = refl
@@ -8,10 +8,6 @@ test_true false h = absurd h
 pub true_test : (b : Bool) → b ≡ true → T b
 true_test true h = tt
 true_test false h = absurd (cc)
-
-pub bool_cases : (b : Bool) → (b ≡ true) ⊎ (b ≡ false)
-bool_cases true = inl refl
-bool_cases false = inr refl
 
 pub both_true : (a b : Bool) → (a && b) ≡ true → (a ≡ true) × (b ≡ true)
 both_true true b h = (refl, h)

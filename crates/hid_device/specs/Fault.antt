@@ -41,7 +41,7 @@ is_memory _ = false
 -- the code, and the place of a cause that has one
 abbrev pub fault_text : DeviceCause → ℕ → List ℕ
 fault_text (Layout found) at = if is_memory found then layout_code found else layout_code found ++ codes " at " ++ decimal at
-fault_text BadConfig at = codes "V20"
-fault_text NoEmptyCode at = codes "V18"
-fault_text RelativeWithoutZero at = codes "V19"
-fault_text Memory at = codes "V21"
+fault_text BadConfig at = code_of BadConfig
+fault_text NoEmptyCode at = code_of NoEmptyCode
+fault_text RelativeWithoutZero at = code_of RelativeWithoutZero
+fault_text Memory at = code_of Memory

@@ -230,7 +230,7 @@ device_quiet old session boot bytes dev after quiet h =
     let outcome : (accepted [] (record session { members = after })) ≡ attaches session h.2.0 after = rw quiet refl in
     ([], Appends-nil old, inl (dev, h.2.0, after, h, h.2.2, outcome))
 
-at_last : (members : List Member) (m : Member) → slice_get (members ++ m ∷ []) (length members) ≡ Some m
+pub at_last : (members : List Member) (m : Member) → slice_get (members ++ m ∷ []) (length members) ≡ Some m
 at_last [] m = refl
 at_last (x ∷ members) m = at_last members m
 

@@ -27,6 +27,7 @@ use Rattle.hid_script.specs.Run.{AllTell}
 use Rattle.hid_stack.specs.Laws.{TellsOneThing, FindsOneControl, AttachesOneDevice}
 use Rattle.hid_stack.specs.declared.rig.TheConstants.{MAX_DEVICES}
 use Rattle.hid_script.specs.Laws.{LineTellsOneThing, LinesTellOneText, BeginsWithFronts}
+use Rattle.hid_script.proofs.SessionLemmas.{at_last}
 
 -- the stack answers one thing
 pub record HasOneAnswer : Type 0 where
@@ -68,10 +69,6 @@ one_change one dev usage wanted session o other h k =
     one_found one dev wanted k.0 session o other (subst (λ found. TellsFound dev wanted found session o) same h.2) k.2
 
 -- ---- devices
-
-at_last : (members : List Member) (m : Member) → slice_get (members ++ m ∷ []) (length members) ≡ Some m
-at_last [] m = refl
-at_last (x ∷ members) m = at_last members m
 
 one_fresh : (members : List Member) (config : Config) (bytes : List ℕ) (dev other : ℕ) (layout next : Contents)
     → members ++ fresh_member dev config bytes layout ∷ [] ≡ members ++ fresh_member other config bytes next ∷ [] → layout ≡ next

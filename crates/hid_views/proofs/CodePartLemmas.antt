@@ -8,7 +8,7 @@ use Rattle.std.specs.Int.Signed.{le_z}
 use Rattle.std.specs.Ordering.{int_eq}
 use Rattle.std.proofs.lemmas.Int.{ints, int_min_is, int_max_is}
 use Rattle.std.proofs.lemmas.Nat.{pow_pos}
-use Rattle.std.proofs.lemmas.Bool.{cases_lt}
+use Rattle.std.proofs.lemmas.Bool.{cases_lt, cases_Bool}
 use Rattle.std.proofs.lemmas.Bool.Decides.{Decides-int_eq}
 use Rattle.std.proofs.lemmas.List.Folds.{list_any-append}
 use Rattle.hid_fields.specs.Value.{is_negative}
@@ -33,7 +33,7 @@ use Rattle.hid_cells.specs.Cells.{has_null, are_pressable, HasRoom, InPart}
 use Rattle.hid_views.specs.Reading.{is_rollover_at, names_rollover}
 use Rattle.hid_parts.specs.Sending.{or_zero, placed_from, pressed_count}
 use Rattle.hid_views.specs.Law.{names_no_key, IsPart}
-use Rattle.hid_cells.proofs.CodeLemmas.{bool_cases, test_true, true_test, both_true}
+use Rattle.hid_cells.proofs.CodeLemmas.{test_true, true_test, both_true}
 use Rattle.hid_views.proofs.KeyLemmas.{rollover_named}
 use Rattle.hid_views.proofs.LawLemmas.{any_of_same}
 
@@ -112,13 +112,13 @@ greatest_pattern_of m some = by_sign (is_negative m.min) refl
     by_sign false e = let some_pattern = pow_pos m.size in record { pattern = 2 ^ m.size - 1; fits = omega arith; is = plain m (2 ^ m.size - 1) e ∙ sym (greatest_at m.min m.size false e) }
 
 outside_low : (min max v : ℤ) → int_lt v min ≡ true → not (is_in min max v) ≡ true
-outside_low min max v h = elim (bool_cases (is_in min max v)) [
+outside_low min max v h = elim (cases_Bool (is_in min max v)) [
   | inl e ↦ let within : min ≤ℤ v = record { le = true_test (le_z min v) ((both_true _ _ e).0) } in absurd (omega (arith, ints))
   | inr e ↦ rw e refl
 ]
 
 outside_high : (min max v : ℤ) → int_lt max v ≡ true → not (is_in min max v) ≡ true
-outside_high min max v h = elim (bool_cases (is_in min max v)) [
+outside_high min max v h = elim (cases_Bool (is_in min max v)) [
   | inl e ↦ let within : v ≤ℤ max = record { le = true_test (le_z v max) ((both_true _ _ e).1) } in absurd (omega (arith, ints))
   | inr e ↦ rw e refl
 ]
@@ -148,7 +148,7 @@ is_within min max v a b = rw (test_true (le_z min v) a.le, test_true (le_z v max
 -- null can't be mistaken for a value
 null_outside : (m : MainItem) → 0 < m.size → has_outside m ≡ true → is_in (least_of m) (greatest_of m) (or_zero (null_number m)) ≡ false
 null_outside m some out =
-    elim (bool_cases (is_in (least_of m) (greatest_of m) (or_zero (null_number m)))) [
+    elim (cases_Bool (is_in (least_of m) (greatest_of m) (or_zero (null_number m)))) [
       | inl e ↦
           let within = in_range m (or_zero (null_number m)) e in
           let inside = is_within m.min m.max (or_zero (null_number m)) within.0 within.1 in
@@ -213,7 +213,7 @@ rollover_is us i u at = ap (λ (o : Option Usage). elim o as (λ _. Bool) [ None
 no_key_named : (m : MainItem) (us : List Usage) (code : ℤ) (i : ℕ) (ks : List Usage) → names_nothing m us code ≡ true → StandsFrom us i ks → names_no_key code m.min i (keys_from m i ks)
 unfolding keys_from
 no_key_named m us code i [] nothing at = tt
-no_key_named m us code i (u ∷ ks) nothing at = (λ on. elim (bool_cases (int_eq code (m.min +ℤ pos i))) [ inl e ↦ absurd (not_both on e) | inr e ↦ e ], no_key_named m us code (i + 1) ks nothing (stands_next us i u ks at))
+no_key_named m us code i (u ∷ ks) nothing at = (λ on. elim (cases_Bool (int_eq code (m.min +ℤ pos i))) [ inl e ↦ absurd (not_both on e) | inr e ↦ e ], no_key_named m us code (i + 1) ks nothing (stands_next us i u ks at))
   where
     on_and_off : (k t : Bool) → k ≡ true → not (k || t) ≡ true → ⊥
     on_and_off true t e f = cc

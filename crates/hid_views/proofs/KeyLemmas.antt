@@ -1,5 +1,6 @@
 -- The keys that the elements of an array name.
 use Rattle.std.proofs.Common.{◌≡◌, ◌≢◌, ℕ, zero, suc, ◌+◌, ◌<◌, ◌≤◌, ◌⊎◌, inl, inr, ◌&&◌, ◌||◌, Bool, true, false, cond, List, [], ◌∷◌, ◌++◌, length, map, replicate, take, Option, Some, None, ℤ, pos, negsuc, ◌+ℤ◌, ◌-ℤ◌, ◌≤ℤ◌, refl, sym, ap, ◌∙◌, subst, arith}
+use Rattle.std.proofs.lemmas.Bool.{cases_Bool}
 use Rattle.std.specs.List.{slice_get, slice_set}
 use Rattle.std.specs.Option.{is_some}
 use Rattle.std.specs.Ordering.{int_eq}
@@ -13,7 +14,7 @@ use Rattle.hid_layout.specs.declared.control.ControlKind.TheVariants.{Switch}
 use Rattle.hid_layout.specs.Layout.{Contents}
 use Rattle.hid_layout.specs.Controls.{Form, NoControls, Elements, Keys, Key, Item, items_of, control_in, control_of}
 use Rattle.hid_views.specs.Reading.{at_zero, is_rollover_at, names_rollover, names_key, named_from, keys_of, keys_at}
-use Rattle.hid_cells.proofs.CodeLemmas.{bool_cases, test_true, true_test, both_true}
+use Rattle.hid_cells.proofs.CodeLemmas.{test_true, true_test, both_true}
 use Rattle.std.specs.Int.Signed.{le_z}
 use Rattle.hid_descriptor.specs.declared.usage.Usage.{Usage}
 use Rattle.hid_descriptor.specs.Usages.{is_rollover}
@@ -41,7 +42,7 @@ names_more item vs v i = list_any-append (λ w. int_eq w (item.min +ℤ pos i)) 
     last false a = refl
 
 not_named : (item : MainItem) (v : ℤ) (i : ℕ) → v ≢ (item.min +ℤ pos i) → int_eq v (item.min +ℤ pos i) ≡ false
-not_named item v i ne = elim (bool_cases (int_eq v (item.min +ℤ pos i))) [ inl e ↦ absurd (ne ((Decides-int_eq v (item.min +ℤ pos i)).0 e)) | inr e ↦ e ]
+not_named item v i ne = elim (cases_Bool (int_eq v (item.min +ℤ pos i))) [ inl e ↦ absurd (ne ((Decides-int_eq v (item.min +ℤ pos i)).0 e)) | inr e ↦ e ]
 
 -- a number that names no key adds none
 pub named_same : (item : MainItem) (vs : List ℤ) (v : ℤ) (i : ℕ) (keys : List Key) → ((j : ℕ) (key : Key) → slice_get keys j ≡ Some key → v ≡ item.min +ℤ pos (i + j) → key.is_switch ≡ false)
@@ -49,7 +50,7 @@ pub named_same : (item : MainItem) (vs : List ℤ) (v : ℤ) (i : ℕ) (keys : L
 named_same item vs v i [] h = refl
 named_same item vs v i (key ∷ keys) h =
     let rest = named_same item vs v (i + 1) keys (λ j k g e. h (suc j) k g (let n : i + suc j ≡ (i + 1) + j = omega arith in rw n e)) in
-    ap (λ t. (key.is_switch && names_key item vs i) ∷ t) rest ∙ ap (λ b. b ∷ named_from item (vs ++ v ∷ []) (i + 1) keys) (here (bool_cases (int_eq v (item.min +ℤ pos i))))
+    ap (λ t. (key.is_switch && names_key item vs i) ∷ t) rest ∙ ap (λ b. b ∷ named_from item (vs ++ v ∷ []) (i + 1) keys) (here (cases_Bool (int_eq v (item.min +ℤ pos i))))
   where
     with_named : (s n : Bool) → s ≡ false → (s && n) ≡ (s && (n || true))
     with_named true n e = absurd (cc)
@@ -181,7 +182,7 @@ no_rollover_named item us v none = by_range (is_in item.min item.max v) refl
 -- one number names one key more at most
 named_few : (item : MainItem) (vs : List ℤ) (v : ℤ) (i : ℕ) (keys : List Key) → pressed_count (named_from item (vs ++ v ∷ []) i keys) ≤ pressed_count (named_from item vs i keys) + 1
 named_few item vs v i [] = omega arith
-named_few item vs v i (key ∷ keys) = by_test (bool_cases (int_eq v (item.min +ℤ pos i))) (named_few item vs v (i + 1) keys)
+named_few item vs v i (key ∷ keys) = by_test (cases_Bool (int_eq v (item.min +ℤ pos i))) (named_few item vs v (i + 1) keys)
   where
     old : Bool
     old = key.is_switch && names_key item vs i

@@ -1,5 +1,6 @@
 -- Reading the numbers that a part is sent as.
-use Rattle.std.proofs.Common.{◌≡◌, ◌≢◌, ℕ, zero, suc, ◌+◌, ◌-◌, ◌<◌, ◌&&◌, ◌||◌, Bool, true, false, List, [], ◌∷◌, ◌++◌, length, map, replicate, Option, Some, None, ℤ, pos, ◌+ℤ◌, ◌⊎◌, inl, inr, refl, sym, ap, ◌∙◌, arith, cond, unwrap_or}
+use Rattle.std.proofs.Common.{◌≡◌, ◌≢◌, ℕ, zero, suc, ◌+◌, ◌-◌, ◌<◌, ◌&&◌, ◌||◌, Bool, true, false, List, [], ◌∷◌, ◌++◌, length, map, replicate, Option, Some, None, ℤ, pos, ◌+ℤ◌, inl, inr, refl, sym, ap, ◌∙◌, arith, cond, unwrap_or}
+use Rattle.std.proofs.lemmas.Bool.{cases_Bool}
 use Rattle.std.specs.List.{slice_get, zip, list_any}
 use Rattle.std.proofs.lemmas.List.Folds.{list_any-append}
 use Rattle.std.specs.Ordering.{int_eq}
@@ -18,11 +19,7 @@ int_same : (x : ℤ) → int_eq x x ≡ true
 int_same x = (Decides-int_eq x x).1 refl
 
 int_other : (x y : ℤ) → x ≢ y → int_eq x y ≡ false
-int_other x y ne = elim (bool_cases (int_eq x y)) [ inl e ↦ absurd (ne ((Decides-int_eq x y).0 e)) | inr e ↦ e ]
-  where
-    bool_cases : (b : Bool) → (b ≡ true) ⊎ (b ≡ false)
-    bool_cases true = inl refl
-    bool_cases false = inr refl
+int_other x y ne = elim (cases_Bool (int_eq x y)) [ inl e ↦ absurd (ne ((Decides-int_eq x y).0 e)) | inr e ↦ e ]
 
 -- a switch is read as it was sent
 pub switches_back : (bs ps : List Bool) → length bs ≡ length ps → map (λ p. read_switch p.0 p.1) (zip bs (map switch_number ps)) ≡ ps

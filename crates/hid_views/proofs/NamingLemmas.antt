@@ -1,5 +1,6 @@
 -- The bytes of a report name it: by their first byte where reports are numbered, and else as the Input report with ID 0.
 use Rattle.std.proofs.Common.{◌≡◌, ℕ, ◌+◌, ◌-◌, ◌/◌, ◌<◌, inl, inr, Bool, true, false, cond, nat_eq, nat_lt, List, [], ◌∷◌, length, replicate, get_or, Option, Some, None, Result, Ok, Err, ℤ, refl, sym, ap, ◌∙◌, arith}
+use Rattle.std.proofs.lemmas.Bool.{cases_Bool}
 use Rattle.std.specs.List.{slice_get, position, position_or_len}
 use Rattle.std.proofs.lemmas.List.Sums.{position_or_len_is}
 use Rattle.std.proofs.lemmas.Option.{slice_get_within, slice_get-get_or}
@@ -18,7 +19,7 @@ use Rattle.hid_cells.specs.declared.fault.ReportFault.TheVariants.{Short}
 use Rattle.hid_parts.specs.Encoding.{AreBytes, IsEncoding, bare_report}
 use Rattle.hid_cells.specs.Parts.{IsInput}
 use Rattle.hid_views.specs.Reading.{is_input_with, first_byte, whole_report, report_named}
-use Rattle.hid_cells.proofs.CodeLemmas.{bool_cases, both_true}
+use Rattle.hid_cells.proofs.CodeLemmas.{both_true}
 use Rattle.hid_cells.proofs.ItemLemmas.{got}
 use Rattle.hid_cells.proofs.PlanLemmas.{input_there}
 
@@ -36,7 +37,7 @@ only_place test xs r x h ok only =
     before : (k : ℕ) → k < r → test (get_or xs k x) ≡ false
     before k lt =
         let there = slice_get-get_or xs k x (omega (arith, slice_get_within xs r x h)) in
-        elim (bool_cases (test (get_or xs k x))) [ inl e ↦ absurd (let same = only k (get_or xs k x) there e in omega arith) | inr e ↦ e ]
+        elim (cases_Bool (test (get_or xs k x))) [ inl e ↦ absurd (let same = only k (get_or xs k x) there e in omega arith) | inr e ↦ e ]
 
 -- the report of this number is the one Input report with its ID
 input_with : (layout : Contents) (r : ℕ) (report : Report) → IsLayout layout → IsInput layout r → slice_get layout.reports r ≡ Some report → position (is_input_with report.id) layout.reports ≡ Some r
