@@ -33,5 +33,5 @@ pub use fault::{MemoryFault, ReportFault};
 pub use flags::Flags;
 pub use items::{is_input, is_of, item_at, item_count, plan_of};
 pub use keys::{has_keys, key_words};
-pub use parts::{has_zeros, is_changed, show_cell, show_cells, take_cells};
+pub use parts::{cell_at, has_zeros, is_changed, show_cell, show_cells, take_cells};
 pub use reset::reset_parts;

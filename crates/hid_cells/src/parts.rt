@@ -158,8 +158,8 @@ fn has_zero(controls: &Controls) -> bool
     }
 }
 
-/// What is kept of an item.
-pub(crate) fn cell_at(cells: &[Cell], i: usize) -> &Cell
+/// What is kept of the listed item at a place.
+pub fn cell_at(cells: &[Cell], i: usize) -> &Cell
     requires { i < length cells.now }
     ensures { slice_get cells.now i ≡ Some result.now }
 {

@@ -11,7 +11,7 @@ ghost use Rattle.hid_views.specs.Events.{element_events, key_events, change_even
 ghost use Rattle.hid_views.specs.Reading.{read_motion};
 ghost use Rattle.hid_cells.specs.declared.event.Event.{Event as EventValue};
 
-use hid_cells::{Cell, Event, Flags, Values, item_at, item_count};
+use hid_cells::{Cell, Event, Flags, Values, cell_at, item_at, item_count};
 use hid_layout::{
     ControlId, Controls, Layout, MainItem, Shape, Usage, usage_at as usage_in, usage_count,
 };
@@ -438,13 +438,6 @@ fn item_changes(layout: &Layout, item: usize, before: &Cell, after: &Cell, out: 
         Controls::Elements { .. } => element_changes(layout, item, before, after, out),
         Controls::Keys { .. } => key_changes(layout, item, before, after, out),
     }
-}
-
-fn cell_at(cells: &[Cell], i: usize) -> &Cell
-    requires { i < length cells.now }
-    ensures { slice_get cells.now i ≡ Some result.now }
-{
-    &cells[i]
 }
 
 /// The events between two views, item by item.
