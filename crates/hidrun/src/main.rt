@@ -14,6 +14,9 @@ mod status;
 mod tests;
 mod words;
 
+ghost use Rattle.std.specs.Prelude.{◌≡◌, ◌⊎◌};
+ghost use Rattle.hid_script.specs.declared.fault.Cause.TheVariants.{Memory};
+
 use hid_script::{Cause, Options, ScriptFault, Summary, fault_line, run};
 use status::{OUTSIDE, WRONG_USAGE, exit_of};
 use std::env;
@@ -51,7 +54,9 @@ fn run_script(rt: &HostRuntime, options: Options) -> ExitCode {
 
 /// Writes the fault's line to standard error, and gives the fault that was written: where the line's text finds no
 /// memory, X7 of the same line, which is written without any.
-fn told(rt: &HostRuntime, fault: ScriptFault) -> ScriptFault {
+fn told(rt: &HostRuntime, fault: ScriptFault) -> ScriptFault
+    ensures { (result ≡ fault) ⊎ (result ≡ record fault { cause = Memory }) }
+{
     match fault_line(rt.alloc(), &fault) {
         Ok(line) => {
             let _ = rt.stderr().write_all(line.as_slice());
