@@ -1,22 +1,23 @@
 # Rulohevian: `make run` and `make test` need nothing but the toolchain (`rt`).
 
 HIDRUN := bin/hidrun
-SCRIPT ?= examples/mouse.script
+SCRIPT ?= examples/layouts/mouse.script
+ARGS ?=
 
 .PHONY: run test try hidrun examples memory clean
 
 # Runs the mouse example on the proved program.
 run: $(HIDRUN)
-	$(HIDRUN) < examples/mouse.script
+	$(HIDRUN) < examples/layouts/mouse.script
 
 # Proves, tests and builds everything from nothing, and runs each example on the program that it built.
 test:
 	rt ci
 	$(MAKE) --no-print-directory hidrun examples
 
-# Runs a script in seconds, without a proof: make try SCRIPT=FILE
+# Runs a script without a proof: make try SCRIPT=FILE ARGS=--trace
 try:
-	cd crates/hidrun && rt try < $(abspath $(SCRIPT))
+	cd crates/hidrun && rt try $(if $(ARGS),-- $(ARGS)) < $(abspath $(SCRIPT))
 
 # The proved program. `rt ci` leaves it in its out folder; where a source is newer, it is proved and built again.
 hidrun: $(HIDRUN)
@@ -33,11 +34,11 @@ $(HIDRUN): $(BUILT)
 
 # Runs each example on the proved program.
 examples: $(HIDRUN)
-	examples/check $(HIDRUN)
+	tools/check-examples $(HIDRUN)
 
 # Runs the mouse example with each of its allocations refused in turn, without a proof. It takes some minutes.
 memory:
-	examples/refuse-memory 48
+	tools/refuse-memory 48
 
 clean:
 	rm -rf bin crates/*/out
