@@ -4,15 +4,17 @@ HIDRUN := bin/hidrun
 SCRIPT ?= examples/layouts/mouse.script
 ARGS ?=
 
-.PHONY: run test try hidrun examples memory clean
+.PHONY: run test try hidrun examples documents memory clean
 
 # Runs the mouse example on the proved program.
 run: $(HIDRUN)
 	$(HIDRUN) < examples/layouts/mouse.script
 
-# Proves, tests and builds everything from nothing, and runs each example on the program that it built.
+# Proves, tests and builds everything from nothing, looks whether all that documents cite is there, and runs each
+# example on the program that it built.
 test:
 	rt ci
+	$(MAKE) --no-print-directory documents
 	$(MAKE) --no-print-directory hidrun examples
 
 # Runs a script without a proof: make try SCRIPT=FILE ARGS=--trace
@@ -35,6 +37,12 @@ $(HIDRUN): $(BUILT)
 # Runs each example on the proved program.
 examples: $(HIDRUN)
 	tools/check-examples $(HIDRUN)
+
+# Looks whether each file, function, clause, definition and wrong body that documents cite is there, and then whether it
+# tells a wrong name.
+documents:
+	tools/check-documents
+	tools/check-documents --self-test
 
 # Runs the mouse example with each of its allocations refused in turn, without a proof. It takes some minutes.
 memory:
