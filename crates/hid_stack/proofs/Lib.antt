@@ -10,4 +10,5 @@ pub mod SumLemmas
 pub mod RoomLemmas
 pub mod RigLemmas
 pub mod AnswerLemmas
+pub mod NamedLemmas
 mod Vectors
