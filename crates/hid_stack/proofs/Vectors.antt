@@ -12,6 +12,7 @@ use Rattle.hid_usages.specs.Samples.{usage, keyboard, mouse}
 use Rattle.hid_device.specs.Rounds.{OwnStep, Changes, Polls}
 use Rattle.hid_stack.specs.declared.step.Told.{Told}
 use Rattle.hid_stack.specs.declared.step.Told.TheVariants.{Polled}
+use Rattle.hid_stack.specs.declared.rig.TheConstants.{MAX_DEVICES}
 use Rattle.hid_stack.specs.Motion.{station_motion}
 use Rattle.hid_stack.specs.Stations.{Station, fresh, opened, after_all, events_in, expected}
 use Rattle.hid_stack.specs.Tells.{told_by}
@@ -106,3 +107,7 @@ in_open_round_too = refl
 
 no_more_once_crossed : kept_x (move 2 0 (pos 200) ∷ Polls AckLost ∷ []) ≡ pos 73
 no_more_once_crossed = refl
+
+-- a bus has room for one device
+devices_at_most : MAX_DEVICES ≡ 1
+devices_at_most = refl

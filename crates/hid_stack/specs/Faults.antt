@@ -1,5 +1,6 @@
 -- What refusals are printed as: the codes from the outermost to the innermost.
 use Rattle.std.specs.Prelude.{ℕ, List, ◌++◌, codes}
+use Rattle.std.specs.Fmt.{decimal}
 use Rattle.hid_descriptor.specs.Codes.{fault_text}
 use Rattle.hid_usages.specs.Faults.{change_code, report_code}
 use Rattle.hid_device.specs.Fault.{fault_text as device_text}
@@ -20,3 +21,7 @@ stack_text (BadDescriptor fault) = codes "S5 " ++ descriptor_text fault
 stack_text (Report fault) = codes "S6 " ++ report_code fault
 stack_text TooManyDevices = codes "S7"
 stack_text Memory = codes "S8"
+
+-- where a run stopped, and why
+abbrev pub run_text : ℕ → StackFault → List ℕ
+run_text at fault = codes "step " ++ decimal at ++ codes ": " ++ stack_text fault
