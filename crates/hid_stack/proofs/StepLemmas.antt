@@ -1,9 +1,9 @@
 -- A poll packet by packet, over a bus that loses packets, is a poll of the station (USB 2.0, 8.5.4 and 8.6).
-use Rattle.std.proofs.Common.{◌≡◌, ◌∙◌, ℕ, Bool, true, false, List, [], Option, Some, None, Result, Ok, refl, ap, sym, subst, arith, eqb, cond}
+use Rattle.std.proofs.Common.{◌≡◌, ◌∙◌, ◌≤◌, ◌+◌, length, ℕ, Bool, true, false, List, [], Option, Some, None, Result, Ok, refl, ap, sym, subst, arith, eqb, cond}
 use Rattle.std.specs.Prelude.{IfSome, ◌&&◌}
 use Rattle.std.proofs.lemmas.Bool.Decides.{nat_tests}
 use Rattle.hid_layout.specs.Layout.{Contents}
-use Rattle.hid_layout.specs.Controls.{items_of}
+use Rattle.hid_layout.specs.Controls.{items_of, max_events}
 use Rattle.hid_layout.specs.Reports.{IsLayout}
 use Rattle.hid_cells.specs.declared.event.Event.{Event}
 use Rattle.hid_usages.specs.Cells.{FitsView}
@@ -16,6 +16,7 @@ use Rattle.usb_transact.specs.declared.host.Took.{Took}
 use Rattle.usb_transact.specs.declared.host.Took.TheVariants.{Silent}
 use Rattle.usb_transact.specs.declared.transaction.Fate.{Fate}
 use Rattle.usb_transact.specs.declared.transaction.Fate.TheVariants.{Clean, TokenLost, ReplyLost, AckLost}
+use Rattle.usb_transact.specs.Bus.{Arrivals}
 use Rattle.usb_transact.specs.Device.{answer_with}
 use Rattle.usb_transact.specs.Fate.{arrives_under}
 use Rattle.usb_transact.specs.Host.{token_to}
@@ -35,8 +36,9 @@ use Rattle.hid_stack.specs.declared.step.Told.TheVariants.{Polled}
 use Rattle.hid_stack.specs.Host.{HostEnd, IfReady, ready_after}
 use Rattle.hid_stack.specs.Joint.{joined, station_of, member_with, joint, IsEven, ArePaired, IsPair}
 use Rattle.hid_stack.specs.Known.{Known, told_of, events_behind}
-use Rattle.hid_stack.specs.Polls.{Hears, Replies, Ends, Transacts, HasBytes, spelled, told_with}
+use Rattle.hid_stack.specs.Polls.{Hears, Replies, Ends, Transacts, GoesByPackets, HasBytes, spelled, told_with}
 use Rattle.hid_stack.specs.Stations.{Station, opened, answered, round_events, after, events_at}
+use Rattle.hid_stack.specs.Laws.{PacketsMakePolls}
 use Rattle.hid_stack.specs.Members.{Member}
 use Rattle.hid_stack.specs.Tells.{ShowsRound, TellsOpened, TellsPoll, told_by}
 use Rattle.hid_stack.proofs.PollLemmas.{opens, Meets, Arrives, Lands, sharing, ready_with, member_of, pair_of, comes, clean, ack_lost_poll, reply_lost}
@@ -128,7 +130,7 @@ tells_none layout c known None = refl
 tells_none layout c known (Some r) = either_none _
 
 token_lost : (device : DeviceState) (known : Known) (home : ℕ) (result : Result Told StackFault) (device_then : DeviceState) (host_then : HostEnd) (events : List Event)
-    → ArePaired device known → Transacts (arrives_under TokenLost) device home known result device_then host_then events
+    → ArePaired device known → Transacts (arrives_under TokenLost) device home known result device_then host_then [] events
     → PollsAs TokenLost device (joined device.core known) result device_then host_then events
 token_lost device known home result device_then host_then events pair t =
     let lost = read_lost (arrives_under TokenLost) Token (token_to known.pipe) t.token refl t.polled in
@@ -163,7 +165,7 @@ answered_by device known (Some packet) between (armed, arms, packet_is) stands s
 
 token_came : (fate : Fate) (device : DeviceState) (known : Known) (home : ℕ) (result : Result Told StackFault) (device_then : DeviceState) (host_then : HostEnd) (events : List Event)
     → ((bytes : List ℕ) → arrives_under fate Token bytes ≡ Some bytes) → ArePaired device known
-    → (t : Transacts (arrives_under fate) device home known result device_then host_then events) → Answered device known t.answer t.between
+    → (t : Transacts (arrives_under fate) device home known result device_then host_then [] events) → Answered device known t.answer t.between
 token_came fate device known home result device_then host_then events whole pair t =
     let came = read_whole (arrives_under fate) Token (token_to known.pipe) t.token (whole (spelling (token_to known.pipe))) t.polled in
     let h : Hears device (Some (token_to known.pipe)) t.answer t.between = subst (λ (o : Option Packet). Hears device o t.answer t.between) came t.heard in
@@ -176,7 +178,7 @@ token_came fate device known home result device_then host_then events whole pair
 -- from there on
 arrives : (fate : Fate) (device : DeviceState) (known : Known) (home : ℕ) (result : Result Told StackFault) (device_then : DeviceState) (host_then : HostEnd) (events : List Event)
     → ArePaired device known
-    → (t : Transacts (arrives_under fate) device home known result device_then host_then events) → (a : Answered device known t.answer t.between)
+    → (t : Transacts (arrives_under fate) device home known result device_then host_then [] events) → (a : Answered device known t.answer t.between)
     → Arrives fate (opening_of device.core) known device.addr home a.packet result device_then host_then events
 arrives fate device known home result device_then host_then events pair t a =
     let layout : known.layout ≡ (opening_of device.core).layout = pair.layout ∙ sym (keeps device.core).layout in
@@ -221,7 +223,7 @@ told_by_report : (layout : Contents) (s : Station) (fate : Fate) (result : Resul
 told_by_report layout s fate result (report, shows, is) = (told_by s fate report, is, (report, shows, refl))
 
 pub polls : (fate : Fate) (device : DeviceState) (known : Known) (home : ℕ) (result : Result Told StackFault) (device_then : DeviceState) (host_then : HostEnd) (events : List Event)
-    → ArePaired device known → Transacts (arrives_under fate) device home known result device_then host_then events
+    → ArePaired device known → Transacts (arrives_under fate) device home known result device_then host_then [] events
     → PollsAs fate device (joined device.core known) result device_then host_then events
 polls TokenLost device known home result device_then host_then events pair t = token_lost device known home result device_then host_then events pair t
 polls ReplyLost device known home result device_then host_then events pair t =
@@ -258,11 +260,13 @@ polls AckLost device known home result device_then host_then events pair t =
     record { member = lands.member; delivered = lands.delivered; told = told_by_report device.core.layout (opened (items_of device.core.layout) (joined device.core known)) AckLost result lands.told; pair = lands.pair }
 
 -- the same of a host, which is ready
-pub polls_at : (fate : Fate) (device : DeviceState) (host : HostEnd) (phase : Phase) (result : Result Told StackFault) (device_then : DeviceState) (host_then : HostEnd) (events : List Event)
-    → IsPair device phase → IfReady phase (λ known. Transacts (arrives_under fate) device host.addr known result device_then host_then events)
+pub polls_at : (fate : Fate) (device : DeviceState) (addr : ℕ) (phase : Phase) (result : Result Told StackFault) (device_then : DeviceState) (host_then : HostEnd) (before events : List Event)
+    → IsPair device phase → before ≡ [] → GoesByPackets (arrives_under fate) device addr phase result device_then host_then before events
     → PollsAs fate device (station_of device.core phase) result device_then host_then events
-polls_at fate device host Cold result device_then host_then events pair t = absurd pair
-polls_at fate device host (Ready known) result device_then host_then events pair t = polls fate device known host.addr result device_then host_then events pair t
+polls_at fate device addr Cold result device_then host_then before events pair none t = absurd pair
+polls_at fate device addr (Ready known) result device_then host_then before events pair none t =
+    polls fate device known addr result device_then host_then events pair
+    (subst (λ (es : List Event). Transacts (arrives_under fate) device addr known result device_then host_then es events) none t)
 
 -- what is told is what was returned
 pub told_is : (layout : Contents) (s : Station) (fate : Fate) (result : Result Told StackFault) (told : Told)
@@ -273,8 +277,22 @@ told_is layout s fate result told is (other, other_is, tells) =
     subst (TellsPoll layout s fate) (sym same) tells
 
 -- the host keeps its device's address
-pub home_stays : (fate : Fate) (device : DeviceState) (host : HostEnd) (phase : Phase) (result : Result Told StackFault) (device_then : DeviceState) (host_then : HostEnd) (events : List Event)
-    → IsPair device phase → IfReady phase (λ known. Transacts (arrives_under fate) device host.addr known result device_then host_then events)
-    → host_then.addr ≡ host.addr
-home_stays fate device host Cold result device_then host_then events pair t = absurd pair
-home_stays fate device host (Ready known) result device_then host_then events pair t = ap (λ (h : HostEnd). h.addr) t.host_moved
+pub home_stays : (arrivals : Arrivals) (device : DeviceState) (addr : ℕ) (phase : Phase) (result : Result Told StackFault) (device_then : DeviceState) (host_then : HostEnd) (before events : List Event)
+    → GoesByPackets arrivals device addr phase result device_then host_then before events → host_then.addr ≡ addr
+home_stays arrivals device addr Cold result device_then host_then before events t = ap (λ (h : HostEnd). h.addr) t.host_stays
+home_stays arrivals device addr (Ready known) result device_then host_then before events t = ap (λ (h : HostEnd). h.addr) t.host_moved
+
+-- no more is delivered than a report of the device's layout can tell
+pub few_of : (device : DeviceState) (phase : Phase) (before events : List Event) → IsPair device phase → before ≡ []
+    → IfReady phase (λ (known : Known). length events ≤ length before + max_events (items_of known.layout)) → length events ≤ max_events (items_of device.core.layout)
+few_of device Cold before events pair none few = absurd pair
+few_of device (Ready known) before events pair none few =
+    let same = ap (λ (l : Contents). max_events (items_of l)) pair.layout in
+    let zero = ap (λ (es : List Event). length es) none in
+    omega (arith, same, zero, few)
+
+-- a poll of a pair, by its packets
+pub packets_make_polls : PacketsMakePolls
+packets_make_polls fate device host result device_then host_then events pair t =
+    let done = polls_at fate device host.addr host.phase result device_then host_then [] events pair refl t in
+    record { told = done.told; after = done.member; delivers = done.delivered; pair = done.pair }

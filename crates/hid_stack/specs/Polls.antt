@@ -1,6 +1,6 @@
 -- One poll over any bus, packet by packet (USB 2.0, 8.5.4 and 8.6): each end acts on what it reads of the bytes that arrive,
 -- and on nothing else.
-use Rattle.std.specs.Prelude.{◌≡◌, ℕ, List, Option, Some, None, Result, Ok, Err, IfSome}
+use Rattle.std.specs.Prelude.{◌≡◌, ℕ, List, ◌++◌, Option, Some, None, Result, Ok, Err, IfSome}
 use Rattle.arrayvec.specs.declared.array_vec.ArrayVec.{ArrayVec}
 use Rattle.hid_cells.specs.declared.event.Event.{Event}
 use Rattle.hid_usages.specs.Encoding.{AreBytes}
@@ -16,6 +16,9 @@ use Rattle.usb_transact.specs.Taken.{taken}
 use Rattle.hid_device.specs.Core.{IsSound}
 use Rattle.hid_device.specs.Device.{DeviceState, DeviceAnswers, device_after}
 use Rattle.hid_stack.specs.declared.fault.StackFault.{StackFault}
+use Rattle.hid_stack.specs.declared.fault.StackFault.TheVariants.{NotReady}
+use Rattle.hid_stack.specs.declared.host.Phase.{Phase}
+use Rattle.hid_stack.specs.declared.host.Phase.TheVariants.{Cold, Ready}
 use Rattle.hid_stack.specs.declared.step.Told.{Told}
 use Rattle.hid_stack.specs.declared.step.Told.TheVariants.{Polled}
 use Rattle.hid_stack.specs.Host.{HostEnd, ready_after}
@@ -68,7 +71,7 @@ told_with answer (Err fault) = Err fault
 
 -- The poll by its packets: the token, the device's answer, what the host reads of it, and the ACK for data.
 pub record Transacts (arrivals : Arrivals) (device : DeviceState) (addr : ℕ) (known : Known)
-    (result : Result Told StackFault) (device_then : DeviceState) (host_then : HostEnd) (events : List Event) : Type 0 where
+    (result : Result Told StackFault) (device_then : DeviceState) (host_then : HostEnd) (before events : List Event) : Type 0 where
   pub token : Option Packet
   pub answer : Option Packet
   pub between : DeviceState
@@ -79,5 +82,20 @@ pub record Transacts (arrivals : Arrivals) (device : DeviceState) (addr : ℕ) (
   pub replied : Replies arrivals answer reply
   pub told : result ≡ told_with answer (told_of known.layout (taken known.pipe.expects reply))
   pub host_moved : host_then ≡ ready_after addr known (taken known.pipe.expects reply)
-  pub delivers : events ≡ events_behind known (taken known.pipe.expects reply)
+  pub delivers : events ≡ before ++ events_behind known (taken known.pipe.expects reply)
   pub ended : Ends arrivals (told_of known.layout (taken known.pipe.expects reply)) between device_then
+
+-- a host that isn't ready sends nothing, and nothing changes
+pub record SendsNothing (device : DeviceState) (addr : ℕ)
+    (result : Result Told StackFault) (device_then : DeviceState) (host_then : HostEnd) (before events : List Event) : Type 0 where
+  pub told : result ≡ Err NotReady
+  pub device_stays : device_then ≡ device
+  pub host_stays : host_then ≡ record { addr = addr; phase = Cold }
+  pub delivers : events ≡ before
+
+-- A poll over a bus, by how far the host at this address has come with its device.
+abbrev pub GoesByPackets : Arrivals → DeviceState → ℕ → Phase → Result Told StackFault → DeviceState → HostEnd → List Event → List Event → Type 0
+GoesByPackets arrivals device addr Cold result device_then host_then before events =
+    SendsNothing device addr result device_then host_then before events
+GoesByPackets arrivals device addr (Ready known) result device_then host_then before events =
+    Transacts arrivals device addr known result device_then host_then before events

@@ -108,6 +108,7 @@ impl HostDevice {
     pub fn token(&self) -> Result<Packet, StackFault>
         ensures token { result ≡ polls_with self.now.phase }
         ensures fits { IfOk result Fits }
+        ensures is_ready { IfOk result (λ _. IsReady self.now.phase) }
     {
         match &self.phase {
             Phase::Cold => Err(StackFault::NotReady),

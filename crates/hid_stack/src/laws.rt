@@ -6,7 +6,7 @@ ghost use Rattle.hid_usages.specs.Cells.{blank, FitsSnapshot, FitsShown, FitsVie
 ghost use Rattle.hid_device.specs.Rounds.{OwnStep};
 ghost use Rattle.hid_stack.specs.declared.step.Step.{Step as BusStep};
 ghost use Rattle.hid_stack.specs.declared.step.Delivered.{Delivered};
-ghost use Rattle.hid_stack.specs.Laws.{TellsOneThing, FindsOneControl, AttachesOneDevice};
+ghost use Rattle.hid_stack.specs.Laws.{TellsOneThing, FindsOneControl, AttachesOneDevice, PacketsMakePolls};
 ghost use Rattle.hid_stack.specs.Members.{Member, bus_after_all, delivered_in};
 ghost use Rattle.hid_stack.specs.Motion.{HasMotions, KeepsMotion, KeepsAccepted, are_accepted};
 ghost use Rattle.hid_stack.specs.Stations.{Station, fresh, after_all};
@@ -32,6 +32,12 @@ pub fn one_attaching()
     accepted_or_refused();
     one_refusal();
 }
+
+/// The packets of a poll, as a fate lets them arrive, come to the table of polls: where a device and its ready host stand
+/// together behind it, what it tells, and what it delivers.
+pub fn packets_make_polls()
+    ensures { PacketsMakePolls }
+{}
 
 /// Steps neither lose nor double the motion of a control: what a station had of it and what accepted moves added is what
 /// was told of it and what the station still has. A station keeps its motions behind any steps.

@@ -17,7 +17,7 @@ ghost use Rattle.hid_stack.specs.Tells.{TellsPoll};
 
 use crate::fault::{DescriptorFault, StackFault};
 use crate::host::HostDevice;
-use crate::poll::poll;
+use crate::polls::poll_pair;
 use crate::step::{Delivered, Told};
 use hid_device::{Config, Device, DeviceCause, DeviceFault};
 use hid_layout::laws::{accepted_or_refused, one_reading};
@@ -180,7 +180,7 @@ impl Slot {
         if out.reserve(room).is_err() {
             return Err(StackFault::Memory);
         }
-        let told = poll(fate, &mut self.device, &mut self.host, &mut self.events);
+        let told = poll_pair(fate, &mut self.device, &mut self.host, &mut self.events);
         hand_over(dev, &self.events, out);
         Ok(told)
     }
