@@ -16,7 +16,7 @@ use Rattle.hid_views.proofs.CrossingLemmas.{seen_is_view}
 use Rattle.usb_packet.specs.declared.packet.Packet.{Packet}
 use Rattle.usb_packet.specs.declared.packet.Packet.TheVariants as packets
 use Rattle.usb_packet.specs.Spelling.{spelling}
-use Rattle.usb_transact.specs.declared.bus.Stage.TheVariants.{Reply, Acknowledgement}
+use Rattle.usb_transact.specs.declared.bus.Phase.TheVariants.{Reply, Acknowledgement}
 use Rattle.usb_transact.specs.declared.host.Took.{Took}
 use Rattle.usb_transact.specs.declared.host.Took.TheVariants.{Fresh, Again, Nak, Silent}
 use Rattle.usb_transact.specs.declared.transaction.Fate.{Fate}

@@ -11,7 +11,7 @@ use Rattle.hid_usages.specs.Crossing.{ReadsAsShown}
 use Rattle.hid_views.proofs.CrossingLemmas.{parts_back}
 use Rattle.usb_packet.specs.declared.packet.Packet.{Packet}
 use Rattle.usb_packet.specs.Spelling.{spelling}
-use Rattle.usb_transact.specs.declared.bus.Stage.TheVariants.{Token}
+use Rattle.usb_transact.specs.declared.bus.Phase.TheVariants.{Token}
 use Rattle.usb_transact.specs.declared.host.Took.{Took}
 use Rattle.usb_transact.specs.declared.host.Took.TheVariants.{Silent}
 use Rattle.usb_transact.specs.declared.transaction.Fate.{Fate}

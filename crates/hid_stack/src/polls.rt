@@ -19,7 +19,7 @@ use arrayvec::ArrayVec;
 use hid_device::Device;
 use hid_usages::Event;
 use usb_packet::{Packet, encode};
-use usb_transact::{Bus, Fate, Stage, Took, carried};
+use usb_transact::{Bus, Fate, Phase, Took, carried};
 
 // The numbers of a byte string are bytes.
 fn are_bytes(bytes: &[u8])
@@ -58,7 +58,7 @@ fn replied<B: Bus>(bus: &B, answer: Option<&Packet>) -> Option<Packet>
     ensures { Replies (B.arrives bus.now) (option_copied answer.entry) result }
 {
     match answer {
-        Some(answer) => carried(bus, Stage::Reply, answer),
+        Some(answer) => carried(bus, Phase::Reply, answer),
         None => None,
     }
 }
@@ -69,7 +69,7 @@ fn acknowledge<B: Bus>(bus: &B, took: &Took, device: &mut Device)
 {
     match took {
         Took::Fresh(_) | Took::Again => {
-            let came = carried(bus, Stage::Acknowledgement, &Packet::Ack);
+            let came = carried(bus, Phase::Acknowledgement, &Packet::Ack);
             hear(device, came.as_ref());
         }
         Took::Nak | Took::Stall | Took::Silent => {}
@@ -100,7 +100,7 @@ pub fn poll<B: Bus>(
     ensures capacity { vec_capacity out.new ≡ vec_capacity out.old }
 {
     let token = host.token()?;
-    let came = carried(bus, Stage::Token, &token);
+    let came = carried(bus, Phase::Token, &token);
     let answer = hear(device, came.as_ref());
     let reply = replied(bus, answer.as_ref());
     let took = host.reply(reply.as_ref(), out)?;
