@@ -11,12 +11,12 @@ use Rattle.hid_usages.specs.Crossing.{ReadsAsShown}
 use Rattle.hid_views.proofs.CrossingLemmas.{parts_back}
 use Rattle.usb_packet.specs.declared.packet.Packet.{Packet}
 use Rattle.usb_packet.specs.Spelling.{spelling}
-use Rattle.usb_transact.specs.declared.bus.Phase.TheVariants.{Token}
+use Rattle.usb_transact.specs.declared.bus.Phase.TheVariants.{Token, Reply}
 use Rattle.usb_transact.specs.declared.host.Took.{Took}
 use Rattle.usb_transact.specs.declared.host.Took.TheVariants.{Silent}
 use Rattle.usb_transact.specs.declared.transaction.Fate.{Fate}
 use Rattle.usb_transact.specs.declared.transaction.Fate.TheVariants.{Clean, TokenLost, ReplyLost, AckLost}
-use Rattle.usb_transact.specs.Bus.{Arrivals}
+use Rattle.usb_transact.specs.Bus.{Arrivals, Replies}
 use Rattle.usb_transact.specs.Device.{answer_with}
 use Rattle.usb_transact.specs.Fate.{arrives_under}
 use Rattle.usb_transact.specs.Host.{token_to}
@@ -36,7 +36,7 @@ use Rattle.hid_stack.specs.declared.step.Told.TheVariants.{Polled}
 use Rattle.hid_stack.specs.Host.{HostEnd, IfReady, ready_after}
 use Rattle.hid_stack.specs.Joint.{joined, station_of, member_with, joint, IsEven, ArePaired, IsPair}
 use Rattle.hid_stack.specs.Known.{Known, told_of, events_behind}
-use Rattle.hid_stack.specs.Polls.{Hears, Replies, Ends, Transacts, GoesByPackets, HasBytes, spelled, told_with}
+use Rattle.hid_stack.specs.Polls.{Hears, Ends, Transacts, GoesByPackets, HasBytes, spelled, told_with}
 use Rattle.hid_stack.specs.Stations.{Station, opened, answered, round_events, after, events_at}
 use Rattle.hid_stack.specs.Laws.{PacketsMakePolls}
 use Rattle.hid_stack.specs.Members.{Member}
@@ -135,7 +135,7 @@ token_lost : (device : DeviceState) (known : Known) (home : ℕ) (result : Resul
 token_lost device known home result device_then host_then events pair t =
     let lost = read_lost (arrives_under TokenLost) Token (token_to known.pipe) t.token refl t.polled in
     let heard : Hears device None t.answer t.between = subst (λ (o : Option Packet). Hears device o t.answer t.between) lost t.heard in
-    let none : t.reply ≡ None = subst (λ (o : Option Packet). Replies (arrives_under TokenLost) o t.reply) heard.0 t.replied in
+    let none : t.reply ≡ None = subst (λ (o : Option Packet). Replies (arrives_under TokenLost) Reply o t.reply) heard.0 t.replied in
     let took : taken known.pipe.expects t.reply ≡ Silent = ap (taken known.pipe.expects) none in
     let device_is : device_then ≡ device = subst (λ (x : Took). Ends (arrives_under TokenLost) (told_of known.layout x) t.between device_then) took t.ended ∙ heard.1 in
     let host_is : host_then ≡ ready_with home known = t.host_moved ∙ ap (ready_after home known) took in
@@ -185,7 +185,7 @@ arrives fate device known home result device_then host_then events pair t a =
     let shared : known ≡ sharing (opening_of device.core) known = ap (λ (l : Contents). record known { layout = l }) layout in
     record {
       reply = t.reply;
-      replied = subst (λ (o : Option Packet). Replies (arrives_under fate) o t.reply) a.is t.replied;
+      replied = subst (λ (o : Option Packet). Replies (arrives_under fate) Reply o t.reply) a.is t.replied;
       told = t.told ∙ ap (λ (o : Option Packet). told_with o (told_of known.layout (taken known.pipe.expects t.reply))) a.is
           ∙ ap (λ (l : Contents). told_with (Some a.packet) (told_of l (taken known.pipe.expects t.reply))) layout;
       host_moved = t.host_moved ∙ ap (λ (k : Known). ready_after home k (taken known.pipe.expects t.reply)) shared;

@@ -10,7 +10,7 @@ use Rattle.usb_packet.specs.Spelling.{spelling}
 use Rattle.usb_transact.specs.declared.bus.Phase.TheVariants.{Token, Reply, Acknowledgement}
 use Rattle.usb_transact.specs.declared.host.Took.{Took}
 use Rattle.usb_transact.specs.declared.host.Took.TheVariants.{Fresh, Again}
-use Rattle.usb_transact.specs.Bus.{Arrivals, Carries}
+use Rattle.usb_transact.specs.Bus.{Arrivals, Carries, Replies}
 use Rattle.usb_transact.specs.Host.{token_to}
 use Rattle.usb_transact.specs.Taken.{taken}
 use Rattle.hid_device.specs.Core.{IsSound}
@@ -36,11 +36,6 @@ HasBytes packets.Stall = Unit {0}
 abbrev pub Hears : DeviceState → Option Packet → Option Packet → DeviceState → Type 0
 Hears device None answer after = (answer ≡ None) × (after ≡ device)
 Hears device (Some packet) answer after = DeviceAnswers device packet answer × (after ≡ device_after device packet) × IfSome answer (λ _. IsSound after.core)
-
--- what the host reads of an answer
-abbrev pub Replies : Arrivals → Option Packet → Option Packet → Type 0
-Replies arrivals None reply = reply ≡ None
-Replies arrivals (Some answer) reply = Carries arrivals Reply answer reply
 
 -- an ACK is sent, and the device hears what arrives of it
 pub record HearsAck (arrivals : Arrivals) (device after : DeviceState) : Type 0 where
@@ -79,7 +74,7 @@ pub record Transacts (arrivals : Arrivals) (device : DeviceState) (addr : ℕ) (
   pub polled : Carries arrivals Token (token_to known.pipe) token
   pub heard : Hears device token answer between
   pub bytes : IfSome answer HasBytes
-  pub replied : Replies arrivals answer reply
+  pub replied : Replies arrivals Reply answer reply
   pub told : result ≡ told_with answer (told_of known.layout (taken known.pipe.expects reply))
   pub host_moved : host_then ≡ ready_after addr known (taken known.pipe.expects reply)
   pub delivers : events ≡ before ++ events_behind known (taken known.pipe.expects reply)

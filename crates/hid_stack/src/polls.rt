@@ -8,7 +8,7 @@ ghost use Rattle.hid_device.specs.Rounds.{Polls};
 ghost use Rattle.hid_stack.specs.Host.{IfReady};
 ghost use Rattle.hid_stack.specs.Joint.{IsPair, joint, station_of};
 ghost use Rattle.hid_stack.specs.Members.{member_after};
-ghost use Rattle.hid_stack.specs.Polls.{Hears, HasBytes, Replies, Acknowledges, GoesByPackets, spelled};
+ghost use Rattle.hid_stack.specs.Polls.{Hears, HasBytes, Acknowledges, GoesByPackets, spelled};
 ghost use Rattle.hid_stack.specs.Stations.{events_at};
 ghost use Rattle.hid_stack.specs.Tells.{TellsPoll};
 
@@ -19,7 +19,7 @@ use arrayvec::ArrayVec;
 use hid_device::Device;
 use hid_usages::Event;
 use usb_packet::{Packet, encode};
-use usb_transact::{Bus, Fate, Phase, Took, carried};
+use usb_transact::{Bus, Fate, Phase, Took, carried, replied};
 
 // The numbers of a byte string are bytes.
 fn are_bytes(bytes: &[u8])
@@ -48,17 +48,6 @@ fn spelled(answer: Option<&Packet>) -> Option<ArrayVec<u8, 65>>
 {
     match answer {
         Some(answer) => Some(encode(answer)),
-        None => None,
-    }
-}
-
-// What the host reads of an answer.
-fn replied<B: Bus>(bus: &B, answer: Option<&Packet>) -> Option<Packet>
-    requires { IfSome (option_copied answer) Fits }
-    ensures { Replies (B.arrives bus.now) (option_copied answer.entry) result }
-{
-    match answer {
-        Some(answer) => carried(bus, Phase::Reply, answer),
         None => None,
     }
 }
@@ -102,7 +91,7 @@ pub fn poll<B: Bus>(
     let token = host.token()?;
     let came = carried(bus, Phase::Token, &token);
     let answer = hear(device, came.as_ref());
-    let reply = replied(bus, answer.as_ref());
+    let reply = replied(bus, Phase::Reply, answer.as_ref());
     let took = host.reply(reply.as_ref(), out)?;
     acknowledge(bus, &took, device);
     Ok(Told::Polled {
