@@ -17,6 +17,7 @@ pub record HostEnd : Type 0 where
   pub addr : ℕ
   pub phase : Phase
 
+-- a host that is ready from the start, at this address with this layout
 abbrev pub ready_host : ℕ → Contents → HostEnd
 ready_host addr layout = record { addr = addr; phase = Ready (known_at_start addr layout) }
 
@@ -31,6 +32,7 @@ abbrev pub IfReady : Phase → (Known → Type 0) → Type 0
 IfReady Cold holds = Unit {0}
 IfReady (Ready known) holds = holds known
 
+-- the host has configured its device and polls it
 abbrev pub IsReady : Phase → Type 0
 IsReady Cold = ⊥
 IsReady (Ready known) = Unit {0}

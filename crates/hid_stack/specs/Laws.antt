@@ -1,4 +1,4 @@
--- Laws of what a bus answers, which hold whatever runs it.
+-- Laws of what a bus answers, which hold whatever runs it (our choice).
 use Rattle.std.specs.Prelude.{◌≡◌, ◌≢◌, ℕ, List, [], Result, Ok, Err}
 use Rattle.hid_layout.specs.declared.control.ControlId.{ControlId}
 use Rattle.hid_descriptor.specs.declared.usage.Usage.{Usage}
@@ -23,7 +23,9 @@ use Rattle.hid_stack.specs.Attaching.{Attaches, Finds}
 
 -- a step tells one thing at most
 abbrev pub TellsOneThing : Type 0
-TellsOneThing = (members : List Member) (step : Step) (told other : Told) → Tells members step told → Tells members step other → told ≡ other
+TellsOneThing =
+    (members : List Member) (step : Step) (told other : Told) → Tells members step told
+    → Tells members step other → told ≡ other
 
 -- a usage names one control at most, or none for one cause
 abbrev pub FindsOneControl : Type 0
@@ -42,7 +44,8 @@ AttachesOneDevice =
 -- delivers what it says.
 pub record IsPollOfPair (fate : Fate) (device : DeviceState) (host : HostEnd)
     (result : Result Told StackFault) (device_then : DeviceState) (host_then : HostEnd) (events : List Event) : Type 0 where
-  pub told : (told : Told) × (result ≡ Ok told) × TellsPoll device.core.layout (station_of device.core host.phase) fate told
+  pub told : (told : Told) × (result ≡ Ok told)
+      × TellsPoll device.core.layout (station_of device.core host.phase) fate told
   pub after : joint device_then host_then ≡ member_after (joint device host) (Polls fate)
   pub delivers : events ≡ events_at (items_of device.core.layout) (station_of device.core host.phase) (Polls fate)
   pub pair : IsPair device_then host_then.phase

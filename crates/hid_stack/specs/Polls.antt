@@ -1,5 +1,5 @@
--- One poll over any bus, packet by packet (USB 2.0, 8.5.4 and 8.6): each end acts on what it reads of the bytes that arrive,
--- and on nothing else.
+-- One poll over any bus, packet by packet (USB 2.0, 8.5.4 and 8.6): each end acts on what it reads of the bytes
+-- that arrive, and on nothing else.
 use Rattle.std.specs.Prelude.{◌≡◌, ℕ, List, ◌++◌, Option, Some, None, Result, Ok, Err, IfSome}
 use Rattle.arrayvec.specs.declared.array_vec.ArrayVec.{ArrayVec}
 use Rattle.hid_cells.specs.declared.event.Event.{Event}
@@ -35,7 +35,9 @@ HasBytes packets.Stall = Unit {0}
 -- what the device makes of a packet, where one came, and what it answers
 abbrev pub Hears : DeviceState → Option Packet → Option Packet → DeviceState → Type 0
 Hears device None answer after = (answer ≡ None) × (after ≡ device)
-Hears device (Some packet) answer after = DeviceAnswers device packet answer × (after ≡ device_after device packet) × IfSome answer (λ _. IsSound after.core)
+Hears device (Some packet) answer after =
+    DeviceAnswers device packet answer × (after ≡ device_after device packet)
+    × IfSome answer (λ _. IsSound after.core)
 
 -- an ACK is sent, and the device hears what arrives of it
 pub record HearsAck (arrivals : Arrivals) (device after : DeviceState) : Type 0 where
@@ -60,6 +62,7 @@ abbrev pub spelled : Option Packet → Option (ArrayVec ℕ 65 (Unit {0}))
 spelled None = None
 spelled (Some packet) = Some (record { items = spelling packet })
 
+-- what a poll tells: the bytes that were sent, and what the host took, or why it refused them
 abbrev pub told_with : Option Packet → Result Took StackFault → Result Told StackFault
 told_with answer (Ok took) = Ok (Polled (spelled answer) took)
 told_with answer (Err fault) = Err fault
@@ -89,7 +92,8 @@ pub record SendsNothing (device : DeviceState) (addr : ℕ)
   pub delivers : events ≡ before
 
 -- A poll over a bus, by how far the host at this address has come with its device.
-abbrev pub GoesByPackets : Arrivals → DeviceState → ℕ → Phase → Result Told StackFault → DeviceState → HostEnd → List Event → List Event → Type 0
+abbrev pub GoesByPackets : Arrivals → DeviceState → ℕ → Phase → Result Told StackFault → DeviceState
+    → HostEnd → List Event → List Event → Type 0
 GoesByPackets arrivals device addr Cold result device_then host_then before events =
     SendsNothing device addr result device_then host_then before events
 GoesByPackets arrivals device addr (Ready known) result device_then host_then before events =
