@@ -13,6 +13,7 @@ use Rattle.hid_device.specs.Rounds.{OwnStep, Changes, Polls}
 use Rattle.hid_stack.specs.declared.step.Told.{Told}
 use Rattle.hid_stack.specs.declared.step.Told.TheVariants.{Polled}
 use Rattle.hid_stack.specs.declared.rig.TheConstants.{MAX_DEVICES}
+use Rattle.hid_stack.specs.Headline.{flips}
 use Rattle.hid_stack.specs.Motion.{station_motion}
 use Rattle.hid_stack.specs.Stations.{Station, fresh, opened, after_all, events_in, expected}
 use Rattle.hid_stack.specs.Tells.{told_by}
@@ -83,6 +84,13 @@ device_at_data1 = refl
 
 no_round_is_open : (keyboard_after (press 4 4 ∷ Polls AckLost ∷ Polls Clean ∷ [])).current ≡ None
 no_round_is_open = refl
+
+-- a toggle that begins at DATA0 is at DATA1 behind three changes, and back behind four
+three_changes : flips 3 false ≡ true
+three_changes = refl
+
+four_changes : flips 4 false ≡ false
+four_changes = refl
 
 -- with nothing to report the device answers NAK; of a token that is lost nothing comes back
 nothing_due : poll_after [] Clean [] ≡ Polled (Some (record { items = 0x5A ∷ [] })) Nak

@@ -10,4 +10,5 @@ pub mod Attaching
 pub mod Showing
 pub mod Motion
 pub mod Sums
+pub mod Headline
 pub mod Laws
