@@ -15,7 +15,7 @@ use Rattle.hid_stack.specs.declared.step.Delivered.{Delivered}
 use Rattle.hid_stack.specs.Attaching.{Suits, IsAttached}
 use Rattle.hid_stack.specs.Headline.{DeliversChanges, KeepsToRounds}
 use Rattle.hid_stack.specs.Host.{HostEnd, IfReady, IsReady}
-use Rattle.hid_stack.specs.Members.{Member, fresh_member, own, from_device}
+use Rattle.hid_stack.specs.Rig.{Member, fresh_member, own, from_device}
 use Rattle.hid_stack.specs.Showing.{ShowsKnown, ShowsHost, GivesOf}
 use Rattle.hid_client.specs.Playing.{IsPlayed}
 

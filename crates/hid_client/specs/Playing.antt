@@ -12,7 +12,7 @@ use Rattle.hid_device.specs.Rounds.{Round, crossed_rounds, events_of, view_of}
 use Rattle.hid_stack.specs.declared.step.Step.{Step}
 use Rattle.hid_stack.specs.declared.step.Delivered.{Delivered}
 use Rattle.hid_stack.specs.Attaching.{Suits}
-use Rattle.hid_stack.specs.Members.{own, from_device}
+use Rattle.hid_stack.specs.Rig.{own, from_device}
 
 -- The rounds of device 1 that crossed: at first nothing is pressed, nothing has moved, and no idle time is set.
 abbrev pub rounds_played : Contents → List Step → List Round

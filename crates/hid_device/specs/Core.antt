@@ -26,22 +26,22 @@ pub record CoreState : Type 0 where
   pub toggle : Bool
 
 -- A round of a report opens: the part that it shows is fixed.
-abbrev pub opened : CoreState → ℕ → CoreState
-opened core r = record core { standing = after_opening (items_of core.layout) r core.standing; current = Some r }
+abbrev pub opened_core : CoreState → ℕ → CoreState
+opened_core core r = record core { standing = after_opening (items_of core.layout) r core.standing; current = Some r }
 
 -- where a report is due, a round of it opens
-abbrev pub opened_if : CoreState → Option ℕ → CoreState
-opened_if core None = core
-opened_if core (Some r) = opened core r
+abbrev pub opened_core_if : CoreState → Option ℕ → CoreState
+opened_core_if core None = core
+opened_core_if core (Some r) = opened_core core r
 
 -- A poll opens a round where none is open and some report is due, of the due report of the lowest number.
-abbrev pub opened_where : CoreState → Option ℕ → CoreState
-opened_where core None = opened_if core (first_due (items_of core.layout) core.standing)
-opened_where core (Some r) = core
+abbrev pub opened_core_where : CoreState → Option ℕ → CoreState
+opened_core_where core None = opened_core_if core (first_due (items_of core.layout) core.standing)
+opened_core_where core (Some r) = core
 
 -- what a poll makes of the inside before it is answered
 abbrev pub opening_of : CoreState → CoreState
-opening_of core = opened_where core core.current
+opening_of core = opened_core_where core core.current
 
 -- an acknowledgement changes the toggle where a round is open (USB 2.0, 8.6.2)
 abbrev pub flipped : Bool → Option ℕ → Bool

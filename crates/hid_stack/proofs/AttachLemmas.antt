@@ -5,7 +5,7 @@ use Rattle.std.proofs.lemmas.Bool.Decides.{nat_tests}
 use Rattle.hid_layout.specs.Layout.{Contents}
 use Rattle.hid_device.specs.declared.config.Config.{Config}
 use Rattle.hid_stack.specs.Attaching.{Suits, IsAttached}
-use Rattle.hid_stack.specs.Members.{Member, fresh_member, member_at}
+use Rattle.hid_stack.specs.Rig.{Member, fresh_member, member_at}
 use Rattle.hid_stack.proofs.Isolation.{no_zero, at_place}
 
 still_at : (members more : List Member) (i : ℕ) (m : Member) → slice_get members i ≡ Some m → slice_get (members ++ more) i ≡ Some m

@@ -17,7 +17,7 @@ use Rattle.hid_stack.specs.declared.step.Step.{Step}
 use Rattle.hid_stack.specs.declared.step.Step.TheVariants.{Change, Frame, Poll}
 use Rattle.hid_stack.specs.declared.step.Delivered.{Delivered}
 use Rattle.hid_stack.specs.Stations.{Station, after_all, events_at, events_in}
-use Rattle.hid_stack.specs.Members.{Member, member_after, member_after_all, member_at, with_member, one_after, bus_after, tagged, one_delivers, delivered_at, bus_after_all, delivered_in, own_step, own, own_event, from_device, IsIsolated}
+use Rattle.hid_stack.specs.Rig.{Member, member_after, member_after_all, member_at, with_member, one_after, bus_after, tagged, one_delivers, delivered_at, bus_after_all, delivered_in, own_step, own, own_event, from_device, IsIsolated}
 use Rattle.hid_stack.specs.Headline.{DeliversChanges, KeepsToRounds}
 use Rattle.hid_stack.proofs.Delivery.{delivers_epoch}
 use Rattle.hid_stack.proofs.RoundLemmas.{stands_by_rounds}

@@ -1,4 +1,4 @@
-pub mod KnownLemmas
+pub mod ReadyLemmas
 pub mod Delivery
 pub mod RoundLemmas
 pub mod Isolation

@@ -18,7 +18,7 @@ use Rattle.hid_stack.specs.declared.step.Delivered.{Delivered}
 use Rattle.hid_stack.specs.declared.step.Step.TheVariants.{Change as ChangeStep, Poll}
 use Rattle.hid_stack.specs.declared.step.Told.{Told}
 use Rattle.hid_stack.specs.declared.step.Told.TheVariants.{Quiet}
-use Rattle.hid_stack.specs.Members.{Member, member_at, member_after, with_member, one_after, tagged, delivered_at, change_refusal, refusal, IsRefusal, HasRoomFor, most_events}
+use Rattle.hid_stack.specs.Rig.{Member, member_at, member_after, with_member, one_after, tagged, delivered_at, change_refusal, refusal, IsRefusal, HasRoomFor, most_events}
 use Rattle.hid_stack.specs.Stations.{events_at}
 use Rattle.hid_stack.specs.Tells.{TellsPoll, Tells}
 

@@ -25,21 +25,21 @@ use Rattle.usb_transact.proofs.TableLemmas.{read_whole, read_lost}
 use Rattle.hid_device.specs.declared.device.TheConstants.{ENDPOINT}
 use Rattle.hid_device.specs.Inputs.{input_count}
 use Rattle.hid_device.specs.Standing.{first_due}
-use Rattle.hid_device.specs.Core.{CoreState, IsSound, IsArmed, IsBelow, opened_if, opening_of}
-use Rattle.hid_device.specs.Device.{DeviceState, is_poll, polled, AnswersPoll, AnswersIf, heard}
+use Rattle.hid_device.specs.Core.{CoreState, IsSound, IsArmed, IsBelow, opened_core_if, opening_of}
+use Rattle.hid_device.specs.Device.{DeviceState, is_poll, polled_device, AnswersPoll, AnswersIf, heard}
 use Rattle.hid_device.specs.Rounds.{Polls}
 use Rattle.hid_stack.specs.declared.fault.StackFault.{StackFault}
-use Rattle.hid_stack.specs.declared.host.Phase.{Phase}
-use Rattle.hid_stack.specs.declared.host.Phase.TheVariants.{Cold, Ready}
+use Rattle.hid_stack.specs.declared.host.HostPhase.{HostPhase}
+use Rattle.hid_stack.specs.declared.host.HostPhase.TheVariants.{Cold, Ready}
 use Rattle.hid_stack.specs.declared.step.Told.{Told}
 use Rattle.hid_stack.specs.declared.step.Told.TheVariants.{Polled}
 use Rattle.hid_stack.specs.Host.{HostEnd, IfReady, ready_after}
-use Rattle.hid_stack.specs.Joint.{joined, station_of, member_with, joint, IsEven, ArePaired, IsPair}
-use Rattle.hid_stack.specs.Known.{Known, told_of, events_behind}
+use Rattle.hid_stack.specs.Slot.{joined, station_of, member_with, joint, IsEven, ArePaired, IsPair}
+use Rattle.hid_stack.specs.Ready.{Known, told_of, events_behind}
 use Rattle.hid_stack.specs.Polls.{Hears, Ends, Transacts, GoesByPackets, HasBytes, spelled, told_with}
 use Rattle.hid_stack.specs.Stations.{Station, opened, answered, round_events, after, events_at}
 use Rattle.hid_stack.specs.Laws.{PacketsMakePolls}
-use Rattle.hid_stack.specs.Members.{Member}
+use Rattle.hid_stack.specs.Rig.{Member}
 use Rattle.hid_stack.specs.Tells.{ShowsRound, TellsOpened, TellsPoll, told_by}
 use Rattle.hid_stack.proofs.PollLemmas.{opens, Meets, Arrives, Lands, sharing, ready_with, member_of, pair_of, comes, clean, ack_lost_poll, reply_lost}
 
@@ -49,7 +49,7 @@ pub record Keeps (c d : CoreState) : Type 0 where
   pub configured : d.is_configured ≡ c.is_configured
   pub toggle : d.toggle ≡ c.toggle
 
-keeps_if : (c : CoreState) (due : Option ℕ) → Keeps c (opened_if c due)
+keeps_if : (c : CoreState) (due : Option ℕ) → Keeps c (opened_core_if c due)
 keeps_if c None = record { layout = refl; configured = refl; toggle = refl }
 keeps_if c (Some r) = record { layout = refl; configured = refl; toggle = refl }
 
@@ -61,7 +61,7 @@ keeps : (c : CoreState) → Keeps c (opening_of c)
 keeps c = keeps_at c c.current
 
 -- and all that the device was made with
-member_kept_if : (addr : ℕ) (c : CoreState) (due : Option ℕ) → member_with addr (opened_if c due) ≡ member_with addr c
+member_kept_if : (addr : ℕ) (c : CoreState) (due : Option ℕ) → member_with addr (opened_core_if c due) ≡ member_with addr c
 member_kept_if addr c None = refl
 member_kept_if addr c (Some r) = refl
 
@@ -74,7 +74,7 @@ member_kept addr c = member_kept_at addr c c.current
 
 -- where no round is open then, the toggles are still the same
 even_if : (c : CoreState) (expects : Bool) (due : Option ℕ) → c.toggle ≡ expects
-    → IsEven (opened_if (record c { current = None }) due).toggle expects (opened_if (record c { current = None }) due).current
+    → IsEven (opened_core_if (record c { current = None }) due).toggle expects (opened_core_if (record c { current = None }) due).current
 even_if c expects None even = even
 even_if c expects (Some r) even = tt
 
@@ -154,11 +154,11 @@ pub record Answered (device : DeviceState) (known : Known) (answer : Option Pack
   pub is : answer ≡ Some packet
   pub arms : IsArmed (opening_of device.core).layout (opening_of device.core).standing.fixed (opening_of device.core).current armed
   pub packet_is : packet ≡ answer_with (opening_of device.core).toggle armed
-  pub stands : between ≡ polled device.addr (opening_of device.core)
+  pub stands : between ≡ polled_device device.addr (opening_of device.core)
   pub sound : IsSound (opening_of device.core)
 
 answered_by : (device : DeviceState) (known : Known) (answer : Option Packet) (between : DeviceState) → AnswersPoll (opening_of device.core) answer
-    → between ≡ polled device.addr (opening_of device.core) → IfSome answer (λ _. IsSound (opening_of device.core)) → Answered device known answer between
+    → between ≡ polled_device device.addr (opening_of device.core) → IfSome answer (λ _. IsSound (opening_of device.core)) → Answered device known answer between
 answered_by device known None between h stands sound = absurd h
 answered_by device known (Some packet) between (armed, arms, packet_is) stands sound =
     record { packet = packet; armed = armed; is = refl; arms = arms; packet_is = packet_is; stands = stands; sound = sound }
@@ -169,8 +169,8 @@ token_came : (fate : Fate) (device : DeviceState) (known : Known) (home : ℕ) (
 token_came fate device known home result device_then host_then events whole pair t =
     let came = read_whole (arrives_under fate) Token (token_to known.pipe) t.token (whole (spelling (token_to known.pipe))) t.polled in
     let h : Hears device (Some (token_to known.pipe)) t.answer t.between = subst (λ (o : Option Packet). Hears device o t.answer t.between) came t.heard in
-    let stands : t.between ≡ polled device.addr (opening_of device.core)
-    = h.1 ∙ ap (λ (b : Bool). cond b (polled device.addr (opening_of device.core)) (heard device (token_to known.pipe))) (polls_it device known pair) in
+    let stands : t.between ≡ polled_device device.addr (opening_of device.core)
+    = h.1 ∙ ap (λ (b : Bool). cond b (polled_device device.addr (opening_of device.core)) (heard device (token_to known.pipe))) (polls_it device known pair) in
     answered_by device known t.answer t.between
     (subst (λ (b : Bool). AnswersIf b (opening_of device.core) t.answer) (polls_it device known pair) h.0)
     stands (subst (λ (d : DeviceState). IfSome t.answer (λ _. IsSound d.core)) stands h.2)
@@ -260,7 +260,7 @@ polls AckLost device known home result device_then host_then events pair t =
     record { member = lands.member; delivered = lands.delivered; told = told_by_report device.core.layout (opened (items_of device.core.layout) (joined device.core known)) AckLost result lands.told; pair = lands.pair }
 
 -- the same of a host, which is ready
-pub polls_at : (fate : Fate) (device : DeviceState) (addr : ℕ) (phase : Phase) (result : Result Told StackFault) (device_then : DeviceState) (host_then : HostEnd) (before events : List Event)
+pub polls_at : (fate : Fate) (device : DeviceState) (addr : ℕ) (phase : HostPhase) (result : Result Told StackFault) (device_then : DeviceState) (host_then : HostEnd) (before events : List Event)
     → IsPair device phase → before ≡ [] → GoesByPackets (arrives_under fate) device addr phase result device_then host_then before events
     → PollsAs fate device (station_of device.core phase) result device_then host_then events
 polls_at fate device addr Cold result device_then host_then before events pair none t = absurd pair
@@ -277,13 +277,13 @@ told_is layout s fate result told is (other, other_is, tells) =
     subst (TellsPoll layout s fate) (sym same) tells
 
 -- the host keeps its device's address
-pub home_stays : (arrivals : Arrivals) (device : DeviceState) (addr : ℕ) (phase : Phase) (result : Result Told StackFault) (device_then : DeviceState) (host_then : HostEnd) (before events : List Event)
+pub home_stays : (arrivals : Arrivals) (device : DeviceState) (addr : ℕ) (phase : HostPhase) (result : Result Told StackFault) (device_then : DeviceState) (host_then : HostEnd) (before events : List Event)
     → GoesByPackets arrivals device addr phase result device_then host_then before events → host_then.addr ≡ addr
 home_stays arrivals device addr Cold result device_then host_then before events t = ap (λ (h : HostEnd). h.addr) t.host_stays
 home_stays arrivals device addr (Ready known) result device_then host_then before events t = ap (λ (h : HostEnd). h.addr) t.host_moved
 
 -- no more is delivered than a report of the device's layout can tell
-pub few_of : (device : DeviceState) (phase : Phase) (before events : List Event) → IsPair device phase → before ≡ []
+pub few_of : (device : DeviceState) (phase : HostPhase) (before events : List Event) → IsPair device phase → before ≡ []
     → IfReady phase (λ (known : Known). length events ≤ length before + max_events (items_of known.layout)) → length events ≤ max_events (items_of device.core.layout)
 few_of device Cold before events pair none few = absurd pair
 few_of device (Ready known) before events pair none few =

@@ -16,7 +16,7 @@ use Rattle.hid_device.specs.Making as making
 use Rattle.hid_stack.specs.declared.fault.StackFault.{StackFault}
 use Rattle.hid_stack.specs.declared.fault.StackFault.TheVariants.{NoDevice, Refused, BadDescriptor, TooManyDevices, Memory}
 use Rattle.hid_stack.specs.declared.fault.DescriptorFault.TheVariants.{Device}
-use Rattle.hid_stack.specs.Members.{Member, fresh_member, member_at}
+use Rattle.hid_stack.specs.Rig.{Member, fresh_member, member_at}
 
 -- a device of this configuration can have this address and this layout
 pub record Suits (addr : ℕ) (config : Config) (descriptor : List ℕ) (layout : Contents) : Type 0 where

@@ -9,7 +9,7 @@ use Rattle.hid_device.specs.Rounds.{OwnStep, Round, Bus, has_crossed, has_closed
 use Rattle.hid_stack.specs.declared.step.Step.{Step}
 use Rattle.hid_stack.specs.declared.step.Delivered.{Delivered}
 use Rattle.hid_stack.specs.Stations.{Station, Open, fresh, expected}
-use Rattle.hid_stack.specs.Members.{Member, member_at, own, from_device}
+use Rattle.hid_stack.specs.Rig.{Member, member_at, own, from_device}
 
 -- The headline: of each device that was just configured the events delivered are exactly the changes between the successive
 -- parts that crossed, in order, none twice.

@@ -9,7 +9,7 @@ use Rattle.usb_transact.specs.Fate.{arrives_under}
 use Rattle.hid_device.specs.Device.{DeviceState}
 use Rattle.hid_device.specs.Rounds.{Polls}
 use Rattle.hid_stack.specs.Host.{HostEnd}
-use Rattle.hid_stack.specs.Joint.{IsPair, joint, station_of}
+use Rattle.hid_stack.specs.Slot.{IsPair, joint, station_of}
 use Rattle.hid_stack.specs.Polls.{GoesByPackets}
 use Rattle.hid_stack.specs.Stations.{events_at}
 use Rattle.hid_device.specs.declared.config.Config.{Config}
@@ -17,7 +17,7 @@ use Rattle.hid_stack.specs.declared.fault.StackFault.{StackFault}
 use Rattle.hid_stack.specs.declared.fault.StackFault.TheVariants.{Memory}
 use Rattle.hid_stack.specs.declared.step.Step.{Step}
 use Rattle.hid_stack.specs.declared.step.Told.{Told}
-use Rattle.hid_stack.specs.Members.{Member, member_after}
+use Rattle.hid_stack.specs.Rig.{Member, member_after}
 use Rattle.hid_stack.specs.Tells.{Tells, TellsPoll}
 use Rattle.hid_stack.specs.Attaching.{Attaches, Finds}
 

@@ -17,12 +17,12 @@ use Rattle.hid_device.specs.Core.{IsSound}
 use Rattle.hid_device.specs.Device.{DeviceState, DeviceAnswers, device_after}
 use Rattle.hid_stack.specs.declared.fault.StackFault.{StackFault}
 use Rattle.hid_stack.specs.declared.fault.StackFault.TheVariants.{NotReady}
-use Rattle.hid_stack.specs.declared.host.Phase.{Phase}
-use Rattle.hid_stack.specs.declared.host.Phase.TheVariants.{Cold, Ready}
+use Rattle.hid_stack.specs.declared.host.HostPhase.{HostPhase}
+use Rattle.hid_stack.specs.declared.host.HostPhase.TheVariants.{Cold, Ready}
 use Rattle.hid_stack.specs.declared.step.Told.{Told}
 use Rattle.hid_stack.specs.declared.step.Told.TheVariants.{Polled}
 use Rattle.hid_stack.specs.Host.{HostEnd, ready_after}
-use Rattle.hid_stack.specs.Known.{Known, told_of, events_behind}
+use Rattle.hid_stack.specs.Ready.{Known, told_of, events_behind}
 
 -- the payload of a packet is bytes
 abbrev pub HasBytes : Packet → Type 0
@@ -92,7 +92,7 @@ pub record SendsNothing (device : DeviceState) (addr : ℕ)
   pub delivers : events ≡ before
 
 -- A poll over a bus, by how far the host at this address has come with its device.
-abbrev pub GoesByPackets : Arrivals → DeviceState → ℕ → Phase → Result Told StackFault → DeviceState
+abbrev pub GoesByPackets : Arrivals → DeviceState → ℕ → HostPhase → Result Told StackFault → DeviceState
     → HostEnd → List Event → List Event → Type 0
 GoesByPackets arrivals device addr Cold result device_then host_then before events =
     SendsNothing device addr result device_then host_then before events

@@ -9,7 +9,7 @@ ghost use Rattle.hid_stack.specs.declared.step.Step.{Step as BusStep};
 ghost use Rattle.hid_stack.specs.declared.step.Delivered.{Delivered};
 ghost use Rattle.hid_stack.specs.Headline.{StandsByRounds, bus_from};
 ghost use Rattle.hid_stack.specs.Laws.{TellsOneThing, FindsOneControl, AttachesOneDevice, PacketsMakePolls};
-ghost use Rattle.hid_stack.specs.Members.{Member, bus_after_all, delivered_in};
+ghost use Rattle.hid_stack.specs.Rig.{Member, bus_after_all, delivered_in};
 ghost use Rattle.hid_stack.specs.Motion.{HasMotions, KeepsMotion, KeepsAccepted, are_accepted};
 ghost use Rattle.hid_stack.specs.Stations.{Station, fresh, after_all, events_in};
 ghost use Rattle.hid_stack.specs.Sums.{AllHaveMotions, SumsUp};

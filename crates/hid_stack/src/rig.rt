@@ -5,7 +5,7 @@ ghost use Rattle.hid_device.specs.Rounds.{Frame as FrameStep};
 ghost use Rattle.hid_stack.specs.declared.fault.StackFault.{StackFault};
 ghost use Rattle.hid_stack.specs.Attaching.{Attaches, IsAttached, Finds};
 ghost use Rattle.hid_stack.specs.Headline.{DeliversChanges, KeepsToRounds};
-ghost use Rattle.hid_stack.specs.Members.{member_at, member_after, bus_after, delivered_at, bus_after_all, delivered_in, refusal, IsRefusal, StopsAt, HasRoomFor, most_events, most_in, IsIsolated};
+ghost use Rattle.hid_stack.specs.Rig.{member_at, member_after, bus_after, delivered_at, bus_after_all, delivered_in, refusal, IsRefusal, StopsAt, HasRoomFor, most_events, most_in, IsIsolated};
 ghost use Rattle.hid_stack.specs.Showing.{ShowsDevice, ShowsHost, GivesOf};
 ghost use Rattle.hid_stack.specs.Sums.{SumsUp};
 ghost use Rattle.hid_stack.specs.Tells.{Tells};
@@ -39,7 +39,7 @@ pub struct Rig {
 
 impl Model for Rig {
     ghost use Rattle.std.specs.Prelude.{List, ◌≤◌, length, vec_capacity};
-    ghost use Rattle.hid_stack.specs.Members.{Member};
+    ghost use Rattle.hid_stack.specs.Rig.{Member};
     ghost use Rattle.hid_stack.specs.Sums.{AllHaveMotions};
     ghost use Rattle.hid_stack.specs.declared.rig.TheConstants.{MAX_DEVICES};
 

@@ -9,8 +9,8 @@ ghost use Rattle.hid_device.specs.Core.{IsSound};
 ghost use Rattle.hid_device.specs.Fault.{is_memory};
 ghost use Rattle.hid_device.specs.Making.{Refuses};
 ghost use Rattle.hid_stack.specs.Attaching.{Suits, IsNoPair};
-ghost use Rattle.hid_stack.specs.Joint.{IsPair};
-ghost use Rattle.hid_stack.specs.Members.{member_after, tagged, fresh_member};
+ghost use Rattle.hid_stack.specs.Slot.{IsPair};
+ghost use Rattle.hid_stack.specs.Rig.{member_after, tagged, fresh_member};
 ghost use Rattle.hid_stack.specs.Showing.{ShowsDevice, ShowsHost};
 ghost use Rattle.hid_stack.specs.Stations.{events_at};
 ghost use Rattle.hid_stack.specs.Tells.{TellsPoll};
@@ -39,8 +39,8 @@ pub struct Slot {
 impl Model for Slot {
     ghost use Rattle.std.specs.Prelude.{◌≡◌, ◌≤◌, vec_capacity};
     ghost use Rattle.hid_layout.specs.Controls.{items_of, max_events};
-    ghost use Rattle.hid_stack.specs.Joint.{IsPair, joint};
-    ghost use Rattle.hid_stack.specs.Members.{Member};
+    ghost use Rattle.hid_stack.specs.Slot.{IsPair, joint};
+    ghost use Rattle.hid_stack.specs.Rig.{Member};
 
     ghost Value = { Member };
 

@@ -1,6 +1,6 @@
 use Rattle.std.proofs.Common.{◌≡◌, ◌∙◌, Ok, Err, sym}
 use Rattle.usb_transact.specs.Fate.{arrives_under}
-use Rattle.hid_stack.specs.Joint.{station_of}
+use Rattle.hid_stack.specs.Slot.{station_of}
 use Rattle.hid_stack.proofs.StepLemmas.{polls_at, told_is, home_stays, few_of}
 use Rattle.hid_stack.proofs.polls.poll_pair.Goals as goal
 

@@ -1,6 +1,6 @@
 use Rattle.std.proofs.Common.{◌≡◌, ◌+◌, List, length, subst, arith, rules}
 use Rattle.hid_stack.specs.Attaching.{IsAttached}
-use Rattle.hid_stack.specs.Members.{Member}
+use Rattle.hid_stack.specs.Rig.{Member}
 use Rattle.hid_stack.proofs.RigLemmas.{attached_have}
 use Rattle.hid_stack.proofs.AttachLemmas.{is_attached}
 use Rattle.hid_stack.proofs.rig.Rig.attach.Goals as goal

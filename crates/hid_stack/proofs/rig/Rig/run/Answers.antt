@@ -1,6 +1,6 @@
 use Rattle.std.proofs.Common.{◌≡◌, ◌++◌, ◌∙◌, ap, arith, take, subst, Err}
 use Rattle.std.proofs.lemmas.Grind.{common_steps}
-use Rattle.hid_stack.specs.Members.{bus_after_all, delivered_in}
+use Rattle.hid_stack.specs.Rig.{bus_after_all, delivered_in}
 use Rattle.hid_stack.specs.Sums.{AllHaveMotions}
 use Rattle.hid_stack.proofs.Isolation.{ran_more, told_more, headline, isolated, keeps_to_rounds}
 use Rattle.hid_stack.proofs.RoomLemmas.{most_more, room_at}

@@ -6,7 +6,7 @@ use Rattle.std.proofs.lemmas.Result.{on_ok_weaker}
 use Rattle.hid_device.specs.Rounds.{Changes, Frame, Polls}
 use Rattle.hid_stack.specs.declared.rig.TheConstants.{MAX_DEVICES}
 use Rattle.hid_stack.specs.declared.step.Step.{Step}
-use Rattle.hid_stack.specs.Members.{Member, member_after, bus_after, delivered_at, refusal, IsRefusal, HasRoomFor, most_events}
+use Rattle.hid_stack.specs.Rig.{Member, member_after, bus_after, delivered_at, refusal, IsRefusal, HasRoomFor, most_events}
 use Rattle.hid_stack.specs.Tells.{Tells}
 use Rattle.hid_stack.proofs.NamedLemmas.{named, where_done, leaves, change_told, change_refused, change_only, poll_tells, poll_delivers, poll_refused, poll_only, poll_has_room, poll_few}
 use Rattle.hid_stack.proofs.RigLemmas.{stepped_have, polled_have, framed_hold}

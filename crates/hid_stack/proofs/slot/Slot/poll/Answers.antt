@@ -1,6 +1,6 @@
 use Rattle.std.proofs.Common.{◌∙◌, sym, ap, arith}
 use Rattle.hid_layout.specs.Controls.{items_of, max_events}
-use Rattle.hid_stack.specs.Members.{Member}
+use Rattle.hid_stack.specs.Rig.{Member}
 use Rattle.hid_stack.proofs.slot.Slot.poll.Goals as goal
 
 pub invariant_of-self : goal.invariant_of-self

@@ -7,12 +7,12 @@ use Rattle.hid_usages.specs.Cells.{blank, FitsView}
 use Rattle.hid_device.specs.declared.device.TheConstants.{ENDPOINT}
 use Rattle.hid_device.specs.Core.{CoreState, IsSound}
 use Rattle.hid_device.specs.Device.{DeviceState}
-use Rattle.hid_stack.specs.declared.host.Phase.{Phase}
-use Rattle.hid_stack.specs.declared.host.Phase.TheVariants.{Cold, Ready}
+use Rattle.hid_stack.specs.declared.host.HostPhase.{HostPhase}
+use Rattle.hid_stack.specs.declared.host.HostPhase.TheVariants.{Cold, Ready}
 use Rattle.hid_stack.specs.Host.{HostEnd}
-use Rattle.hid_stack.specs.Known.{Known}
+use Rattle.hid_stack.specs.Ready.{Known}
 use Rattle.hid_stack.specs.Stations.{Station, Open}
-use Rattle.hid_stack.specs.Members.{Member}
+use Rattle.hid_stack.specs.Rig.{Member}
 
 -- an open round has crossed exactly where the two toggles differ
 abbrev pub round_between : Bool → Bool → Option ℕ → Option Open
@@ -29,7 +29,7 @@ joined core known = record {
 }
 
 -- a host that isn't ready has the initial view
-abbrev pub station_of : CoreState → Phase → Station
+abbrev pub station_of : CoreState → HostPhase → Station
 station_of core (Ready known) = joined core known
 station_of core Cold = record {
   standing = core.standing;
@@ -65,6 +65,6 @@ pub record ArePaired (device : DeviceState) (known : Known) : Type 0 where
   pub fits : FitsView (items_of known.layout) known.view
 
 -- a device and its host are such a pair where the host is ready
-abbrev pub IsPair : DeviceState → Phase → Type 0
+abbrev pub IsPair : DeviceState → HostPhase → Type 0
 IsPair device Cold = ⊥
 IsPair device (Ready known) = ArePaired device known
