@@ -21,14 +21,15 @@ test:
 try:
 	cd crates/hidrun && rt try $(if $(ARGS),-- $(ARGS)) < $(abspath $(SCRIPT))
 
-# The proved program. `rt ci` leaves it in its out folder; where a source is newer, it is proved and built again.
+# The proved program. `rt ci` leaves it in its out folder; where a source is newer, it is proved and built again, the
+# crates that don't stand on each other side by side.
 hidrun: $(HIDRUN)
 
 BUILT := crates/hidrun/out/hidrun
 SOURCES := $(shell find crates -name out -prune -o -type f \( -name '*.rt' -o -name '*.antt' \) -print)
 
 $(BUILT): crates.txt $(SOURCES)
-	cd crates/hidrun && rt run < /dev/null
+	tools/build hidrun
 
 $(HIDRUN): $(BUILT)
 	mkdir -p bin

@@ -6,3 +6,5 @@ pub mod Parts
 pub mod Samples
 pub mod Codes
 pub mod Keys
+pub mod Events
+pub mod Views

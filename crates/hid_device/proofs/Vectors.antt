@@ -9,13 +9,13 @@ use Rattle.hid_cells.specs.declared.change.Change.TheVariants as change
 use Rattle.hid_cells.specs.declared.event.Event.{Event}
 use Rattle.hid_cells.specs.declared.event.Event.TheVariants as event
 use Rattle.usb_transact.specs.declared.transaction.Fate.TheVariants.{Clean, TokenLost, ReplyLost, AckLost}
-use Rattle.hid_usages.specs.Cells.{blank}
-use Rattle.hid_usages.specs.Events.{at}
-use Rattle.hid_usages.specs.Parts.{blank_parts}
-use Rattle.hid_usages.specs.Samples.{usage, keyboard, mouse, hat, wheel_and_button}
+use Rattle.hid_cells.specs.Cells.{blank}
+use Rattle.hid_cells.specs.Events.{at}
+use Rattle.hid_cells.specs.Parts.{blank_parts}
+use Rattle.hid_cells.specs.Samples.{usage, keyboard, mouse, hat, wheel_and_button}
 use Rattle.hid_device.specs.declared.device.TheConstants.{ENDPOINT}
 use Rattle.hid_device.specs.declared.config.Boot.TheVariants as boot
-use Rattle.hid_usages.specs.declared.boot.TheConstants.{KEYBOARD, MOUSE}
+use Rattle.hid_layout.specs.declared.boot.TheConstants.{KEYBOARD, MOUSE}
 use Rattle.hid_device.specs.Config.{is_config}
 use Rattle.hid_device.specs.Inputs.{input_count}
 use Rattle.hid_device.specs.Standing.{configured, first_due, after_frame}

@@ -4,10 +4,10 @@ use Rattle.hid_layout.specs.Layout.{Contents}
 use Rattle.hid_layout.specs.Controls.{items_of}
 use Rattle.hid_cells.specs.declared.cell.Cell.{Cell}
 use Rattle.hid_cells.specs.declared.change.Change.{Change}
-use Rattle.hid_usages.specs.Cells.{FitsSnapshot, FitsShown}
-use Rattle.hid_usages.specs.Codes.{has_empty_codes}
-use Rattle.hid_usages.specs.Encoding.{IsEncoding, AreBytes, part_numbers}
-use Rattle.hid_usages.specs.Parts.{has_zeros}
+use Rattle.hid_cells.specs.Cells.{FitsSnapshot, FitsShown}
+use Rattle.hid_cells.specs.Codes.{has_empty_codes}
+use Rattle.hid_parts.specs.Encoding.{IsEncoding, AreBytes, part_numbers}
+use Rattle.hid_cells.specs.Parts.{has_zeros}
 use Rattle.usb_packet.specs.declared.packet.Packet.{Packet}
 use Rattle.usb_transact.specs.Device.{answer_with}
 use Rattle.hid_device.specs.declared.config.Config.{Config}
@@ -85,7 +85,7 @@ IsArmed layout parts _ _ = ⊥
 abbrev pub Answers : CoreState → Packet → Type 0
 Answers core packet =
     (armed : Option (List ℕ)) × IsArmed core.layout core.standing.fixed core.current armed
-        × (packet ≡ answer_with core.toggle armed)
+    × (packet ≡ answer_with core.toggle armed)
 
 -- the report of the open round is an Input report
 abbrev pub IsBelow : ℕ → Option ℕ → Type 0

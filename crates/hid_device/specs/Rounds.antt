@@ -6,8 +6,8 @@ use Rattle.hid_layout.specs.Controls.{Item}
 use Rattle.hid_cells.specs.declared.cell.Cell.{Cell}
 use Rattle.hid_cells.specs.declared.change.Change.{Change}
 use Rattle.hid_cells.specs.declared.event.Event.{Event}
-use Rattle.hid_usages.specs.Cells.{blank}
-use Rattle.hid_usages.specs.Views.{seen, events_between}
+use Rattle.hid_cells.specs.Cells.{blank}
+use Rattle.hid_cells.specs.Views.{seen, events_between}
 use Rattle.usb_transact.specs.declared.transaction.Fate.{Fate}
 use Rattle.usb_transact.specs.declared.transaction.Fate.TheVariants.{Clean, TokenLost, ReplyLost, AckLost}
 use Rattle.hid_device.specs.Standing.{Standing, configured, first_due, after_change, after_frame, after_opening}

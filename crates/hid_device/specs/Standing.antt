@@ -5,8 +5,8 @@ use Rattle.std.specs.List.{find, range_with_len}
 use Rattle.hid_layout.specs.Controls.{Item}
 use Rattle.hid_cells.specs.declared.cell.Cell.{Cell}
 use Rattle.hid_cells.specs.declared.change.Change.{Change}
-use Rattle.hid_usages.specs.Snapshots.{changed}
-use Rattle.hid_usages.specs.Parts.{blank_parts, shown, taken, is_changed}
+use Rattle.hid_cells.specs.Snapshots.{changed}
+use Rattle.hid_cells.specs.Parts.{blank_parts, shown, taken, is_changed}
 
 -- The controls as they are now; the parts that were fixed last, blank where none was; and for each Input report the
 -- frames since its last round opened, or since the configuration, and its idle time in units of four frames.

@@ -3,7 +3,7 @@
 ghost use Rattle.std.specs.Prelude.{◌≡◌};
 ghost use Rattle.hid_device.specs.Config.{is_config, suits_boot};
 
-use hid_usages::boot::{KEYBOARD, MOUSE};
+use hid_layout::boot::{KEYBOARD, MOUSE};
 use usb_packet::MAX_ADDRESS;
 
 /// Whether the reports of a device are those of the boot protocol (HID 1.11, 4.2 and appendix B).

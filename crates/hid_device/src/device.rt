@@ -2,7 +2,7 @@
 
 ghost use Rattle.std.specs.Prelude.{◌≡◌, IfSome};
 ghost use Rattle.hid_layout.specs.Controls.{items_of};
-ghost use Rattle.hid_usages.specs.Snapshots.{Changes};
+ghost use Rattle.hid_cells.specs.Snapshots.{Changes};
 ghost use Rattle.usb_packet.specs.Spelling.{Fits};
 ghost use Rattle.hid_device.specs.Core.{IsSound, IsArmed, Answers, opening_of, round_of};
 ghost use Rattle.hid_device.specs.Device.{is_poll, device_after, DeviceAnswers, configured_device, changed_device, framed_device, polled_device};
@@ -11,8 +11,9 @@ ghost use Rattle.hid_device.specs.Making.{MakesDevice};
 use crate::config::{Config, is_config};
 use crate::fault::{DeviceCause, DeviceFault};
 use crate::inside::Core;
+use hid_cells::{Change, ChangeFault};
 use hid_layout::Layout;
-use hid_usages::{Change, ChangeFault, Shown};
+use hid_parts::Shown;
 use std::alloc::Global;
 use std::marker::Model;
 use std::mem;

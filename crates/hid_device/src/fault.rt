@@ -4,8 +4,8 @@ ghost use Rattle.std.specs.Prelude.{◌≡◌, Some};
 ghost use Rattle.hid_device.specs.declared.fault.DeviceCause.TheVariants.{Layout, Memory};
 ghost use Rattle.hid_device.specs.Fault.{layout_code, code_of, fault_text};
 
+use hid_cells::MemoryFault;
 use hid_layout::{Cause, LayoutFault};
-use hid_usages::MemoryFault;
 use std::alloc::AllocError;
 use std::fmt;
 

@@ -2,9 +2,9 @@
 
 ghost use Rattle.std.specs.Prelude.{◌≡◌, ◌<◌, length, None, IfSome, IfOk, IfErr};
 ghost use Rattle.hid_layout.specs.Controls.{items_of};
-ghost use Rattle.hid_usages.specs.Cells.{FitsSnapshot};
-ghost use Rattle.hid_usages.specs.Encoding.{AreBytes};
-ghost use Rattle.hid_usages.specs.Snapshots.{Changes};
+ghost use Rattle.hid_cells.specs.Cells.{FitsSnapshot};
+ghost use Rattle.hid_parts.specs.Encoding.{AreBytes};
+ghost use Rattle.hid_cells.specs.Snapshots.{Changes};
 ghost use Rattle.usb_packet.specs.Spelling.{Fits};
 ghost use Rattle.hid_device.specs.Standing.{is_due, first_due};
 ghost use Rattle.hid_device.specs.Core.{IsSound, IsArmed, Answers, opened_core, opening_of, closed_core, configured_core, changed_core, framed_core, round_of};
@@ -14,9 +14,10 @@ use crate::config::Config;
 use crate::fault::{DeviceCause, DeviceFault};
 use crate::frames::{count_frame, is_idle_over};
 use crate::inputs::input_count;
+use hid_cells::{Change, ChangeFault, has_empty_codes, has_zeros};
 use hid_fields::WordCodec;
 use hid_layout::Layout;
-use hid_usages::{Change, ChangeFault, Shown, Snapshot, encode_report, has_empty_codes, has_zeros};
+use hid_parts::{Shown, Snapshot, encode_report};
 use std::alloc::Global;
 use std::marker::Model;
 use usb_packet::Packet;

@@ -43,7 +43,7 @@ mod inside;
 pub use config::{Boot, Config};
 pub use device::{Device, ENDPOINT};
 pub use fault::{DeviceCause, DeviceFault};
-pub use hid_usages::boot::{KEYBOARD, MOUSE};
+pub use hid_layout::boot::{KEYBOARD, MOUSE};
 
 #[cfg(test)]
 mod tests;

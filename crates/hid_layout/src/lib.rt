@@ -29,6 +29,7 @@
 //! ```
 #![tactic(auto)]
 
+pub mod boot;
 mod control;
 mod controls;
 mod index;

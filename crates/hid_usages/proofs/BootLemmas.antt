@@ -30,7 +30,7 @@ use Rattle.hid_views.specs.Reading.{read_switch, read_motion, names_rollover, na
 use Rattle.hid_cells.specs.Samples.{usage, of_report, keyboard, mouse}
 use Rattle.hid_cells.specs.Snapshots.{is_pressed, cell_at}
 use Rattle.hid_cells.specs.declared.event.Event.{Event}
-use Rattle.hid_views.specs.Events.{at, switch_events, motion_event, motion_events, change_events}
+use Rattle.hid_cells.specs.Events.{at, switch_events, motion_event, motion_events, change_events}
 use Rattle.hid_views.specs.Taking.{read_view, read_by_report, told_by_report, read_events}
 use Rattle.hid_cells.proofs.CodeLemmas.{test_true}
 use Rattle.hid_cells.proofs.ItemLemmas.{got}

@@ -14,8 +14,8 @@ use Rattle.hid_cells.specs.Cells.{blank}
 use Rattle.hid_cells.specs.Snapshots.{OrFault, changed}
 use Rattle.hid_cells.specs.Parts.{blank_parts, shown, taken, is_changed}
 use Rattle.hid_usages.specs.Boot.{keyboard_of, is_held, mouse_in}
-use Rattle.hid_views.specs.Events.{at}
-use Rattle.hid_views.specs.Views.{seen, events_between}
+use Rattle.hid_cells.specs.Events.{at}
+use Rattle.hid_cells.specs.Views.{seen, events_between}
 use Rattle.hid_cells.specs.Words.{words_in}
 use Rattle.hid_cells.specs.Keys.{key_words}
 use Rattle.hid_cells.specs.Samples.{usage, keyboard, mouse, hat, wheel_and_button}

@@ -24,7 +24,7 @@ use Rattle.hid_cells.specs.declared.cell.Cell.{Cell}
 use Rattle.hid_cells.specs.declared.cell.Cell.TheVariants.{Pressed}
 use Rattle.hid_cells.specs.declared.fault.ReportFault.{ReportFault}
 use Rattle.hid_cells.specs.declared.fault.ReportFault.TheVariants.{Short}
-use Rattle.hid_views.specs.Events.{at, switch_events, motion_event}
+use Rattle.hid_cells.specs.Events.{at, switch_events, motion_event}
 use Rattle.hid_views.specs.Reading.{report_named}
 use Rattle.hid_cells.specs.Samples.{usage}
 use Rattle.hid_cells.specs.Snapshots.{is_pressed, cell_at}

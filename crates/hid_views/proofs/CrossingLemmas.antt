@@ -25,14 +25,14 @@ use Rattle.hid_cells.specs.declared.event.Event.TheVariants as event
 use Rattle.hid_cells.specs.Cells.{HasRoom, InPart, InView}
 use Rattle.hid_cells.specs.Codes.{is_array, has_empty_code, empty_codes_from, has_empty_codes}
 use Rattle.hid_parts.specs.Encoding.{IsData, part_numbers}
-use Rattle.hid_views.specs.Events.{at, each, switch_event, value_event, change_events}
+use Rattle.hid_cells.specs.Events.{at, each, switch_event, value_event, change_events}
 use Rattle.hid_views.specs.Law.{IsPart, IsLike}
 use Rattle.hid_cells.specs.Parts.{IsInput, is_of, by_item}
 use Rattle.hid_cells.specs.declared.fault.ReportFault.{ReportFault}
 use Rattle.hid_views.specs.Reading.{report_named, read_cell, motion_cell, is_data_in, item_numbers}
 use Rattle.hid_parts.specs.Sending.{sent}
 use Rattle.hid_views.specs.Taking.{list_at, read_by_numbers, told_by_numbers, read_by_report, told_by_report, read_from, told_from, read_view, read_events}
-use Rattle.hid_views.specs.Views.{seen_cell, seen_of, motions_of, motions_told, part_of, events_from}
+use Rattle.hid_cells.specs.Views.{seen_cell, seen_of, motions_of, motions_told, part_of, events_from}
 use Rattle.hid_views.specs.Crossing.{PartsAreReadBack, PartsAreTaken, SeenIsView}
 use Rattle.hid_cells.proofs.CodeLemmas.{both_true}
 use Rattle.hid_views.proofs.CodePartLemmas.{is_part}

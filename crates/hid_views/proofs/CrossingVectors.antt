@@ -10,11 +10,11 @@ use Rattle.hid_cells.specs.declared.cell.Cell.TheVariants.{Vacant, Pressed, Move
 use Rattle.hid_cells.specs.declared.event.Event.TheVariants as event
 use Rattle.hid_cells.specs.Cells.{blank}
 use Rattle.hid_parts.specs.Encoding.{part_numbers}
-use Rattle.hid_views.specs.Events.{at}
+use Rattle.hid_cells.specs.Events.{at}
 use Rattle.hid_views.specs.Reading.{report_named}
 use Rattle.hid_cells.specs.Samples.{usage}
 use Rattle.hid_views.specs.Taking.{read_view, read_events}
-use Rattle.hid_views.specs.Views.{seen}
+use Rattle.hid_cells.specs.Views.{seen}
 
 abbrev mouse : Contents
 mouse = record {

@@ -17,7 +17,7 @@ use Rattle.hid_cells.specs.declared.cell.Cell.TheVariants.{Vacant, Pressed, Hold
 use Rattle.hid_cells.specs.Cells.{HasRoom}
 pub use Rattle.hid_cells.proofs.ListLemmas.{drop_at, zip_at}
 use Rattle.hid_views.specs.Appending.{Appends}
-use Rattle.hid_views.specs.Events.{at, switch_event, up_event, down_event, each, usages_of, element_events, key_events, change_events, HasPlaces}
+use Rattle.hid_cells.specs.Events.{at, switch_event, up_event, down_event, each, usages_of, element_events, key_events, change_events, HasPlaces}
 
 -- the events from one element on
 pub each-from : {C : Type 0} (f : ℕ → Usage → C → List Event) (us : List Usage) (cs : List C) (j : ℕ) (u : Usage) (c : C) → slice_get us j ≡ Some u → slice_get cs j ≡ Some c

@@ -9,10 +9,10 @@ use Rattle.hid_cells.specs.declared.cell.Cell.{Cell}
 use Rattle.hid_cells.specs.declared.cell.Cell.TheVariants.{Vacant}
 use Rattle.hid_cells.specs.declared.event.Event.{Event}
 use Rattle.hid_parts.specs.Encoding.{IsData, sent_at}
-use Rattle.hid_views.specs.Events.{change_events}
+use Rattle.hid_cells.specs.Events.{change_events}
 use Rattle.hid_views.specs.OneReport.{AgreeOn, SeesOneReport, TellsOneReport, ShowsOneReport}
 use Rattle.hid_cells.specs.Parts.{is_of, by_item}
-use Rattle.hid_views.specs.Views.{seen_cell, seen_of, part_of, motions_told, events_from}
+use Rattle.hid_cells.specs.Views.{seen_cell, seen_of, part_of, motions_told, events_from}
 use Rattle.hid_cells.proofs.ItemLemmas.{items_from-at, got}
 use Rattle.hid_cells.proofs.PartLemmas.{item_at-is, of_report}
 

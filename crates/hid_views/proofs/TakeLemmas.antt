@@ -14,13 +14,13 @@ use Rattle.hid_descriptor.specs.Fields.{is_padding}
 use Rattle.hid_layout.specs.Layout.{Contents}
 use Rattle.hid_layout.specs.Reports.{IsLayout, HasElements, first_bit, report_bytes}
 use Rattle.hid_layout.specs.Controls.{Form, NoControls, Elements, Keys, Item, items_of, item_of, form_of, form_at, head_of, array_keys, max_events, Key, has_place, rollover_from, element_kind, least_of, greatest_of, events_in, is_input_report}
-use Rattle.hid_views.specs.Events.{usages_of, usages_at}
+use Rattle.hid_cells.specs.Events.{usages_of, usages_at}
 use Rattle.hid_views.specs.Reading.{keys_of, keys_at}
 use Rattle.hid_views.specs.Taking.{list_at, IsFormOf, read_by_report, told_by_report, read_from, told_from, read_view, read_events, ArePairs}
 use Rattle.hid_cells.proofs.PlanLemmas.{Skips}
 use Rattle.hid_cells.specs.declared.cell.Cell.{Cell}
 use Rattle.hid_cells.specs.declared.event.Event.{Event}
-use Rattle.hid_views.specs.Views.{HasNext}
+use Rattle.hid_cells.specs.Views.{HasNext}
 use Rattle.std.proofs.lemmas.Option.{slice_get-get_or}
 use Rattle.std.proofs.lemmas.Bool.{cases_eq}
 use Rattle.hid_views.proofs.EventLemmas.{drop_at}
@@ -30,8 +30,8 @@ use Rattle.std.proofs.Common.{append-nil, ◌==◌, ◌&&◌, not}
 use Rattle.hid_layout.specs.declared.control.ControlKind.TheVariants.{Switch, Value, NullValue, Relative}
 use Rattle.hid_cells.specs.declared.cell.Cell.TheVariants.{Vacant, Pressed, Holding, Moved, RolledOver}
 use Rattle.hid_cells.specs.Cells.{blank, blank_cell, pressed_count, HasRoom, InView, Suits}
-use Rattle.hid_views.specs.Events.{element_events, key_events, key_usages, change_events}
-use Rattle.hid_views.specs.Views.{motions_of, motions_told}
+use Rattle.hid_cells.specs.Events.{element_events, key_events, key_usages, change_events}
+use Rattle.hid_cells.specs.Views.{motions_of, motions_told}
 use Rattle.hid_views.specs.Reading.{read_motion, names_rollover, named_from, read_elements, read_named, read_keys, read_cell, motion_elements, motion_cell}
 use Rattle.hid_cells.proofs.FillLemmas.{length_map_zip}
 use Rattle.hid_views.proofs.NamedLemmas.{named_length}

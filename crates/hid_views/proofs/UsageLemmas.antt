@@ -13,7 +13,7 @@ use Rattle.hid_descriptor.specs.Fields.{is_padding}
 use Rattle.hid_layout.specs.Layout.{Contents}
 use Rattle.hid_layout.specs.Reports.{IsLayout, usage_of}
 use Rattle.hid_layout.specs.Controls.{Form, NoControls, Item, items_of, item_of, form_of, form_at, is_input, spread, keys_from, key_places}
-use Rattle.hid_views.specs.Events.{usage_place, usages_of, usages_at, key_usages}
+use Rattle.hid_cells.specs.Events.{usage_place, usages_of, usages_at, key_usages}
 pub use Rattle.hid_cells.proofs.ItemLemmas.{same_entries, same_item}
 use Rattle.hid_cells.proofs.ItemLemmas.{items_from-at, items_from-short, items_of-length, form_at-is, got}
 

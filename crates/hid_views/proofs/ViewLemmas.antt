@@ -10,8 +10,8 @@ use Rattle.hid_cells.specs.declared.event.Event.TheVariants as event
 use Rattle.std.specs.Ordering.{int_eq}
 use Rattle.std.proofs.lemmas.List.Sums.{sum_by-append}
 use Rattle.hid_cells.specs.Cells.{pressed_count, HasRoom, InView, Suits}
-use Rattle.hid_views.specs.Events.{at, each, switch_event, value_event, motion_event, up_event, down_event, motion_events, ups, downs, key_usages, element_events, key_events, change_events}
-use Rattle.hid_views.specs.Views.{changes_from}
+use Rattle.hid_cells.specs.Events.{at, each, switch_event, value_event, motion_event, up_event, down_event, motion_events, ups, downs, key_usages, element_events, key_events, change_events}
+use Rattle.hid_cells.specs.Views.{changes_from}
 use Rattle.hid_views.proofs.EventLemmas.{drop_at}
 use Rattle.hid_cells.proofs.ItemLemmas.{got, form_at-is}
 use Rattle.hid_cells.proofs.ListLemmas.{cons_count}

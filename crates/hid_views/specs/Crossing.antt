@@ -13,7 +13,7 @@ use Rattle.hid_parts.specs.Encoding.{AreBytes, IsEncoding, part_numbers}
 use Rattle.hid_cells.specs.Parts.{IsInput}
 use Rattle.hid_views.specs.Reading.{report_named}
 use Rattle.hid_views.specs.Taking.{read_view, read_events, TakesReport}
-use Rattle.hid_views.specs.Views.{seen, events_between}
+use Rattle.hid_cells.specs.Views.{seen, events_between}
 
 -- The bytes name their report, and a view that reads them sees the part of that report and is told
 -- its changes and its motions.

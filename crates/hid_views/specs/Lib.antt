@@ -1,6 +1,6 @@
 pub mod Appending
-pub mod Events
-pub mod Views
+pub use Rattle.hid_cells.specs.Events
+pub use Rattle.hid_cells.specs.Views
 pub mod Reading
 pub mod Taking
 pub mod Law

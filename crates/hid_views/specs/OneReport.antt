@@ -7,7 +7,7 @@ use Rattle.hid_layout.specs.Controls.{Item, items_of}
 use Rattle.hid_cells.specs.declared.cell.Cell.{Cell}
 use Rattle.hid_parts.specs.Encoding.{IsEncoding, part_numbers}
 use Rattle.hid_cells.specs.Parts.{IsInput, is_of}
-use Rattle.hid_views.specs.Views.{seen, events_between}
+use Rattle.hid_cells.specs.Views.{seen, events_between}
 
 -- these parts are the same for the items of a report
 pub record AgreeOn (items : List Item) (r : ℕ) (parts others : List Cell) : Type 0 where

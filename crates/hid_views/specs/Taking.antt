@@ -10,8 +10,8 @@ use Rattle.hid_cells.specs.declared.cell.Cell.{Cell}
 use Rattle.hid_cells.specs.declared.event.Event.{Event}
 use Rattle.hid_views.specs.declared.take.Listed.{Listed}
 use Rattle.hid_views.specs.declared.take.Carried.{Carried}
-use Rattle.hid_views.specs.Events.{change_events, usages_at}
-use Rattle.hid_views.specs.Views.{motions_told, HasNext}
+use Rattle.hid_cells.specs.Events.{change_events, usages_at}
+use Rattle.hid_cells.specs.Views.{motions_told, HasNext}
 use Rattle.hid_views.specs.Reading.{read_cell, motion_cell, read_elements, motion_elements, keys_at, is_data_in, item_numbers, report_named}
 
 -- the usage list of a listed item

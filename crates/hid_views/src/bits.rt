@@ -6,7 +6,7 @@ ghost use Rattle.hid_descriptor.specs.declared.usage.Usage.{Usage as UsageValue}
 ghost use Rattle.hid_layout.specs.Reports.{HasElements};
 ghost use Rattle.hid_cells.specs.Words.{bits_in};
 ghost use Rattle.hid_views.specs.Appending.{HasSpace, Appends};
-ghost use Rattle.hid_views.specs.Events.{at, usages_at, switch_event, switch_events};
+ghost use Rattle.hid_cells.specs.Events.{at, usages_at, switch_event, switch_events};
 ghost use Rattle.hid_views.specs.Bits.{are_bits, is_first_word};
 
 use crate::differences::tell_switch;

@@ -7,8 +7,8 @@ ghost use Rattle.hid_layout.specs.Reports.{usage_of};
 ghost use Rattle.hid_layout.specs.Controls.{items_of, form_at, head_of};
 ghost use Rattle.hid_cells.specs.Cells.{HasRoom, FitsView};
 ghost use Rattle.hid_views.specs.Appending.{HasSpace, Appends};
-ghost use Rattle.hid_views.specs.Views.{changes_between};
-ghost use Rattle.hid_views.specs.Events.{element_events, key_events, change_events, HasPlaces, at, usages_at, usage_place, switch_event, value_event, motion_event, switch_events, value_events, motion_events, ups, downs};
+ghost use Rattle.hid_cells.specs.Views.{changes_between};
+ghost use Rattle.hid_cells.specs.Events.{element_events, key_events, change_events, HasPlaces, at, usages_at, usage_place, switch_event, value_event, motion_event, switch_events, value_events, motion_events, ups, downs};
 ghost use Rattle.hid_views.specs.Reading.{read_motion};
 
 use crate::bounds::Bounds;

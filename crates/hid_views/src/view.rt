@@ -6,7 +6,7 @@ ghost use Rattle.hid_cells.specs.Cells.{blank, FitsView};
 ghost use Rattle.hid_cells.specs.Snapshots.{is_pressed, cell_at};
 ghost use Rattle.hid_cells.specs.Keys.{keys_at, has_keys_at, key_words, AreKeyWords};
 ghost use Rattle.hid_views.specs.Taking.{TakesReport};
-ghost use Rattle.hid_views.specs.Views.{value_in, changes_between};
+ghost use Rattle.hid_cells.specs.Views.{value_in, changes_between};
 
 use crate::differences::all_changes;
 use crate::input::input_report;

@@ -2,8 +2,8 @@
 
 use crate::{Boot, Config, Device, KEYBOARD, MOUSE};
 use arrayvec::ArrayVec;
+use hid_cells::{Change, ChangeFault};
 use hid_layout::ControlId;
-use hid_usages::{Change, ChangeFault};
 use std::test::Fail;
 use usb_packet::{Packet, TokenKind};
 

@@ -1,7 +1,7 @@
 use Rattle.std.proofs.Common.{◌≡◌, ◌==◌, ◌∙◌, Bool, sym, subst}
 use Rattle.std.specs.Int.{bit_at}
 use Rattle.hid_views.specs.Appending.{Appends}
-use Rattle.hid_views.specs.Events.{at, switch_event}
+use Rattle.hid_cells.specs.Events.{at, switch_event}
 use Rattle.hid_views.proofs.bits.take_bit.Goals as goal
 
 pub returns-clause-told : goal.returns-clause-told

@@ -1,5 +1,5 @@
 use Rattle.std.proofs.Common.{◌≡◌, ◌∙◌, true, Bool, List, sym, ap, rules, arith}
-use Rattle.hid_views.specs.Events.{usages_at, switch_events}
+use Rattle.hid_cells.specs.Events.{usages_at, switch_events}
 use Rattle.hid_views.specs.Bits.{is_first_word}
 use Rattle.hid_views.proofs.BitLemmas.{first_word, same_switches}
 use Rattle.hid_views.proofs.EventLemmas.{nothing_appended}

@@ -5,7 +5,7 @@ use Rattle.hid_cells.specs.Words.{bits_in}
 use Rattle.hid_cells.proofs.WordLemmas.{bits_in-at, bits_in-length}
 use Rattle.hid_cells.proofs.FillLemmas.{fill_next, filled, set_length, unfilled_at}
 use Rattle.hid_cells.proofs.ItemLemmas.{got}
-use Rattle.hid_views.specs.Events.{usages_at, at, switch_event}
+use Rattle.hid_cells.specs.Events.{usages_at, at, switch_event}
 use Rattle.hid_views.proofs.EventLemmas.{all_appended, each-from, each_end, zip_at, room_for, room_left, told}
 use Rattle.hid_views.proofs.bits.take_each_bit.Goals as goal
 

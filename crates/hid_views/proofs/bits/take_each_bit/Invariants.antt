@@ -1,7 +1,7 @@
 use Rattle.std.proofs.Common.{◌≡◌, ◌≤◌, ◌+◌, ◌++◌, length, take, drop, vec_len, vec_capacity}
 use Rattle.std.specs.List.{zip}
 use Rattle.hid_cells.specs.Words.{bits_in}
-use Rattle.hid_views.specs.Events.{usages_at, at, switch_event, switch_events, each}
+use Rattle.hid_cells.specs.Events.{usages_at, at, switch_event, switch_events, each}
 use Rattle.hid_views.proofs.bits.take_each_bit.Given as goal
 
 abbrev pub invariant-loop-index : goal.invariant-loop-index

@@ -2,7 +2,7 @@ use Rattle.std.proofs.Common.{arith, drop, ◌≡◌, ◌∙◌, ap, sym, map, S
 use Rattle.std.specs.List.{slice_get}
 use Rattle.std.proofs.lemmas.Int.{to_z-of_z}
 use Rattle.hid_views.specs.Reading.{read_motion}
-use Rattle.hid_views.specs.Events.{usages_at, at, motion_event}
+use Rattle.hid_cells.specs.Events.{usages_at, at, motion_event}
 use Rattle.hid_views.proofs.EventLemmas.{all_appended, each-from, each_end, room_for, room_left, told}
 use Rattle.hid_views.proofs.differences.motions.Goals as goal
 

@@ -2,7 +2,7 @@ use Rattle.std.proofs.Common.{◌≡◌, ◌+◌, ◌<◌, ◌≤◌, ◌∙◌,
 use Rattle.hid_cells.specs.declared.event.Event.{Event}
 use Rattle.hid_cells.specs.declared.event.Event.TheVariants as event
 use Rattle.hid_cells.specs.Words.{IsFirst, is_alone}
-use Rattle.hid_views.specs.Events.{usages_at, at, down_event}
+use Rattle.hid_cells.specs.Events.{usages_at, at, down_event}
 use Rattle.hid_views.proofs.EventLemmas.{all_appended, downs_by, each_next, each_done, room_for, room_left, told}
 use Rattle.hid_views.proofs.differences.presses.Goals as goal
 

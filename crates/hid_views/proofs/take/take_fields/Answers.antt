@@ -2,11 +2,11 @@ use Rattle.std.proofs.Common.{◌≡◌, ◌*◌, ◌∙◌, ℕ, true, List, sy
 use Rattle.hid_cells.specs.declared.cell.Cell.{Cell}
 use Rattle.hid_cells.specs.declared.event.Event.{Event}
 use Rattle.hid_views.specs.Appending.{Appends}
-use Rattle.hid_views.specs.Events.{usages_at, element_events}
+use Rattle.hid_cells.specs.Events.{usages_at, element_events}
 use Rattle.hid_views.specs.Reading.{item_numbers}
 use Rattle.hid_views.specs.Taking.{read_by_numbers}
 use Rattle.hid_views.specs.Bits.{are_bits, read_bits}
-use Rattle.hid_views.specs.Views.{HasNext}
+use Rattle.hid_cells.specs.Views.{HasNext}
 use Rattle.hid_views.proofs.BitLemmas.{pattern_in, has_bits, reads_as_bits, next_of_bits}
 use Rattle.hid_parts.proofs.EncodingLemmas.{place_inside}
 use Rattle.hid_parts.proofs.NumberLemmas.{numbers_in-length}

@@ -4,7 +4,7 @@ use Rattle.hid_cells.specs.declared.cell.Cell.{Cell}
 use Rattle.hid_cells.specs.declared.cell.Cell.TheVariants.{Pressed}
 use Rattle.hid_descriptor.specs.Usages.{usage_list}
 use Rattle.hid_layout.specs.Controls.{Key}
-use Rattle.hid_views.specs.Events.{usages_at, key_events}
+use Rattle.hid_cells.specs.Events.{usages_at, key_events}
 use Rattle.hid_views.specs.Reading.{keys_at, named_from, names_rollover, read_keys}
 use Rattle.hid_views.proofs.EventLemmas.{nothing_appended}
 use Rattle.hid_views.proofs.ViewLemmas.{same_keys}

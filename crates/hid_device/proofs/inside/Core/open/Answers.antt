@@ -1,6 +1,6 @@
 use Rattle.std.proofs.Common.{◌≡◌, ℕ, List, length, Option, Some, sym, ap, ◌∙◌, subst, arith}
 use Rattle.std.proofs.lemmas.List.{length-set}
-use Rattle.hid_usages.specs.Encoding.{AreBytes}
+use Rattle.hid_parts.specs.Encoding.{AreBytes}
 use Rattle.usb_transact.specs.Device.{DevPipeState}
 use Rattle.hid_device.specs.Core.{CoreState, IsArmed}
 use Rattle.hid_device.proofs.inside.Core.open.Goals as goal
