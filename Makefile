@@ -4,7 +4,7 @@ HIDRUN := bin/hidrun
 SCRIPT ?= examples/layouts/mouse.script
 ARGS ?=
 
-.PHONY: run test try hidrun examples documents memory clean
+.PHONY: run test try hidrun examples documents memory refusals mutants clean
 
 # Runs the mouse example on the proved program.
 run: $(HIDRUN)
@@ -47,6 +47,14 @@ documents:
 # Runs the mouse example with each of its allocations refused in turn, without a proof. It takes some minutes.
 memory:
 	tools/refuse-memory 48
+
+# Lists at which goal and clause each wrong body is refused: make refusals CRATES="usb_packet hid_items" (none: all)
+refusals:
+	tools/refusals $(CRATES)
+
+# Lists the wrong bodies that no test of their crate notices, without a proof: make mutants CRATES=usb_packet
+mutants:
+	tools/mutants $(CRATES)
 
 clean:
 	rm -rf bin crates/*/out
