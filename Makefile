@@ -34,8 +34,9 @@ $(HIDRUN): $(BUILT)
 	mkdir -p bin
 	cp $(BUILT) $@
 
-# Runs each example on the proved program.
+# Holds what examples are to print of layouts and reports against a second reader, and runs each on the proved program.
 examples: $(HIDRUN)
+	tools/second-reader examples/*/*.script
 	tools/check-examples $(HIDRUN)
 
 # Looks whether each file, function, clause, definition and wrong body that documents cite is there, and then whether it
