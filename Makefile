@@ -31,9 +31,10 @@ $(HIDRUN): $(BUILT)
 	mkdir -p bin
 	cp $(BUILT) $@
 
-# Runs each example on the proved program.
+# Runs each example on the proved program, and some scripts on a full device.
 examples: $(HIDRUN)
 	examples/check $(HIDRUN)
+	examples/full-device $(HIDRUN)
 
 # Runs the mouse example with each of its allocations refused in turn, without a proof. It takes some minutes.
 memory:
