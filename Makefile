@@ -34,9 +34,11 @@ $(HIDRUN): $(BUILT)
 	mkdir -p bin
 	cp $(BUILT) $@
 
-# Holds what examples are to print of layouts and reports against a second reader, and runs each on the proved program.
+# Holds what examples are to print of layouts and reports against a second reader, and runs each on the proved program,
+# and some scripts on a full device.
 examples: $(HIDRUN)
 	tools/second-reader examples/*/*.script
+	tools/check-full-device $(HIDRUN)
 	tools/check-examples $(HIDRUN)
 
 # Looks whether each file, function, clause, definition and wrong body that documents cite is there, and then whether it
