@@ -3,8 +3,9 @@
 HIDRUN := bin/hidrun
 SCRIPT ?= examples/layouts/mouse.script
 ARGS ?=
+COUNT ?= 20000
 
-.PHONY: run test try hidrun examples documents memory refusals mutants clean
+.PHONY: run test try hidrun examples documents memory refusals mutants descriptors clean
 
 # Runs the mouse example on the proved program.
 run: $(HIDRUN)
@@ -46,6 +47,10 @@ examples: $(HIDRUN)
 documents:
 	tools/check-documents
 	tools/check-documents --self-test
+
+# Compares the proved program with the second reader, on descriptors of the examples with some of their bytes changed.
+descriptors: $(HIDRUN)
+	tools/second-reader --random $(COUNT) $(HIDRUN)
 
 # Runs the mouse example with each of its allocations refused in turn, without a proof. It takes some minutes.
 memory:
