@@ -13,6 +13,7 @@ use Rattle.hid_usages.specs.Cells.{blank}
 use Rattle.hid_usages.specs.Events.{at}
 use Rattle.hid_usages.specs.Parts.{blank_parts}
 use Rattle.hid_usages.specs.Samples.{usage, keyboard, mouse, hat, wheel_and_button}
+use Rattle.hid_device.specs.declared.device.TheConstants.{ENDPOINT}
 use Rattle.hid_device.specs.declared.config.Boot.TheVariants as boot
 use Rattle.hid_views.specs.declared.boot.TheConstants.{KEYBOARD, MOUSE}
 use Rattle.hid_device.specs.Config.{is_config}
@@ -201,3 +202,7 @@ no_address = refl
 
 address_of_eight_bits : boot_mouse 128 MOUSE ≡ false
 address_of_eight_bits = refl
+
+-- Input reports come from endpoint 1
+endpoint_of_reports : ENDPOINT ≡ 1
+endpoint_of_reports = refl

@@ -7,6 +7,7 @@ use Rattle.hid_device.specs.declared.config.Boot.{Boot}
 use Rattle.hid_device.specs.declared.config.Boot.TheVariants as boot
 use Rattle.hid_device.specs.declared.config.Config.{Config}
 
+-- two byte strings are the same
 abbrev pub same_bytes : List ℕ → List ℕ → Bool
 same_bytes xs ys = pointwise (λ x y. x == y) xs ys
 
@@ -16,7 +17,8 @@ suits_boot boot.No descriptor = true
 suits_boot boot.Keyboard descriptor = same_bytes descriptor KEYBOARD
 suits_boot boot.Mouse descriptor = same_bytes descriptor MOUSE
 
--- Address 0 is for devices that have none yet (USB 2.0, 9.1.1.4), and an interval of 0 is no interval (USB 2.0, table 9-13).
+-- Address 0 is for devices that have none yet (USB 2.0, 9.1.1.4), and an interval of 0 is no interval (USB 2.0,
+-- table 9-13).
 abbrev pub is_config : ℕ → Config → List ℕ → Bool
 is_config addr config descriptor =
     (nat_le 1 addr && nat_le addr MAX_ADDRESS) && (not (config.interval == 0) && suits_boot config.boot descriptor)

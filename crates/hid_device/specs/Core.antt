@@ -14,8 +14,8 @@ use Rattle.hid_device.specs.declared.config.Config.{Config}
 use Rattle.hid_device.specs.Inputs.{input_count, AreInputsFirst}
 use Rattle.hid_device.specs.Standing.{Standing, configured, first_due, after_change, after_frame, after_opening}
 
--- Its layout, its configuration and its descriptor; whether SET_CONFIGURATION took effect; how it stands; the report of the
--- round that is open, where one is; and whether data go out as DATA1.
+-- Its layout, its configuration and its descriptor; whether SET_CONFIGURATION took effect; how it stands; the
+-- report of the round that is open, where one is; and whether data go out as DATA1.
 pub record CoreState : Type 0 where
   pub layout : Contents
   pub config : Config
@@ -26,20 +26,22 @@ pub record CoreState : Type 0 where
   pub toggle : Bool
 
 -- A round of a report opens: the part that it shows is fixed.
-abbrev pub opened : CoreState → ℕ → CoreState
-opened core r = record core { standing = after_opening (items_of core.layout) r core.standing; current = Some r }
+abbrev pub opened_core : CoreState → ℕ → CoreState
+opened_core core r = record core { standing = after_opening (items_of core.layout) r core.standing; current = Some r }
 
-abbrev pub opened_if : CoreState → Option ℕ → CoreState
-opened_if core None = core
-opened_if core (Some r) = opened core r
+-- where a report is due, a round of it opens
+abbrev pub opened_core_if : CoreState → Option ℕ → CoreState
+opened_core_if core None = core
+opened_core_if core (Some r) = opened_core core r
 
 -- A poll opens a round where none is open and some report is due, of the due report of the lowest number.
-abbrev pub opened_where : CoreState → Option ℕ → CoreState
-opened_where core None = opened_if core (first_due (items_of core.layout) core.standing)
-opened_where core (Some r) = core
+abbrev pub opened_core_where : CoreState → Option ℕ → CoreState
+opened_core_where core None = opened_core_if core (first_due (items_of core.layout) core.standing)
+opened_core_where core (Some r) = core
 
+-- what a poll makes of the inside before it is answered
 abbrev pub opening_of : CoreState → CoreState
-opening_of core = opened_where core core.current
+opening_of core = opened_core_where core core.current
 
 -- an acknowledgement changes the toggle where a round is open (USB 2.0, 8.6.2)
 abbrev pub flipped : Bool → Option ℕ → Bool
@@ -63,6 +65,7 @@ configured_core core = record core {
 abbrev pub changed_core : CoreState → Change → CoreState
 changed_core core change = record core { standing = after_change (items_of core.layout) core.standing change }
 
+-- a frame counts for each of its reports
 abbrev pub framed_core : CoreState → CoreState
 framed_core core = record core { standing = after_frame core.standing }
 
@@ -81,7 +84,8 @@ IsArmed layout parts _ _ = ⊥
 -- The answer to a poll: what is armed under the toggle, else NAK (USB 2.0, 8.4.6.1).
 abbrev pub Answers : CoreState → Packet → Type 0
 Answers core packet =
-    (armed : Option (List ℕ)) × IsArmed core.layout core.standing.fixed core.current armed × (packet ≡ answer_with core.toggle armed)
+    (armed : Option (List ℕ)) × IsArmed core.layout core.standing.fixed core.current armed
+        × (packet ≡ answer_with core.toggle armed)
 
 -- the report of the open round is an Input report
 abbrev pub IsBelow : ℕ → Option ℕ → Type 0

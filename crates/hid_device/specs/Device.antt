@@ -24,8 +24,8 @@ is_poll d Nak = false
 is_poll d Stall = false
 
 -- it waits for an ACK exactly where it answers with data
-abbrev pub polled : ℕ → CoreState → DeviceState
-polled addr core = record { addr = addr; core = core; waits = is_some core.current }
+abbrev pub polled_device : ℕ → CoreState → DeviceState
+polled_device addr core = record { addr = addr; core = core; waits = is_some core.current }
 
 -- an ACK counts directly behind the data to which it belongs
 abbrev pub after_ack : CoreState → Bool → CoreState
@@ -41,12 +41,14 @@ heard d Stall = record d { waits = false }
 
 -- The device after a packet arrived.
 abbrev pub device_after : DeviceState → Packet → DeviceState
-device_after d packet = if is_poll d packet then polled d.addr (opening_of d.core) else heard d packet
+device_after d packet = if is_poll d packet then polled_device d.addr (opening_of d.core) else heard d packet
 
+-- a poll has an answer, and it is the one of the round
 abbrev pub AnswersPoll : CoreState → Option Packet → Type 0
 AnswersPoll core None = ⊥
 AnswersPoll core (Some packet) = Answers core packet
 
+-- a packet that is a poll is answered so, and any other by nothing
 abbrev pub AnswersIf : Bool → CoreState → Option Packet → Type 0
 AnswersIf true core result = AnswersPoll core result
 AnswersIf false core result = result ≡ None
@@ -59,8 +61,10 @@ DeviceAnswers d packet result = AnswersIf (is_poll d packet) (opening_of d.core)
 abbrev pub configured_device : DeviceState → DeviceState
 configured_device d = record d { core = configured_core d.core; waits = false }
 
+-- a change reaches its inside alone
 abbrev pub changed_device : DeviceState → Change → DeviceState
 changed_device d change = record d { core = changed_core d.core change }
 
+-- and so does a frame
 abbrev pub framed_device : DeviceState → DeviceState
 framed_device d = record d { core = framed_core d.core }

@@ -26,6 +26,7 @@ layout_code cause.ReportTooLong = codes "V15"
 layout_code cause.TooMany = codes "V16"
 layout_code cause.Memory = codes "V17"
 
+-- the code of each cause
 abbrev pub code_of : DeviceCause → List ℕ
 code_of BadConfig = codes "V20"
 code_of (Layout found) = layout_code found
@@ -40,7 +41,8 @@ is_memory _ = false
 
 -- the code, and the place of a cause that has one
 abbrev pub fault_text : DeviceCause → ℕ → List ℕ
-fault_text (Layout found) at = if is_memory found then layout_code found else layout_code found ++ codes " at " ++ decimal at
+fault_text (Layout found) at =
+    if is_memory found then layout_code found else layout_code found ++ codes " at " ++ decimal at
 fault_text BadConfig at = code_of BadConfig
 fault_text NoEmptyCode at = code_of NoEmptyCode
 fault_text RelativeWithoutZero at = code_of RelativeWithoutZero

@@ -33,8 +33,10 @@ new_core config descriptor layout = record {
   toggle = false;
 }
 
+-- and such a device at an address, which waits for no ACK
 abbrev pub new_device : ℕ → Config → List ℕ → Contents → DeviceState
-new_device addr config descriptor layout = record { addr = addr; core = new_core config descriptor layout; waits = false }
+new_device addr config descriptor layout =
+    record { addr = addr; core = new_core config descriptor layout; waits = false }
 
 -- the descriptor is accepted with this layout
 pub record Lays (descriptor : List ℕ) (layout : Contents) : Type 0 where
@@ -52,28 +54,38 @@ pub record CanServe (descriptor : List ℕ) (layout : Contents) : Type 0 where
 abbrev pub RefusesDescriptor : List ℕ → DeviceCause → ℕ → Type 0
 RefusesDescriptor descriptor BadConfig at = ⊥
 RefusesDescriptor descriptor (Layout cause) at = Explains descriptor cause at
-RefusesDescriptor descriptor NoEmptyCode at = (layout : Contents) × Lays descriptor layout × (has_empty_codes layout ≡ false) × (at ≡ 0)
+RefusesDescriptor descriptor NoEmptyCode at =
+    (layout : Contents) × Lays descriptor layout × (has_empty_codes layout ≡ false) × (at ≡ 0)
 RefusesDescriptor descriptor RelativeWithoutZero at =
-    (layout : Contents) × Lays descriptor layout × (has_empty_codes layout ≡ true) × (has_zeros (items_of layout) ≡ false) × (at ≡ 0)
+    (layout : Contents) × Lays descriptor layout × (has_empty_codes layout ≡ true)
+        × (has_zeros (items_of layout) ≡ false) × (at ≡ 0)
 RefusesDescriptor descriptor Memory at = (layout : Contents) × CanServe descriptor layout × (at ≡ 0)
 
 -- What is looked at first is the address and the configuration.
 abbrev pub Refuses : ℕ → Config → List ℕ → DeviceCause → ℕ → Type 0
 Refuses addr config descriptor BadConfig at = (is_config addr config descriptor ≡ false) × (at ≡ 0)
-Refuses addr config descriptor (Layout cause) at = (is_config addr config descriptor ≡ true) × RefusesDescriptor descriptor (Layout cause) at
-Refuses addr config descriptor NoEmptyCode at = (is_config addr config descriptor ≡ true) × RefusesDescriptor descriptor NoEmptyCode at
-Refuses addr config descriptor RelativeWithoutZero at = (is_config addr config descriptor ≡ true) × RefusesDescriptor descriptor RelativeWithoutZero at
-Refuses addr config descriptor Memory at = (is_config addr config descriptor ≡ true) × RefusesDescriptor descriptor Memory at
+Refuses addr config descriptor (Layout cause) at =
+    (is_config addr config descriptor ≡ true) × RefusesDescriptor descriptor (Layout cause) at
+Refuses addr config descriptor NoEmptyCode at =
+    (is_config addr config descriptor ≡ true) × RefusesDescriptor descriptor NoEmptyCode at
+Refuses addr config descriptor RelativeWithoutZero at =
+    (is_config addr config descriptor ≡ true) × RefusesDescriptor descriptor RelativeWithoutZero at
+Refuses addr config descriptor Memory at =
+    (is_config addr config descriptor ≡ true) × RefusesDescriptor descriptor Memory at
 
+-- want of memory, which has no place in the descriptor
 abbrev pub no_memory : DeviceFault
 no_memory = record { cause = Memory; at = 0 }
 
 -- What making a device gives.
 abbrev pub MakesCore : Config → List ℕ → Result CoreState DeviceFault → Type 0
-MakesCore config descriptor (Ok core) = (layout : Contents) × CanServe descriptor layout × (core ≡ new_core config descriptor layout)
+MakesCore config descriptor (Ok core) =
+    (layout : Contents) × CanServe descriptor layout × (core ≡ new_core config descriptor layout)
 MakesCore config descriptor (Err fault) = RefusesDescriptor descriptor fault.cause fault.at
 
+-- The device is made where address and configuration fit and it can serve its descriptor, else it is refused.
 abbrev pub MakesDevice : ℕ → Config → List ℕ → Result DeviceState DeviceFault → Type 0
 MakesDevice addr config descriptor (Ok device) =
-    (is_config addr config descriptor ≡ true) × ((layout : Contents) × CanServe descriptor layout × (device ≡ new_device addr config descriptor layout))
+    (is_config addr config descriptor ≡ true) × ((layout : Contents) × CanServe descriptor layout
+        × (device ≡ new_device addr config descriptor layout))
 MakesDevice addr config descriptor (Err fault) = Refuses addr config descriptor fault.cause fault.at

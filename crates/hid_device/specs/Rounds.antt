@@ -1,4 +1,5 @@
--- Rounds of interrupt-IN polls: what a part goes through from its opening to its acknowledgement (USB 2.0, 8.5.4 and 8.6).
+-- Rounds of interrupt-IN polls: what a part goes through from its opening to its acknowledgement (USB 2.0, 8.5.4
+-- and 8.6).
 use Rattle.std.specs.Prelude.{ℕ, Bool, true, false, List, [], ◌∷◌, ◌++◌, Option, Some, None}
 use Rattle.std.specs.List.{list_any, filter}
 use Rattle.hid_layout.specs.Controls.{Item}
@@ -17,7 +18,8 @@ pub data OwnStep : Type 0 where
   Frame : OwnStep
   Polls : Fate → OwnStep
 
--- A round: its report, the parts as they were fixed when it opened, and the fates of its polls, the opening one first.
+-- A round: its report, the parts as they were fixed when it opened, and the fates of its polls, the opening one
+-- first.
 pub record Round : Type 0 where
   pub report : ℕ
   pub parts : List Cell
@@ -41,6 +43,7 @@ is_clean AckLost = false
 abbrev pub has_crossed : Round → Bool
 has_crossed round = list_any reaches_host round.polls
 
+-- and whether nothing was lost of one of its polls
 abbrev pub has_closed : Round → Bool
 has_closed round = list_any is_clean round.polls
 
@@ -56,7 +59,8 @@ new_round r d = record { report = r; parts = d.fixed; polls = [] }
 -- where some report is due, a round of it opens
 abbrev pub opened_if : List Item → Standing → Option ℕ → Bus
 opened_if items d None = record { standing = d; current = None }
-opened_if items d (Some r) = record { standing = after_opening items r d; current = Some (new_round r (after_opening items r d)) }
+opened_if items d (Some r) =
+    record { standing = after_opening items r d; current = Some (new_round r (after_opening items r d)) }
 
 -- a token that arrives opens a round where none is open and some report is due
 abbrev pub opening : List Item → Bus → Bus
@@ -89,6 +93,7 @@ closed_by_poll (Some round) TokenLost = []
 closed_by_poll (Some round) ReplyLost = []
 closed_by_poll (Some round) AckLost = []
 
+-- a poll leaves the device as it stands, and its round open or not
 abbrev pub after_poll : Bus → Fate → Bus
 after_poll b fate = record { standing = b.standing; current = open_after b.current fate }
 
@@ -98,15 +103,18 @@ after_step items b (Changes change) = record { standing = after_change items b.s
 after_step items b Frame = record { standing = after_frame b.standing; current = b.current }
 after_step items b (Polls fate) = after_poll (at_arrival items b fate) fate
 
+-- changes and frames close no round
 abbrev pub closed_by : List Item → Bus → OwnStep → List Round
 closed_by items b (Changes change) = []
 closed_by items b Frame = []
 closed_by items b (Polls fate) = closed_by_poll (at_arrival items b fate).current fate
 
+-- behind a list of steps, one after another
 abbrev pub after_steps : List Item → List OwnStep → Bus → Bus
 after_steps items [] b = b
 after_steps items (s ∷ steps) b = after_steps items steps (after_step items b s)
 
+-- the round that is open, as a list
 abbrev pub still_open : Option Round → List Round
 still_open None = []
 still_open (Some round) = round ∷ []
@@ -136,6 +144,7 @@ fresh_bus items snapshot idle = record { standing = configured items snapshot id
 abbrev pub crossed_rounds : List Item → List Cell → List ℕ → List OwnStep → List Round
 crossed_rounds items snapshot idle steps = filter has_crossed (rounds items steps (fresh_bus items snapshot idle))
 
--- The events of a schedule since the configuration: the changes between the parts that crossed, from the initial view on.
+-- The events of a schedule since the configuration: the changes between the parts that crossed, from the initial
+-- view on.
 abbrev pub events_of_epoch : List Item → List Cell → List ℕ → List OwnStep → List Event
 events_of_epoch items snapshot idle steps = events_of items (blank items) (crossed_rounds items snapshot idle steps)

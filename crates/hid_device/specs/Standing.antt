@@ -1,4 +1,5 @@
--- How a configured device stands between its polls, and which of its reports is due (USB 2.0, 8.5.4; HID 1.11, 7.2.4; our choice).
+-- How a configured device stands between its polls, and which of its reports is due (USB 2.0, 8.5.4; HID 1.11,
+-- 7.2.4; our choice).
 use Rattle.std.specs.Prelude.{ℕ, ◌+◌, ◌*◌, Bool, ◌&&◌, ◌||◌, nat_lt, nat_le, min, List, map, length, slice_index, slice_set, replicate, Option, Ok, Err}
 use Rattle.std.specs.List.{find, range_with_len}
 use Rattle.hid_layout.specs.Controls.{Item}
@@ -30,7 +31,8 @@ is_idle_over idle frames = nat_lt 0 idle && nat_le (4 * idle) frames
 
 -- A report is due where its controls call for it, or its idle time is over.
 abbrev pub is_due : List Item → Standing → ℕ → Bool
-is_due items d r = is_changed items r d.snapshot d.fixed || is_idle_over (slice_index d.idle r) (slice_index d.frames r)
+is_due items d r =
+    is_changed items r d.snapshot d.fixed || is_idle_over (slice_index d.idle r) (slice_index d.frames r)
 
 -- the due report of the lowest number
 abbrev pub first_due : List Item → Standing → Option ℕ
@@ -46,12 +48,21 @@ after_change items d change =
 
 -- a frame counts for each report
 abbrev pub after_frame : Standing → Standing
-after_frame d = record { snapshot = d.snapshot; fixed = d.fixed; frames = map (λ n. min (n + 1) most_frames) d.frames; idle = d.idle }
+after_frame d = record {
+  snapshot = d.snapshot;
+  fixed = d.fixed;
+  frames = map (λ n. min (n + 1) most_frames) d.frames;
+  idle = d.idle;
+}
 
 -- these parts are fixed for a report, their motion is taken out of the snapshot, and its frames are counted anew
 abbrev pub fixed_with : List Item → ℕ → Standing → List Cell → Standing
-fixed_with items r d parts =
-    record { snapshot = taken items r d.snapshot parts; fixed = parts; frames = slice_set d.frames r 0; idle = d.idle }
+fixed_with items r d parts = record {
+  snapshot = taken items r d.snapshot parts;
+  fixed = parts;
+  frames = slice_set d.frames r 0;
+  idle = d.idle;
+}
 
 -- A round of a report opens: the part that it shows now is fixed.
 abbrev pub after_opening : List Item → ℕ → Standing → Standing

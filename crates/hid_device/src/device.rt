@@ -5,7 +5,7 @@ ghost use Rattle.hid_layout.specs.Controls.{items_of};
 ghost use Rattle.hid_usages.specs.Snapshots.{Changes};
 ghost use Rattle.usb_packet.specs.Spelling.{Fits};
 ghost use Rattle.hid_device.specs.Core.{IsSound, IsArmed, Answers, opening_of, round_of};
-ghost use Rattle.hid_device.specs.Device.{is_poll, device_after, DeviceAnswers, configured_device, changed_device, framed_device, polled};
+ghost use Rattle.hid_device.specs.Device.{is_poll, device_after, DeviceAnswers, configured_device, changed_device, framed_device, polled_device};
 ghost use Rattle.hid_device.specs.Making.{MakesDevice};
 
 use crate::config::{Config, is_config};
@@ -22,7 +22,8 @@ use usb_transact::DevPipe;
 /// The number of a device's interrupt-IN endpoint (our choice).
 pub const ENDPOINT: u8 = 1;
 
-/// A virtual device. A contract sees it as `addr`, `core` and `waits`.
+/// A virtual device. A contract sees it as `addr`, `core` and `waits`. It stands round [`Core`], which is what the device
+/// itself is: which packets reach it, and which ACK counts, is the bus's side of it.
 #[derive(Drop)]
 pub struct Device {
     addr: u8,
@@ -165,7 +166,7 @@ impl Device {
 
     /// The answer to a poll, once a round was opened for it.
     fn poll(&mut self) -> Packet
-        ensures device { self.new ≡ polled self.old.addr (opening_of self.old.core) }
+        ensures device { self.new ≡ polled_device self.old.addr (opening_of self.old.core) }
         ensures answer { Answers (opening_of self.old.core) result }
         ensures fits { Fits result }
         ensures sound { IsSound self.new.core }

@@ -7,7 +7,7 @@ ghost use Rattle.hid_usages.specs.Encoding.{AreBytes};
 ghost use Rattle.hid_usages.specs.Snapshots.{Changes};
 ghost use Rattle.usb_packet.specs.Spelling.{Fits};
 ghost use Rattle.hid_device.specs.Standing.{is_due, first_due};
-ghost use Rattle.hid_device.specs.Core.{IsSound, IsArmed, Answers, opened, opening_of, closed_core, configured_core, changed_core, framed_core, round_of};
+ghost use Rattle.hid_device.specs.Core.{IsSound, IsArmed, Answers, opened_core, opening_of, closed_core, configured_core, changed_core, framed_core, round_of};
 ghost use Rattle.hid_device.specs.Making.{no_memory, new_core, CanServe, RefusesDescriptor, MakesCore};
 
 use crate::config::Config;
@@ -257,7 +257,7 @@ impl Core {
     fn open(&mut self, report: usize)
         requires input { report < length self.old.standing.frames }
         requires none { self.old.current ≡ None }
-        ensures { self.new ≡ opened self.old report }
+        ensures { self.new ≡ opened_core self.old report }
     {
         self.snapshot.shown(&self.layout, report, &mut self.fixed);
         self.snapshot.take_motion(&self.layout, report, &self.fixed);

@@ -24,7 +24,7 @@ use Rattle.hid_stack.specs.declared.step.Step.TheVariants.{Change}
 use Rattle.hid_stack.specs.declared.step.Told.{Told}
 use Rattle.hid_stack.specs.declared.step.Delivered.{Delivered}
 use Rattle.hid_stack.specs.declared.rig.TheConstants.{MAX_DEVICES}
-use Rattle.hid_stack.specs.Members.{Member, fresh_member, member_at, refusal, IsRefusal, bus_after, delivered_at}
+use Rattle.hid_stack.specs.Rig.{Member, fresh_member, member_at, refusal, IsRefusal, bus_after, delivered_at}
 use Rattle.hid_stack.specs.Tells.{Tells}
 use Rattle.hid_stack.specs.Attaching.{Attaches, Finds}
 use Rattle.hid_script.specs.declared.fault.Cause.{Cause}

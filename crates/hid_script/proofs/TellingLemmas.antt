@@ -12,7 +12,7 @@ use Rattle.hid_stack.specs.declared.fault.StackFault.{StackFault}
 use Rattle.hid_stack.specs.declared.step.Step.{Step}
 use Rattle.hid_stack.specs.declared.step.Step.TheVariants.{Change}
 use Rattle.hid_stack.specs.declared.step.Step.TheVariants as step
-use Rattle.hid_stack.specs.Members.{Member, fresh_member}
+use Rattle.hid_stack.specs.Rig.{Member, fresh_member}
 use Rattle.hid_script.specs.declared.fault.Cause.{Cause}
 use Rattle.hid_script.specs.declared.wanted.Wanted.{Wanted}
 use Rattle.hid_script.specs.declared.wanted.Wanted.TheVariants as wanted

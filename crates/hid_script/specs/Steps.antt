@@ -16,7 +16,7 @@ use Rattle.hid_stack.specs.declared.fault.StackFault.{StackFault}
 use Rattle.hid_stack.specs.declared.step.Step.{Step}
 use Rattle.hid_stack.specs.declared.step.Step.TheVariants.{Change}
 use Rattle.hid_stack.specs.declared.step.Told.{Told}
-use Rattle.hid_stack.specs.Members.{Member, fresh_member, refusal, bus_after, delivered_at}
+use Rattle.hid_stack.specs.Rig.{Member, fresh_member, refusal, bus_after, delivered_at}
 use Rattle.hid_stack.specs.Tells.{Tells}
 use Rattle.hid_stack.specs.declared.rig.TheConstants.{MAX_DEVICES}
 use Rattle.hid_stack.specs.declared.fault.StackFault.TheVariants as stack

@@ -27,10 +27,10 @@ use Rattle.hid_stack.specs.declared.step.Step.TheVariants.{Change, Frame, Poll}
 use Rattle.hid_stack.specs.declared.step.Told.{Told}
 use Rattle.hid_stack.specs.Attaching.{Suits, wants_memory, Attaches, IsBefore, IsLeast, Finds}
 use Rattle.hid_stack.specs.Laws.{TellsOneThing, FindsOneControl, AttachesOneDevice}
-use Rattle.hid_stack.specs.Members.{Member, fresh_member, member_at}
+use Rattle.hid_stack.specs.Rig.{Member, fresh_member, member_at}
 use Rattle.hid_stack.specs.Stations.{Station, Open, opened}
 use Rattle.hid_stack.specs.Tells.{ShowsRound, TellsOpened, TellsPoll, told_by}
-use Rattle.hid_stack.proofs.KnownLemmas.{refused_unless}
+use Rattle.hid_stack.proofs.ReadyLemmas.{refused_unless}
 
 -- ---- polls
 

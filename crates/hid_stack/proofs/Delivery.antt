@@ -1,5 +1,5 @@
 -- What a station delivers over a list of steps is the events of the rounds that crossed.
-use Rattle.std.proofs.Common.{◌≡◌, ◌++◌, ℕ, Bool, true, false, not, ◌||◌, List, [], ◌∷◌, Option, Some, None, Result, Ok, Err, refl, ap, sym, ◌∙◌, arith, cond}
+use Rattle.std.proofs.Common.{◌≡◌, ◌++◌, ℕ, Bool, true, false, not, ◌||◌, List, [], ◌∷◌, Option, Some, None, Result, Ok, Err, refl, ap, sym, subst, ◌∙◌, arith, cond}
 use Rattle.std.specs.List.{list_any, filter}
 use Rattle.hid_layout.specs.Controls.{Item}
 use Rattle.hid_cells.specs.declared.cell.Cell.{Cell}
@@ -13,6 +13,7 @@ use Rattle.usb_transact.specs.declared.transaction.Fate.{Fate}
 use Rattle.usb_transact.specs.declared.transaction.Fate.TheVariants.{Clean, TokenLost, ReplyLost, AckLost}
 use Rattle.hid_device.specs.Standing.{Standing, configured, first_due, after_change, after_frame, after_opening}
 use Rattle.hid_device.specs.Rounds.{OwnStep, Changes, Frame, Polls, Round, Bus, events_of_epoch, new_round, reaches_host, has_crossed, polled, rounds, events_of, opened_if, after_poll, closed_by_poll}
+use Rattle.hid_stack.specs.Headline.{bus_from}
 use Rattle.hid_stack.specs.Stations.{Station, Open, fresh, part_events, events_in, opened_by, answered, round_events}
 
 abbrev pub bus : Standing → Option Round → Bus
@@ -28,19 +29,20 @@ open_round r crossed = Some (record { report = r.report; crossed = crossed })
 abbrev pub told : List Item → List Cell → List Round → List Event
 told items view rs = events_of items view (filter has_crossed rs)
 
-any_push : (polls : List Fate) (fate : Fate) → list_any reaches_host (polls ++ fate ∷ []) ≡ list_any reaches_host polls || reaches_host fate
-any_push [] fate = grind arith
-any_push (x ∷ polls) fate = grind (arith, any_push polls fate)
+-- one more poll
+pub any_push : (holds : Fate → Bool) (polls : List Fate) (fate : Fate) → list_any holds (polls ++ fate ∷ []) ≡ list_any holds polls || holds fate
+any_push holds [] fate = grind arith
+any_push holds (x ∷ polls) fate = grind (arith, any_push holds polls fate)
 
 -- a poll that doesn't reach the host leaves a round uncrossed, one that does crosses it, and what crossed stays so
 still_not : (r : Round) (fate : Fate) → reaches_host fate ≡ false → has_crossed r ≡ false → has_crossed (polled r fate) ≡ false
-still_not r fate lost h = any_push r.polls fate ∙ grind (arith, lost, h)
+still_not r fate lost h = any_push reaches_host r.polls fate ∙ grind (arith, lost, h)
 
 crosses : (r : Round) (fate : Fate) → reaches_host fate ≡ true → has_crossed (polled r fate) ≡ true
-crosses r fate reached = any_push r.polls fate ∙ grind (arith, reached)
+crosses r fate reached = any_push reaches_host r.polls fate ∙ grind (arith, reached)
 
 still_crossed : (r : Round) (fate : Fate) → has_crossed r ≡ true → has_crossed (polled r fate) ≡ true
-still_crossed r fate h = any_push r.polls fate ∙ grind (arith, h)
+still_crossed r fate h = any_push reaches_host r.polls fate ∙ grind (arith, h)
 
 -- a round that hasn't crossed tells nothing, and one that has is told first
 skipped : (items : List Item) (view : List Cell) (r : Round) (rs : List Round) → has_crossed r ≡ false → told items view (r ∷ rs) ≡ told items view rs
@@ -51,7 +53,7 @@ first_told : (items : List Item) (view : List Cell) (r : Round) (rs : List Round
 first_told items view r rs h = ap (λ (b : Bool). events_of items view (cond b (r ∷ filter has_crossed rs) (filter has_crossed rs))) h
 
 -- a change leaves the parts that were fixed last
-fixed_stays : (items : List Item) (d : Standing) (c : Change) → (after_change items d c).fixed ≡ d.fixed
+pub fixed_stays : (items : List Item) (d : Standing) (c : Change) → (after_change items d c).fixed ≡ d.fixed
 fixed_stays items d c =
     elim (changed items d.snapshot c) as (λ (x : Result (List Cell) ChangeFault). (elim x as (λ _. Standing) [ Ok cells ↦ record { snapshot = cells; fixed = d.fixed; frames = d.frames; idle = d.idle } | Err fault ↦ d ]).fixed ≡ d.fixed)
     [ Ok cells ↦ refl | Err fault ↦ refl ]
@@ -120,14 +122,12 @@ reply_lost_fresh : (items : List Item) (steps : List OwnStep) → Delivers items
 reply_lost_fresh items steps rest d odd view r hc hp = rest.fresh d odd view (polled r ReplyLost) (still_not r ReplyLost refl hc) hp
 
 -- the same where a report is due, and where none is
-if_due : (items : List Item) (fate : Fate) (steps : List OwnStep) (d : Standing) (odd : Bool) (view : List Cell) → IfArrived items fate steps d odd view None →
-    ((r : ℕ) → IfArrived items fate steps d odd view (Some r)) → IfArrived items fate steps d odd view (first_due items d)
-if_due items fate steps d odd view not_due due =
-    elim (first_due items d) as (λ (o : Option ℕ). IfArrived items fate steps d odd view o) [ None ↦ not_due | Some r ↦ due r ]
+pub if_due : (items : List Item) (d : Standing) (P : Option ℕ → Type 0) → P None → ((r : ℕ) → P (Some r)) → P (first_due items d)
+if_due items d P not_due due = elim (first_due items d) as P [ None ↦ not_due | Some r ↦ due r ]
 
 poll : (items : List Item) (fate : Fate) (steps : List OwnStep) → Delivers items steps → Delivers items (Polls fate ∷ steps)
 poll items Clean steps rest = record {
-  quiet = λ d odd view. if_due items Clean steps d odd view (rest.quiet d odd view)
+  quiet = λ d odd view. if_due items d (IfArrived items Clean steps d odd view) (rest.quiet d odd view)
       (λ r. clean_fresh items steps rest (after_opening items r d) odd view (new_round r (after_opening items r d)) refl refl);
   fresh = clean_fresh items steps rest;
   again = clean_again items steps rest;
@@ -138,13 +138,13 @@ poll items TokenLost steps rest = record {
   again = λ d odd view r hc hp. rest.again d odd view (polled r TokenLost) (still_crossed r TokenLost hc) hp;
 }
 poll items ReplyLost steps rest = record {
-  quiet = λ d odd view. if_due items ReplyLost steps d odd view (rest.quiet d odd view)
+  quiet = λ d odd view. if_due items d (IfArrived items ReplyLost steps d odd view) (rest.quiet d odd view)
       (λ r. reply_lost_fresh items steps rest (after_opening items r d) odd view (new_round r (after_opening items r d)) refl refl);
   fresh = reply_lost_fresh items steps rest;
   again = λ d odd view r hc hp. rest.again d odd view (polled r ReplyLost) (still_crossed r ReplyLost hc) hp;
 }
 poll items AckLost steps rest = record {
-  quiet = λ d odd view. if_due items AckLost steps d odd view (rest.quiet d odd view)
+  quiet = λ d odd view. if_due items d (IfArrived items AckLost steps d odd view) (rest.quiet d odd view)
       (λ r. ack_lost_fresh items steps rest (after_opening items r d) odd view (new_round r (after_opening items r d)) refl refl);
   fresh = ack_lost_fresh items steps rest;
   again = λ d odd view r hc hp. rest.again d odd view (polled r AckLost) (still_crossed r AckLost hc) hp;
@@ -160,3 +160,10 @@ delivers items (Polls fate ∷ steps) = poll items fate steps (delivers items st
 pub delivers_epoch : (items : List Item) (snapshot : List Cell) (idle : List ℕ) (steps : List OwnStep)
     → events_in items (fresh items snapshot idle) steps ≡ events_of_epoch items snapshot idle steps
 delivers_epoch items snapshot idle steps = (delivers items steps).quiet (configured items snapshot idle) false (blank items)
+
+-- from any station without an open round
+pub delivers_rounds : (items : List Item) (from : Station) (steps : List OwnStep) → from.current ≡ None
+    → events_in items from steps ≡ told items from.view (rounds items steps (bus_from from))
+delivers_rounds items from steps none_open =
+    subst (λ (o : Option Open). events_in items (station from.standing o from.odd from.view) steps ≡ told items from.view (rounds items steps (bus_from from))) (sym none_open)
+    ((delivers items steps).quiet from.standing from.odd from.view)

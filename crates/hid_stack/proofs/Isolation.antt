@@ -9,7 +9,6 @@ use Rattle.std.proofs.lemmas.Bool.Decides.{nat_tests}
 use Rattle.std.proofs.lemmas.Bool.{cases_Bool}
 use Rattle.hid_layout.specs.Controls.{items_of}
 use Rattle.hid_layout.specs.Layout.{Contents}
-use Rattle.hid_cells.specs.declared.cell.Cell.{Cell}
 use Rattle.hid_cells.specs.declared.event.Event.{Event}
 use Rattle.hid_cells.proofs.ItemLemmas.{set_here, set_there}
 use Rattle.hid_device.specs.Rounds.{OwnStep, Changes, Polls, events_of_epoch}
@@ -17,21 +16,23 @@ use Rattle.hid_device.specs.Rounds as own_steps
 use Rattle.hid_stack.specs.declared.step.Step.{Step}
 use Rattle.hid_stack.specs.declared.step.Step.TheVariants.{Change, Frame, Poll}
 use Rattle.hid_stack.specs.declared.step.Delivered.{Delivered}
-use Rattle.hid_stack.specs.Stations.{Station, fresh, after, events_at, events_in}
-use Rattle.hid_stack.specs.Members.{Member, member_after, member_after_all, member_at, with_member, one_after, bus_after, tagged, one_delivers, delivered_at, bus_after_all, delivered_in, own_step, own, own_event, from_device, IsIsolated}
+use Rattle.hid_stack.specs.Stations.{Station, after_all, events_at, events_in}
+use Rattle.hid_stack.specs.Rig.{Member, member_after, member_after_all, member_at, with_member, one_after, bus_after, tagged, one_delivers, delivered_at, bus_after_all, delivered_in, own_step, own, own_event, from_device, IsIsolated}
+use Rattle.hid_stack.specs.Headline.{DeliversChanges, KeepsToRounds}
 use Rattle.hid_stack.proofs.Delivery.{delivers_epoch}
+use Rattle.hid_stack.proofs.RoundLemmas.{stands_by_rounds}
 
 same_places : (d e : ℕ) → eqb d 0 ≡ false → eqb e 0 ≡ false → d - 1 ≡ e - 1 → d ≡ e
 same_places d e some_d some_e same = grind (arith, nat_tests)
 
 -- a device's number is not 0
-no_zero : (members : List Member) (dev : ℕ) (m : Member) → member_at members dev ≡ Some m → eqb dev 0 ≡ false
+pub no_zero : (members : List Member) (dev : ℕ) (m : Member) → member_at members dev ≡ Some m → eqb dev 0 ≡ false
 no_zero members dev m h = elim (cases_Bool (eqb dev 0)) [
   | inl z ↦ let none : None ≡ Some m = sym (ap (λ (b : Bool). cond b None (slice_get members (dev - 1))) z) ∙ h in cc
   | inr some ↦ some
 ]
 
-at_place : (members : List Member) (dev : ℕ) → eqb dev 0 ≡ false → member_at members dev ≡ slice_get members (dev - 1)
+pub at_place : (members : List Member) (dev : ℕ) → eqb dev 0 ≡ false → member_at members dev ≡ slice_get members (dev - 1)
 at_place members dev some = ap (λ (b : Bool). cond b None (slice_get members (dev - 1))) some
 
 with_same : (members : List Member) (dev : ℕ) (m n : Member) → member_at members dev ≡ Some m → member_at (with_member members dev n) dev ≡ Some n
@@ -167,15 +168,21 @@ isolated members after steps old new states_are told_are = record {
 }
 
 -- a device that was just configured delivers the events of its epoch
-pub headline : (members : List Member) (steps : List Step) (old new : List Delivered) → new ≡ old ++ delivered_in members steps
-    → (device : ℕ) (m : Member) (snapshot : List Cell) (idle : List ℕ) → member_at members device ≡ Some m → m.station ≡ fresh (items_of m.layout) snapshot idle
-    → from_device device new ≡ from_device device old ++ events_of_epoch (items_of m.layout) snapshot idle (own device steps)
+pub headline : (members : List Member) (steps : List Step) (old new : List Delivered) → new ≡ old ++ delivered_in members steps → DeliversChanges members steps old new
 headline members steps old new told_are device m snapshot idle h just =
     ap (from_device device) told_are ∙ from_append device old (delivered_in members steps)
     ∙ ap (λ (es : List Event). from_device device old ++ es)
     (told steps members device m h ∙ ap (λ (s : Station). events_in (items_of m.layout) s (own device steps)) just ∙ delivers_epoch (items_of m.layout) snapshot idle (own device steps))
 
-pub ruleset by_itself = (isolated, headline)
+-- each device without an open round stands by the rounds of its own steps
+pub keeps_to_rounds : (members after : List Member) (steps : List Step) → after ≡ bus_after_all members steps → KeepsToRounds members steps after
+keeps_to_rounds members after steps states_are device m h none_open = (
+  after_all (items_of m.layout) m.station (own device steps),
+  ap (λ (ms : List Member). member_at ms device) states_are ∙ states steps members device m h,
+  stands_by_rounds (items_of m.layout) m.station (own device steps) none_open,
+)
+
+pub ruleset by_itself = (isolated, headline, keeps_to_rounds)
 
 -- one more step of a run: the bus, and what was delivered
 after_push : (s : List Member) (steps : List Step) (step : Step) → bus_after_all s (steps ++ step ∷ []) ≡ bus_after (bus_after_all s steps) step

@@ -1,5 +1,6 @@
-pub mod KnownLemmas
+pub mod ReadyLemmas
 pub mod Delivery
+pub mod RoundLemmas
 pub mod Isolation
 pub mod PollLemmas
 pub mod StepLemmas
@@ -9,5 +10,7 @@ pub mod MotionLemmas
 pub mod SumLemmas
 pub mod RoomLemmas
 pub mod RigLemmas
+pub mod AttachLemmas
 pub mod AnswerLemmas
+pub mod NamedLemmas
 mod Vectors

@@ -16,7 +16,7 @@ use Rattle.hid_views.proofs.CrossingLemmas.{seen_is_view}
 use Rattle.usb_packet.specs.declared.packet.Packet.{Packet}
 use Rattle.usb_packet.specs.declared.packet.Packet.TheVariants as packets
 use Rattle.usb_packet.specs.Spelling.{spelling}
-use Rattle.usb_transact.specs.declared.bus.Stage.TheVariants.{Reply, Acknowledgement}
+use Rattle.usb_transact.specs.declared.bus.Phase.TheVariants.{Reply, Acknowledgement}
 use Rattle.usb_transact.specs.declared.host.Took.{Took}
 use Rattle.usb_transact.specs.declared.host.Took.TheVariants.{Fresh, Again, Nak, Silent}
 use Rattle.usb_transact.specs.declared.transaction.Fate.{Fate}
@@ -29,16 +29,16 @@ use Rattle.usb_transact.specs.Exchange.{took_where}
 use Rattle.usb_transact.proofs.TableLemmas.{read_whole, read_lost, took_answer}
 use Rattle.hid_device.specs.declared.device.TheConstants.{ENDPOINT}
 use Rattle.hid_device.specs.Standing.{first_due}
-use Rattle.hid_device.specs.Core.{CoreState, IsSound, IsArmed, AreBytesOf, opened_if, opening_of, closed_core}
-use Rattle.hid_device.specs.Device.{DeviceState, polled}
+use Rattle.hid_device.specs.Core.{CoreState, IsSound, IsArmed, AreBytesOf, opened_core_if, opening_of, closed_core}
+use Rattle.hid_device.specs.Device.{DeviceState, polled_device}
 use Rattle.hid_stack.specs.declared.fault.StackFault.{StackFault}
 use Rattle.hid_stack.specs.declared.step.Told.{Told}
 use Rattle.hid_stack.specs.declared.step.Told.TheVariants.{Polled}
-use Rattle.hid_stack.specs.declared.host.Phase.TheVariants.{Ready}
+use Rattle.hid_stack.specs.declared.host.HostPhase.TheVariants.{Ready}
 use Rattle.hid_stack.specs.Host.{HostEnd, ready_after}
-use Rattle.hid_stack.specs.Joint.{joined, member_with, joint, IsEven, ArePaired, IsPair}
-use Rattle.hid_stack.specs.Members.{Member}
-use Rattle.hid_stack.specs.Known.{Known, told_of, view_read, events_behind, read_or_refused}
+use Rattle.hid_stack.specs.Slot.{joined, member_with, joint, IsEven, ArePaired, IsPair}
+use Rattle.hid_stack.specs.Rig.{Member}
+use Rattle.hid_stack.specs.Ready.{Known, told_of, view_read, events_behind, read_or_refused}
 use Rattle.hid_stack.specs.Polls.{Hears, HearsAck, Ends, spelled, told_with}
 use Rattle.hid_stack.specs.Stations.{Station, Open, opened, opened_by, answered, round_events, part_events, after}
 use Rattle.hid_stack.specs.Tells.{ShowsRound, told_by}
@@ -54,10 +54,10 @@ uncrossed r = Some (record { report = r; crossed = false })
 
 -- opening a round at the device opens it at the station
 opens_if : (c : CoreState) (known : Known) (due : Option ℕ) → c.toggle ≡ known.pipe.expects
-    → joined (opened_if (record c { current = None }) due) known ≡ opened_by (items_of c.layout) (joined (record c { current = None }) known) due
+    → joined (opened_core_if (record c { current = None }) due) known ≡ opened_by (items_of c.layout) (joined (record c { current = None }) known) due
 opens_if c known None even = refl
 opens_if c known (Some r) even =
-    ap (λ (b : Bool). let s : Station = joined (opened_if (record c { current = None }) (Some r)) known in record s { current = Some (record { report = r; crossed = not b }) })
+    ap (λ (b : Bool). let s : Station = joined (opened_core_if (record c { current = None }) (Some r)) known in record s { current = Some (record { report = r; crossed = not b }) })
     (ap (λ (t : Bool). beq c.toggle t) (sym even) ∙ beq_same c.toggle)
 
 opens_at : (c : CoreState) (known : Known) (current : Option ℕ) → IsEven c.toggle known.pipe.expects current
@@ -108,7 +108,7 @@ pub record Arrives (fate : Fate) (c : CoreState) (known : Known) (addr home : �
   pub told : result ≡ told_with (Some packet) (told_of c.layout (taken known.pipe.expects reply))
   pub host_moved : host_then ≡ ready_after home (sharing c known) (taken known.pipe.expects reply)
   pub delivers : events ≡ events_behind (sharing c known) (taken known.pipe.expects reply)
-  pub ended : Ends (arrives_under fate) (told_of c.layout (taken known.pipe.expects reply)) (polled addr c) device_then
+  pub ended : Ends (arrives_under fate) (told_of c.layout (taken known.pipe.expects reply)) (polled_device addr c) device_then
 
 -- what a poll makes of the station, once a round was opened for it
 pub record Lands (fate : Fate) (of : Station → Member) (s : Station)
@@ -131,7 +131,7 @@ pair_of d e h home known device_is host_is pair =
 
 -- the device's wait, behind its answer
 abbrev waiting : ℕ → CoreState → ℕ → DeviceState
-waiting addr c r = polled addr (record c { current = Some r })
+waiting addr c r = polled_device addr (record c { current = Some r })
 
 abbrev closed_device : ℕ → CoreState → ℕ → DeviceState
 closed_device addr c r = record { addr = addr; core = closed_core (record c { current = Some r }); waits = false }
@@ -317,13 +317,13 @@ stays : (c : CoreState) (known : Known) (addr home : ℕ) (current : Option ℕ)
     (result : Result Told StackFault) (device_then : DeviceState) (host_then : HostEnd) (events : List Event)
     → IsEven c.toggle known.pipe.expects current → Meets addr (record c { current = current }) known → IsArmed c.layout c.standing.fixed current armed
     → result ≡ Ok (Polled (spelled (Some (answer_with c.toggle armed))) Silent)
-    → device_then ≡ polled addr (record c { current = current }) → host_then ≡ ready_with home (sharing c known) → events ≡ []
+    → device_then ≡ polled_device addr (record c { current = current }) → host_then ≡ ready_with home (sharing c known) → events ≡ []
     → Lands ReplyLost (member_with addr c) (joined (record c { current = current }) known) result device_then host_then events
 stays c known addr home None None result device_then host_then events even meets arms told device_is host_is none = record {
-  member = member_of device_then (polled addr (record c { current = None })) host_then home (sharing c known) device_is host_is;
+  member = member_of device_then (polled_device addr (record c { current = None })) host_then home (sharing c known) device_is host_is;
   delivered = none;
   told = ([], refl, told);
-  pair = pair_of device_then (polled addr (record c { current = None })) host_then home (sharing c known) device_is host_is (record {
+  pair = pair_of device_then (polled_device addr (record c { current = None })) host_then home (sharing c known) device_is host_is (record {
     configured = meets.configured;
     layout = refl;
     addr = meets.to_device;
@@ -365,8 +365,8 @@ reply_lost c known addr home current armed packet result device_then host_then e
     let host_is : host_then ≡ ready_with home (sharing c known) = t.host_moved ∙ ap (ready_after home (sharing c known)) took in
     let told : result ≡ Ok (Polled (spelled (Some (answer_with c.toggle armed))) Silent)
     = t.told ∙ ap (λ (x : Took). told_with (Some packet) (told_of c.layout x)) took ∙ ap (λ (x : Packet). Ok (Polled (spelled (Some x)) Silent)) packet_is in
-    let device_is : device_then ≡ polled addr (record c { current = current })
-    = subst (λ (x : Took). Ends (arrives_under ReplyLost) (told_of c.layout x) (polled addr (record c { current = current })) device_then) took t.ended in
+    let device_is : device_then ≡ polled_device addr (record c { current = current })
+    = subst (λ (x : Took). Ends (arrives_under ReplyLost) (told_of c.layout x) (polled_device addr (record c { current = current })) device_then) took t.ended in
     stays c known addr home current armed result device_then host_then events even meets arms told device_is host_is (t.delivers ∙ ap (events_behind (sharing c known)) took)
 
 -- what a poll whose answer reaches the host comes to, by what the host takes
@@ -375,7 +375,7 @@ pub record Comes (fate : Fate) (c : CoreState) (known : Known) (addr home : ℕ)
   pub told : result ≡ told_with (Some packet) (told_of c.layout took)
   pub host_moved : host_then ≡ ready_after home (sharing c known) took
   pub delivers : events ≡ events_behind (sharing c known) took
-  pub ended : Ends (arrives_under fate) (told_of c.layout took) (polled addr c) device_then
+  pub ended : Ends (arrives_under fate) (told_of c.layout took) (polled_device addr c) device_then
 
 -- an answer that reaches the host is taken by its row
 pub comes : (fate : Fate) (c : CoreState) (known : Known) (addr home : ℕ) (armed : Option (List ℕ)) (packet : Packet)
@@ -392,7 +392,7 @@ comes fate c known addr home armed packet result device_then host_then events wh
           ∙ ap (λ (x : Packet). told_with (Some x) (told_of c.layout (took_where known.pipe.expects c.toggle armed))) packet_is;
       host_moved = t.host_moved ∙ ap (ready_after home (sharing c known)) took;
       delivers = t.delivers ∙ ap (events_behind (sharing c known)) took;
-      ended = subst (λ (x : Took). Ends (arrives_under fate) (told_of c.layout x) (polled addr c) device_then) took t.ended;
+      ended = subst (λ (x : Took). Ends (arrives_under fate) (told_of c.layout x) (polled_device addr c) device_then) took t.ended;
     }
 
 -- the same where it is known what the host takes
@@ -411,10 +411,10 @@ nak : (fate : Fate) (c : CoreState) (known : Known) (addr home : ℕ)
     → (joint device_then host_then ≡ member_with addr c (joined (record c { current = None }) known))
     × (events ≡ []) × (result ≡ Ok (Polled (spelled (Some packets.Nak)) Nak)) × IsPair device_then host_then.phase
 nak fate c known addr home result device_then host_then events even meets t = (
-  member_of device_then (polled addr (record c { current = None })) host_then home (sharing c known) t.ended t.host_moved,
+  member_of device_then (polled_device addr (record c { current = None })) host_then home (sharing c known) t.ended t.host_moved,
   t.delivers,
   t.told,
-  pair_of device_then (polled addr (record c { current = None })) host_then home (sharing c known) t.ended t.host_moved (record {
+  pair_of device_then (polled_device addr (record c { current = None })) host_then home (sharing c known) t.ended t.host_moved (record {
     configured = meets.configured;
     layout = refl;
     addr = meets.to_device;

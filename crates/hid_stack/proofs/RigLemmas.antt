@@ -1,17 +1,19 @@
 -- What holds of every device of a rig holds behind its calls.
-use Rattle.std.proofs.Common.{◌≡◌, ◌<◌, ◌++◌, ℕ, List, [], ◌∷◌, length, get_or, Result, Ok, Err, OnOk, OnErr, sym, subst}
+use Rattle.std.proofs.Common.{◌≡◌, ◌∙◌, ◌<◌, ◌≤◌, ◌++◌, take, drop, ap, arith, ℕ, List, [], ◌∷◌, length, get_or, map, Result, Ok, Err, OnOk, OnErr, sym, subst}
 use Rattle.std.specs.Prelude.{slice_set}
+use Rattle.std.proofs.lemmas.List.{take-append-le, take_all, length-map}
 use Rattle.std.proofs.lemmas.List.Elements.{All-get_or, All-set}
 use Rattle.hid_layout.specs.Controls.{items_of}
 use Rattle.hid_layout.specs.Layout.{Contents}
 use Rattle.hid_device.specs.declared.config.Config.{Config}
-use Rattle.hid_device.specs.Rounds.{OwnStep}
+use Rattle.hid_device.specs.Rounds.{OwnStep, Frame}
+use Rattle.hid_stack.specs.declared.step.Step.TheVariants.{Frame as FrameStep}
 use Rattle.hid_stack.specs.declared.fault.StackFault.{StackFault}
 use Rattle.hid_stack.specs.declared.step.Told.{Told}
-use Rattle.hid_stack.specs.Members.{Member, member_after, fresh_member}
+use Rattle.hid_stack.specs.Rig.{Member, member_after, fresh_member}
 use Rattle.hid_stack.specs.Sums.{AllHaveMotions}
 use Rattle.hid_stack.proofs.MotionLemmas.{step_moving, fresh_has}
-use Rattle.hid_stack.proofs.SumLemmas.{HasItsMotions, attached_has}
+use Rattle.hid_stack.proofs.SumLemmas.{HasItsMotions, bus_has, attached_has}
 
 -- one device behind a step
 stepped : (m n : Member) (x : OwnStep) → n ≡ member_after m x → HasItsMotions m → HasItsMotions n
@@ -32,6 +34,15 @@ polled_has m n x (Err fault) P after err has = subst HasItsMotions (sym err.0) h
 pub polled_have : (members : List Member) (i : ℕ) (m n : Member) (x : OwnStep) (result : Result Told StackFault) (P : Type 0) → AllHaveMotions members → i < length members → m ≡ get_or members i m
     → OnOk result (n ≡ member_after m x) → OnErr result ((n ≡ m) × P) → AllHaveMotions (slice_set members i n)
 polled_have members i m n x result P all within is after err = All-set HasItsMotions members i n (polled_has m n x result P after err (at_place members i m all within is)) all
+
+-- behind a frame, whose slots stand in the memory of the list before
+pub framed_hold : (members new : List Member) (len cap limit : ℕ) → (length members ≤ limit) × (limit ≤ cap) × AllHaveMotions members → new ≡ map (λ (m : Member). member_after m Frame) members → length new ≡ len
+    → (length (take len (new ++ drop (length new) members)) ≤ limit) × (limit ≤ cap) × AllHaveMotions (take len (new ++ drop (length new) members))
+framed_hold members new len cap limit (within, room, all) is size =
+    let whole : take len (new ++ drop (length new) members) ≡ new = take-append-le len new (drop (length new) members) (omega arith) ∙ take_all len new (omega arith) in
+    let same : length new ≡ length members = ap (λ (ms : List Member). length ms) is ∙ length-map members (λ (m : Member). member_after m Frame) in
+    subst (λ (ms : List Member). (length ms ≤ limit) × (limit ≤ cap) × AllHaveMotions ms) (sym whole)
+    (omega arith, room, subst AllHaveMotions (sym is) (bus_has members FrameStep all))
 
 -- where a device was attached
 pub attached_have : (members new : List Member) (m : Member) (addr : ℕ) (config : Config) (descriptor : List ℕ) (layout : Contents) → AllHaveMotions members

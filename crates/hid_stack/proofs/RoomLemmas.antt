@@ -12,7 +12,7 @@ use Rattle.hid_device.specs.Rounds.{OwnStep, Changes, Polls}
 use Rattle.hid_device.specs.Rounds as own_steps
 use Rattle.hid_stack.specs.declared.step.Step.{Step}
 use Rattle.hid_stack.specs.declared.step.Step.TheVariants.{Change, Frame, Poll}
-use Rattle.hid_stack.specs.Members.{Member, member_after, member_at, with_member, one_after, bus_after, bus_after_all, HasRoomFor, most_events, most_in}
+use Rattle.hid_stack.specs.Rig.{Member, member_after, member_at, with_member, one_after, bus_after, bus_after_all, HasRoomFor, most_events, most_in}
 
 abbrev layout_of_member : Member → Contents
 layout_of_member m = m.layout

@@ -18,10 +18,10 @@ use Rattle.hid_stack.specs.declared.fault.StackFault.TheVariants as faults
 use Rattle.hid_stack.specs.declared.fault.DescriptorFault.TheVariants.{Layout, Device}
 use Rattle.hid_stack.specs.Attaching.{Suits, IsNoPair}
 use Rattle.hid_stack.specs.Host.{HostEnd, IsNoLayout, ready_host}
-use Rattle.hid_stack.specs.declared.host.Phase.{Phase}
-use Rattle.hid_stack.specs.declared.host.Phase.TheVariants.{Cold, Ready}
-use Rattle.hid_stack.specs.Joint.{joint, ArePaired, IsPair}
-use Rattle.hid_stack.specs.Members.{fresh_member}
+use Rattle.hid_stack.specs.declared.host.HostPhase.{HostPhase}
+use Rattle.hid_stack.specs.declared.host.HostPhase.TheVariants.{Cold, Ready}
+use Rattle.hid_stack.specs.Slot.{joint, ArePaired, IsPair}
+use Rattle.hid_stack.specs.Rig.{fresh_member}
 
 -- where the device accepts the descriptor, its host lacks nothing but memory
 pub no_pair : (addr : ℕ) (config : Config) (descriptor : List ℕ) (fault : StackFault) (made : DeviceState)
@@ -71,7 +71,7 @@ makes addr config descriptor made device host law (fits, (layout, serves, made_i
     }
 
 -- a change leaves a device paired with its host
-changed_pair_at : (device device_then : DeviceState) (phase : Phase) (change : Change) → device_then ≡ changed_device device change → IsSound device_then.core
+changed_pair_at : (device device_then : DeviceState) (phase : HostPhase) (change : Change) → device_then ≡ changed_device device change → IsSound device_then.core
     → IsPair device phase → IsPair device_then phase
 changed_pair_at device device_then Cold change is sound pair = absurd pair
 changed_pair_at device device_then (Ready known) change is sound pair =
@@ -87,7 +87,7 @@ changed_pair_at device device_then (Ready known) change is sound pair =
       fits = pair.fits;
     })
 
-pub changed_pair : (device device_then : DeviceState) (host : HostEnd) (phase : Phase) (change : Change) (capacity : ℕ) → device_then ≡ changed_device device change → IsSound device_then.core
+pub changed_pair : (device device_then : DeviceState) (host : HostEnd) (phase : HostPhase) (change : Change) (capacity : ℕ) → device_then ≡ changed_device device change → IsSound device_then.core
     → IsPair device phase × (host.addr ≡ device.addr) × (max_events (items_of device.core.layout) ≤ capacity)
     → IsPair device_then phase × (host.addr ≡ device_then.addr) × (max_events (items_of device_then.core.layout) ≤ capacity)
 changed_pair device device_then host phase change capacity is sound (pair, home, room) = (

@@ -1,9 +1,9 @@
 -- A poll packet by packet, over a bus that loses packets, is a poll of the station (USB 2.0, 8.5.4 and 8.6).
-use Rattle.std.proofs.Common.{◌≡◌, ◌∙◌, ℕ, Bool, true, false, List, [], Option, Some, None, Result, Ok, refl, ap, sym, subst, arith, eqb, cond}
+use Rattle.std.proofs.Common.{◌≡◌, ◌∙◌, ◌≤◌, ◌+◌, length, ℕ, Bool, true, false, List, [], Option, Some, None, Result, Ok, refl, ap, sym, subst, arith, eqb, cond}
 use Rattle.std.specs.Prelude.{IfSome, ◌&&◌}
 use Rattle.std.proofs.lemmas.Bool.Decides.{nat_tests}
 use Rattle.hid_layout.specs.Layout.{Contents}
-use Rattle.hid_layout.specs.Controls.{items_of}
+use Rattle.hid_layout.specs.Controls.{items_of, max_events}
 use Rattle.hid_layout.specs.Reports.{IsLayout}
 use Rattle.hid_cells.specs.declared.event.Event.{Event}
 use Rattle.hid_usages.specs.Cells.{FitsView}
@@ -11,11 +11,12 @@ use Rattle.hid_usages.specs.Crossing.{ReadsAsShown}
 use Rattle.hid_views.proofs.CrossingLemmas.{parts_back}
 use Rattle.usb_packet.specs.declared.packet.Packet.{Packet}
 use Rattle.usb_packet.specs.Spelling.{spelling}
-use Rattle.usb_transact.specs.declared.bus.Stage.TheVariants.{Token}
+use Rattle.usb_transact.specs.declared.bus.Phase.TheVariants.{Token, Reply}
 use Rattle.usb_transact.specs.declared.host.Took.{Took}
 use Rattle.usb_transact.specs.declared.host.Took.TheVariants.{Silent}
 use Rattle.usb_transact.specs.declared.transaction.Fate.{Fate}
 use Rattle.usb_transact.specs.declared.transaction.Fate.TheVariants.{Clean, TokenLost, ReplyLost, AckLost}
+use Rattle.usb_transact.specs.Bus.{Arrivals, Replies}
 use Rattle.usb_transact.specs.Device.{answer_with}
 use Rattle.usb_transact.specs.Fate.{arrives_under}
 use Rattle.usb_transact.specs.Host.{token_to}
@@ -24,20 +25,21 @@ use Rattle.usb_transact.proofs.TableLemmas.{read_whole, read_lost}
 use Rattle.hid_device.specs.declared.device.TheConstants.{ENDPOINT}
 use Rattle.hid_device.specs.Inputs.{input_count}
 use Rattle.hid_device.specs.Standing.{first_due}
-use Rattle.hid_device.specs.Core.{CoreState, IsSound, IsArmed, IsBelow, opened_if, opening_of}
-use Rattle.hid_device.specs.Device.{DeviceState, is_poll, polled, AnswersPoll, AnswersIf, heard}
+use Rattle.hid_device.specs.Core.{CoreState, IsSound, IsArmed, IsBelow, opened_core_if, opening_of}
+use Rattle.hid_device.specs.Device.{DeviceState, is_poll, polled_device, AnswersPoll, AnswersIf, heard}
 use Rattle.hid_device.specs.Rounds.{Polls}
 use Rattle.hid_stack.specs.declared.fault.StackFault.{StackFault}
-use Rattle.hid_stack.specs.declared.host.Phase.{Phase}
-use Rattle.hid_stack.specs.declared.host.Phase.TheVariants.{Cold, Ready}
+use Rattle.hid_stack.specs.declared.host.HostPhase.{HostPhase}
+use Rattle.hid_stack.specs.declared.host.HostPhase.TheVariants.{Cold, Ready}
 use Rattle.hid_stack.specs.declared.step.Told.{Told}
 use Rattle.hid_stack.specs.declared.step.Told.TheVariants.{Polled}
 use Rattle.hid_stack.specs.Host.{HostEnd, IfReady, ready_after}
-use Rattle.hid_stack.specs.Joint.{joined, station_of, member_with, joint, IsEven, ArePaired, IsPair}
-use Rattle.hid_stack.specs.Known.{Known, told_of, events_behind}
-use Rattle.hid_stack.specs.Polls.{Hears, Replies, Ends, Transacts, HasBytes, spelled, told_with}
+use Rattle.hid_stack.specs.Slot.{joined, station_of, member_with, joint, IsEven, ArePaired, IsPair}
+use Rattle.hid_stack.specs.Ready.{Known, told_of, events_behind}
+use Rattle.hid_stack.specs.Polls.{Hears, Ends, Transacts, GoesByPackets, HasBytes, spelled, told_with}
 use Rattle.hid_stack.specs.Stations.{Station, opened, answered, round_events, after, events_at}
-use Rattle.hid_stack.specs.Members.{Member}
+use Rattle.hid_stack.specs.Laws.{PacketsMakePolls}
+use Rattle.hid_stack.specs.Rig.{Member}
 use Rattle.hid_stack.specs.Tells.{ShowsRound, TellsOpened, TellsPoll, told_by}
 use Rattle.hid_stack.proofs.PollLemmas.{opens, Meets, Arrives, Lands, sharing, ready_with, member_of, pair_of, comes, clean, ack_lost_poll, reply_lost}
 
@@ -47,7 +49,7 @@ pub record Keeps (c d : CoreState) : Type 0 where
   pub configured : d.is_configured ≡ c.is_configured
   pub toggle : d.toggle ≡ c.toggle
 
-keeps_if : (c : CoreState) (due : Option ℕ) → Keeps c (opened_if c due)
+keeps_if : (c : CoreState) (due : Option ℕ) → Keeps c (opened_core_if c due)
 keeps_if c None = record { layout = refl; configured = refl; toggle = refl }
 keeps_if c (Some r) = record { layout = refl; configured = refl; toggle = refl }
 
@@ -59,7 +61,7 @@ keeps : (c : CoreState) → Keeps c (opening_of c)
 keeps c = keeps_at c c.current
 
 -- and all that the device was made with
-member_kept_if : (addr : ℕ) (c : CoreState) (due : Option ℕ) → member_with addr (opened_if c due) ≡ member_with addr c
+member_kept_if : (addr : ℕ) (c : CoreState) (due : Option ℕ) → member_with addr (opened_core_if c due) ≡ member_with addr c
 member_kept_if addr c None = refl
 member_kept_if addr c (Some r) = refl
 
@@ -72,7 +74,7 @@ member_kept addr c = member_kept_at addr c c.current
 
 -- where no round is open then, the toggles are still the same
 even_if : (c : CoreState) (expects : Bool) (due : Option ℕ) → c.toggle ≡ expects
-    → IsEven (opened_if (record c { current = None }) due).toggle expects (opened_if (record c { current = None }) due).current
+    → IsEven (opened_core_if (record c { current = None }) due).toggle expects (opened_core_if (record c { current = None }) due).current
 even_if c expects None even = even
 even_if c expects (Some r) even = tt
 
@@ -128,12 +130,12 @@ tells_none layout c known None = refl
 tells_none layout c known (Some r) = either_none _
 
 token_lost : (device : DeviceState) (known : Known) (home : ℕ) (result : Result Told StackFault) (device_then : DeviceState) (host_then : HostEnd) (events : List Event)
-    → ArePaired device known → Transacts (arrives_under TokenLost) device home known result device_then host_then events
+    → ArePaired device known → Transacts (arrives_under TokenLost) device home known result device_then host_then [] events
     → PollsAs TokenLost device (joined device.core known) result device_then host_then events
 token_lost device known home result device_then host_then events pair t =
     let lost = read_lost (arrives_under TokenLost) Token (token_to known.pipe) t.token refl t.polled in
     let heard : Hears device None t.answer t.between = subst (λ (o : Option Packet). Hears device o t.answer t.between) lost t.heard in
-    let none : t.reply ≡ None = subst (λ (o : Option Packet). Replies (arrives_under TokenLost) o t.reply) heard.0 t.replied in
+    let none : t.reply ≡ None = subst (λ (o : Option Packet). Replies (arrives_under TokenLost) Reply o t.reply) heard.0 t.replied in
     let took : taken known.pipe.expects t.reply ≡ Silent = ap (taken known.pipe.expects) none in
     let device_is : device_then ≡ device = subst (λ (x : Took). Ends (arrives_under TokenLost) (told_of known.layout x) t.between device_then) took t.ended ∙ heard.1 in
     let host_is : host_then ≡ ready_with home known = t.host_moved ∙ ap (ready_after home known) took in
@@ -152,23 +154,23 @@ pub record Answered (device : DeviceState) (known : Known) (answer : Option Pack
   pub is : answer ≡ Some packet
   pub arms : IsArmed (opening_of device.core).layout (opening_of device.core).standing.fixed (opening_of device.core).current armed
   pub packet_is : packet ≡ answer_with (opening_of device.core).toggle armed
-  pub stands : between ≡ polled device.addr (opening_of device.core)
+  pub stands : between ≡ polled_device device.addr (opening_of device.core)
   pub sound : IsSound (opening_of device.core)
 
 answered_by : (device : DeviceState) (known : Known) (answer : Option Packet) (between : DeviceState) → AnswersPoll (opening_of device.core) answer
-    → between ≡ polled device.addr (opening_of device.core) → IfSome answer (λ _. IsSound (opening_of device.core)) → Answered device known answer between
+    → between ≡ polled_device device.addr (opening_of device.core) → IfSome answer (λ _. IsSound (opening_of device.core)) → Answered device known answer between
 answered_by device known None between h stands sound = absurd h
 answered_by device known (Some packet) between (armed, arms, packet_is) stands sound =
     record { packet = packet; armed = armed; is = refl; arms = arms; packet_is = packet_is; stands = stands; sound = sound }
 
 token_came : (fate : Fate) (device : DeviceState) (known : Known) (home : ℕ) (result : Result Told StackFault) (device_then : DeviceState) (host_then : HostEnd) (events : List Event)
     → ((bytes : List ℕ) → arrives_under fate Token bytes ≡ Some bytes) → ArePaired device known
-    → (t : Transacts (arrives_under fate) device home known result device_then host_then events) → Answered device known t.answer t.between
+    → (t : Transacts (arrives_under fate) device home known result device_then host_then [] events) → Answered device known t.answer t.between
 token_came fate device known home result device_then host_then events whole pair t =
     let came = read_whole (arrives_under fate) Token (token_to known.pipe) t.token (whole (spelling (token_to known.pipe))) t.polled in
     let h : Hears device (Some (token_to known.pipe)) t.answer t.between = subst (λ (o : Option Packet). Hears device o t.answer t.between) came t.heard in
-    let stands : t.between ≡ polled device.addr (opening_of device.core)
-    = h.1 ∙ ap (λ (b : Bool). cond b (polled device.addr (opening_of device.core)) (heard device (token_to known.pipe))) (polls_it device known pair) in
+    let stands : t.between ≡ polled_device device.addr (opening_of device.core)
+    = h.1 ∙ ap (λ (b : Bool). cond b (polled_device device.addr (opening_of device.core)) (heard device (token_to known.pipe))) (polls_it device known pair) in
     answered_by device known t.answer t.between
     (subst (λ (b : Bool). AnswersIf b (opening_of device.core) t.answer) (polls_it device known pair) h.0)
     stands (subst (λ (d : DeviceState). IfSome t.answer (λ _. IsSound d.core)) stands h.2)
@@ -176,14 +178,14 @@ token_came fate device known home result device_then host_then events whole pair
 -- from there on
 arrives : (fate : Fate) (device : DeviceState) (known : Known) (home : ℕ) (result : Result Told StackFault) (device_then : DeviceState) (host_then : HostEnd) (events : List Event)
     → ArePaired device known
-    → (t : Transacts (arrives_under fate) device home known result device_then host_then events) → (a : Answered device known t.answer t.between)
+    → (t : Transacts (arrives_under fate) device home known result device_then host_then [] events) → (a : Answered device known t.answer t.between)
     → Arrives fate (opening_of device.core) known device.addr home a.packet result device_then host_then events
 arrives fate device known home result device_then host_then events pair t a =
     let layout : known.layout ≡ (opening_of device.core).layout = pair.layout ∙ sym (keeps device.core).layout in
     let shared : known ≡ sharing (opening_of device.core) known = ap (λ (l : Contents). record known { layout = l }) layout in
     record {
       reply = t.reply;
-      replied = subst (λ (o : Option Packet). Replies (arrives_under fate) o t.reply) a.is t.replied;
+      replied = subst (λ (o : Option Packet). Replies (arrives_under fate) Reply o t.reply) a.is t.replied;
       told = t.told ∙ ap (λ (o : Option Packet). told_with o (told_of known.layout (taken known.pipe.expects t.reply))) a.is
           ∙ ap (λ (l : Contents). told_with (Some a.packet) (told_of l (taken known.pipe.expects t.reply))) layout;
       host_moved = t.host_moved ∙ ap (λ (k : Known). ready_after home k (taken known.pipe.expects t.reply)) shared;
@@ -221,7 +223,7 @@ told_by_report : (layout : Contents) (s : Station) (fate : Fate) (result : Resul
 told_by_report layout s fate result (report, shows, is) = (told_by s fate report, is, (report, shows, refl))
 
 pub polls : (fate : Fate) (device : DeviceState) (known : Known) (home : ℕ) (result : Result Told StackFault) (device_then : DeviceState) (host_then : HostEnd) (events : List Event)
-    → ArePaired device known → Transacts (arrives_under fate) device home known result device_then host_then events
+    → ArePaired device known → Transacts (arrives_under fate) device home known result device_then host_then [] events
     → PollsAs fate device (joined device.core known) result device_then host_then events
 polls TokenLost device known home result device_then host_then events pair t = token_lost device known home result device_then host_then events pair t
 polls ReplyLost device known home result device_then host_then events pair t =
@@ -258,11 +260,13 @@ polls AckLost device known home result device_then host_then events pair t =
     record { member = lands.member; delivered = lands.delivered; told = told_by_report device.core.layout (opened (items_of device.core.layout) (joined device.core known)) AckLost result lands.told; pair = lands.pair }
 
 -- the same of a host, which is ready
-pub polls_at : (fate : Fate) (device : DeviceState) (host : HostEnd) (phase : Phase) (result : Result Told StackFault) (device_then : DeviceState) (host_then : HostEnd) (events : List Event)
-    → IsPair device phase → IfReady phase (λ known. Transacts (arrives_under fate) device host.addr known result device_then host_then events)
+pub polls_at : (fate : Fate) (device : DeviceState) (addr : ℕ) (phase : HostPhase) (result : Result Told StackFault) (device_then : DeviceState) (host_then : HostEnd) (before events : List Event)
+    → IsPair device phase → before ≡ [] → GoesByPackets (arrives_under fate) device addr phase result device_then host_then before events
     → PollsAs fate device (station_of device.core phase) result device_then host_then events
-polls_at fate device host Cold result device_then host_then events pair t = absurd pair
-polls_at fate device host (Ready known) result device_then host_then events pair t = polls fate device known host.addr result device_then host_then events pair t
+polls_at fate device addr Cold result device_then host_then before events pair none t = absurd pair
+polls_at fate device addr (Ready known) result device_then host_then before events pair none t =
+    polls fate device known addr result device_then host_then events pair
+    (subst (λ (es : List Event). Transacts (arrives_under fate) device addr known result device_then host_then es events) none t)
 
 -- what is told is what was returned
 pub told_is : (layout : Contents) (s : Station) (fate : Fate) (result : Result Told StackFault) (told : Told)
@@ -273,8 +277,22 @@ told_is layout s fate result told is (other, other_is, tells) =
     subst (TellsPoll layout s fate) (sym same) tells
 
 -- the host keeps its device's address
-pub home_stays : (fate : Fate) (device : DeviceState) (host : HostEnd) (phase : Phase) (result : Result Told StackFault) (device_then : DeviceState) (host_then : HostEnd) (events : List Event)
-    → IsPair device phase → IfReady phase (λ known. Transacts (arrives_under fate) device host.addr known result device_then host_then events)
-    → host_then.addr ≡ host.addr
-home_stays fate device host Cold result device_then host_then events pair t = absurd pair
-home_stays fate device host (Ready known) result device_then host_then events pair t = ap (λ (h : HostEnd). h.addr) t.host_moved
+pub home_stays : (arrivals : Arrivals) (device : DeviceState) (addr : ℕ) (phase : HostPhase) (result : Result Told StackFault) (device_then : DeviceState) (host_then : HostEnd) (before events : List Event)
+    → GoesByPackets arrivals device addr phase result device_then host_then before events → host_then.addr ≡ addr
+home_stays arrivals device addr Cold result device_then host_then before events t = ap (λ (h : HostEnd). h.addr) t.host_stays
+home_stays arrivals device addr (Ready known) result device_then host_then before events t = ap (λ (h : HostEnd). h.addr) t.host_moved
+
+-- no more is delivered than a report of the device's layout can tell
+pub few_of : (device : DeviceState) (phase : HostPhase) (before events : List Event) → IsPair device phase → before ≡ []
+    → IfReady phase (λ (known : Known). length events ≤ length before + max_events (items_of known.layout)) → length events ≤ max_events (items_of device.core.layout)
+few_of device Cold before events pair none few = absurd pair
+few_of device (Ready known) before events pair none few =
+    let same = ap (λ (l : Contents). max_events (items_of l)) pair.layout in
+    let zero = ap (λ (es : List Event). length es) none in
+    omega (arith, same, zero, few)
+
+-- a poll of a pair, by its packets
+pub packets_make_polls : PacketsMakePolls
+packets_make_polls fate device host result device_then host_then events pair t =
+    let done = polls_at fate device host.addr host.phase result device_then host_then [] events pair refl t in
+    record { told = done.told; after = done.member; delivers = done.delivered; pair = done.pair }

@@ -12,7 +12,7 @@ use Rattle.hid_stack.specs.declared.step.Step.{Step}
 use Rattle.hid_stack.specs.declared.step.Step.TheVariants.{Change, Frame, Poll}
 use Rattle.hid_stack.specs.declared.step.Delivered.{Delivered}
 use Rattle.hid_stack.specs.Stations.{after_all, events_in}
-use Rattle.hid_stack.specs.Members.{Member, member_after, member_after_all, member_at, with_member, one_after, bus_after, bus_after_all, delivered_in, own, from_device}
+use Rattle.hid_stack.specs.Rig.{Member, member_after, member_after_all, member_at, with_member, one_after, bus_after, bus_after_all, delivered_in, own, from_device}
 use Rattle.hid_stack.specs.Motion.{station_motion, accepted, HasMotions}
 use Rattle.hid_stack.specs.Sums.{AllHaveMotions, SumsUp}
 use Rattle.hid_stack.proofs.Isolation.{isolated}

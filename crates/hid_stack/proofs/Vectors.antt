@@ -12,6 +12,8 @@ use Rattle.hid_usages.specs.Samples.{usage, keyboard, mouse}
 use Rattle.hid_device.specs.Rounds.{OwnStep, Changes, Polls}
 use Rattle.hid_stack.specs.declared.step.Told.{Told}
 use Rattle.hid_stack.specs.declared.step.Told.TheVariants.{Polled}
+use Rattle.hid_stack.specs.declared.rig.TheConstants.{MAX_DEVICES}
+use Rattle.hid_stack.specs.Headline.{flips}
 use Rattle.hid_stack.specs.Motion.{station_motion}
 use Rattle.hid_stack.specs.Stations.{Station, fresh, opened, after_all, events_in, expected}
 use Rattle.hid_stack.specs.Tells.{told_by}
@@ -83,6 +85,13 @@ device_at_data1 = refl
 no_round_is_open : (keyboard_after (press 4 4 ∷ Polls AckLost ∷ Polls Clean ∷ [])).current ≡ None
 no_round_is_open = refl
 
+-- a toggle that begins at DATA0 is at DATA1 behind three changes, and back behind four
+three_changes : flips 3 false ≡ true
+three_changes = refl
+
+four_changes : flips 4 false ≡ false
+four_changes = refl
+
 -- with nothing to report the device answers NAK; of a token that is lost nothing comes back
 nothing_due : poll_after [] Clean [] ≡ Polled (Some (record { items = 0x5A ∷ [] })) Nak
 nothing_due = refl
@@ -106,3 +115,7 @@ in_open_round_too = refl
 
 no_more_once_crossed : kept_x (move 2 0 (pos 200) ∷ Polls AckLost ∷ []) ≡ pos 73
 no_more_once_crossed = refl
+
+-- a bus has room for one device
+devices_at_most : MAX_DEVICES ≡ 1
+devices_at_most = refl

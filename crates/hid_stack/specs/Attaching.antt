@@ -16,7 +16,7 @@ use Rattle.hid_device.specs.Making as making
 use Rattle.hid_stack.specs.declared.fault.StackFault.{StackFault}
 use Rattle.hid_stack.specs.declared.fault.StackFault.TheVariants.{NoDevice, Refused, BadDescriptor, TooManyDevices, Memory}
 use Rattle.hid_stack.specs.declared.fault.DescriptorFault.TheVariants.{Device}
-use Rattle.hid_stack.specs.Members.{Member, fresh_member, member_at}
+use Rattle.hid_stack.specs.Rig.{Member, fresh_member, member_at}
 
 -- a device of this configuration can have this address and this layout
 pub record Suits (addr : ℕ) (config : Config) (descriptor : List ℕ) (layout : Contents) : Type 0 where
@@ -44,6 +44,15 @@ Attaches room config descriptor old (Ok dev) new =
     × ((layout : Contents) × Suits dev config descriptor layout × (new ≡ old ++ fresh_member dev config descriptor layout ∷ []))
 Attaches room config descriptor old (Err TooManyDevices) new = (room ≤ length old) × (new ≡ old)
 Attaches room config descriptor old (Err fault) new = (length old < room) × IsNoPair (length old + 1) config descriptor fault × (new ≡ old)
+
+-- A device that was attached has the next number, is freshly configured under it with a layout that suits it, and the
+-- others stand as they did.
+pub record IsAttached (config : Config) (descriptor : List ℕ) (old : List Member) (dev : ℕ) (new : List Member) : Type 0 where
+  pub number : dev ≡ length old + 1
+  pub layout : Contents
+  pub suits : Suits dev config descriptor layout
+  pub fresh : member_at new dev ≡ Some (fresh_member dev config descriptor layout)
+  pub others : (d : ℕ) (m : Member) → member_at old d ≡ Some m → member_at new d ≡ Some m
 
 -- the first of two places
 abbrev pub IsBefore : ControlId → ControlId → Type 0

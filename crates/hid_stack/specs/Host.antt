@@ -8,15 +8,16 @@ use Rattle.usb_transact.specs.Host.{token_to}
 use Rattle.hid_stack.specs.declared.fault.StackFault.{StackFault}
 use Rattle.hid_stack.specs.declared.fault.StackFault.TheVariants.{NotReady, BadDescriptor, Memory}
 use Rattle.hid_stack.specs.declared.fault.DescriptorFault.TheVariants.{Layout}
-use Rattle.hid_stack.specs.declared.host.Phase.{Phase}
-use Rattle.hid_stack.specs.declared.host.Phase.TheVariants.{Cold, Ready}
-use Rattle.hid_stack.specs.Known.{Known, known_at_start, known_behind}
+use Rattle.hid_stack.specs.declared.host.HostPhase.{HostPhase}
+use Rattle.hid_stack.specs.declared.host.HostPhase.TheVariants.{Cold, Ready}
+use Rattle.hid_stack.specs.Ready.{Known, known_at_start, known_behind}
 
 -- the device's address, and how far the host has come with it
 pub record HostEnd : Type 0 where
   pub addr : ℕ
-  pub phase : Phase
+  pub phase : HostPhase
 
+-- a host that is ready from the start, at this address with this layout
 abbrev pub ready_host : ℕ → Contents → HostEnd
 ready_host addr layout = record { addr = addr; phase = Ready (known_at_start addr layout) }
 
@@ -27,16 +28,17 @@ IsNoLayout bytes Memory = Unit {0}
 IsNoLayout bytes fault = ⊥
 
 -- where the host is ready, this holds of what it keeps
-abbrev pub IfReady : Phase → (Known → Type 0) → Type 0
+abbrev pub IfReady : HostPhase → (Known → Type 0) → Type 0
 IfReady Cold holds = Unit {0}
 IfReady (Ready known) holds = holds known
 
-abbrev pub IsReady : Phase → Type 0
+-- the host has configured its device and polls it
+abbrev pub IsReady : HostPhase → Type 0
 IsReady Cold = ⊥
 IsReady (Ready known) = Unit {0}
 
 -- the token of a poll
-abbrev pub polls_with : Phase → Result Packet StackFault
+abbrev pub polls_with : HostPhase → Result Packet StackFault
 polls_with Cold = Err NotReady
 polls_with (Ready known) = Ok (token_to known.pipe)
 

@@ -1,19 +1,31 @@
--- Laws of what a bus answers, which hold whatever runs it.
-use Rattle.std.specs.Prelude.{◌≡◌, ◌≢◌, ℕ, List, Result, Err}
+-- Laws of what a bus answers, which hold whatever runs it (our choice).
+use Rattle.std.specs.Prelude.{◌≡◌, ◌≢◌, ℕ, List, [], Result, Ok, Err}
 use Rattle.hid_layout.specs.declared.control.ControlId.{ControlId}
 use Rattle.hid_descriptor.specs.declared.usage.Usage.{Usage}
+use Rattle.hid_cells.specs.declared.event.Event.{Event}
+use Rattle.hid_layout.specs.Controls.{items_of}
+use Rattle.usb_transact.specs.declared.transaction.Fate.{Fate}
+use Rattle.usb_transact.specs.Fate.{arrives_under}
+use Rattle.hid_device.specs.Device.{DeviceState}
+use Rattle.hid_device.specs.Rounds.{Polls}
+use Rattle.hid_stack.specs.Host.{HostEnd}
+use Rattle.hid_stack.specs.Slot.{IsPair, joint, station_of}
+use Rattle.hid_stack.specs.Polls.{GoesByPackets}
+use Rattle.hid_stack.specs.Stations.{events_at}
 use Rattle.hid_device.specs.declared.config.Config.{Config}
 use Rattle.hid_stack.specs.declared.fault.StackFault.{StackFault}
 use Rattle.hid_stack.specs.declared.fault.StackFault.TheVariants.{Memory}
 use Rattle.hid_stack.specs.declared.step.Step.{Step}
 use Rattle.hid_stack.specs.declared.step.Told.{Told}
-use Rattle.hid_stack.specs.Members.{Member}
-use Rattle.hid_stack.specs.Tells.{Tells}
+use Rattle.hid_stack.specs.Rig.{Member, member_after}
+use Rattle.hid_stack.specs.Tells.{Tells, TellsPoll}
 use Rattle.hid_stack.specs.Attaching.{Attaches, Finds}
 
 -- a step tells one thing at most
 abbrev pub TellsOneThing : Type 0
-TellsOneThing = (members : List Member) (step : Step) (told other : Told) → Tells members step told → Tells members step other → told ≡ other
+TellsOneThing =
+    (members : List Member) (step : Step) (told other : Told) → Tells members step told
+    → Tells members step other → told ≡ other
 
 -- a usage names one control at most, or none for one cause
 abbrev pub FindsOneControl : Type 0
@@ -27,3 +39,22 @@ AttachesOneDevice =
     (room : ℕ) (config : Config) (descriptor : List ℕ) (members after others : List Member) (result other : Result ℕ StackFault)
     → Attaches room config descriptor members result after → Attaches room config descriptor members other others
     → result ≢ Err Memory → other ≢ Err Memory → (result ≡ other) × (after ≡ others)
+
+-- What a poll of a device by its own host comes to: the two stand as the member does behind its step, which tells and
+-- delivers what it says.
+pub record IsPollOfPair (fate : Fate) (device : DeviceState) (host : HostEnd)
+    (result : Result Told StackFault) (device_then : DeviceState) (host_then : HostEnd) (events : List Event) : Type 0 where
+  pub told : (told : Told) × (result ≡ Ok told)
+      × TellsPoll device.core.layout (station_of device.core host.phase) fate told
+  pub after : joint device_then host_then ≡ member_after (joint device host) (Polls fate)
+  pub delivers : events ≡ events_at (items_of device.core.layout) (station_of device.core host.phase) (Polls fate)
+  pub pair : IsPair device_then host_then.phase
+
+-- the packets that a fate lets arrive come to that
+abbrev pub PacketsMakePolls : Type 0
+PacketsMakePolls =
+    (fate : Fate) (device : DeviceState) (host : HostEnd) (result : Result Told StackFault)
+    (device_then : DeviceState) (host_then : HostEnd) (events : List Event)
+    → IsPair device host.phase
+    → GoesByPackets (arrives_under fate) device host.addr host.phase result device_then host_then [] events
+    → IsPollOfPair fate device host result device_then host_then events

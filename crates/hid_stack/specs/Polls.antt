@@ -1,25 +1,28 @@
--- One poll over any bus, packet by packet (USB 2.0, 8.5.4 and 8.6): each end acts on what it reads of the bytes that arrive,
--- and on nothing else.
-use Rattle.std.specs.Prelude.{◌≡◌, ℕ, List, Option, Some, None, Result, Ok, Err, IfSome}
+-- One poll over any bus, packet by packet (USB 2.0, 8.5.4 and 8.6): each end acts on what it reads of the bytes
+-- that arrive, and on nothing else.
+use Rattle.std.specs.Prelude.{◌≡◌, ℕ, List, ◌++◌, Option, Some, None, Result, Ok, Err, IfSome}
 use Rattle.arrayvec.specs.declared.array_vec.ArrayVec.{ArrayVec}
 use Rattle.hid_cells.specs.declared.event.Event.{Event}
 use Rattle.hid_usages.specs.Encoding.{AreBytes}
 use Rattle.usb_packet.specs.declared.packet.Packet.{Packet}
 use Rattle.usb_packet.specs.declared.packet.Packet.TheVariants as packets
 use Rattle.usb_packet.specs.Spelling.{spelling}
-use Rattle.usb_transact.specs.declared.bus.Stage.TheVariants.{Token, Reply, Acknowledgement}
+use Rattle.usb_transact.specs.declared.bus.Phase.TheVariants.{Token, Reply, Acknowledgement}
 use Rattle.usb_transact.specs.declared.host.Took.{Took}
 use Rattle.usb_transact.specs.declared.host.Took.TheVariants.{Fresh, Again}
-use Rattle.usb_transact.specs.Bus.{Arrivals, Carries}
+use Rattle.usb_transact.specs.Bus.{Arrivals, Carries, Replies}
 use Rattle.usb_transact.specs.Host.{token_to}
 use Rattle.usb_transact.specs.Taken.{taken}
 use Rattle.hid_device.specs.Core.{IsSound}
 use Rattle.hid_device.specs.Device.{DeviceState, DeviceAnswers, device_after}
 use Rattle.hid_stack.specs.declared.fault.StackFault.{StackFault}
+use Rattle.hid_stack.specs.declared.fault.StackFault.TheVariants.{NotReady}
+use Rattle.hid_stack.specs.declared.host.HostPhase.{HostPhase}
+use Rattle.hid_stack.specs.declared.host.HostPhase.TheVariants.{Cold, Ready}
 use Rattle.hid_stack.specs.declared.step.Told.{Told}
 use Rattle.hid_stack.specs.declared.step.Told.TheVariants.{Polled}
 use Rattle.hid_stack.specs.Host.{HostEnd, ready_after}
-use Rattle.hid_stack.specs.Known.{Known, told_of, events_behind}
+use Rattle.hid_stack.specs.Ready.{Known, told_of, events_behind}
 
 -- the payload of a packet is bytes
 abbrev pub HasBytes : Packet → Type 0
@@ -32,12 +35,9 @@ HasBytes packets.Stall = Unit {0}
 -- what the device makes of a packet, where one came, and what it answers
 abbrev pub Hears : DeviceState → Option Packet → Option Packet → DeviceState → Type 0
 Hears device None answer after = (answer ≡ None) × (after ≡ device)
-Hears device (Some packet) answer after = DeviceAnswers device packet answer × (after ≡ device_after device packet) × IfSome answer (λ _. IsSound after.core)
-
--- what the host reads of an answer
-abbrev pub Replies : Arrivals → Option Packet → Option Packet → Type 0
-Replies arrivals None reply = reply ≡ None
-Replies arrivals (Some answer) reply = Carries arrivals Reply answer reply
+Hears device (Some packet) answer after =
+    DeviceAnswers device packet answer × (after ≡ device_after device packet)
+    × IfSome answer (λ _. IsSound after.core)
 
 -- an ACK is sent, and the device hears what arrives of it
 pub record HearsAck (arrivals : Arrivals) (device after : DeviceState) : Type 0 where
@@ -62,13 +62,14 @@ abbrev pub spelled : Option Packet → Option (ArrayVec ℕ 65 (Unit {0}))
 spelled None = None
 spelled (Some packet) = Some (record { items = spelling packet })
 
+-- what a poll tells: the bytes that were sent, and what the host took, or why it refused them
 abbrev pub told_with : Option Packet → Result Took StackFault → Result Told StackFault
 told_with answer (Ok took) = Ok (Polled (spelled answer) took)
 told_with answer (Err fault) = Err fault
 
 -- The poll by its packets: the token, the device's answer, what the host reads of it, and the ACK for data.
 pub record Transacts (arrivals : Arrivals) (device : DeviceState) (addr : ℕ) (known : Known)
-    (result : Result Told StackFault) (device_then : DeviceState) (host_then : HostEnd) (events : List Event) : Type 0 where
+    (result : Result Told StackFault) (device_then : DeviceState) (host_then : HostEnd) (before events : List Event) : Type 0 where
   pub token : Option Packet
   pub answer : Option Packet
   pub between : DeviceState
@@ -76,8 +77,24 @@ pub record Transacts (arrivals : Arrivals) (device : DeviceState) (addr : ℕ) (
   pub polled : Carries arrivals Token (token_to known.pipe) token
   pub heard : Hears device token answer between
   pub bytes : IfSome answer HasBytes
-  pub replied : Replies arrivals answer reply
+  pub replied : Replies arrivals Reply answer reply
   pub told : result ≡ told_with answer (told_of known.layout (taken known.pipe.expects reply))
   pub host_moved : host_then ≡ ready_after addr known (taken known.pipe.expects reply)
-  pub delivers : events ≡ events_behind known (taken known.pipe.expects reply)
+  pub delivers : events ≡ before ++ events_behind known (taken known.pipe.expects reply)
   pub ended : Ends arrivals (told_of known.layout (taken known.pipe.expects reply)) between device_then
+
+-- a host that isn't ready sends nothing, and nothing changes
+pub record SendsNothing (device : DeviceState) (addr : ℕ)
+    (result : Result Told StackFault) (device_then : DeviceState) (host_then : HostEnd) (before events : List Event) : Type 0 where
+  pub told : result ≡ Err NotReady
+  pub device_stays : device_then ≡ device
+  pub host_stays : host_then ≡ record { addr = addr; phase = Cold }
+  pub delivers : events ≡ before
+
+-- A poll over a bus, by how far the host at this address has come with its device.
+abbrev pub GoesByPackets : Arrivals → DeviceState → ℕ → HostPhase → Result Told StackFault → DeviceState
+    → HostEnd → List Event → List Event → Type 0
+GoesByPackets arrivals device addr Cold result device_then host_then before events =
+    SendsNothing device addr result device_then host_then before events
+GoesByPackets arrivals device addr (Ready known) result device_then host_then before events =
+    Transacts arrivals device addr known result device_then host_then before events

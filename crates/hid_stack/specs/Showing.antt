@@ -4,9 +4,9 @@ use Rattle.std.specs.Option.{option_map}
 use Rattle.hid_device.specs.declared.device.TheConstants.{ENDPOINT}
 use Rattle.hid_device.specs.Device.{DeviceState}
 use Rattle.hid_stack.specs.Host.{HostEnd, IfReady, IsReady}
-use Rattle.hid_stack.specs.Known.{Known}
+use Rattle.hid_stack.specs.Ready.{Known}
 use Rattle.hid_stack.specs.Stations.{expected}
-use Rattle.hid_stack.specs.Members.{Member, member_at}
+use Rattle.hid_stack.specs.Rig.{Member, member_at}
 
 -- The device of a member: it was made as the member says, is configured and stands as its station does, the round that is
 -- open there is open here, and its toggle is set where the rounds closed are odd in number.

@@ -1,4 +1,5 @@
--- A configured device with its ready host, between transactions: the state that both ends together keep (USB 2.0, 8.5.4 and 8.6).
+-- A configured device with its ready host, between transactions: the state that both ends together keep (USB 2.0,
+-- 8.5.4 and 8.6).
 use Rattle.std.specs.Prelude.{ℕ, Bool, true, false, not, if◌then◌else◌, List, [], ◌∷◌, ◌++◌, Option, Some, None}
 use Rattle.hid_layout.specs.Controls.{Item}
 use Rattle.hid_cells.specs.declared.cell.Cell.{Cell}
@@ -25,7 +26,8 @@ pub record Station : Type 0 where
 
 -- both ends freshly configured: no round is open, none has closed, and the host's view is the initial one
 abbrev pub fresh : List Item → List Cell → List ℕ → Station
-fresh items snapshot idle = record { standing = configured items snapshot idle; current = None; odd = false; view = blank items }
+fresh items snapshot idle =
+    record { standing = configured items snapshot idle; current = None; odd = false; view = blank items }
 
 -- what a view tells where it takes the part of a report
 abbrev pub part_events : List Item → ℕ → List Cell → List Cell → List Event
@@ -34,7 +36,8 @@ part_events items r view parts = events_between items r view (seen items r view 
 -- a round of this report opens
 abbrev pub opened_by : List Item → Station → Option ℕ → Station
 opened_by items s None = s
-opened_by items s (Some r) = record s { standing = after_opening items r s.standing; current = Some (record { report = r; crossed = false }) }
+opened_by items s (Some r) =
+    record s { standing = after_opening items r s.standing; current = Some (record { report = r; crossed = false }) }
 
 -- a token arrives: where no round is open and some report is due, a round of it opens
 abbrev pub opened : List Item → Station → Station
@@ -54,10 +57,12 @@ view_with items s round = if round.crossed then s.view else seen items round.rep
 -- a poll of the open round: it crosses where its report reaches the host, and closes where nothing is lost
 abbrev pub round_polled : List Item → Station → Open → Fate → Station
 round_polled items s round Clean = record s { current = None; odd = not s.odd; view = view_with items s round }
-round_polled items s round AckLost = record s { current = Some (record round { crossed = true }); view = view_with items s round }
+round_polled items s round AckLost =
+    record s { current = Some (record round { crossed = true }); view = view_with items s round }
 round_polled items s round TokenLost = s
 round_polled items s round ReplyLost = s
 
+-- a poll behind its token: where no round is open nothing is sent but NAK
 abbrev pub answered : List Item → Station → Fate → Station
 answered items s fate = elim s.current [ None ↦ s | Some round ↦ round_polled items s round fate ]
 
@@ -85,6 +90,7 @@ abbrev pub after_all : List Item → Station → List OwnStep → Station
 after_all items s [] = s
 after_all items s (x ∷ steps) = after_all items (after items s x) steps
 
+-- and their events, one after another
 abbrev pub events_in : List Item → Station → List OwnStep → List Event
 events_in items s [] = []
 events_in items s (x ∷ steps) = events_at items s x ++ events_in items (after items s x) steps

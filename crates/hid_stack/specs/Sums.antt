@@ -6,7 +6,7 @@ use Rattle.hid_layout.specs.Controls.{items_of}
 use Rattle.hid_device.specs.Epochs.{given_motion, Conserves}
 use Rattle.hid_stack.specs.declared.step.Step.{Step}
 use Rattle.hid_stack.specs.declared.step.Delivered.{Delivered}
-use Rattle.hid_stack.specs.Members.{Member, member_at, own, from_device}
+use Rattle.hid_stack.specs.Rig.{Member, member_at, own, from_device}
 use Rattle.hid_stack.specs.Motion.{station_motion, accepted, HasMotions}
 
 -- every device keeps a motion for each of its relative controls

@@ -15,7 +15,7 @@ use Rattle.hid_stack.specs.declared.step.Step.TheVariants.{Change, Frame, Poll}
 use Rattle.hid_stack.specs.declared.step.Told.{Told}
 use Rattle.hid_stack.specs.declared.step.Told.TheVariants.{Quiet, Polled}
 use Rattle.hid_stack.specs.Stations.{Station, opened}
-use Rattle.hid_stack.specs.Members.{Member, member_at}
+use Rattle.hid_stack.specs.Rig.{Member, member_at}
 
 -- the bytes that show the part of the open round
 abbrev pub ShowsRound : Contents → Station → List ℕ → Type 0

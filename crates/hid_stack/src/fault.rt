@@ -1,12 +1,12 @@
 //! Why a call on the stack is refused.
 ghost use Rattle.std.specs.Prelude.{Some};
-ghost use Rattle.hid_stack.specs.Faults.{descriptor_text, stack_text};
+ghost use Rattle.hid_stack.specs.Faults.{descriptor_text, stack_text, run_text};
 
 use hid_device::DeviceFault;
 use hid_layout::LayoutFault;
 use hid_usages::{ChangeFault, ReportFault};
+use std::error::Error;
 use std::fmt;
-use thiserror::Error;
 
 /// Why a descriptor is refused. It is printed as the code of its cause, with the place where there is one.
 #[derive(Clone, Copy, Debug, PartialEq, Eq)]
@@ -63,11 +63,21 @@ impl fmt::Display for StackFault {
     }
 }
 
-/// Where and why a run stopped.
-#[derive(Clone, Copy, Debug, PartialEq, Eq, Error)]
-#[error("step {at}: {fault}")]
+/// Where and why a run stopped. It is printed as the place and the codes, as in `step 4: S3 U6`.
+#[derive(Clone, Copy, Debug, PartialEq, Eq)]
 pub struct RunFault {
     /// The place of the refused step in the list, from 0. The steps before it are done.
     pub at: usize,
     pub fault: StackFault,
 }
+
+impl fmt::Display for RunFault {
+    ghost output = { λ fault. Some (run_text fault.at fault.fault) };
+
+    fn fmt<W: fmt::Write>(&self, f: &mut fmt::Formatter<W>) -> fmt::Result {
+        let RunFault { at, fault } = *self;
+        write!(f, "step {at}: {fault}")
+    }
+}
+
+impl Error for RunFault {}

@@ -8,7 +8,7 @@ ghost use Rattle.hid_layout.specs.Layout.{layout_of};
 ghost use Rattle.usb_packet.specs.Spelling.{Fits};
 ghost use Rattle.usb_transact.specs.Taken.{taken};
 ghost use Rattle.hid_stack.specs.Host.{IsNoLayout, IsReady, IfReady, polls_with, ready_host, ready_after};
-ghost use Rattle.hid_stack.specs.Known.{told_of, events_behind};
+ghost use Rattle.hid_stack.specs.Ready.{told_of, events_behind};
 
 use crate::fault::{DescriptorFault, StackFault};
 use crate::ready::ReadyHost;
@@ -31,18 +31,19 @@ fn no_layout(fault: LayoutFault) -> StackFault
 
 /// How far the host has come with its device.
 #[derive(Drop)]
-enum Phase {
+enum HostPhase {
     /// It knows nothing of the device.
     Cold,
     /// It has configured the device and polls it.
     Ready(ReadyHost),
 }
 
-/// The host of one device. A contract sees it as `addr` and `phase`.
+/// The host of one device. A contract sees it as `addr` and `phase`. It stands round [`ReadyHost`], which knows a layout,
+/// since a host that has yet to read its device's descriptors knows none.
 #[derive(Drop)]
 pub struct HostDevice {
     addr: u8,
-    phase: Phase,
+    phase: HostPhase,
 }
 
 impl Model for HostDevice {
@@ -75,7 +76,7 @@ impl HostDevice {
         let host = ReadyHost::new(alloc, addr, layout)?;
         Ok(HostDevice {
             addr,
-            phase: Phase::Ready(host),
+            phase: HostPhase::Ready(host),
         })
     }
 
@@ -84,11 +85,11 @@ impl HostDevice {
     pub(crate) fn cold(addr: u8) -> HostDevice
         requires above { 0 < addr }
         requires addr { addr ≤ MAX_ADDRESS }
-        ensures { result ≡ record { addr = addr; phase = Phase.Cold } }
+        ensures { result ≡ record { addr = addr; phase = HostPhase.Cold } }
     {
         HostDevice {
             addr,
-            phase: Phase::Cold,
+            phase: HostPhase::Cold,
         }
     }
 
@@ -99,8 +100,8 @@ impl HostDevice {
         ensures { IfReady self.now.phase (λ host. result ≡ max_events (items_of host.layout)) }
     {
         match &self.phase {
-            Phase::Cold => unreachable!(),
-            Phase::Ready(host) => host.max_events(),
+            HostPhase::Cold => unreachable!(),
+            HostPhase::Ready(host) => host.max_events(),
         }
     }
 
@@ -108,10 +109,11 @@ impl HostDevice {
     pub fn token(&self) -> Result<Packet, StackFault>
         ensures token { result ≡ polls_with self.now.phase }
         ensures fits { IfOk result Fits }
+        ensures is_ready { IfOk result (λ _. IsReady self.now.phase) }
     {
         match &self.phase {
-            Phase::Cold => Err(StackFault::NotReady),
-            Phase::Ready(host) => Ok(host.token()),
+            HostPhase::Cold => Err(StackFault::NotReady),
+            HostPhase::Ready(host) => Ok(host.token()),
         }
     }
 
@@ -144,8 +146,8 @@ impl HostDevice {
         ensures is_ready { IsReady self.new.phase }
     {
         match &mut self.phase {
-            Phase::Cold => unreachable!(),
-            Phase::Ready(host) => host.reply(packet, out),
+            HostPhase::Cold => unreachable!(),
+            HostPhase::Ready(host) => host.reply(packet, out),
         }
     }
 
@@ -155,8 +157,8 @@ impl HostDevice {
         ensures { IfReady self.now.phase (λ host. result.now ≡ host.pipe) }
     {
         match &self.phase {
-            Phase::Cold => unreachable!(),
-            Phase::Ready(host) => host.pipe(),
+            HostPhase::Cold => unreachable!(),
+            HostPhase::Ready(host) => host.pipe(),
         }
     }
 
@@ -166,8 +168,8 @@ impl HostDevice {
         ensures { IfReady self.now.phase (λ host. result.now ≡ host.view) }
     {
         match &self.phase {
-            Phase::Cold => unreachable!(),
-            Phase::Ready(host) => host.view(),
+            HostPhase::Cold => unreachable!(),
+            HostPhase::Ready(host) => host.view(),
         }
     }
 }

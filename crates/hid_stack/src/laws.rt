@@ -1,15 +1,17 @@
 //! Laws of the definitions that contracts cite.
 
-ghost use Rattle.std.specs.Prelude.{◌≡◌, ◌++◌, ℕ, List, true};
+ghost use Rattle.std.specs.Prelude.{◌≡◌, ◌++◌, ℕ, List, None, true};
+ghost use Rattle.std.specs.List.{filter};
 ghost use Rattle.hid_layout.specs.Controls.{Item};
 ghost use Rattle.hid_usages.specs.Cells.{blank, FitsSnapshot, FitsShown, FitsView};
-ghost use Rattle.hid_device.specs.Rounds.{OwnStep};
+ghost use Rattle.hid_device.specs.Rounds.{OwnStep, has_crossed, rounds, events_of};
 ghost use Rattle.hid_stack.specs.declared.step.Step.{Step as BusStep};
 ghost use Rattle.hid_stack.specs.declared.step.Delivered.{Delivered};
-ghost use Rattle.hid_stack.specs.Laws.{TellsOneThing, FindsOneControl, AttachesOneDevice};
-ghost use Rattle.hid_stack.specs.Members.{Member, bus_after_all, delivered_in};
+ghost use Rattle.hid_stack.specs.Headline.{StandsByRounds, bus_from};
+ghost use Rattle.hid_stack.specs.Laws.{TellsOneThing, FindsOneControl, AttachesOneDevice, PacketsMakePolls};
+ghost use Rattle.hid_stack.specs.Rig.{Member, bus_after_all, delivered_in};
 ghost use Rattle.hid_stack.specs.Motion.{HasMotions, KeepsMotion, KeepsAccepted, are_accepted};
-ghost use Rattle.hid_stack.specs.Stations.{Station, fresh, after_all};
+ghost use Rattle.hid_stack.specs.Stations.{Station, fresh, after_all, events_in};
 ghost use Rattle.hid_stack.specs.Sums.{AllHaveMotions, SumsUp};
 
 use hid_layout::laws::{accepted_or_refused, one_reading, one_refusal};
@@ -32,6 +34,22 @@ pub fn one_attaching()
     accepted_or_refused();
     one_refusal();
 }
+
+/// The packets of a poll, as a fate lets them arrive, come to the table of polls: where a device and its ready host stand
+/// together behind it, what it tells, and what it delivers.
+pub fn packets_make_polls()
+    ensures { PacketsMakePolls }
+{}
+
+/// The rounds of a device's own steps say all, from any station without an open round on: what the steps deliver, and how the
+/// station stands behind them.
+pub fn rounds_say_all()
+    ensures events { (items : List Item) (from : Station) (steps : List OwnStep)
+        → from.current ≡ None → events_in items from steps
+        ≡ events_of items from.view (filter has_crossed (rounds items steps (bus_from from))) }
+    ensures stands { (items : List Item) (from : Station) (steps : List OwnStep)
+        → from.current ≡ None → StandsByRounds items from steps (after_all items from steps) }
+{}
 
 /// Steps neither lose nor double the motion of a control: what a station had of it and what accepted moves added is what
 /// was told of it and what the station still has. A station keeps its motions behind any steps.

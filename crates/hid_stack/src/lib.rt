@@ -10,8 +10,8 @@
 //!                           ------------------------------------------------------->   reply
 //!                           ---- ACK 0xD2 --------------->   on_packet                 Down 07:04
 //! ```
-//! Each packet goes as its bytes, and is read from the bytes that arrive; of each poll a [`Fate`](usb_transact::Fate)
-//! says what is lost.
+//! Each packet goes as its bytes, and is read from the bytes that arrive: [`poll`] says so packet by packet, over any bus.
+//! A rig's step is such a poll, and a [`Fate`](usb_transact::Fate) says what is lost of it.
 //!
 //! The rule to know: a device's events come from its polls alone, and a round's part is the one that was fixed when it
 //! opened.
@@ -25,7 +25,7 @@
 mod fault;
 mod host;
 pub mod laws;
-mod poll;
+mod polls;
 mod ready;
 mod rig;
 mod slot;
@@ -33,6 +33,7 @@ mod step;
 
 pub use fault::{DescriptorFault, RunFault, StackFault};
 pub use host::HostDevice;
+pub use polls::poll;
 pub use rig::{MAX_DEVICES, Rig, Start};
 pub use step::{Delivered, Step, Told};
 

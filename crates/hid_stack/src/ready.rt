@@ -7,7 +7,7 @@ ghost use Rattle.hid_usages.specs.Cells.{FitsView};
 ghost use Rattle.usb_packet.specs.Spelling.{Fits};
 ghost use Rattle.usb_transact.specs.Taken.{taken};
 ghost use Rattle.usb_transact.specs.Host.{token_to};
-ghost use Rattle.hid_stack.specs.Known.{Known, known_at_start, known_behind, told_of, events_behind};
+ghost use Rattle.hid_stack.specs.Ready.{Known, known_at_start, known_behind, told_of, events_behind};
 
 use crate::fault::StackFault;
 use hid_fields::WordCodec;
@@ -33,7 +33,7 @@ impl Model for ReadyHost {
     ghost use Rattle.hid_layout.specs.Controls.{items_of};
     ghost use Rattle.hid_layout.specs.Reports.{IsLayout};
     ghost use Rattle.hid_usages.specs.Cells.{FitsView};
-    ghost use Rattle.hid_stack.specs.Known.{Known};
+    ghost use Rattle.hid_stack.specs.Ready.{Known};
 
     ghost Value = { Known };
 

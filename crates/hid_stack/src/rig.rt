@@ -1,14 +1,12 @@
 //! The rig: the devices of a bus with their hosts, and the steps that befall them.
 ghost use Rattle.std.specs.Prelude.{◌≡◌, ◌≢◌, ◌≤◌, ◌+◌, ◌++◌, ◌<◌, ℕ, List, [], Ok, Err, Some, length, map, take, IfOk, OnOk, IfErr, OnErr, vec_len, vec_capacity};
-ghost use Rattle.hid_layout.specs.Controls.{items_of};
 ghost use Rattle.hid_layout.specs.declared.control.ControlId.{ControlId as ControlPlace};
-ghost use Rattle.hid_cells.specs.declared.cell.Cell.{Cell};
-ghost use Rattle.hid_device.specs.Rounds.{events_of_epoch, Frame as FrameStep};
+ghost use Rattle.hid_device.specs.Rounds.{Frame as FrameStep};
 ghost use Rattle.hid_stack.specs.declared.fault.StackFault.{StackFault};
-ghost use Rattle.hid_stack.specs.Attaching.{Attaches, Finds};
-ghost use Rattle.hid_stack.specs.Members.{Member, member_at, member_after, bus_after, delivered_at, bus_after_all, delivered_in, refusal, IsRefusal, StopsAt, HasRoomFor, most_events, most_in, own, from_device, IsIsolated};
+ghost use Rattle.hid_stack.specs.Attaching.{Attaches, IsAttached, Finds};
+ghost use Rattle.hid_stack.specs.Headline.{DeliversChanges, KeepsToRounds};
+ghost use Rattle.hid_stack.specs.Rig.{member_at, member_after, bus_after, delivered_at, bus_after_all, delivered_in, refusal, IsRefusal, StopsAt, HasRoomFor, most_events, most_in, IsIsolated};
 ghost use Rattle.hid_stack.specs.Showing.{ShowsDevice, ShowsHost, GivesOf};
-ghost use Rattle.hid_stack.specs.Stations.{fresh};
 ghost use Rattle.hid_stack.specs.Sums.{SumsUp};
 ghost use Rattle.hid_stack.specs.Tells.{Tells};
 
@@ -41,7 +39,7 @@ pub struct Rig {
 
 impl Model for Rig {
     ghost use Rattle.std.specs.Prelude.{List, ◌≤◌, length, vec_capacity};
-    ghost use Rattle.hid_stack.specs.Members.{Member};
+    ghost use Rattle.hid_stack.specs.Rig.{Member};
     ghost use Rattle.hid_stack.specs.Sums.{AllHaveMotions};
     ghost use Rattle.hid_stack.specs.declared.rig.TheConstants.{MAX_DEVICES};
 
@@ -75,7 +73,8 @@ impl Rig {
         descriptor: &[u8],
         start: Start,
     ) -> Result<u8, StackFault>
-        ensures { Attaches MAX_DEVICES config.now descriptor.now self.old result self.new }
+        ensures attaches { Attaches MAX_DEVICES config.now descriptor.now self.old result self.new }
+        ensures attached { IfOk result (λ dev. IsAttached config.now descriptor.now self.old dev self.new) }
     {
         if self.slots.len() >= MAX_DEVICES {
             return Err(StackFault::TooManyDevices);
@@ -177,10 +176,12 @@ impl Rig {
     pub fn run(&mut self, steps: &[Step], out: &mut Vec<Delivered>) -> Result<(), RunFault>
         // Of a device that was just configured the events delivered are exactly the changes between the successive
         // parts that crossed, in order, none twice.
-        ensures headline { OnOk result ((device : ℕ) (m : Member) (snapshot : List Cell) (idle : List ℕ)
-            → member_at self.old device ≡ Some m → m.station ≡ fresh (items_of m.layout) snapshot idle
-            → from_device device out.new.items
-            ≡ from_device device out.old.items ++ events_of_epoch (items_of m.layout) snapshot idle (own device steps.now)) }
+        ensures headline { OnOk result
+            (DeliversChanges self.old steps.now out.old.items out.new.items) }
+
+        // A device without an open round stands as the rounds of its own steps say: with the open round, the view of the
+        // parts that crossed, and toggles by the numbers of rounds closed and crossed.
+        ensures rounds { OnOk result (KeepsToRounds self.old steps.now self.new) }
 
         // Where the bus stands, and what was delivered.
         ensures after { OnOk result (self.new ≡ bus_after_all self.old steps.now) }
@@ -203,10 +204,10 @@ impl Rig {
             ≡ bus_after_all self.old (take e.at steps.now)) }
         ensures err_events { IfErr result (λ e. out.new.items
             ≡ out.old.items ++ delivered_in self.old (take e.at steps.now)) }
-        ensures err_headline { IfErr result (λ e. (device : ℕ) (m : Member) (snapshot : List Cell) (idle : List ℕ)
-            → member_at self.old device ≡ Some m → m.station ≡ fresh (items_of m.layout) snapshot idle
-            → from_device device out.new.items
-            ≡ from_device device out.old.items ++ events_of_epoch (items_of m.layout) snapshot idle (own device (take e.at steps.now))) }
+        ensures err_headline { IfErr result
+            (λ e. DeliversChanges self.old (take e.at steps.now) out.old.items out.new.items) }
+        ensures err_rounds { IfErr result
+            (λ e. KeepsToRounds self.old (take e.at steps.now) self.new) }
         ensures err_isolated { IfErr result
             (λ e. IsIsolated self.old self.new (take e.at steps.now) out.old.items out.new.items) }
 

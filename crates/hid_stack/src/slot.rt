@@ -9,15 +9,15 @@ ghost use Rattle.hid_device.specs.Core.{IsSound};
 ghost use Rattle.hid_device.specs.Fault.{is_memory};
 ghost use Rattle.hid_device.specs.Making.{Refuses};
 ghost use Rattle.hid_stack.specs.Attaching.{Suits, IsNoPair};
-ghost use Rattle.hid_stack.specs.Joint.{IsPair};
-ghost use Rattle.hid_stack.specs.Members.{member_after, tagged, fresh_member};
+ghost use Rattle.hid_stack.specs.Slot.{IsPair};
+ghost use Rattle.hid_stack.specs.Rig.{member_after, tagged, fresh_member};
 ghost use Rattle.hid_stack.specs.Showing.{ShowsDevice, ShowsHost};
 ghost use Rattle.hid_stack.specs.Stations.{events_at};
 ghost use Rattle.hid_stack.specs.Tells.{TellsPoll};
 
 use crate::fault::{DescriptorFault, StackFault};
 use crate::host::HostDevice;
-use crate::poll::poll;
+use crate::polls::poll_pair;
 use crate::step::{Delivered, Told};
 use hid_device::{Config, Device, DeviceCause, DeviceFault};
 use hid_layout::laws::{accepted_or_refused, one_reading};
@@ -39,8 +39,8 @@ pub struct Slot {
 impl Model for Slot {
     ghost use Rattle.std.specs.Prelude.{◌≡◌, ◌≤◌, vec_capacity};
     ghost use Rattle.hid_layout.specs.Controls.{items_of, max_events};
-    ghost use Rattle.hid_stack.specs.Joint.{IsPair, joint};
-    ghost use Rattle.hid_stack.specs.Members.{Member};
+    ghost use Rattle.hid_stack.specs.Slot.{IsPair, joint};
+    ghost use Rattle.hid_stack.specs.Rig.{Member};
 
     ghost Value = { Member };
 
@@ -180,7 +180,7 @@ impl Slot {
         if out.reserve(room).is_err() {
             return Err(StackFault::Memory);
         }
-        let told = poll(fate, &mut self.device, &mut self.host, &mut self.events);
+        let told = poll_pair(fate, &mut self.device, &mut self.host, &mut self.events);
         hand_over(dev, &self.events, out);
         Ok(told)
     }

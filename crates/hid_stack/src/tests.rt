@@ -1,9 +1,11 @@
 //! Rows of steps on a boot keyboard, a boot mouse and others, worked out by hand from the definitions (USB 2.0, 8.5.4
 //! and 8.6).
 
-use crate::{Delivered, HostDevice, MAX_DEVICES, Rig, RunFault, StackFault, Start, Step, Told};
+use crate::{
+    Delivered, HostDevice, MAX_DEVICES, Rig, RunFault, StackFault, Start, Step, Told, poll,
+};
 use arrayvec::ArrayVec;
-use hid_device::{Boot, Config, KEYBOARD, MOUSE};
+use hid_device::{Boot, Config, Device, KEYBOARD, MOUSE};
 use hid_layout::{ControlId, Usage};
 use hid_usages::{Change, ChangeFault, Event, ReportFault};
 use std::test::Fail;
@@ -293,9 +295,38 @@ fn a_short_report_is_refused_and_the_next_is_read(rt: HostRuntime) -> Result<(),
     Ok(())
 }
 
+/// A boot keyboard at address 1 with its key a pressed.
+fn pressed_keyboard(rt: &HostRuntime) -> Result<Device, Fail> {
+    let mut device = Device::new(rt.alloc(), 1, &config(Boot::Keyboard), &KEYBOARD)?;
+    device.configure();
+    device.change(Change::Press(ControlId { item: 4, index: 4 }))?;
+    Ok(device)
+}
+
 #[test]
-fn a_cold_host_is_not_ready(rt: HostRuntime) {
-    assert_eq!(rt; HostDevice::cold(127).token(), Err(StackFault::NotReady));
+fn two_ends_are_polled_without_a_rig(rt: HostRuntime) -> Result<(), Fail> {
+    let report: [u8; 8] = [0, 0, 0x04, 0, 0, 0, 0, 0];
+    let mut device = pressed_keyboard(&rt)?;
+    let mut host = HostDevice::ready(rt.alloc(), 1, &KEYBOARD)?;
+    let mut out = Vec::with_capacity(rt.alloc(), host.max_events())?;
+    let told = poll(&Fate::AckLost, &mut device, &mut host, &mut out)?;
+    let sent = Tells::Sends(&[0xC3, 0, 0, 0x04, 0, 0, 0, 0, 0], Verdict::Fresh);
+    assert!(rt; is_told(&told, sent));
+    assert_eq!(rt; out.as_slice(), [event_of(Given::Down(4))].as_slice());
+    assert_eq!(rt; device.pipe().armed(), Some(report.as_slice()));
+    Ok(())
+}
+
+#[test]
+fn a_cold_host_polls_nothing(rt: HostRuntime) -> Result<(), Fail> {
+    let mut device = pressed_keyboard(&rt)?;
+    let mut host = HostDevice::cold(1);
+    assert_eq!(rt; host.token(), Err(StackFault::NotReady));
+    let mut out = Vec::new(rt.alloc());
+    let told = poll(&Fate::Clean, &mut device, &mut host, &mut out);
+    assert_eq!(rt; told, Err(StackFault::NotReady));
+    assert!(rt; device.open_round().is_none() && out.is_empty());
+    Ok(())
 }
 
 #[test]

@@ -11,21 +11,15 @@ use Rattle.usb_control.specs.declared.device.Heard.{Heard}
 use Rattle.usb_control.specs.declared.device.Heard.TheVariants as hears
 use Rattle.usb_control.specs.declared.host.HostStage.{HostStage}
 use Rattle.usb_control.specs.declared.host.HostStage.TheVariants as tries
-use Rattle.usb_control.specs.declared.bus.Phase.{Phase}
-use Rattle.usb_control.specs.declared.bus.Phase.TheVariants.{Token, HostData, Acknowledgement}
-use Rattle.usb_control.specs.Bus.{Arrivals, Carries, arrives_under}
+use Rattle.usb_transact.specs.declared.bus.Phase.{Phase}
+use Rattle.usb_transact.specs.declared.bus.Phase.TheVariants.{Token, HostData, Acknowledgement}
+use Rattle.usb_transact.specs.Bus.{Arrivals, Carries, Replies}
+use Rattle.usb_transact.specs.Fate.{arrives_under}
+use Rattle.usb_transact.proofs.TableLemmas.{read_whole, read_lost}
 use Rattle.usb_control.specs.Device.{DevControlState, Does, effect, ack_heard}
 use Rattle.usb_control.specs.Host.{HostTransferState, IsRunning, asks_at, kind_of, payload_at, took_at, acknowledges_at}
 use Rattle.usb_control.specs.Transaction.{AckComes, Transacts, reached, heard_of}
-use Rattle.usb_control.specs.Crossing.{Hears, HearsData, Reaches, Replies, Acknowledges, Crosses, phase_of}
-
--- a packet that arrives as it was sent is read
-read_whole : (arrivals : Arrivals) (phase : Phase) (sent : Packet) (came : Option Packet) → arrivals phase (spelling sent) ≡ Some (spelling sent) → Carries arrivals phase sent came → came ≡ Some sent
-read_whole arrivals phase sent came whole c = let read = rw whole at c.read in read.1 sent c.sent
-
--- of a packet that is lost nothing is read
-read_lost : (arrivals : Arrivals) (phase : Phase) (sent : Packet) (came : Option Packet) → arrivals phase (spelling sent) ≡ None → Carries arrivals phase sent came → came ≡ None
-read_lost arrivals phase sent came lost c = rw lost at c.read
+use Rattle.usb_control.specs.Crossing.{Hears, HearsData, Reaches, Acknowledges, Crosses, phase_of}
 
 -- a phase in which packets arrive as they were sent, and one in which they are lost
 abbrev IsWhole : Arrivals → Phase → Type 0

@@ -4,9 +4,9 @@ use Rattle.std.specs.Prelude.{◌≡◌, ℕ, Bool, true, false, List, Option, S
 use Rattle.usb_packet.specs.declared.packet.Packet.{Packet}
 use Rattle.usb_packet.specs.declared.packet.Packet.TheVariants.{Ack}
 use Rattle.usb_control.specs.declared.setup.Setup.{Setup as Request}
-use Rattle.usb_control.specs.declared.bus.Phase.{Phase}
-use Rattle.usb_control.specs.declared.bus.Phase.TheVariants.{Token, HostData, Reply, Handshake, Acknowledgement}
-use Rattle.usb_control.specs.Bus.{Arrivals, Carries}
+use Rattle.usb_transact.specs.declared.bus.Phase.{Phase}
+use Rattle.usb_transact.specs.declared.bus.Phase.TheVariants.{Token, HostData, Reply, Handshake, Acknowledgement}
+use Rattle.usb_transact.specs.Bus.{Arrivals, Carries, Replies}
 use Rattle.usb_control.specs.Device.{DevControlState, Does, effect}
 use Rattle.usb_control.specs.Host.{HostTransferState, asks_at, token_of, payload_of, took, acknowledges}
 
@@ -33,11 +33,6 @@ Reaches {R} prepare_gives apply_gives answer_of arrivals token payload old new a
 abbrev pub phase_of : Bool → Phase
 phase_of true = Reply
 phase_of false = Handshake
-
--- what the host reads of an answer
-abbrev pub Replies : Arrivals → Phase → Option Packet → Option Packet → Type 0
-Replies arrivals phase None reply = reply ≡ None
-Replies arrivals phase (Some answer) reply = Carries arrivals phase answer reply
 
 -- the host's ACK, where it sends one
 abbrev pub Acknowledges : {R : Type 0} → (R → Request → Bool → R → Type 0) → (R → List ℕ → R → Type 0) → (R → Option (List ℕ)) → Arrivals → Bool → DevControlState R → DevControlState R → Type 0

@@ -5,7 +5,6 @@ pub mod Device
 pub mod Host
 pub mod Transfer
 pub mod Standing
-pub mod Bus
 pub mod Crossing
 pub mod Transaction
 pub mod Reading

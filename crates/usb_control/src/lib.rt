@@ -38,7 +38,6 @@
 //! [`DeviceInfo::read`]. Only [`HostTransfer::begin`] takes memory.
 #![tactic(auto)]
 
-mod bus;
 mod descriptors;
 mod device;
 mod fault;

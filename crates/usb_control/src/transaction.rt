@@ -3,19 +3,18 @@ ghost use Rattle.std.specs.Prelude.{◌≡◌, List, ℕ, IfSome};
 ghost use Rattle.std.specs.Option.{option_copied};
 ghost use Rattle.usb_packet.specs.Spelling.{Fits};
 ghost use Rattle.usb_control.specs.Host.{IsRunning, asks_at, payload_of, progress_of, token_of};
-ghost use Rattle.usb_control.specs.Bus.{arrives_under};
-ghost use Rattle.usb_control.specs.Crossing.{Acknowledges, Crosses, Hears, Reaches, Replies, phase_of};
+ghost use Rattle.usb_transact.specs.Fate.{arrives_under};
+ghost use Rattle.usb_control.specs.Crossing.{Acknowledges, Crosses, Hears, Reaches, phase_of};
 ghost use Rattle.usb_control.specs.Transaction.{Transacts};
 ghost use Rattle.usb_control.specs.Transfer.{Place, Tries, shape_of};
 ghost use Rattle.usb_control.specs.Standing.{Stands};
 ghost use Rattle.usb_control.specs.SetupBytes.{IsSpelled};
 
-use crate::bus::{Bus, Phase, carried};
 use crate::device::DevControl;
 use crate::host::{HostTransfer, Progress};
 use crate::requests::Requests;
 use usb_packet::Packet;
-use usb_transact::Fate;
+use usb_transact::{Bus, Fate, Phase, carried, replied};
 
 impl<R: Requests> DevControl<R> {
     // Hears the packet that came, if one did, and gives the answer to it.
@@ -28,17 +27,6 @@ impl<R: Requests> DevControl<R> {
             Some(packet) => self.on_packet(packet),
             None => None,
         }
-    }
-}
-
-// What the host reads of an answer.
-fn replied<B: Bus>(bus: &B, phase: Phase, answer: Option<Packet>) -> Option<Packet>
-    requires { IfSome answer Fits }
-    ensures { Replies (B.arrives bus.now) phase answer result }
-{
-    match answer {
-        Some(answer) => carried(bus, phase, &answer),
-        None => None,
     }
 }
 
@@ -94,7 +82,7 @@ impl HostTransfer {
     {
         let phase = self.phase();
         let answer = self.reach(bus, control);
-        let reply = replied(bus, phase, answer);
+        let reply = replied(bus, phase, answer.as_ref());
         let says = self.take(reply.as_ref());
         acknowledge(bus, control, says);
     }

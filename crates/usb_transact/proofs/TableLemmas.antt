@@ -4,8 +4,8 @@ use Rattle.std.specs.Bool.{beq}
 use Rattle.usb_packet.specs.declared.packet.Packet.{Packet}
 use Rattle.usb_packet.specs.declared.packet.Packet.TheVariants as packets
 use Rattle.usb_packet.specs.Spelling.{spelling}
-use Rattle.usb_transact.specs.declared.bus.Stage.{Stage}
-use Rattle.usb_transact.specs.declared.bus.Stage.TheVariants.{Token, Reply, Acknowledgement}
+use Rattle.usb_transact.specs.declared.bus.Phase.{Phase}
+use Rattle.usb_transact.specs.declared.bus.Phase.TheVariants.{Token, Reply, Acknowledgement}
 use Rattle.usb_transact.specs.declared.host.Took.{Took}
 use Rattle.usb_transact.specs.declared.host.Took.TheVariants.{Fresh, Again}
 use Rattle.usb_transact.specs.declared.transaction.Fate.{Fate}
@@ -13,35 +13,35 @@ use Rattle.usb_transact.specs.declared.transaction.Fate.TheVariants.{Clean, Toke
 use Rattle.usb_transact.specs.Host.{HostPipeState, token_to}
 use Rattle.usb_transact.specs.Device.{DevPipeState, answer_of, answer_with, closed}
 use Rattle.usb_transact.specs.Taken.{taken}
-use Rattle.usb_transact.specs.Bus.{Arrivals, Carries}
+use Rattle.usb_transact.specs.Bus.{Arrivals, Carries, Replies}
 use Rattle.usb_transact.specs.Fate.{arrives_under}
-use Rattle.usb_transact.specs.Transaction.{Replies, device_behind, HearsAck, Acknowledges, Transacts}
+use Rattle.usb_transact.specs.Transaction.{answered, device_behind, HearsAck, Acknowledges, Transacts}
 use Rattle.usb_transact.specs.Exchange.{took_where, took_of, device_after}
 
 -- a packet that arrives as it was sent is read
 pub read_whole :
-    (arrivals : Arrivals) (stage : Stage) (sent : Packet) (came : Option Packet)
-    → arrivals stage (spelling sent) ≡ Some (spelling sent) → Carries arrivals stage sent came
+    (arrivals : Arrivals) (phase : Phase) (sent : Packet) (came : Option Packet)
+    → arrivals phase (spelling sent) ≡ Some (spelling sent) → Carries arrivals phase sent came
     → came ≡ Some sent
-read_whole arrivals stage sent came whole c = let read = rw whole at c.read in read.1 sent c.sent
+read_whole arrivals phase sent came whole c = let read = rw whole at c.read in read.1 sent c.sent
 
 -- of a packet that is lost nothing is read
 pub read_lost :
-    (arrivals : Arrivals) (stage : Stage) (sent : Packet) (came : Option Packet)
-    → arrivals stage (spelling sent) ≡ None → Carries arrivals stage sent came → came ≡ None
-read_lost arrivals stage sent came lost c = rw lost at c.read
+    (arrivals : Arrivals) (phase : Phase) (sent : Packet) (came : Option Packet)
+    → arrivals phase (spelling sent) ≡ None → Carries arrivals phase sent came → came ≡ None
+read_lost arrivals phase sent came lost c = rw lost at c.read
 
 -- a token that did not come gets no answer
 pub no_reply :
     (arrivals : Arrivals) (token : Option Packet) (device : DevPipeState) (reply : Option Packet)
-    → token ≡ None → Replies arrivals token device reply → reply ≡ None
+    → token ≡ None → Replies arrivals Reply (answered token device) reply → reply ≡ None
 no_reply arrivals token device reply none replied = rw none at replied
 
 -- the host's token gets the device's answer
 pub full_reply :
     (arrivals : Arrivals) (host : HostPipeState) (token : Option Packet) (device : DevPipeState)
     (reply : Option Packet)
-    → token ≡ Some (token_to host) → Replies arrivals token device reply
+    → token ≡ Some (token_to host) → Replies arrivals Reply (answered token device) reply
     → Carries arrivals Reply (answer_of device) reply
 full_reply arrivals host token device reply came replied = rw came at replied
 
@@ -50,7 +50,7 @@ pub whole_reply :
     (arrivals : Arrivals) (host : HostPipeState) (device : DevPipeState) (token reply : Option Packet)
     → arrivals Token (spelling (token_to host)) ≡ Some (spelling (token_to host))
     → arrivals Reply (spelling (answer_of device)) ≡ Some (spelling (answer_of device))
-    → Carries arrivals Token (token_to host) token → Replies arrivals token device reply
+    → Carries arrivals Token (token_to host) token → Replies arrivals Reply (answered token device) reply
     → reply ≡ Some (answer_of device)
 whole_reply arrivals host device token reply token_whole reply_whole polled replied =
     let came = read_whole arrivals Token (token_to host) token token_whole polled in

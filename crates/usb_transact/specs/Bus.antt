@@ -2,11 +2,11 @@
 use Rattle.std.specs.Prelude.{◌≡◌, ℕ, List, Option, Some, None, IfSome}
 use Rattle.usb_packet.specs.declared.packet.Packet.{Packet}
 use Rattle.usb_packet.specs.Spelling.{Spells, spelling}
-use Rattle.usb_transact.specs.declared.bus.Stage.{Stage}
+use Rattle.usb_transact.specs.declared.bus.Phase.{Phase}
 
--- what arrives of the bytes that are sent at a stage
+-- what arrives of the bytes that are sent in a phase
 abbrev pub Arrivals : Type 0
-Arrivals = Stage → List ℕ → Option (List ℕ)
+Arrivals = Phase → List ℕ → Option (List ℕ)
 
 -- of nothing an end reads nothing, and of bytes the one packet that they spell
 abbrev pub IsRead : Option (List ℕ) → Option Packet → Type 0
@@ -15,6 +15,11 @@ IsRead (Some bytes) came =
     IfSome came (λ packet. Spells packet bytes) × ((packet : Packet) → Spells packet bytes → came ≡ Some packet)
 
 -- the packet has a spelling, and this is what the other end reads of what arrives of that
-pub record Carries (arrivals : Arrivals) (stage : Stage) (packet : Packet) (came : Option Packet) : Type 0 where
+pub record Carries (arrivals : Arrivals) (phase : Phase) (packet : Packet) (came : Option Packet) : Type 0 where
   pub sent : Spells packet (spelling packet)
-  pub read : IsRead (arrivals stage (spelling packet)) came
+  pub read : IsRead (arrivals phase (spelling packet)) came
+
+-- what the other end reads of an answer, where there is one
+abbrev pub Replies : Arrivals → Phase → Option Packet → Option Packet → Type 0
+Replies arrivals phase None reply = reply ≡ None
+Replies arrivals phase (Some answer) reply = Carries arrivals phase answer reply

@@ -4,18 +4,18 @@ use Rattle.std.specs.Prelude.{◌≡◌, Option, Some, None}
 use Rattle.usb_packet.specs.declared.packet.Packet.{Packet}
 use Rattle.usb_packet.specs.declared.packet.Packet.TheVariants as packets
 use Rattle.usb_packet.specs.declared.packet.TokenKind.TheVariants.{In}
-use Rattle.usb_transact.specs.declared.bus.Stage.TheVariants.{Token, Reply, Acknowledgement}
+use Rattle.usb_transact.specs.declared.bus.Phase.TheVariants.{Token, Reply, Acknowledgement}
 use Rattle.usb_transact.specs.declared.host.Took.{Took}
 use Rattle.usb_transact.specs.declared.host.Took.TheVariants.{Fresh, Again}
 use Rattle.usb_transact.specs.Host.{HostPipeState, token_to}
 use Rattle.usb_transact.specs.Device.{DevPipeState, answer_of, closed}
 use Rattle.usb_transact.specs.Taken.{taken, host_after}
-use Rattle.usb_transact.specs.Bus.{Arrivals, Carries}
+use Rattle.usb_transact.specs.Bus.{Arrivals, Carries, Replies}
 
--- what the host reads of the device's answer, where this came of the token: only an IN token is answered
-abbrev pub Replies : Arrivals → Option Packet → DevPipeState → Option Packet → Type 0
-Replies arrivals (Some (packets.Token In addr endp)) device reply = Carries arrivals Reply (answer_of device) reply
-Replies arrivals _ device reply = reply ≡ None
+-- the device's answer, where this came of the token: only an IN token is answered
+abbrev pub answered : Option Packet → DevPipeState → Option Packet
+answered (Some (packets.Token In addr endp)) device = Some (answer_of device)
+answered _ device = None
 
 -- the device, where this came of an acknowledgement
 abbrev pub device_behind : Option Packet → DevPipeState → DevPipeState
@@ -39,7 +39,7 @@ pub record Transacts (arrivals : Arrivals) (host : HostPipeState) (device : DevP
   pub token : Option Packet
   pub reply : Option Packet
   pub polled : Carries arrivals Token (token_to host) token
-  pub replied : Replies arrivals token device reply
+  pub replied : Replies arrivals Reply (answered token device) reply
   pub took_reply : took ≡ taken host.expects reply
   pub host_moved : host_then ≡ host_after took host
   pub acknowledged : Acknowledges arrivals took device device_then

@@ -1,18 +1,26 @@
 //! What carries packets between the two ends: a packet goes as its bytes, and is read from the bytes that arrive.
+ghost use Rattle.std.specs.Prelude.{IfSome};
+ghost use Rattle.std.specs.Option.{option_copied};
 ghost use Rattle.usb_packet.specs.Spelling.{Fits};
-ghost use Rattle.usb_transact.specs.Bus.{Carries};
+ghost use Rattle.usb_transact.specs.Bus.{Carries, Replies};
 
 use arrayvec::ArrayVec;
 use usb_packet::{Packet, decode, encode};
 
-/// The packets of an interrupt-IN transaction (USB 2.0, 8.5.4).
+/// The phases of a transaction, by the packet that is sent in each (USB 2.0, 8.5). An interrupt-IN transaction has the
+/// token, the reply and the acknowledgement (8.5.4), a SETUP or OUT transaction the token, the host's data and the
+/// handshake (8.5.3).
 #[derive(Clone, Copy, Debug, PartialEq, Eq)]
-pub enum Stage {
-    /// The host's IN token.
+pub enum Phase {
+    /// The host's token.
     Token,
-    /// The device's answer.
+    /// The host's data, behind SETUP or OUT.
+    HostData,
+    /// The device's answer to IN: data, or a handshake in their place.
     Reply,
-    /// The host's handshake for data.
+    /// The device's handshake for data of the host.
+    Handshake,
+    /// The host's handshake for data of the device.
     Acknowledgement,
 }
 
@@ -21,22 +29,33 @@ pub enum Stage {
 pub trait Bus {
     ghost use Rattle.std.specs.Prelude.{◌≡◌, ℕ, List, Option};
     ghost use Rattle.std.specs.Option.{option_map};
-    ghost use Rattle.usb_transact.specs.declared.bus.Stage.{Stage};
+    ghost use Rattle.usb_transact.specs.declared.bus.Phase.{Phase};
 
-    // What arrives of the bytes that are sent at a stage.
-    ghost arrives: { Self → Stage → List ℕ → Option (List ℕ) };
+    // What arrives of the bytes that are sent in a phase.
+    ghost arrives: { Self → Phase → List ℕ → Option (List ℕ) };
 
     /// What arrives of these bytes.
-    fn hand_on(&self, stage: Stage, bytes: ArrayVec<u8, 65>) -> Option<ArrayVec<u8, 65>>
+    fn hand_on(&self, phase: Phase, bytes: ArrayVec<u8, 65>) -> Option<ArrayVec<u8, 65>>
         ensures { option_map (λ arrived. arrived.items) result
-            ≡ arrives self.now stage bytes.items };
+            ≡ arrives self.now phase bytes.items };
 }
 
 /// What the other end reads of a packet that is sent.
-pub fn carried<B: Bus>(bus: &B, stage: Stage, packet: &Packet) -> Option<Packet>
+pub fn carried<B: Bus>(bus: &B, phase: Phase, packet: &Packet) -> Option<Packet>
     requires fits { Fits packet.now }
-    ensures { Carries (B.arrives bus.now) stage packet.now result }
+    ensures { Carries (B.arrives bus.now) phase packet.now result }
 {
-    let arrived = bus.hand_on(stage, encode(packet))?;
+    let arrived = bus.hand_on(phase, encode(packet))?;
     decode(&arrived).ok()
+}
+
+/// What the other end reads of an answer, where there is one.
+pub fn replied<B: Bus>(bus: &B, phase: Phase, answer: Option<&Packet>) -> Option<Packet>
+    requires fits { IfSome (option_copied answer) Fits }
+    ensures { Replies (B.arrives bus.now) phase (option_copied answer.entry) result }
+{
+    match answer {
+        Some(answer) => carried(bus, phase, answer),
+        None => None,
+    }
 }

@@ -21,7 +21,7 @@ mod device;
 mod host;
 mod transaction;
 
-pub use bus::{Bus, Stage, carried};
+pub use bus::{Bus, Phase, carried, replied};
 pub use device::DevPipe;
 pub use host::{HostPipe, Took};
 pub use transaction::{Fate, exchange};

@@ -1,12 +1,13 @@
 //! One transaction over a bus that may lose packets (USB 2.0, 8.5.4).
-ghost use Rattle.std.specs.Prelude.{◌≡◌};
+ghost use Rattle.std.specs.Prelude.{◌≡◌, IfSome};
 ghost use Rattle.std.specs.Option.{option_copied};
+ghost use Rattle.usb_packet.specs.Spelling.{Fits};
 ghost use Rattle.usb_transact.specs.Taken.{host_after};
 ghost use Rattle.usb_transact.specs.Fate.{arrives_under};
 ghost use Rattle.usb_transact.specs.Exchange.{took_of, device_after};
-ghost use Rattle.usb_transact.specs.Transaction.{Replies, Acknowledges, Transacts};
+ghost use Rattle.usb_transact.specs.Transaction.{Acknowledges, Transacts, answered};
 
-use crate::bus::{Bus, Stage, carried};
+use crate::bus::{Bus, Phase, carried, replied};
 use crate::device::DevPipe;
 use crate::host::{HostPipe, Took};
 use arrayvec::ArrayVec;
@@ -31,25 +32,26 @@ impl Bus for Fate {
 
     ghost arrives = { arrives_under };
 
-    fn hand_on(&self, stage: Stage, bytes: ArrayVec<u8, 65>) -> Option<ArrayVec<u8, 65>> {
-        match (self, stage) {
-            (Fate::TokenLost, Stage::Token)
-            | (Fate::ReplyLost, Stage::Reply)
-            | (Fate::AckLost, Stage::Acknowledgement) => None,
+    fn hand_on(&self, phase: Phase, bytes: ArrayVec<u8, 65>) -> Option<ArrayVec<u8, 65>> {
+        match (self, phase) {
+            (Fate::TokenLost, Phase::Token | Phase::HostData)
+            | (Fate::ReplyLost, Phase::Reply | Phase::Handshake)
+            | (Fate::AckLost, Phase::Handshake | Phase::Acknowledgement) => None,
             _ => Some(bytes),
         }
     }
 }
 
-// The device's answer as it arrives, where the device has read an IN token.
-fn replied<B: Bus>(bus: &B, token: Option<&Packet>, device: &DevPipe) -> Option<Packet>
-    ensures { Replies (B.arrives bus.now) (option_copied token.entry) device.now result }
+// The device's answer, where it has read an IN token.
+fn answered(token: Option<&Packet>, device: &DevPipe) -> Option<Packet>
+    ensures answer { result ≡ answered (option_copied token.entry) device.now }
+    ensures fits { IfSome result Fits }
 {
     match token? {
         Packet::Token {
             kind: TokenKind::In,
             ..
-        } => carried(bus, Stage::Reply, &device.answer()),
+        } => Some(device.answer()),
         _ => None,
     }
 }
@@ -59,7 +61,7 @@ fn acknowledge<B: Bus>(bus: &B, took: &Took, device: &mut DevPipe)
     ensures { Acknowledges (B.arrives bus.now) took.now device.old device.new }
 {
     if matches!(took, Took::Fresh(_) | Took::Again) {
-        let arrived = carried(bus, Stage::Acknowledgement, &Packet::Ack);
+        let arrived = carried(bus, Phase::Acknowledgement, &Packet::Ack);
         if matches!(arrived, Some(Packet::Ack)) {
             device.acknowledged();
         }
@@ -70,8 +72,9 @@ fn acknowledge<B: Bus>(bus: &B, took: &Took, device: &mut DevPipe)
 fn transact<B: Bus>(bus: &B, host: &mut HostPipe, device: &mut DevPipe) -> Took
     ensures { Transacts (B.arrives bus.now) host.old device.old result host.new device.new }
 {
-    let token = carried(bus, Stage::Token, &host.token());
-    let reply = replied(bus, token.as_ref(), device);
+    let token = carried(bus, Phase::Token, &host.token());
+    let answer = answered(token.as_ref(), device);
+    let reply = replied(bus, Phase::Reply, answer.as_ref());
     let took = host.take(reply.as_ref());
     acknowledge(bus, &took, device);
     took

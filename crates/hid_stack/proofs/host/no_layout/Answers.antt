@@ -1,4 +1,4 @@
-use Rattle.hid_stack.proofs.KnownLemmas.{refused_unless}
+use Rattle.hid_stack.proofs.ReadyLemmas.{refused_unless}
 use Rattle.hid_stack.proofs.host.no_layout.Goals as goal
 
 pub returns-in_default : goal.returns-in_default

@@ -1,6 +1,6 @@
 use Rattle.std.proofs.Common.{◌≡◌, ◌++◌, take, drop, map}
 use Rattle.hid_device.specs.Rounds.{Frame}
-use Rattle.hid_stack.specs.Members.{Member, member_after}
+use Rattle.hid_stack.specs.Rig.{Member, member_after}
 use Rattle.hid_stack.proofs.rig.frame_all.Given as goal
 
 abbrev pub invariant-loop-slot : goal.invariant-loop-slot

@@ -1,5 +1,5 @@
 use Rattle.std.proofs.Common.{◌≡◌, ◌++◌, ◌+◌, take, map, vec_len, vec_capacity}
-use Rattle.hid_stack.specs.Members.{tagged}
+use Rattle.hid_stack.specs.Rig.{tagged}
 use Rattle.hid_stack.proofs.slot.hand_over.Given as goal
 
 abbrev pub invariant-loop-event : goal.invariant-loop-event

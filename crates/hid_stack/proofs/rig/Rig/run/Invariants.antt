@@ -1,5 +1,5 @@
 use Rattle.std.proofs.Common.{◌≡◌, ◌++◌, ◌+◌, ◌≤◌, take, vec_len, vec_capacity}
-use Rattle.hid_stack.specs.Members.{bus_after_all, delivered_in, most_in}
+use Rattle.hid_stack.specs.Rig.{bus_after_all, delivered_in, most_in}
 use Rattle.hid_stack.proofs.rig.Rig.run.Given as goal
 
 -- the steps so far

@@ -19,8 +19,8 @@ use Rattle.hid_stack.specs.declared.step.Step.TheVariants.{Change, Frame, Poll}
 use Rattle.hid_stack.specs.declared.step.Delivered.{Delivered}
 use Rattle.hid_stack.specs.Stations.{Station, fresh, after, after_all, events_at, events_in}
 
--- a device with its host: its address, the configuration and the descriptor that it was made with, the layout that both
--- have, and how the two stand
+-- a device with its host: its address, the configuration and the descriptor that it was made with, the layout that
+-- both have, and how the two stand
 pub record Member : Type 0 where
   pub addr : ℕ
   pub config : Config
@@ -28,9 +28,11 @@ pub record Member : Type 0 where
   pub layout : Contents
   pub station : Station
 
+-- a member after a step of its own: only its station moves
 abbrev pub member_after : Member → OwnStep → Member
 member_after m x = record m { station = after (items_of m.layout) m.station x }
 
+-- and after a list of them
 abbrev pub member_after_all : Member → List OwnStep → Member
 member_after_all m steps = record m { station = after_all (items_of m.layout) m.station steps }
 
@@ -48,12 +50,14 @@ fresh_member addr config descriptor layout = record {
 abbrev pub member_at : List Member → ℕ → Option Member
 member_at members dev = if dev == 0 then None else slice_get members (dev - 1)
 
+-- the bus with this member under that number
 abbrev pub with_member : List Member → ℕ → Member → List Member
 with_member members dev m = slice_set members (dev - 1) m
 
 -- a step of one device
 abbrev pub one_after : List Member → ℕ → OwnStep → List Member
-one_after members dev x = elim (member_at members dev) [ None ↦ members | Some m ↦ with_member members dev (member_after m x) ]
+one_after members dev x =
+    elim (member_at members dev) [ None ↦ members | Some m ↦ with_member members dev (member_after m x) ]
 
 -- The bus after a step.
 abbrev pub bus_after : List Member → Step → List Member
@@ -61,11 +65,14 @@ bus_after members (Change dev change) = one_after members dev (Changes change)
 bus_after members Frame = map (λ m. member_after m own_steps.Frame) members
 bus_after members (Poll dev fate) = one_after members dev (Polls fate)
 
+-- an event, with the number of the device that it came from
 abbrev pub tagged : ℕ → Event → Delivered
 tagged dev event = record { dev = dev; event = event }
 
+-- what a step of one device delivers, under its number
 abbrev pub one_delivers : List Member → ℕ → OwnStep → List Delivered
-one_delivers members dev x = elim (member_at members dev) [ None ↦ [] | Some m ↦ map (tagged dev) (events_at (items_of m.layout) m.station x) ]
+one_delivers members dev x =
+    elim (member_at members dev) [ None ↦ [] | Some m ↦ map (tagged dev) (events_at (items_of m.layout) m.station x) ]
 
 -- What a step delivers.
 abbrev pub delivered_at : List Member → Step → List Delivered
@@ -78,6 +85,7 @@ abbrev pub bus_after_all : List Member → List Step → List Member
 bus_after_all members [] = members
 bus_after_all members (x ∷ steps) = bus_after_all (bus_after members x) steps
 
+-- and what they deliver, one after another
 abbrev pub delivered_in : List Member → List Step → List Delivered
 delivered_in members [] = []
 delivered_in members (x ∷ steps) = delivered_at members x ++ delivered_in (bus_after members x) steps
@@ -110,13 +118,15 @@ IsRefusal members x e = (refusal members x ≡ Some e) ⊎ ((refusal members x �
 abbrev pub HasRoomFor : List Member → Step → ℕ → ℕ → Type 0
 HasRoomFor members (Change dev change) used capacity = Unit {0}
 HasRoomFor members Frame used capacity = Unit {0}
-HasRoomFor members (Poll dev fate) used capacity = IfSome (member_at members dev) (λ m. used + max_events (items_of m.layout) ≤ capacity)
+HasRoomFor members (Poll dev fate) used capacity =
+    IfSome (member_at members dev) (λ m. used + max_events (items_of m.layout) ≤ capacity)
 
 -- how many events a step delivers at most
 abbrev pub most_events : List Member → Step → ℕ
 most_events members (Change dev change) = 0
 most_events members Frame = 0
-most_events members (Poll dev fate) = elim (member_at members dev) [ None ↦ 0 | Some m ↦ max_events (items_of m.layout) ]
+most_events members (Poll dev fate) =
+    elim (member_at members dev) [ None ↦ 0 | Some m ↦ max_events (items_of m.layout) ]
 
 -- and steps, one after another: none of them changes a layout
 abbrev pub most_in : List Member → List Step → ℕ
@@ -125,7 +135,8 @@ most_in members (x ∷ steps) = most_events members x + most_in members steps
 
 -- A run stops at a step that is refused behind those before it.
 abbrev pub StopsAt : List Member → List Step → ℕ → StackFault → Type 0
-StopsAt members steps i e = (i < length steps) × IfSome (slice_get steps i) (λ x. IsRefusal (bus_after_all members (take i steps)) x e)
+StopsAt members steps i e =
+    (i < length steps) × IfSome (slice_get steps i) (λ x. IsRefusal (bus_after_all members (take i steps)) x e)
 
 -- The own steps of a device: those that name it, and all frames.
 abbrev pub own_step : ℕ → Step → Option OwnStep
@@ -133,6 +144,7 @@ own_step device (Change dev change) = if dev == device then Some (Changes change
 own_step device Frame = Some own_steps.Frame
 own_step device (Poll dev fate) = if dev == device then Some (Polls fate) else None
 
+-- and those of a list of steps, in their order
 abbrev pub own : ℕ → List Step → List OwnStep
 own device steps = filter_map (own_step device) steps
 
@@ -140,11 +152,13 @@ own device steps = filter_map (own_step device) steps
 abbrev pub own_event : ℕ → Delivered → Option Event
 own_event device e = if e.dev == device then Some e.event else None
 
+-- and all of that, in its order
 abbrev pub from_device : ℕ → List Delivered → List Event
 from_device device out = filter_map (own_event device) out
 
 -- Each device by itself: how it stands and what was delivered of it are a function of its own steps.
 pub record IsIsolated (before after : List Member) (steps : List Step) (old new : List Delivered) : Type 0 where
-  pub states : (device : ℕ) (m : Member) → member_at before device ≡ Some m → member_at after device ≡ Some (member_after_all m (own device steps))
+  pub states : (device : ℕ) (m : Member) → member_at before device ≡ Some m
+      → member_at after device ≡ Some (member_after_all m (own device steps))
   pub events : (device : ℕ) (m : Member) → member_at before device ≡ Some m
       → from_device device new ≡ from_device device old ++ events_in (items_of m.layout) m.station (own device steps)

@@ -27,13 +27,15 @@ report_endpoint = 1
 
 -- a host freshly given a layout: it expects DATA0, and its view is the initial one
 abbrev pub known_at_start : ℕ → Contents → Known
-known_at_start addr layout = record { layout = layout; pipe = host_at_start addr report_endpoint; view = blank (items_of layout) }
+known_at_start addr layout =
+    record { layout = layout; pipe = host_at_start addr report_endpoint; view = blank (items_of layout) }
 
 -- What the host tells of what it took: fresh data that are no Input report are refused.
 abbrev pub read_or_refused : Took → Result ℕ ReportFault → Result Took StackFault
 read_or_refused taken (Ok r) = Ok taken
 read_or_refused taken (Err fault) = Err (Report fault)
 
+-- what is told of each: fresh data are read, and all else is told as it is
 abbrev pub told_of : Contents → Took → Result Took StackFault
 told_of layout (Fresh payload) = read_or_refused (Fresh payload) (report_named layout payload.items)
 told_of layout Again = Ok Again
@@ -43,16 +45,20 @@ told_of layout Silent = Ok Silent
 
 -- The view after fresh data: their report is read. Data that are refused leave it.
 abbrev pub view_read : Contents → List ℕ → List Cell → List Cell
-view_read layout bytes view = elim (report_named layout bytes) [ Ok r ↦ read_view layout r bytes view | Err fault ↦ view ]
+view_read layout bytes view =
+    elim (report_named layout bytes) [ Ok r ↦ read_view layout r bytes view | Err fault ↦ view ]
 
+-- and nothing else changes it
 abbrev pub view_behind : Known → Took → List Cell
 view_behind known (Fresh payload) = view_read known.layout payload.items known.view
 view_behind known _ = known.view
 
 -- And the events that they give.
 abbrev pub events_read : Contents → List ℕ → List Cell → List Event
-events_read layout bytes view = elim (report_named layout bytes) [ Ok r ↦ read_events layout r bytes view | Err fault ↦ [] ]
+events_read layout bytes view =
+    elim (report_named layout bytes) [ Ok r ↦ read_events layout r bytes view | Err fault ↦ [] ]
 
+-- and nothing else gives any
 abbrev pub events_behind : Known → Took → List Event
 events_behind known (Fresh payload) = events_read known.layout payload.items known.view
 events_behind known _ = []

@@ -5,10 +5,10 @@ ghost use Rattle.hid_layout.specs.Controls.{items_of, max_events};
 ghost use Rattle.hid_usages.specs.Encoding.{AreBytes};
 ghost use Rattle.usb_packet.specs.Spelling.{Fits};
 ghost use Rattle.hid_device.specs.Rounds.{Polls};
-ghost use Rattle.hid_stack.specs.Host.{IsReady, IfReady};
-ghost use Rattle.hid_stack.specs.Joint.{IsPair, joint, station_of};
-ghost use Rattle.hid_stack.specs.Members.{member_after};
-ghost use Rattle.hid_stack.specs.Polls.{Hears, HasBytes, Replies, Acknowledges, Transacts, spelled};
+ghost use Rattle.hid_stack.specs.Host.{IfReady};
+ghost use Rattle.hid_stack.specs.Slot.{IsPair, joint, station_of};
+ghost use Rattle.hid_stack.specs.Rig.{member_after};
+ghost use Rattle.hid_stack.specs.Polls.{Hears, HasBytes, Acknowledges, GoesByPackets, spelled};
 ghost use Rattle.hid_stack.specs.Stations.{events_at};
 ghost use Rattle.hid_stack.specs.Tells.{TellsPoll};
 
@@ -19,7 +19,7 @@ use arrayvec::ArrayVec;
 use hid_device::Device;
 use hid_usages::Event;
 use usb_packet::{Packet, encode};
-use usb_transact::{Bus, Fate, Stage, Took, carried};
+use usb_transact::{Bus, Fate, Phase, Took, carried, replied};
 
 // The numbers of a byte string are bytes.
 fn are_bytes(bytes: &[u8])
@@ -52,52 +52,47 @@ fn spelled(answer: Option<&Packet>) -> Option<ArrayVec<u8, 65>>
     }
 }
 
-// What the host reads of an answer.
-fn replied<B: Bus>(bus: &B, answer: Option<&Packet>) -> Option<Packet>
-    requires { IfSome (option_copied answer) Fits }
-    ensures { Replies (B.arrives bus.now) (option_copied answer.entry) result }
-{
-    match answer {
-        Some(answer) => carried(bus, Stage::Reply, answer),
-        None => None,
-    }
-}
-
 // Sends ACK for data, fresh or not, and lets the device hear what arrives of it.
 fn acknowledge<B: Bus>(bus: &B, took: &Took, device: &mut Device)
     ensures { Acknowledges (B.arrives bus.now) took.now device.old device.new }
 {
     match took {
         Took::Fresh(_) | Took::Again => {
-            let came = carried(bus, Stage::Acknowledgement, &Packet::Ack);
+            let came = carried(bus, Phase::Acknowledgement, &Packet::Ack);
             hear(device, came.as_ref());
         }
         Took::Nak | Took::Stall | Took::Silent => {}
     }
 }
 
-// One poll over any bus. Data that the host refuses end it.
-fn transact<B: Bus>(
+/// One poll over any bus: the host's IN token, the device's answer, and ACK for data, fresh or not. Each packet goes as
+/// its bytes, and each end acts on what it reads of those that arrive. The events are appended; there is reserved room
+/// for `max_events` more, and no memory is taken.
+///
+/// # Errors
+/// [`StackFault::NotReady`] where the host isn't ready: it sends nothing. [`StackFault::Report`] where fresh data are
+/// no Input report: no ACK is sent for them.
+pub fn poll<B: Bus>(
     bus: &B,
     device: &mut Device,
     host: &mut HostDevice,
-    events: &mut Vec<Event>,
+    out: &mut Vec<Event>,
 ) -> Result<Told, StackFault>
-    requires ready { IsReady host.old.phase }
-    requires none { events.old.items ≡ [] }
-    requires room { IfReady host.old.phase (λ known. max_events (items_of known.layout)
-        ≤ vec_capacity events.old) }
-    ensures transacts { IfReady host.old.phase (λ known.
-        Transacts (B.arrives bus.now) device.old host.old.addr known result device.new host.new events.new.items) }
-    ensures few { IfReady host.old.phase (λ known. length events.new.items
-        ≤ max_events (items_of known.layout)) }
-    ensures capacity { vec_capacity events.new ≡ vec_capacity events.old }
+    requires room { IfReady host.old.phase (λ known. vec_len out.old
+        + max_events (items_of known.layout) ≤ vec_capacity out.old) }
+    // Packet by packet.
+    ensures packets { GoesByPackets (B.arrives bus.now) device.old host.old.addr host.old.phase
+        result device.new host.new out.old.items out.new.items }
+
+    ensures few { IfReady host.old.phase (λ known. length out.new.items
+        ≤ length out.old.items + max_events (items_of known.layout)) }
+    ensures capacity { vec_capacity out.new ≡ vec_capacity out.old }
 {
     let token = host.token()?;
-    let came = carried(bus, Stage::Token, &token);
+    let came = carried(bus, Phase::Token, &token);
     let answer = hear(device, came.as_ref());
-    let reply = replied(bus, answer.as_ref());
-    let took = host.reply(reply.as_ref(), events)?;
+    let reply = replied(bus, Phase::Reply, answer.as_ref());
+    let took = host.reply(reply.as_ref(), out)?;
     acknowledge(bus, &took, device);
     Ok(Told::Polled {
         reply: spelled(answer.as_ref()),
@@ -105,8 +100,8 @@ fn transact<B: Bus>(
     })
 }
 
-/// One poll, of which this fate befalls the packets.
-pub(crate) fn poll(
+/// A poll of a device by its own host, of which this fate befalls the packets.
+pub(crate) fn poll_pair(
     fate: Fate,
     device: &mut Device,
     host: &mut HostDevice,
@@ -127,7 +122,7 @@ pub(crate) fn poll(
     ensures capacity { vec_capacity events.new ≡ vec_capacity events.old }
 {
     events.clear();
-    match transact(&fate, device, host, events) {
+    match poll(&fate, device, host, events) {
         Ok(told) => told,
         Err(_) => unreachable!(),
     }

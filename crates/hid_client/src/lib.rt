@@ -1,0 +1,22 @@
+//! A client of the rig: what a program that stands on the public contracts of `hid_stack` alone knows of a device (USB
+//! 2.0, 8.5.4 and 8.6).
+//! ```text
+//!   play(alloc, &config, &KEYBOARD, &steps, key)      Rig::new, attach, run, host; HostDevice::view; View::held
+//!     press 07:04, poll with a lost ACK,
+//!     press 07:05, poll, poll          ------------>  Played { events: down 07:04, down 07:05; is_held: true }
+//! ```
+//! It attaches one device to a bus of its own, runs steps, and looks at one control in the host's view.
+//!
+//! The rule to know: what it promises it has from the clauses `attached` on `Rig::attach`, `headline` and `rounds` on
+//! `Rig::run`, and `shows` on `Rig::host`, and from nothing inside them.
+//!
+//! The promise, for every descriptor that is accepted: the events are those of the rounds that crossed, and the control is
+//! held exactly where the view that took their parts holds it: `played` on [`play`].
+#![tactic(auto)]
+
+mod playing;
+
+pub use playing::{Played, play};
+
+#[cfg(test)]
+mod tests;

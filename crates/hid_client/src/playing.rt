@@ -1,0 +1,40 @@
+//! One device on a bus of its own, and what its host knows of it.
+ghost use Rattle.std.specs.Prelude.{IfOk};
+ghost use Rattle.hid_client.specs.Playing.{IsPlayed};
+
+use hid_device::Config;
+use hid_layout::ControlId;
+use hid_stack::{Delivered, Rig, StackFault, Start, Step};
+use std::alloc::Global;
+
+/// What a device gave over some steps, and whether its host holds a control behind them.
+#[derive(Debug, Drop)]
+pub struct Played {
+    pub events: Vec<Delivered>,
+    pub is_held: bool,
+}
+
+/// Attaches a device to a bus of its own, as number 1, runs steps, and looks at a control in the host's view.
+///
+/// # Errors
+/// Why the device is refused, or the first step that is.
+pub fn play(
+    alloc: Global,
+    config: &Config,
+    descriptor: &[u8],
+    steps: &[Step],
+    control: ControlId,
+) -> Result<Played, StackFault>
+    ensures played { IfOk result (λ played. IsPlayed config.now descriptor.now steps.now control
+        played.events.items played.is_held) }
+{
+    let mut rig = Rig::new(alloc)?;
+    let dev = rig.attach(config, descriptor, Start::Ready)?;
+    let mut events = Vec::new(alloc);
+    match rig.run(steps, &mut events) {
+        Ok(()) => {}
+        Err(stopped) => return Err(stopped.fault),
+    }
+    let is_held = rig.host(dev)?.view().held(control);
+    Ok(Played { events, is_held })
+}
