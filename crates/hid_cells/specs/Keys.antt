@@ -16,9 +16,11 @@ keys_of NoControls = []
 keys_of (Elements kind least greatest usages) = []
 keys_of (Keys elements rolls keys) = keys
 
+-- the places of the usage list of the listed item at a place
 abbrev pub keys_at : Contents → ℕ → List Key
 keys_at layout i = keys_of (form_at (items_of layout) i)
 
+-- the controls are the keys of an array
 abbrev pub has_keys : Form → Bool
 has_keys NoControls = false
 has_keys (Elements kind least greatest usages) = false
@@ -28,6 +30,7 @@ has_keys (Keys elements rolls keys) = true
 abbrev pub has_keys_at : List Item → ℕ → Bool
 has_keys_at items i = has_keys (form_at items i)
 
+-- of a cell, which places are pressed
 abbrev pub pressed_places : Cell → List Bool
 pressed_places (Pressed ps) = ps
 pressed_places Vacant = []
@@ -44,6 +47,7 @@ pub record AreKeyWords (places : ℕ) (pressed : ℕ → Bool) (words : List ℕ
   pub count : length words ≡ div_ceil places 64
   pub bits : (i : ℕ) → is_bit words i ≡ pressed i
 
+-- the same, of controls without their usages
 abbrev pub is_array_head : Controls → Bool
 is_array_head head.None = false
 is_array_head (head.Elements kind least greatest count) = false

@@ -1,4 +1,5 @@
--- What a report shows of a snapshot, and when its controls call for it (our choice; HID 1.11, 8 and appendix C on arrays).
+-- What a report shows of a snapshot, and when its controls call for it
+-- (our choice; HID 1.11, 8 and appendix C on arrays).
 use Rattle.std.specs.Prelude.{◌≡◌, length, ℕ, Bool, true, false, not, ◌&&◌, ◌||◌, ◌==◌, nat_lt, if◌then◌else◌, List, [], ◌∷◌, map, slice_get, unwrap_or, Option, Some, None, ℤ, pos, negsuc, ◌-ℤ◌}
 use Rattle.std.specs.Int.{int_min, int_max}
 use Rattle.std.specs.List.{list_any, list_all, zip}
@@ -21,6 +22,7 @@ use Rattle.hid_cells.specs.Cells.{are_motions, is_in, blank_cell, pressed_count}
 abbrev pub is_of : ℕ → Item → Bool
 is_of r item = elim item.report [ None ↦ false | Some n ↦ n == r ]
 
+-- the report of this number is an Input report
 abbrev pub IsInput : Contents → ℕ → Type 0
 IsInput layout r = is_input layout.reports r ≡ true
 
@@ -42,13 +44,15 @@ clamp least greatest m = int_max least (int_min greatest m)
 -- A cell as its report shows it: motions clamped, and an array with more keys than elements rolled over.
 abbrev pub shown_cell : Controls → Cell → Cell
 shown_cell (head.Elements kind least greatest count) (Moved ms) = Moved (map (clamp least greatest) ms)
-shown_cell (head.Keys elements rolls_over count) (Pressed ps) = if nat_lt elements (pressed_count ps) then RolledOver ps else Pressed ps
+shown_cell (head.Keys elements rolls_over count) (Pressed ps) =
+    if nat_lt elements (pressed_count ps) then RolledOver ps else Pressed ps
 shown_cell controls cell = cell
 
 -- The parts of all reports, with the part of report r set to what it shows of the snapshot.
 abbrev pub shown_of : ℕ → Item → Cell → Cell → Cell
 shown_of r item cell part = if is_of r item then shown_cell (head_of item.form) cell else part
 
+-- what a snapshot shows in the part of report r, and the parts of the others as they were
 abbrev pub shown : List Item → ℕ → List Cell → List Cell → List Cell
 shown items r snapshot parts = by_item (shown_of r) items snapshot parts
 
@@ -56,10 +60,11 @@ shown items r snapshot parts = by_item (shown_of r) items snapshot parts
 abbrev pub blank_parts : List Item → List Cell
 blank_parts items = map (λ item. shown_cell (head_of item.form) (blank_cell (head_of item.form))) items
 
--- the motion of one element in a cell of parts
+-- of two lists of motions, what is left of each
 abbrev pub differences : List ℤ → List ℤ → List ℤ
 differences ms ns = map (λ p. p.0 -ℤ p.1) (zip ms ns)
 
+-- a cell less the motion that a part carries
 abbrev pub minus_motion : Cell → Cell → Cell
 minus_motion (Moved ms) (Moved ns) = Moved (differences ms ns)
 minus_motion cell part = cell
@@ -68,16 +73,20 @@ minus_motion cell part = cell
 abbrev pub taken_of : ℕ → Item → Cell → Cell → Cell
 taken_of r item cell part = if is_of r item then minus_motion cell part else cell
 
+-- the snapshot once the motion of the part of report r is taken out
 abbrev pub taken : List Item → ℕ → List Cell → List Cell → List Cell
 taken items r snapshot parts = by_item (taken_of r) items snapshot parts
 
--- whether two still parts are the same: motions aside, and of an array that rolled over nothing else is shown
+-- the same places are pressed
 abbrev pub same_flags : List Bool → List Bool → Bool
 same_flags xs bs = pointwise beq xs bs
 
+-- the same values, or null
 abbrev pub same_values : List (Option ℤ) → List (Option ℤ) → Bool
 same_values xs bs = pointwise (option_eq int_eq) xs bs
 
+-- two still parts are the same: motions aside, and of an array that rolled over nothing else is
+-- shown
 abbrev pub is_same_still : Cell → Cell → Bool
 is_same_still (Pressed xs) (Pressed bs) = same_flags xs bs
 is_same_still (Holding xs) (Holding bs) = same_values xs bs
@@ -86,6 +95,7 @@ is_same_still (RolledOver xs) (RolledOver bs) = true
 is_same_still Vacant Vacant = true
 is_same_still a b = false
 
+-- something has moved
 abbrev pub has_motion : Cell → Bool
 has_motion (Moved ms) = list_any (λ m. not (int_eq m (pos 0))) ms
 has_motion cell = false
@@ -98,6 +108,7 @@ is_shown cell controls part = is_same_still (shown_cell controls cell) part
 abbrev pub calls_for : ℕ → Item → Cell → Cell → Bool
 calls_for r item cell part = is_of r item && (has_motion cell || not (is_shown cell (head_of item.form) part))
 
+-- some control calls for report r
 abbrev pub is_changed : List Item → ℕ → List Cell → List Cell → Bool
 is_changed items r snapshot parts = list_any (λ called. called) (by_item (calls_for r) items snapshot parts)
 

@@ -1,4 +1,5 @@
--- Snapshots of a device's controls, and the changes that are accepted (our choice; the kinds of controls are those of HID 1.11, 6.2.2.5).
+-- Snapshots of a device's controls, and the changes that are accepted
+-- (our choice; the kinds of controls are those of HID 1.11, 6.2.2.5).
 use Rattle.std.specs.Prelude.{◌≡◌, ℕ, ◌<◌, Bool, true, false, not, ◌&&◌, ◌||◌, nat_le, if◌then◌else◌, List, length, slice_get, slice_set, Option, Some, None, Result, Ok, Err, unwrap_or, ℤ, pos, ◌+ℤ◌, int_lt}
 use Rattle.std.specs.Ordering.{int_eq}
 use Rattle.hid_layout.specs.declared.control.Control.{Control}
@@ -16,34 +17,40 @@ use Rattle.hid_cells.specs.declared.change.ChangeFault.{ChangeFault}
 use Rattle.hid_cells.specs.declared.change.ChangeFault.TheVariants.{NoSuchControl, WrongKind, OutOfRange, NoNull, NoDirection, MotionFull, ArrayFull}
 use Rattle.hid_cells.specs.Cells.{is_in, is_i32, pressed_count}
 
+-- a value, or why a change is refused
 abbrev pub OrFault : Type 0 → Type 0
 OrFault A = Result A ChangeFault
 
+-- the fault where the change is refused, else the rest
 abbrev pub unless : {A : Type 0} → Bool → ChangeFault → OrFault A → OrFault A
 unless refused fault rest = if refused then Err fault else rest
 
--- what a cell has of one element
+-- the place of a cell is pressed
 abbrev pub is_pressed : Cell → ℕ → Bool
 is_pressed (Pressed ps) j = unwrap_or (slice_get ps j) false
 is_pressed cell j = false
 
+-- the motion of one element of a cell; 0 where it has none
 abbrev pub motion_in : Cell → ℕ → ℤ
 motion_in (Moved ms) j = unwrap_or (slice_get ms j) (pos 0)
 motion_in cell j = pos 0
 
--- the cell with one element changed
+-- the cell with one place pressed or released
 abbrev pub with_pressed : Cell → ℕ → Bool → Cell
 with_pressed (Pressed ps) j p = Pressed (slice_set ps j p)
 with_pressed cell j p = cell
 
+-- the cell with one value set
 abbrev pub with_value : Cell → ℕ → Option ℤ → Cell
 with_value (Holding vs) j v = Holding (slice_set vs j v)
 with_value cell j v = cell
 
+-- the cell with one motion set
 abbrev pub with_motion : Cell → ℕ → ℤ → Cell
 with_motion (Moved ms) j m = Moved (slice_set ms j m)
 with_motion cell j m = cell
 
+-- how many places of a cell are pressed
 abbrev pub pressed_in : Cell → ℕ
 pressed_in (Pressed ps) = pressed_count ps
 pressed_in cell = 0
@@ -54,6 +61,7 @@ is_full (head.Keys elements rolls_over count) cell = not rolls_over && nat_le el
 is_full (head.Elements kind least greatest count) cell = false
 is_full head.None cell = false
 
+-- an element of the item can carry the value
 abbrev pub can_hold : Controls → ℤ → Bool
 can_hold (head.Elements kind least greatest count) v = is_in least greatest v
 can_hold (head.Keys elements rolls_over count) v = false
@@ -71,9 +79,11 @@ abbrev pub changed_cell : ControlKind → Controls → Cell → Change → OrFau
 changed_cell Switch controls cell (Press c) =
     unless (not (is_pressed cell c.index) && is_full controls cell) ArrayFull (Ok (with_pressed cell c.index true))
 changed_cell Switch controls cell (Release c) = Ok (with_pressed cell c.index false)
-changed_cell Value controls cell (Set c v) = unless (not (can_hold controls v)) OutOfRange (Ok (with_value cell c.index (Some v)))
+changed_cell Value controls cell (Set c v) =
+    unless (not (can_hold controls v)) OutOfRange (Ok (with_value cell c.index (Some v)))
 changed_cell Value controls cell (Null c) = Err NoNull
-changed_cell NullValue controls cell (Set c v) = unless (not (can_hold controls v)) OutOfRange (Ok (with_value cell c.index (Some v)))
+changed_cell NullValue controls cell (Set c v) =
+    unless (not (can_hold controls v)) OutOfRange (Ok (with_value cell c.index (Some v)))
 changed_cell NullValue controls cell (Null c) = Ok (with_value cell c.index None)
 changed_cell Relative controls cell (Move c by) =
     unless (not (has_direction controls by)) NoDirection
@@ -89,13 +99,16 @@ target (Set c v) = c
 target (Null c) = c
 target (Move c by) = c
 
+-- the cell at a place; one without controls behind the last
 abbrev pub cell_at : List Cell → ℕ → Cell
 cell_at cells i = unwrap_or (slice_get cells i) Vacant
 
+-- the cells with one of them changed, unless that is refused
 abbrev pub with_cell : List Cell → ℕ → OrFault Cell → OrFault (List Cell)
 with_cell cells i (Ok cell) = Ok (slice_set cells i cell)
 with_cell cells i (Err fault) = Err fault
 
+-- the cells once the control that is found there is changed; U1 where none is found
 abbrev pub changed_at : List Item → List Cell → Change → Option Control → OrFault (List Cell)
 changed_at items cells change None = Err NoSuchControl
 changed_at items cells change (Some control) =

@@ -44,6 +44,7 @@ is_alone ps qs i = is_on ps i && not (is_on qs i)
 abbrev pub is_bit : List ℕ → ℕ → Bool
 is_bit ws i = bit_at (unwrap_or (slice_get ws (i / 64)) 0) (i % 64) == 1
 
+-- a bit of the first words is 1 where that of the second is 0
 abbrev pub are_alone : List ℕ → List ℕ → ℕ → Bool
 are_alone ws vs i = is_bit ws i && not (is_bit vs i)
 
@@ -54,6 +55,7 @@ pub record IsFirst (test : ℕ → Bool) (from end place : ℕ) : Type 0 where
   pub before : (i : ℕ) → from ≤ i → i < place → test i ≡ false
   pub hit : test place ≡ true
 
+-- the first place from one on, below an end, that passes, or that there is none
 abbrev pub FindsFirst : (ℕ → Bool) → ℕ → ℕ → Option ℕ → Type 0
 FindsFirst test from end None = (i : ℕ) → from ≤ i → i < end → test i ≡ false
 FindsFirst test from end (Some place) = IsFirst test from end place

@@ -1,6 +1,6 @@
 //! What is kept of the controls at first.
 
-ghost use Rattle.std.specs.Prelude.{◌≡◌, ◌≤◌, ℕ, IfOk, pos};
+ghost use Rattle.std.specs.Prelude.{◌≡◌, IfOk};
 ghost use Rattle.hid_layout.specs.Controls.{items_of};
 ghost use Rattle.hid_layout.specs.Reports.{IsLayout};
 ghost use Rattle.hid_cells.specs.Cells.{blank, blank_cell, first_value};

@@ -1,6 +1,6 @@
 //! Whether the arrays of a layout can send that an element is empty.
 
-ghost use Rattle.std.specs.Prelude.{◌≡◌, ◌<◌, ℕ, List, length, slice_get, Some};
+ghost use Rattle.std.specs.Prelude.{◌≡◌, ◌<◌, List, length, slice_get, Some};
 ghost use Rattle.hid_layout.specs.declared.main_item.MainItem.{MainItem as ItemValue};
 ghost use Rattle.hid_descriptor.specs.Usages.{Entry};
 ghost use Rattle.hid_cells.specs.Codes.{has_empty_code, has_empty_codes};

@@ -1,6 +1,6 @@
 //! Pressed places, kept as words of 64 bits (our choice).
 
-ghost use Rattle.std.specs.Prelude.{◌≡◌, ◌≢◌, ◌+◌, ◌<◌, ◌≤◌, ◌*◌, ◌/◌, ◌%◌, ◌^◌, ◌==◌, ℕ, Bool, List, true, false, length, slice_get, slice_set, slice_index, replicate, Some, IfOk, IfSome, unwrap_or, if◌then◌else◌};
+ghost use Rattle.std.specs.Prelude.{◌≡◌, ◌≢◌, ◌+◌, ◌<◌, ◌*◌, ◌/◌, ◌^◌, ◌==◌, ℕ, Bool, List, true, false, length, slice_get, slice_set, replicate, Some, IfOk, IfSome, unwrap_or, if◌then◌else◌};
 ghost use Rattle.std.specs.Int.{bit_at};
 ghost use Rattle.hid_cells.specs.Cells.{pressed_count};
 ghost use Rattle.hid_cells.specs.Parts.{same_flags};

@@ -19,6 +19,7 @@ pub fn item_count(layout: &Layout) -> usize
 }
 
 /// Whether a listed item stands in an Input report.
+#[tactic(auto, using(crate::proofs::PartLemmas::of_report_at))]
 pub fn is_of(layout: &Layout, i: usize, report: usize) -> bool
     requires listed { i < length layout.now.items }
     requires input { IsInput layout.now report }

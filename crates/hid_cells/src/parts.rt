@@ -1,10 +1,10 @@
 //! What a report shows of what is kept, and when its controls call for it.
 
-ghost use Rattle.std.specs.Prelude.{◌≡◌, ◌<◌, ◌-ℤ◌, ℕ, IsTrue, true, negsuc, pos, length, slice_get, Some};
-ghost use Rattle.hid_layout.specs.Controls.{Item, items_of, is_input};
+ghost use Rattle.std.specs.Prelude.{◌≡◌, ◌<◌, IsTrue, true, length, slice_get, Some};
+ghost use Rattle.hid_layout.specs.Controls.{items_of};
 ghost use Rattle.hid_layout.specs.Reports.{IsLayout};
-ghost use Rattle.hid_cells.specs.Cells.{are_motions, FitsSnapshot, FitsShown};
-ghost use Rattle.hid_cells.specs.Parts.{item_at, IsInput, is_of, shown_cell, rolled_cell, shown, minus_motion, taken, has_motion, is_same_still, is_changed, has_zero, has_zeros, HasRoomOf, AreMotions, shown_of, taken_of, calls_for, is_shown};
+ghost use Rattle.hid_cells.specs.Cells.{FitsSnapshot, FitsShown};
+ghost use Rattle.hid_cells.specs.Parts.{item_at, IsInput, is_of, shown_cell, rolled_cell, shown, minus_motion, taken, has_motion, is_changed, has_zero, has_zeros, HasRoomOf, AreMotions, shown_of, taken_of, calls_for, is_shown};
 
 use crate::cell::Cell;
 use crate::flags::Flags;

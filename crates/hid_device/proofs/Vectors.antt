@@ -15,7 +15,7 @@ use Rattle.hid_usages.specs.Parts.{blank_parts}
 use Rattle.hid_usages.specs.Samples.{usage, keyboard, mouse, hat, wheel_and_button}
 use Rattle.hid_device.specs.declared.device.TheConstants.{ENDPOINT}
 use Rattle.hid_device.specs.declared.config.Boot.TheVariants as boot
-use Rattle.hid_views.specs.declared.boot.TheConstants.{KEYBOARD, MOUSE}
+use Rattle.hid_usages.specs.declared.boot.TheConstants.{KEYBOARD, MOUSE}
 use Rattle.hid_device.specs.Config.{is_config}
 use Rattle.hid_device.specs.Inputs.{input_count}
 use Rattle.hid_device.specs.Standing.{configured, first_due, after_frame}

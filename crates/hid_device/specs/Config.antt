@@ -2,7 +2,7 @@
 use Rattle.std.specs.Prelude.{ℕ, Bool, true, not, ◌&&◌, ◌==◌, nat_le, List}
 use Rattle.std.specs.Cmp.Lexicographic.{pointwise}
 use Rattle.usb_packet.specs.declared.packet.TheConstants.{MAX_ADDRESS}
-use Rattle.hid_views.specs.declared.boot.TheConstants.{KEYBOARD, MOUSE}
+use Rattle.hid_usages.specs.declared.boot.TheConstants.{KEYBOARD, MOUSE}
 use Rattle.hid_device.specs.declared.config.Boot.{Boot}
 use Rattle.hid_device.specs.declared.config.Boot.TheVariants as boot
 use Rattle.hid_device.specs.declared.config.Config.{Config}

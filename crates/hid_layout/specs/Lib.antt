@@ -5,3 +5,4 @@ pub mod Sent
 pub mod Stretches
 pub mod Index
 pub mod Finding
+pub mod ControlKinds

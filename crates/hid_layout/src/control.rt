@@ -1,5 +1,8 @@
 //! The controls of a layout (HID 1.11, 6.2.2.5 and 8).
 
+ghost use Rattle.std.specs.Prelude.{◌≡◌};
+ghost use Rattle.hid_layout.specs.ControlKinds.{has_null, is_switch};
+
 use hid_descriptor::Usage;
 
 /// Names a control.
@@ -21,6 +24,28 @@ pub enum ControlKind {
     NullValue,
     /// A motion: its item has Relative.
     Relative,
+}
+
+impl ControlKind {
+    /// Whether a control of this kind has a null state (HID 1.11, 5.10).
+    pub fn has_null(self) -> bool
+        ensures { result ≡ has_null self }
+    {
+        match self {
+            ControlKind::NullValue => true,
+            ControlKind::Switch | ControlKind::Value | ControlKind::Relative => false,
+        }
+    }
+
+    /// Whether a control of this kind is pressed or not.
+    pub fn is_switch(self) -> bool
+        ensures { result ≡ is_switch self }
+    {
+        match self {
+            ControlKind::Switch => true,
+            ControlKind::Value | ControlKind::NullValue | ControlKind::Relative => false,
+        }
+    }
 }
 
 /// What a control is and means.

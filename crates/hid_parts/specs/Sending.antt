@@ -1,4 +1,5 @@
--- The numbers of the elements by which a report shows what is kept of an item.
+-- The numbers of the elements by which a report shows what is kept of an item
+-- (HID 1.11, 5.10, 6.2.2.5 and appendix C).
 use Rattle.std.specs.Prelude.{ℕ, ◌+◌, ◌-◌, Bool, true, false, List, [], ◌∷◌, ◌++◌, map, replicate, unwrap_or, Option, ℤ, pos, ◌+ℤ◌}
 use Rattle.hid_layout.specs.declared.main_item.MainItem.{MainItem}
 use Rattle.hid_descriptor.specs.declared.usage.Usage.{Usage}
@@ -12,6 +13,7 @@ use Rattle.hid_cells.specs.declared.cell.Cell.TheVariants.{Pressed, Holding, Mov
 abbrev pub or_zero : Option ℤ → ℤ
 or_zero number = unwrap_or number (pos 0)
 
+-- a switch is sent as 1 where it is pressed, else as 0
 abbrev pub switch_number : Bool → ℤ
 switch_number true = pos 1
 switch_number false = pos 0
@@ -22,7 +24,8 @@ placed_from min i [] = []
 placed_from min i (true ∷ ps) = (min +ℤ pos i) ∷ placed_from min (i + 1) ps
 placed_from min i (false ∷ ps) = placed_from min (i + 1) ps
 
--- The numbers of an item's elements: of an array the pressed keys and then the empty code, or the rollover code in each.
+-- The numbers of an item's elements: of an array the pressed keys and then the empty code, or the
+-- rollover code in each.
 abbrev pub sent : MainItem → List Usage → Form → Cell → List ℤ
 sent item us (Elements kind least greatest usages) (Pressed ps) = map switch_number ps
 sent item us (Elements kind least greatest usages) (Holding vs) = map (λ v. unwrap_or v (or_zero (null_number item))) vs

@@ -1,10 +1,13 @@
--- The numbers that are drawn from what is kept of an item.
+-- The numbers that are drawn from what is kept of an item (our choice).
 use Rattle.std.specs.Prelude.{◌^◌, ◌≤◌, List, ◌++◌, drop, map, length, replicate, unwrap_or, ℤ, pos, neg_ℤ, ◌≤ℤ◌}
+use Rattle.hid_descriptor.specs.declared.limits.TheConstants.{MAX_KEYS}
+use Rattle.hid_parts.specs.declared.numbers.TheConstants.{MAX_NUMBERS}
 use Rattle.hid_parts.specs.declared.send.Repeated.{Repeated}
 use Rattle.hid_parts.specs.declared.send.Source.{Source}
 use Rattle.hid_parts.specs.declared.send.Source.TheVariants.{Switches, Values, Motions, Keys, Same}
 use Rattle.hid_parts.specs.Sending.{switch_number, placed_from}
 
+-- the same number, so many times
 abbrev pub repeats : Repeated → List ℤ
 repeats then = replicate then.count then.number
 
@@ -18,8 +21,9 @@ numbers_of (Same then) = repeats then
 
 -- an item has few elements, and an array few keys
 abbrev pub IsSource : Source → Type 0
-IsSource (Switches flags index) = length flags.now ≤ 512
-IsSource (Values values index null) = length values.now ≤ 512
-IsSource (Motions motions index) = length motions.now ≤ 512
-IsSource (Keys flags from min then) = (length flags.now ≤ 65536) × (neg_ℤ (pos (2 ^ 32)) ≤ℤ min) × (min ≤ℤ pos (2 ^ 32))
+IsSource (Switches flags index) = length flags.now ≤ MAX_NUMBERS
+IsSource (Values values index null) = length values.now ≤ MAX_NUMBERS
+IsSource (Motions motions index) = length motions.now ≤ MAX_NUMBERS
+IsSource (Keys flags from min then) =
+    (length flags.now ≤ MAX_KEYS) × (neg_ℤ (pos (2 ^ 32)) ≤ℤ min) × (min ≤ℤ pos (2 ^ 32))
 IsSource (Same then) = Unit {0}

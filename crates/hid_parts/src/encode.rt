@@ -1,14 +1,11 @@
 //! The bytes by which a report shows its part.
 
-ghost use Rattle.std.specs.Prelude.{◌≡◌, ◌<◌, ◌≤◌, ℕ, List, ℤ, [], ◌+◌, ◌*◌, ◌++◌, replicate, length, slice_get, Some, not, true, ◌==◌, ◌&&◌};
-ghost use Rattle.std.specs.Bool.{OnTrue, OnFalse};
+ghost use Rattle.std.specs.Prelude.{◌≡◌, ◌<◌, ◌≤◌, ℕ, List, ◌+◌, ◌*◌, ◌++◌, replicate, length, slice_get, Some, true, ◌&&◌};
 ghost use Rattle.arrayvec.specs.ArrayVec.{array_vec_len};
 ghost use Rattle.hid_fields.specs.Field.{bit_of, IsOutside};
 ghost use Rattle.hid_parts.specs.Numbers.{numbers_in};
-ghost use Rattle.hid_fields.specs.Value.{is_negative, FitsField};
-ghost use Rattle.hid_descriptor.specs.Fields.{is_padding};
+ghost use Rattle.hid_fields.specs.Value.{is_negative};
 ghost use Rattle.hid_layout.specs.Reports.{first_bit, HasElements, IsLayout, report_bytes, report_id};
-ghost use Rattle.hid_layout.specs.declared.main_item.MainItem.{MainItem as ItemValue};
 ghost use Rattle.hid_descriptor.specs.Usages.{usage_list};
 ghost use Rattle.hid_layout.specs.Controls.{form_of, items_of};
 ghost use Rattle.hid_cells.specs.Cells.{FitsShown};
@@ -16,7 +13,7 @@ ghost use Rattle.hid_cells.specs.Parts.{IsInput, has_zeros};
 ghost use Rattle.hid_layout.specs.Sent.{AreCodes};
 ghost use Rattle.hid_cells.specs.Codes.{has_empty_codes};
 ghost use Rattle.hid_parts.specs.Sending.{sent};
-ghost use Rattle.hid_parts.specs.Encoding.{is_data_in, place, bare_report, sent_at, part_numbers, CanSend, CanSendAll, HasFewPlaces, AreBytes, IsEncoding, IsData, Shows};
+ghost use Rattle.hid_parts.specs.Encoding.{is_data_in, place, bare_report, sent_at, part_numbers, CanSend, CanSendAll, HasFewPlaces, AreBytes, IsEncoding, Shows};
 
 use crate::numbers::put_all;
 use crate::send::Sending;

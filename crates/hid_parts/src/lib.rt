@@ -15,6 +15,6 @@ mod snapshot;
 mod tests;
 
 pub use encode::{encode_report, first_bit, is_data};
-pub use numbers::get_all;
+pub use numbers::{MAX_NUMBERS, get_all};
 pub use shown::Shown;
 pub use snapshot::Snapshot;

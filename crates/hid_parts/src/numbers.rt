@@ -1,11 +1,14 @@
 //! The numbers that stand in a run of fields.
-ghost use Rattle.std.specs.Prelude.{◌≡◌, ◌<◌, ◌≤◌, ◌+◌, ◌*◌, ◌^◌, ℕ, Bool, ℤ, length, All, vec_capacity};
-ghost use Rattle.hid_fields.specs.Field.{bit_of, pattern_of, IsOutside};
+ghost use Rattle.std.specs.Prelude.{◌≡◌, ◌<◌, ◌≤◌, ◌+◌, ◌*◌, ℕ, Bool, length, All, vec_capacity};
+ghost use Rattle.hid_fields.specs.Field.{bit_of, IsOutside};
 ghost use Rattle.hid_fields.specs.Value.{FitsEitherSign, FitsField};
 ghost use Rattle.hid_parts.specs.Numbers.{number_at, numbers_in};
 
 use crate::send::Sending;
 use hid_fields::{FieldCodec, to_pattern, to_value};
+
+/// The most numbers of one item: each has a bit at least, and a report has 64 bytes at most.
+pub const MAX_NUMBERS: usize = 512;
 
 /// Puts the numbers of these fields, one behind the other, in place of what the list has. There is room for them.
 pub fn get_all<C: FieldCodec>(
@@ -18,7 +21,7 @@ pub fn get_all<C: FieldCodec>(
 )
     requires some { 0 < width }
     requires width { width ≤ 32 }
-    requires few { count ≤ 512 }
+    requires few { count ≤ MAX_NUMBERS }
     requires inside { at + width * count ≤ 8 * length bytes.now }
     requires short { at + width * count ≤ 4096 }
     requires room { count ≤ vec_capacity numbers.old }

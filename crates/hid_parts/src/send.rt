@@ -4,7 +4,9 @@ ghost use Rattle.std.specs.Prelude.{◌≡◌, ◌<◌, ◌≤◌, ◌++◌, ◌
 ghost use Rattle.hid_parts.specs.Sending.{switch_number, placed_from};
 ghost use Rattle.hid_parts.specs.Sources.{repeats};
 
+use crate::numbers::MAX_NUMBERS;
 use hid_cells::{Flags, Motions, Values};
+use hid_layout::MAX_KEYS;
 use std::marker::Model;
 
 /// What numbers are drawn from.
@@ -65,7 +67,7 @@ impl<'a> Sending<'a> {
 
     /// 1 for each pressed switch, and 0 for each other.
     pub(crate) fn switches(flags: &'a Flags) -> Sending<'a>
-        requires { length flags.now ≤ 512 }
+        requires { length flags.now ≤ MAX_NUMBERS }
         ensures { result ≡ map switch_number flags.now }
     {
         Sending {
@@ -75,7 +77,7 @@ impl<'a> Sending<'a> {
 
     /// The values, with this number for null.
     pub(crate) fn values(values: &'a Values, null: i64) -> Sending<'a>
-        requires { length values.now ≤ 512 }
+        requires { length values.now ≤ MAX_NUMBERS }
         ensures { result ≡ map (λ v. unwrap_or v null) values.now }
     {
         Sending {
@@ -84,7 +86,7 @@ impl<'a> Sending<'a> {
     }
 
     pub(crate) fn motions(motions: &'a Motions) -> Sending<'a>
-        requires { length motions.now ≤ 512 }
+        requires { length motions.now ≤ MAX_NUMBERS }
         ensures { result ≡ motions.now }
     {
         Sending {
@@ -94,7 +96,7 @@ impl<'a> Sending<'a> {
 
     /// The pressed keys by rising place, as numbers from the minimum on, and behind them the same number so many times.
     pub(crate) fn keys(flags: &'a Flags, min: i64, rest: usize, empty: i64) -> Sending<'a>
-        requires places { length flags.now ≤ 65536 }
+        requires places { length flags.now ≤ MAX_KEYS }
         requires small { neg_ℤ (pos (2 ^ 32)) ≤ℤ min }
         requires not_large { min ≤ℤ pos (2 ^ 32) }
         ensures { result ≡ placed_from min 0 flags.now ++ replicate rest empty }

@@ -1,6 +1,6 @@
 //! Snapshots of a device's controls.
 
-ghost use Rattle.std.specs.Prelude.{◌≡◌, ◌≤◌, ◌+ℤ◌, neg_ℤ, ◌≤ℤ◌, ℕ, pos, true, length, IfOk};
+ghost use Rattle.std.specs.Prelude.{◌≡◌, true, length, IfOk};
 ghost use Rattle.hid_layout.specs.Controls.{items_of};
 ghost use Rattle.hid_cells.specs.Cells.{is_i32, FitsSnapshot, FitsShown, blank};
 ghost use Rattle.hid_cells.specs.Parts.{IsInput, is_changed, shown, taken, has_zeros};

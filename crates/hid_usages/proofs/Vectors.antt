@@ -1,8 +1,10 @@
 -- Values of the definitions, worked out by hand.
-use Rattle.std.specs.Prelude.{◌≡◌, ℕ, Bool, true, false, List, [], ◌∷◌, map, replicate, Some, None, Ok, Err, Result, ℤ, pos, negsuc, refl}
+use Rattle.std.specs.Prelude.{◌≡◌, ℕ, ◌*◌, Bool, true, false, List, [], ◌∷◌, None, Ok, Err, pos, negsuc, refl}
+use Rattle.hid_descriptor.specs.declared.limits.TheConstants.{MAX_REPORT_BYTES}
+use Rattle.hid_parts.specs.declared.numbers.TheConstants.{MAX_NUMBERS}
 use Rattle.hid_layout.specs.Controls.{Item}
 use Rattle.hid_cells.specs.declared.cell.Cell.{Cell}
-use Rattle.hid_cells.specs.declared.cell.Cell.TheVariants.{Vacant, Pressed, Holding, Moved, RolledOver}
+use Rattle.hid_cells.specs.declared.cell.Cell.TheVariants.{Vacant, Pressed, Holding, Moved}
 use Rattle.hid_cells.specs.declared.change.Change.{Change}
 use Rattle.hid_cells.specs.declared.change.Change.TheVariants as change
 use Rattle.hid_cells.specs.declared.change.ChangeFault.TheVariants as fault
@@ -11,7 +13,7 @@ use Rattle.hid_cells.specs.declared.event.Event.TheVariants as event
 use Rattle.hid_cells.specs.Cells.{blank}
 use Rattle.hid_cells.specs.Snapshots.{OrFault, changed}
 use Rattle.hid_cells.specs.Parts.{blank_parts, shown, taken, is_changed}
-use Rattle.hid_views.specs.Boot.{keyboard_of, is_held, mouse_in}
+use Rattle.hid_usages.specs.Boot.{keyboard_of, is_held, mouse_in}
 use Rattle.hid_views.specs.Events.{at}
 use Rattle.hid_views.specs.Views.{seen, events_between}
 use Rattle.hid_cells.specs.Words.{words_in}
@@ -121,3 +123,7 @@ keys_in_words = refl
 second_set : is_changed keyboard 0 (kept (changes_of keyboard (change.Press (at 4 11) ∷ seven_keys))) (shown keyboard 0 (kept (changes_of keyboard seven_keys)) (blank_parts keyboard)) ≡ false
 unfolding seven_keys
 second_set = refl
+
+-- an item has at most one element for each bit of the longest report
+most_numbers : MAX_NUMBERS ≡ 8 * MAX_REPORT_BYTES
+most_numbers = refl

@@ -16,4 +16,4 @@ pub use Rattle.hid_views.specs.Taking
 pub use Rattle.hid_views.specs.Law
 pub use Rattle.hid_views.specs.Crossing
 pub use Rattle.hid_views.specs.OneReport
-pub use Rattle.hid_views.specs.Boot
+pub mod Boot

@@ -14,15 +14,18 @@
 //! Pressed and held keys are kept as words of 64 bits: `key_words` of a [`Snapshot`] and of a [`View`].
 //! No call takes memory but `Snapshot::blank`, `Shown::blank` and `View::initial`; events go into reserved room.
 //! The bytes of a part are the only ones that show it: `shows` and `only` on [`encode_report`]. Any bytes give one view
-//! and one list of events: `taken` on [`View::take_report`].
+//! and one list of events: `taken` on [`View::take_report`]. The reports of the boot keyboard and mouse tell the same
+//! without a layout: [`boot::laws`].
 #![tactic(auto)]
+
+pub mod boot;
 
 pub use hid_cells::{
     Cell, Change, ChangeFault, Event, Flags, MemoryFault, Motions, ReportFault, Values,
     has_empty_codes, has_keys, has_zeros, is_input,
 };
 pub use hid_parts::{Shown, Snapshot, encode_report};
-pub use hid_views::{View, boot, changes, element_value, input_report, laws};
+pub use hid_views::{View, changes, element_value, input_report, laws};
 
 #[cfg(test)]
 mod boot_tests;

@@ -19,7 +19,8 @@ use Rattle.hid_descriptor.specs.declared.usage.Usage.{Usage}
 use Rattle.hid_cells.specs.declared.event.Event.{Event}
 use Rattle.hid_views.specs.Events.{at, each, switch_event, switch_events, usages_of, usages_at, element_events, change_events}
 use Rattle.hid_views.specs.Reading.{read_switch, read_cell, motion_cell, item_numbers}
-use Rattle.hid_views.specs.Bits.{is_variable, is_switch, are_bits, read_bits, is_first_word}
+use Rattle.hid_views.specs.Bits.{is_variable, are_bits, read_bits, is_first_word}
+use Rattle.hid_layout.specs.ControlKinds.{is_switch}
 use Rattle.hid_views.specs.Views.{motions_told, HasNext}
 use Rattle.hid_views.specs.Taking.{list_at, IsFormOf, read_by_numbers, told_by_numbers}
 use Rattle.hid_views.proofs.TakeLemmas.{list_at-is}

@@ -1,5 +1,5 @@
 -- The events of the elements of one item.
-use Rattle.std.proofs.Common.{◌≡◌, ℕ, zero, suc, ◌+◌, ◌-◌, ◌<◌, ◌≤◌, ◌&&◌, not, Bool, true, false, ℤ, List, [], ◌∷◌, ◌++◌, append_assoc, length, length-append, append-nil, drop, Some, refl, sym, ap, ◌∙◌, arith}
+use Rattle.std.proofs.Common.{Vec, vec_capacity, ◌≡◌, ℕ, zero, suc, ◌+◌, ◌-◌, ◌<◌, ◌≤◌, ◌&&◌, not, Bool, true, false, ℤ, List, [], ◌∷◌, ◌++◌, append_assoc, length, length-append, append-nil, drop, Some, refl, sym, ap, ◌∙◌, arith}
 use Rattle.std.specs.List.{slice_get, zip}
 use Rattle.hid_descriptor.specs.declared.usage.Usage.{Usage}
 use Rattle.hid_layout.specs.declared.control.ControlId.{ControlId}
@@ -16,6 +16,7 @@ use Rattle.hid_cells.specs.declared.cell.Cell.{Cell}
 use Rattle.hid_cells.specs.declared.cell.Cell.TheVariants.{Vacant, Pressed, Holding, Moved, RolledOver}
 use Rattle.hid_cells.specs.Cells.{HasRoom}
 pub use Rattle.hid_cells.proofs.ListLemmas.{drop_at, zip_at}
+use Rattle.hid_views.specs.Appending.{Appends}
 use Rattle.hid_views.specs.Events.{at, switch_event, up_event, down_event, each, usages_of, element_events, key_events, change_events, HasPlaces}
 
 -- the events from one element on
@@ -33,8 +34,28 @@ room_left len cap len' cap' left now rest e h l k = omega (arith, ap length e, l
 pub told : (all start done left now rest : List Event) → left ≡ now ++ rest → start ++ left ≡ all → done ≡ start ++ now → done ++ rest ≡ all
 told all start done left now rest e so_far here = rw here (append_assoc start now rest ∙ ap (λ (x : List Event). start ++ x) (sym e) ∙ so_far)
 
-pub len_left : (len len' all : ℕ) (left now rest : List Event) → left ≡ now ++ rest → len + length left ≡ all → len' ≡ len + length now → len' + length rest ≡ all
-len_left len len' all left now rest e h l = omega (arith, ap length e, length-append now rest)
+-- what stays tells nothing
+pub nothing_told : (out now : List Event) → now ≡ [] → out ≡ out ++ now
+nothing_told out now h = sym (append-nil out) ∙ ap (λ (t : List Event). out ++ t) (sym h)
+
+-- Events that are appended in the room that was there: how many there are then follows.
+pub appends : {Z : Type 0} (before after : Vec Event Z) (events : List Event) → after.items ≡ before.items ++ events → vec_capacity after ≡ vec_capacity before → Appends before events after
+appends before after events h room = record {
+  items = h;
+  len = omega (arith, before.ok.0, after.ok.0, ap length h, length-append before.items events);
+  room = room;
+}
+
+pub nothing_appended : {Z : Type 0} (out : Vec Event Z) (events : List Event) → events ≡ [] → Appends out events out
+nothing_appended out events none = appends out out events (nothing_told out.items events none) refl
+
+-- A loop is done where nothing is left.
+pub all_appended : {Z : Type 0} (before after : Vec Event Z) (left all : List Event) → left ≡ [] → after.items ++ left ≡ before.items ++ all → vec_capacity after ≡ vec_capacity before → Appends before all after
+all_appended before after left all done h room =
+    appends before after all (sym (append-nil after.items) ∙ ap (λ (t : List Event). after.items ++ t) (sym done) ∙ h) room
+
+pub each_end : {C : Type 0} (f : ℕ → Usage → C → List Event) (us : List Usage) (cs : List C) (j : ℕ) → length us ≤ j → each f j (drop j us) cs ≡ []
+each_end f us cs j h = ap (λ (vs : List Usage). each f j vs cs) (drop_all j us h)
 
 -- a cell with room for an item's controls has a place for each usage
 pub has_places : (form : Form) (cell : Cell) → HasRoom (head_of form) cell → HasPlaces cell (length (usages_of form))
@@ -181,6 +202,3 @@ no_switch c u true true h = refl
 no_switch c u false false h = refl
 no_switch c u true false h = absurd (cc)
 no_switch c u false true h = absurd (cc)
-
-pub nothing_told : (out now : List Event) → now ≡ [] → out ≡ out ++ now
-nothing_told out now h = sym (append-nil out) ∙ ap (λ (t : List Event). out ++ t) (sym h)

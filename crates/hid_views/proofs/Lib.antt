@@ -12,5 +12,3 @@ pub mod NamingLemmas
 pub mod CrossingLemmas
 pub mod OneReportLemmas
 pub mod CrossingVectors
-pub mod BootDescriptors
-pub mod BootLemmas

@@ -1,7 +1,6 @@
 -- Switches of one bit each, side by side: all of them are the pattern of one field (our choice).
 use Rattle.std.specs.Prelude.{ℕ, ◌==◌, ◌&&◌, nat_le, Bool, true, false, List, length, slice_get, Some, None}
-use Rattle.hid_layout.specs.declared.control.ControlKind.{ControlKind}
-use Rattle.hid_layout.specs.declared.control.ControlKind.TheVariants.{Switch, Value, NullValue, Relative}
+use Rattle.hid_layout.specs.ControlKinds.{is_switch}
 use Rattle.hid_layout.specs.declared.main_item.MainItem.{MainItem}
 use Rattle.hid_descriptor.specs.declared.shape.Shape.{Shape}
 use Rattle.hid_descriptor.specs.declared.shape.Shape.TheVariants.{Padding, Variable, Array}
@@ -10,16 +9,11 @@ use Rattle.hid_cells.specs.declared.cell.Cell.{Cell}
 use Rattle.hid_cells.specs.declared.cell.Cell.TheVariants.{Vacant, Pressed, Holding, Moved, RolledOver}
 use Rattle.hid_cells.specs.Words.{words_of, bits_in}
 
+-- an item of this shape has an element for each control
 abbrev pub is_variable : Shape → Bool
 is_variable Variable = true
 is_variable Padding = false
 is_variable Array = false
-
-abbrev pub is_switch : ControlKind → Bool
-is_switch Switch = true
-is_switch Value = false
-is_switch NullValue = false
-is_switch Relative = false
 
 -- the elements of an item are up to 32 switches of one bit each
 abbrev pub are_bits : MainItem → Bool

@@ -1,4 +1,4 @@
--- That reading the numbers of a part gives the part.
+-- That reading the numbers of a part gives the part (our choice).
 use Rattle.std.specs.Prelude.{◌≡◌, ℕ, ◌+◌, ◌<◌, true, false, List, [], ◌∷◌, length, ℤ, pos, ◌+ℤ◌}
 use Rattle.std.specs.Ordering.{int_eq}
 use Rattle.std.specs.List.{list_any}
@@ -15,19 +15,22 @@ use Rattle.hid_parts.specs.Sending.{sent, or_zero, null_number, empty_number, ro
 -- the code names no key
 abbrev pub names_no_key : ℤ → ℤ → ℕ → List Key → Type 0
 names_no_key code min i [] = Unit {0}
-names_no_key code min i (key ∷ keys) = (key.is_switch ≡ true → int_eq code (min +ℤ pos i) ≡ false) × names_no_key code min (i + 1) keys
+names_no_key code min i (key ∷ keys) =
+    (key.is_switch ≡ true → int_eq code (min +ℤ pos i) ≡ false) × names_no_key code min (i + 1) keys
 
 -- What a part of an item is: values and motions that its fields can carry, pressed keys with an empty code that names
 -- nothing, or more keys than elements with a rollover code.
 abbrev pub IsPart : MainItem → List Usage → Form → Cell → Type 0
 IsPart item us (Elements kind least greatest usages) (Pressed ps) = Unit {0}
 IsPart item us (Elements kind least greatest usages) (Holding vs) =
-    are_values (has_null kind) least greatest vs × (has_null kind ≡ true → is_in least greatest (or_zero (null_number item)) ≡ false)
+    are_values (has_null kind) least greatest vs
+    × (has_null kind ≡ true → is_in least greatest (or_zero (null_number item)) ≡ false)
 IsPart item us (Elements kind least greatest usages) (Moved ms) = are_motions least greatest ms
 IsPart item us (Keys elements rolls keys) (Pressed ps) =
     are_pressable keys ps × names_no_key (or_zero (empty_number item us)) item.min 0 keys
     × (list_any (names_rollover item us) (sent item us (Keys elements rolls keys) (Pressed ps)) ≡ false)
-IsPart item us (Keys elements rolls keys) (RolledOver ps) = (0 < elements) × (names_rollover item us (or_zero (rollover_number item us)) ≡ true)
+IsPart item us (Keys elements rolls keys) (RolledOver ps) =
+    (0 < elements) × (names_rollover item us (or_zero (rollover_number item us)) ≡ true)
 IsPart item us NoControls Vacant = Unit {0}
 IsPart item us _ _ = ⊥
 
@@ -43,5 +46,7 @@ IsLike _ _ = ⊥
 
 -- reading the numbers of a part in a view gives the view that sees the part
 abbrev pub ReadsBack : Type 0
-ReadsBack = (item : MainItem) (us : List Usage) (form : Form) (view part : Cell) → IsPart item us form part → IsLike view part
+ReadsBack =
+    (item : MainItem) (us : List Usage) (form : Form) (view part : Cell) → IsPart item us form part
+    → IsLike view part
     → read_cell item us form view (sent item us form part) ≡ seen_cell view part

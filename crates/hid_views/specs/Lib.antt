@@ -1,3 +1,4 @@
+pub mod Appending
 pub mod Events
 pub mod Views
 pub mod Reading
@@ -5,5 +6,4 @@ pub mod Taking
 pub mod Law
 pub mod Crossing
 pub mod OneReport
-pub mod Boot
 pub mod Bits

@@ -1,4 +1,5 @@
--- What a report of any bytes means, by the number of each element. A number out of range is null where the control has null.
+-- What a report of any bytes means, by the number of each element; a number out of range is null where
+-- the control has null (HID 1.11, 5.6, 5.8, 5.10, 6.2.2.5 and appendix C).
 use Rattle.std.specs.Prelude.{◌≡◌, ℕ, ◌+◌, ◌*◌, ◌<◌, ◌≤◌, ◌==◌, nat_lt, length, position, Result, Ok, Err, Bool, true, false, ◌&&◌, if◌then◌else◌, List, [], ◌∷◌, map, slice_get, Option, Some, None, ℤ, pos, ◌+ℤ◌}
 use Rattle.std.specs.Ordering.{int_eq}
 use Rattle.std.specs.List.{list_any, zip}
@@ -26,22 +27,29 @@ pub use Rattle.hid_cells.specs.Keys.{keys_of, keys_at}
 use Rattle.hid_cells.specs.declared.cell.Cell.{Cell}
 use Rattle.hid_cells.specs.declared.cell.Cell.TheVariants.{Vacant, Pressed, Holding, Moved}
 
--- an element of a variable item
+-- a switch is released by 0, pressed by 1, and stays for another number
 abbrev pub read_switch : Bool → ℤ → Bool
 read_switch before v = if int_eq v (pos 0) then false else (if int_eq v (pos 1) then true else before)
 
+-- a value is the number where that is in range, else null where the control has null, else as
+-- before
 abbrev pub read_value : Bool → ℤ → ℤ → Option ℤ → ℤ → Option ℤ
-read_value has_null least greatest before v = if is_in least greatest v then Some v else (if has_null then None else before)
+read_value has_null least greatest before v =
+    if is_in least greatest v then Some v else (if has_null then None else before)
 
+-- a motion is the number where that is in range, else none
 abbrev pub read_motion : ℤ → ℤ → ℤ → ℤ
 read_motion least greatest v = if is_in least greatest v then v else pos 0
 
+-- the usage that an element of an array names by this number
 abbrev pub usage_named : MainItem → List Usage → ℤ → Option Usage
 usage_named item us v = elim (place_named item v) [ None ↦ None | Some i ↦ slice_get us i ]
 
+-- the usage at a place is ErrorRollOver, 07:01
 abbrev pub is_rollover_at : List Usage → ℕ → Bool
 is_rollover_at us place = elim (slice_get us place) [ None ↦ false | Some u ↦ is_rollover u ]
 
+-- an element of this number names ErrorRollOver
 abbrev pub names_rollover : MainItem → List Usage → ℤ → Bool
 names_rollover item us v = elim (usage_named item us v) [ None ↦ false | Some u ↦ is_rollover u ]
 
@@ -49,6 +57,7 @@ names_rollover item us v = elim (usage_named item us v) [ None ↦ false | Some 
 abbrev pub names_key : MainItem → List ℤ → ℕ → Bool
 names_key item vs i = list_any (λ v. int_eq v (item.min +ℤ pos i)) vs
 
+-- which keys from place i on some element names
 abbrev pub named_from : MainItem → List ℤ → ℕ → List Key → List Bool
 named_from item vs i [] = []
 named_from item vs i (key ∷ keys) = (key.is_switch && names_key item vs i) ∷ named_from item vs (i + 1) keys
@@ -57,12 +66,14 @@ named_from item vs i (key ∷ keys) = (key.is_switch && names_key item vs i) ∷
 abbrev pub AreBounds : MainItem → ℤ → ℤ → Type 0
 AreBounds item least greatest = (least ≡ least_of item) × (greatest ≡ greatest_of item)
 
--- what is kept of an item in a view once these numbers of its elements are read
+-- what is kept of a variable item in a view once these numbers of its elements are read
 abbrev pub read_elements : ControlKind → ℤ → ℤ → Cell → List ℤ → Cell
 read_elements kind least greatest (Pressed bs) vs = Pressed (map (λ p. read_switch p.0 p.1) (zip bs vs))
-read_elements kind least greatest (Holding bs) vs = Holding (map (λ p. read_value (has_null kind) least greatest p.0 p.1) (zip bs vs))
+read_elements kind least greatest (Holding bs) vs =
+    Holding (map (λ p. read_value (has_null kind) least greatest p.0 p.1) (zip bs vs))
 read_elements kind least greatest cell vs = cell
 
+-- what is kept of an array once its elements name these keys
 abbrev pub read_named : MainItem → List Key → Cell → List ℤ → Cell
 read_named item keys (Pressed bs) vs = Pressed (named_from item vs 0 keys)
 read_named item keys cell vs = cell
@@ -71,6 +82,7 @@ read_named item keys cell vs = cell
 abbrev pub read_keys : MainItem → List Usage → List Key → Cell → List ℤ → Cell
 read_keys item us keys cell vs = if list_any (names_rollover item us) vs then cell else read_named item keys cell vs
 
+-- what is kept of an item once these numbers of its elements are read
 abbrev pub read_cell : MainItem → List Usage → Form → Cell → List ℤ → Cell
 read_cell item us NoControls cell vs = cell
 read_cell item us (Elements kind least greatest usages) cell vs = read_elements kind least greatest cell vs
@@ -80,13 +92,14 @@ read_cell item us (Keys elements rolls keys) cell vs = read_keys item us keys ce
 abbrev pub item_numbers : Contents → List ℕ → MainItem → List ℤ
 item_numbers layout bytes m = numbers_in bytes (first_bit layout + m.offset) m.size (is_negative m.min) m.count
 
--- the motions that these bytes carry
+-- the motions that the elements of a relative item carry in these numbers
 abbrev pub motion_elements : ControlKind → ℤ → ℤ → List ℤ → Cell
 motion_elements Relative least greatest vs = Moved (map (read_motion least greatest) vs)
 motion_elements Switch least greatest vs = Vacant
 motion_elements Value least greatest vs = Vacant
 motion_elements NullValue least greatest vs = Vacant
 
+-- the motions that an item carries in these numbers
 abbrev pub motion_cell : Form → List ℤ → Cell
 motion_cell NoControls vs = Vacant
 motion_cell (Elements kind least greatest usages) vs = motion_elements kind least greatest vs
@@ -96,10 +109,12 @@ motion_cell (Keys elements rolls keys) vs = Vacant
 abbrev pub is_input_with : ℕ → Report → Bool
 is_input_with id report = same_kind report.kind Input && (report.id == id)
 
+-- the first byte, where there is one
 abbrev pub first_byte : List ℕ → Option ℕ
 first_byte [] = None
 first_byte (b ∷ bytes) = Some b
 
+-- the report that was found, where the bytes fill it
 abbrev pub whole_report : Contents → List ℕ → Option ℕ → Result ℕ ReportFault
 whole_report layout bytes None = Err UnknownReport
 whole_report layout bytes (Some r) = if nat_lt (length bytes) (report_bytes layout r) then Err Short else Ok r
@@ -107,7 +122,11 @@ whole_report layout bytes (Some r) = if nat_lt (length bytes) (report_bytes layo
 -- The Input report that the bytes name and fill, or why there is none. More bytes than it has are ignored.
 abbrev pub report_named : Contents → List ℕ → Result ℕ ReportFault
 report_named layout bytes =
-    if layout.numbered then elim (first_byte bytes) [ None ↦ Err Short | Some id ↦ whole_report layout bytes (position (is_input_with id) layout.reports) ]
+    if layout.numbered then elim (first_byte bytes) [
+      | None ↦ Err Short
+      | Some id ↦ whole_report layout bytes
+          (position (is_input_with id) layout.reports)
+    ]
     else whole_report layout bytes (position (is_input_with 0) layout.reports)
 
 -- the number of a data element
@@ -116,4 +135,6 @@ element_number layout bytes element = number_at bytes (first_bit layout + elemen
 
 -- a data element lies in the bytes
 abbrev pub IsInside : Contents → List ℕ → Element → Type 0
-IsInside layout bytes element = (0 < element.width) × (element.width ≤ 32) × (first_bit layout + (element.bit + element.width) ≤ 8 * length bytes)
+IsInside layout bytes element =
+    (0 < element.width) × (element.width ≤ 32)
+    × (first_bit layout + (element.bit + element.width) ≤ 8 * length bytes)

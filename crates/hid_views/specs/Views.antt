@@ -16,6 +16,7 @@ seen_cell view (Moved ms) = view
 seen_cell view (RolledOver ps) = view
 seen_cell view Vacant = view
 
+-- what a view sees of an item where it belongs to report r
 abbrev pub seen_of : ℕ → Item → Cell → Cell → Cell
 seen_of r item view part = if is_of r item then seen_cell view part else view
 
@@ -33,6 +34,7 @@ abbrev pub motions_of : ℕ → List Usage → Cell → List Event
 motions_of i us (Moved ms) = motion_events i us ms
 motions_of i us part = []
 
+-- the motions of an item's part, by the kind of its controls
 abbrev pub motions_told : ℕ → Form → Cell → List Event
 motions_told i NoControls part = []
 motions_told i (Elements kind least greatest usages) part = motions_of i usages part
@@ -45,9 +47,11 @@ part_of r item part = if is_of r item then part else Vacant
 -- What changes from one view to another, and the motions of report r's part: item by item in layout order.
 abbrev pub events_from : ℕ → ℕ → List Item → List Cell → List Cell → List Cell → List Event
 events_from i r (item ∷ items) (b ∷ bs) (a ∷ xs) (p ∷ ps) =
-    (change_events i item.form b a ++ motions_told i item.form (part_of r item p)) ++ events_from (i + 1) r items bs xs ps
+    (change_events i item.form b a ++ motions_told i item.form (part_of r item p))
+    ++ events_from (i + 1) r items bs xs ps
 events_from i r items bs xs ps = []
 
+-- what changes from one view to another, and the motions of report r's part
 abbrev pub events_between : List Item → ℕ → List Cell → List Cell → List Cell → List Event
 events_between items r before after parts = events_from 0 r items before after parts
 
@@ -56,6 +60,7 @@ abbrev pub changes_from : ℕ → List Item → List Cell → List Cell → List
 changes_from i (item ∷ items) (b ∷ bs) (a ∷ xs) = change_events i item.form b a ++ changes_from (i + 1) items bs xs
 changes_from i items bs xs = []
 
+-- what changes from one view to another, of all items
 abbrev pub changes_between : List Item → List Cell → List Cell → List Event
 changes_between items before after = changes_from 0 items before after
 

@@ -1,26 +1,17 @@
 //! Switches of one bit each, side by side: they are read and compared as one pattern.
 
-ghost use Rattle.std.specs.Prelude.{◌≡◌, ◌<◌, ◌≤◌, ◌+◌, ◌++◌, ◌==◌, Bool, length, slice_get, slice_set, Some, vec_len, vec_capacity};
+ghost use Rattle.std.specs.Prelude.{◌≡◌, ◌<◌, ◌≤◌, ◌==◌, Bool, length, slice_get, slice_set, Some};
 ghost use Rattle.std.specs.Int.{bit_at};
 ghost use Rattle.hid_descriptor.specs.declared.usage.Usage.{Usage as UsageValue};
 ghost use Rattle.hid_layout.specs.Reports.{HasElements};
-ghost use Rattle.hid_descriptor.specs.Fields.{is_padding};
 ghost use Rattle.hid_cells.specs.Words.{bits_in};
+ghost use Rattle.hid_views.specs.Appending.{HasSpace, Appends};
 ghost use Rattle.hid_views.specs.Events.{at, usages_at, switch_event, switch_events};
-ghost use Rattle.hid_views.specs.Bits.{are_bits, is_switch, is_first_word};
+ghost use Rattle.hid_views.specs.Bits.{are_bits, is_first_word};
 
 use crate::differences::tell_switch;
 use hid_cells::{Event, Flags};
-use hid_layout::{ControlKind, Layout, MainItem, Shape};
-
-fn is_switch(kind: ControlKind) -> bool
-    ensures { result ≡ is_switch kind }
-{
-    match kind {
-        ControlKind::Switch => true,
-        ControlKind::Value | ControlKind::NullValue | ControlKind::Relative => false,
-    }
-}
+use hid_layout::{Layout, MainItem, Shape};
 
 /// Whether the elements of an item with data are up to 32 switches of one bit each.
 pub(crate) fn are_bits(item: &MainItem) -> bool
@@ -28,7 +19,7 @@ pub(crate) fn are_bits(item: &MainItem) -> bool
     ensures { result ≡ are_bits item.now }
 {
     match item.shape {
-        Shape::Variable => item.size == 1 && (item.count <= 32 && is_switch(item.element_kind())),
+        Shape::Variable => item.size == 1 && (item.count <= 32 && item.element_kind().is_switch()),
         Shape::Array | Shape::Padding => false,
     }
 }
@@ -61,25 +52,13 @@ fn take_bit(
     requires index { index < length (usages_at layout.now i) }
     requires held { length held.old ≡ length (usages_at layout.now i) }
     requires few { length held.old ≤ 32 }
-    requires room { (usage : UsageValue) (before : Bool)
-        → slice_get (usages_at layout.now i) index ≡ Some usage
-        → slice_get held.old index ≡ Some before
-        → vec_len out.old
-        + length (switch_event (at i index) usage before (bit_at pattern index == 1))
-        ≤ vec_capacity out.old }
+    requires room { (usage : UsageValue) (before : Bool) → slice_get (usages_at layout.now i) index
+        ≡ Some usage → slice_get held.old index ≡ Some before → HasSpace out.old
+        (switch_event (at i index) usage before (bit_at pattern index == 1)) }
     ensures held { held.new ≡ slice_set held.old index (bit_at pattern index == 1) }
-    ensures events { (usage : UsageValue) (before : Bool)
-        → slice_get (usages_at layout.now i) index ≡ Some usage
-        → slice_get held.old index ≡ Some before
-        → out.new.items
-        ≡ out.old.items ++ switch_event (at i index) usage before (bit_at pattern index == 1) }
-    ensures len { (usage : UsageValue) (before : Bool)
-        → slice_get (usages_at layout.now i) index ≡ Some usage
-        → slice_get held.old index ≡ Some before
-        → vec_len out.new
-        ≡ vec_len out.old
-        + length (switch_event (at i index) usage before (bit_at pattern index == 1)) }
-    ensures room { vec_capacity out.new ≡ vec_capacity out.old }
+    ensures told { (usage : UsageValue) (before : Bool) → slice_get (usages_at layout.now i) index
+        ≡ Some usage → slice_get held.old index ≡ Some before → Appends out.old
+        (switch_event (at i index) usage before (bit_at pattern index == 1)) out.new }
 {
     let before = held.get(index);
     let after = is_bit(pattern, index);
@@ -90,18 +69,11 @@ fn take_bit(
 fn take_each_bit(layout: &Layout, i: usize, pattern: u32, held: &mut Flags, out: &mut Vec<Event>)
     requires held { length held.old ≡ length (usages_at layout.now i) }
     requires few { length held.old ≤ 32 }
-    requires room { vec_len out.old
-        + length (switch_events i (usages_at layout.now i) held.old
-        (bits_in (length held.old) pattern)) ≤ vec_capacity out.old }
-    ensures held { held.new ≡ bits_in (length held.old) pattern }
-    ensures events { out.new.items
-        ≡ out.old.items
-        ++ switch_events i (usages_at layout.now i) held.old (bits_in (length held.old) pattern) }
-    ensures len { vec_len out.new
-        ≡ vec_len out.old
-        + length (switch_events i (usages_at layout.now i) held.old
+    requires room { HasSpace out.old (switch_events i (usages_at layout.now i) held.old
         (bits_in (length held.old) pattern)) }
-    ensures room { vec_capacity out.new ≡ vec_capacity out.old }
+    ensures held { held.new ≡ bits_in (length held.old) pattern }
+    ensures told { Appends out.old (switch_events i (usages_at layout.now i) held.old
+        (bits_in (length held.old) pattern)) out.new }
 {
     for index in 0..held.len() {
         take_bit(layout, i, index, pattern, held, out);
@@ -118,18 +90,11 @@ pub(crate) fn take_bits(
 )
     requires held { length held.old ≡ length (usages_at layout.now i) }
     requires few { length held.old ≤ 32 }
-    requires room { vec_len out.old
-        + length (switch_events i (usages_at layout.now i) held.old
-        (bits_in (length held.old) pattern)) ≤ vec_capacity out.old }
-    ensures held { held.new ≡ bits_in (length held.old) pattern }
-    ensures events { out.new.items
-        ≡ out.old.items
-        ++ switch_events i (usages_at layout.now i) held.old (bits_in (length held.old) pattern) }
-    ensures len { vec_len out.new
-        ≡ vec_len out.old
-        + length (switch_events i (usages_at layout.now i) held.old
+    requires room { HasSpace out.old (switch_events i (usages_at layout.now i) held.old
         (bits_in (length held.old) pattern)) }
-    ensures room { vec_capacity out.new ≡ vec_capacity out.old }
+    ensures held { held.new ≡ bits_in (length held.old) pattern }
+    ensures told { Appends out.old (switch_events i (usages_at layout.now i) held.old
+        (bits_in (length held.old) pattern)) out.new }
 {
     if !is_first_word(held, pattern) {
         take_each_bit(layout, i, pattern, held, out);

@@ -1,16 +1,17 @@
 //! What changed from one view to another, in events.
 
-ghost use Rattle.std.specs.Prelude.{◌≡◌, ◌<◌, ◌≤◌, ◌+◌, ◌++◌, ℕ, Bool, List, length, slice_get, map, Some, vec_len, vec_capacity};
+ghost use Rattle.std.specs.Prelude.{◌≡◌, ◌<◌, ◌≤◌, ◌++◌, length, slice_get, map, Some};
 ghost use Rattle.hid_descriptor.specs.declared.usage.Usage.{Usage as UsageValue};
 ghost use Rattle.hid_descriptor.specs.Usages.{usage_list};
 ghost use Rattle.hid_layout.specs.Reports.{usage_of};
 ghost use Rattle.hid_layout.specs.Controls.{items_of, form_at, head_of};
 ghost use Rattle.hid_cells.specs.Cells.{HasRoom, FitsView};
+ghost use Rattle.hid_views.specs.Appending.{HasSpace, Appends};
 ghost use Rattle.hid_views.specs.Views.{changes_between};
 ghost use Rattle.hid_views.specs.Events.{element_events, key_events, change_events, HasPlaces, at, usages_at, usage_place, switch_event, value_event, motion_event, switch_events, value_events, motion_events, ups, downs};
 ghost use Rattle.hid_views.specs.Reading.{read_motion};
-ghost use Rattle.hid_cells.specs.declared.event.Event.{Event as EventValue};
 
+use crate::bounds::Bounds;
 use hid_cells::{Cell, Event, Flags, Values, cell_at, item_at, item_count};
 use hid_layout::{
     ControlId, Controls, Layout, MainItem, Shape, Usage, usage_at as usage_in, usage_count,
@@ -67,12 +68,8 @@ fn usage_at(layout: &Layout, item: usize, index: usize) -> Usage
 }
 
 fn switch_event(control: ControlId, usage: Usage, before: bool, after: bool, out: &mut Vec<Event>)
-    requires { vec_len out.old + length (switch_event control usage before after)
-        ≤ vec_capacity out.old }
-    ensures events { out.new.items ≡ out.old.items ++ switch_event control usage before after }
-    ensures len { vec_len out.new
-        ≡ vec_len out.old + length (switch_event control usage before after) }
-    ensures room { vec_capacity out.new ≡ vec_capacity out.old }
+    requires { HasSpace out.old (switch_event control usage before after) }
+    ensures { Appends out.old (switch_event control usage before after) out.new }
 {
     match (before, after) {
         (true, false) => out.push_reserved(Event::Up { control, usage }),
@@ -92,14 +89,9 @@ pub(crate) fn tell_switch(
 )
     requires index { index < length (usages_at layout.now item) }
     requires room { (usage : UsageValue) → slice_get (usages_at layout.now item) index ≡ Some usage
-        → vec_len out.old + length (switch_event (at item index) usage before after)
-        ≤ vec_capacity out.old }
-    ensures events { (usage : UsageValue) → slice_get (usages_at layout.now item) index ≡ Some usage
-        → out.new.items ≡ out.old.items ++ switch_event (at item index) usage before after }
-    ensures len { (usage : UsageValue) → slice_get (usages_at layout.now item) index ≡ Some usage
-        → vec_len out.new
-        ≡ vec_len out.old + length (switch_event (at item index) usage before after) }
-    ensures room { vec_capacity out.new ≡ vec_capacity out.old }
+        → HasSpace out.old (switch_event (at item index) usage before after) }
+    ensures { (usage : UsageValue) → slice_get (usages_at layout.now item) index ≡ Some usage
+        → Appends out.old (switch_event (at item index) usage before after) out.new }
 {
     if before != after {
         let control = ControlId { item, index };
@@ -114,12 +106,8 @@ fn value_event(
     after: Option<i64>,
     out: &mut Vec<Event>,
 )
-    requires { vec_len out.old + length (value_event control usage before after)
-        ≤ vec_capacity out.old }
-    ensures events { out.new.items ≡ out.old.items ++ value_event control usage before after }
-    ensures len { vec_len out.new
-        ≡ vec_len out.old + length (value_event control usage before after) }
-    ensures room { vec_capacity out.new ≡ vec_capacity out.old }
+    requires { HasSpace out.old (value_event control usage before after) }
+    ensures { Appends out.old (value_event control usage before after) out.new }
 {
     match (before, after) {
         (None, None) => {}
@@ -142,10 +130,8 @@ fn value_event(
 }
 
 fn motion_event(control: ControlId, usage: Usage, by: i64, out: &mut Vec<Event>)
-    requires { vec_len out.old + length (motion_event control usage by) ≤ vec_capacity out.old }
-    ensures events { out.new.items ≡ out.old.items ++ motion_event control usage by }
-    ensures len { vec_len out.new ≡ vec_len out.old + length (motion_event control usage by) }
-    ensures room { vec_capacity out.new ≡ vec_capacity out.old }
+    requires { HasSpace out.old (motion_event control usage by) }
+    ensures { Appends out.old (motion_event control usage by) out.new }
 {
     if by != 0 {
         out.push_reserved(Event::Motion { control, usage, by });
@@ -162,15 +148,10 @@ pub(crate) fn switch_changes(
 )
     requires before { length before.now ≡ length (usages_at layout.now item) }
     requires after { length after.now ≡ length (usages_at layout.now item) }
-    requires room { vec_len out.old
-        + length (switch_events item (usages_at layout.now item) before.now after.now)
-        ≤ vec_capacity out.old }
-    ensures events { out.new.items
-        ≡ out.old.items ++ switch_events item (usages_at layout.now item) before.now after.now }
-    ensures len { vec_len out.new
-        ≡ vec_len out.old
-        + length (switch_events item (usages_at layout.now item) before.now after.now) }
-    ensures room { vec_capacity out.new ≡ vec_capacity out.old }
+    requires room { HasSpace out.old (switch_events item
+        (usages_at layout.now item) before.now after.now) }
+    ensures { Appends out.old (switch_events item (usages_at layout.now item) before.now after.now)
+        out.new }
 {
     for index in 0..before.len() {
         tell_switch(
@@ -194,15 +175,10 @@ pub(crate) fn value_changes(
 )
     requires before { length before.now ≡ length (usages_at layout.now item) }
     requires after { length after.now ≡ length (usages_at layout.now item) }
-    requires room { vec_len out.old
-        + length (value_events item (usages_at layout.now item) before.now after.now)
-        ≤ vec_capacity out.old }
-    ensures events { out.new.items
-        ≡ out.old.items ++ value_events item (usages_at layout.now item) before.now after.now }
-    ensures len { vec_len out.new
-        ≡ vec_len out.old
-        + length (value_events item (usages_at layout.now item) before.now after.now) }
-    ensures room { vec_capacity out.new ≡ vec_capacity out.old }
+    requires room { HasSpace out.old (value_events item (usages_at layout.now item) before.now
+        after.now) }
+    ensures { Appends out.old (value_events item (usages_at layout.now item) before.now after.now)
+        out.new }
 {
     for index in 0..before.len() {
         let control = ControlId { item, index };
@@ -226,14 +202,8 @@ pub(crate) fn releases(
 )
     requires before { length before.now ≡ length (usages_at layout.now item) }
     requires after { length after.now ≡ length (usages_at layout.now item) }
-    requires room { vec_len out.old
-        + length (ups item (usages_at layout.now item) before.now after.now)
-        ≤ vec_capacity out.old }
-    ensures events { out.new.items
-        ≡ out.old.items ++ ups item (usages_at layout.now item) before.now after.now }
-    ensures len { vec_len out.new
-        ≡ vec_len out.old + length (ups item (usages_at layout.now item) before.now after.now) }
-    ensures room { vec_capacity out.new ≡ vec_capacity out.old }
+    requires room { HasSpace out.old (ups item (usages_at layout.now item) before.now after.now) }
+    ensures { Appends out.old (ups item (usages_at layout.now item) before.now after.now) out.new }
 {
     let mut from = 0;
     while let Some(index) = before.next_alone(after, from) {
@@ -254,14 +224,9 @@ pub(crate) fn presses(
 )
     requires before { length before.now ≡ length (usages_at layout.now item) }
     requires after { length after.now ≡ length (usages_at layout.now item) }
-    requires room { vec_len out.old
-        + length (downs item (usages_at layout.now item) before.now after.now)
-        ≤ vec_capacity out.old }
-    ensures events { out.new.items
-        ≡ out.old.items ++ downs item (usages_at layout.now item) before.now after.now }
-    ensures len { vec_len out.new
-        ≡ vec_len out.old + length (downs item (usages_at layout.now item) before.now after.now) }
-    ensures room { vec_capacity out.new ≡ vec_capacity out.old }
+    requires room { HasSpace out.old (downs item (usages_at layout.now item) before.now after.now) }
+    ensures { Appends out.old (downs item (usages_at layout.now item) before.now after.now)
+        out.new }
 {
     let mut from = 0;
     while let Some(index) = after.next_alone(before, from) {
@@ -270,13 +235,6 @@ pub(crate) fn presses(
         out.push_reserved(Event::Down { control, usage });
         from = index + 1;
     }
-}
-
-/// The numbers that an element's field carries as motion.
-#[derive(Clone, Copy)]
-pub(crate) struct Bounds {
-    pub(crate) least: i64,
-    pub(crate) greatest: i64,
 }
 
 /// The motion that an element's number is read as: none, 0, where it is out of the range.
@@ -303,19 +261,10 @@ pub(crate) fn motions(
     out: &mut Vec<Event>,
 )
     requires numbers { length numbers.now ≡ length (usages_at layout.now item) }
-    requires room { vec_len out.old
-        + length (motion_events item (usages_at layout.now item)
-        (map (read_motion bounds.now.least bounds.now.greatest) numbers.now))
-        ≤ vec_capacity out.old }
-    ensures events { out.new.items
-        ≡ out.old.items
-        ++ motion_events item (usages_at layout.now item)
-        (map (read_motion bounds.now.least bounds.now.greatest) numbers.now) }
-    ensures len { vec_len out.new
-        ≡ vec_len out.old
-        + length (motion_events item (usages_at layout.now item)
+    requires room { HasSpace out.old (motion_events item (usages_at layout.now item)
         (map (read_motion bounds.now.least bounds.now.greatest) numbers.now)) }
-    ensures room { vec_capacity out.new ≡ vec_capacity out.old }
+    ensures { Appends out.old (motion_events item (usages_at layout.now item)
+        (map (read_motion bounds.now.least bounds.now.greatest) numbers.now)) out.new }
 {
     for index in 0..numbers.len() {
         let control = ControlId { item, index };
@@ -338,15 +287,10 @@ pub(crate) fn element_changes(
 )
     requires before { HasPlaces before.now (length (usages_at layout.now item)) }
     requires after { HasPlaces after.now (length (usages_at layout.now item)) }
-    requires room { vec_len out.old
-        + length (element_events item (usages_at layout.now item) before.now after.now)
-        ≤ vec_capacity out.old }
-    ensures events { out.new.items
-        ≡ out.old.items ++ element_events item (usages_at layout.now item) before.now after.now }
-    ensures len { vec_len out.new
-        ≡ vec_len out.old
-        + length (element_events item (usages_at layout.now item) before.now after.now) }
-    ensures room { vec_capacity out.new ≡ vec_capacity out.old }
+    requires room { HasSpace out.old (element_events item
+        (usages_at layout.now item) before.now after.now) }
+    ensures { Appends out.old (element_events item (usages_at layout.now item) before.now after.now)
+        out.new }
 {
     match before {
         Cell::Pressed(old) => match after {
@@ -371,15 +315,10 @@ pub(crate) fn key_changes(
 )
     requires before { HasPlaces before.now (length (usages_at layout.now item)) }
     requires after { HasPlaces after.now (length (usages_at layout.now item)) }
-    requires room { vec_len out.old
-        + length (key_events item (usages_at layout.now item) before.now after.now)
-        ≤ vec_capacity out.old }
-    ensures events { out.new.items
-        ≡ out.old.items ++ key_events item (usages_at layout.now item) before.now after.now }
-    ensures len { vec_len out.new
-        ≡ vec_len out.old
-        + length (key_events item (usages_at layout.now item) before.now after.now) }
-    ensures room { vec_capacity out.new ≡ vec_capacity out.old }
+    requires room { HasSpace out.old (key_events item (usages_at layout.now item) before.now
+        after.now) }
+    ensures { Appends out.old (key_events item (usages_at layout.now item) before.now after.now)
+        out.new }
 {
     match before {
         Cell::Pressed(old) => match after {
@@ -399,18 +338,10 @@ pub(crate) fn flag_changes(
 )
     requires before { length before.now ≡ length (usages_at layout.now item) }
     requires after { length after.now ≡ length (usages_at layout.now item) }
-    requires room { vec_len out.old
-        + length (ups item (usages_at layout.now item) before.now after.now
-        ++ downs item (usages_at layout.now item) before.now after.now) ≤ vec_capacity out.old }
-    ensures events { out.new.items
-        ≡ out.old.items
-        ++ (ups item (usages_at layout.now item) before.now after.now
+    requires room { HasSpace out.old (ups item (usages_at layout.now item) before.now after.now
         ++ downs item (usages_at layout.now item) before.now after.now) }
-    ensures len { vec_len out.new
-        ≡ vec_len out.old
-        + length (ups item (usages_at layout.now item) before.now after.now
-        ++ downs item (usages_at layout.now item) before.now after.now) }
-    ensures room { vec_capacity out.new ≡ vec_capacity out.old }
+    ensures { Appends out.old (ups item (usages_at layout.now item) before.now after.now
+        ++ downs item (usages_at layout.now item) before.now after.now) out.new }
 {
     releases(layout, item, before, after, out);
     presses(layout, item, before, after, out);
@@ -422,16 +353,10 @@ fn item_changes(layout: &Layout, item: usize, before: &Cell, after: &Cell, out: 
     requires listed { item < length layout.now.items }
     requires before { HasRoom (head_of (form_at (items_of layout.now) item)) before.now }
     requires after { HasRoom (head_of (form_at (items_of layout.now) item)) after.now }
-    requires room { vec_len out.old
-        + length (change_events item (form_at (items_of layout.now) item) before.now after.now)
-        ≤ vec_capacity out.old }
-    ensures events { out.new.items
-        ≡ out.old.items
-        ++ change_events item (form_at (items_of layout.now) item) before.now after.now }
-    ensures len { vec_len out.new
-        ≡ vec_len out.old
-        + length (change_events item (form_at (items_of layout.now) item) before.now after.now) }
-    ensures room { vec_capacity out.new ≡ vec_capacity out.old }
+    requires room { HasSpace out.old (change_events item
+        (form_at (items_of layout.now) item) before.now after.now) }
+    ensures { Appends out.old (change_events item (form_at
+        (items_of layout.now) item) before.now after.now) out.new }
 {
     match layout.controls(item) {
         Controls::None => {}
@@ -444,12 +369,8 @@ fn item_changes(layout: &Layout, item: usize, before: &Cell, after: &Cell, out: 
 pub(crate) fn all_changes(layout: &Layout, before: &[Cell], after: &[Cell], out: &mut Vec<Event>)
     requires before { FitsView (items_of layout.now) before.now }
     requires after { FitsView (items_of layout.now) after.now }
-    requires room { vec_len out.old
-        + length (changes_between (items_of layout.now) before.now after.now)
-        ≤ vec_capacity out.old }
-    ensures events { out.new.items
-        ≡ out.old.items ++ changes_between (items_of layout.now) before.now after.now }
-    ensures room { vec_capacity out.new ≡ vec_capacity out.old }
+    requires room { HasSpace out.old (changes_between (items_of layout.now) before.now after.now) }
+    ensures { Appends out.old (changes_between (items_of layout.now) before.now after.now) out.new }
 {
     for i in 0..item_count(layout) {
         item_changes(layout, i, cell_at(before, i), cell_at(after, i), out);

@@ -1,10 +1,7 @@
 //! Which Input report bytes are, and the number of one of its elements.
 
-ghost use Rattle.std.specs.Prelude.{◌≡◌, ◌<◌, ◌≤◌, ◌+◌, ◌*◌, ℕ, Bool, false, length, Option, Some, None, IfOk, position, IsSomeAnd, unwrap_or, IfSome};
-ghost use Rattle.hid_layout.specs.Controls.{is_input};
-ghost use Rattle.hid_layout.specs.Reports.{element_of, first_bit, report_bytes};
-ghost use Rattle.hid_parts.specs.Numbers.{number_at};
-ghost use Rattle.hid_cells.specs.Parts.{IsInput};
+ghost use Rattle.std.specs.Prelude.{◌≡◌, ◌<◌, false, length, Option, Some, None, position, IsSomeAnd, IfSome};
+ghost use Rattle.hid_layout.specs.Reports.{element_of, report_bytes};
 ghost use Rattle.hid_views.specs.Reading.{is_input_with, whole_report, report_named, element_number, IsInside};
 
 use hid_cells::ReportFault;

@@ -5,12 +5,11 @@
 //!   an element of 07:01 in an array    the keys of that array stay as they were
 //!   a number out of its range          null where the control has null, else nothing changes
 //! ```
-//! The reports of the boot keyboard and mouse tell the same without a layout: [`boot::laws`].
 //! Any bytes give one view and one list of events: `taken` on [`View::take_report`].
 #![tactic(auto)]
 
 mod bits;
-pub mod boot;
+mod bounds;
 mod differences;
 mod input;
 pub mod laws;

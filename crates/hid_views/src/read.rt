@@ -1,6 +1,6 @@
 //! What is kept of an item in a view once its numbers are read.
 
-ghost use Rattle.std.specs.Prelude.{◌≡◌, ◌<◌, ℕ, Bool, map, length, slice_get, Some};
+ghost use Rattle.std.specs.Prelude.{◌≡◌, ◌<◌, ℕ, map, length, slice_get, Some};
 ghost use Rattle.std.specs.List.{zip};
 ghost use Rattle.std.specs.Prelude.{◌≢◌, ◌≤◌, ◌*◌, ◌+ℤ◌, pos, ◌++◌, [], ◌∷◌, ℤ, List, MatchOption};
 ghost use Rattle.std.specs.Prelude.{not, true, ◌&&◌, int_le};
@@ -9,7 +9,7 @@ ghost use Rattle.hid_descriptor.specs.Usages.{usage_list, is_rollover};
 ghost use Rattle.hid_layout.specs.Controls.{is_key};
 ghost use Rattle.hid_views.specs.Reading.{array_keys, AreBounds, named_from, names_rollover, read_switch, read_value};
 
-use crate::differences::Bounds;
+use crate::bounds::Bounds;
 use hid_cells::{Flags, Values};
 use hid_layout::{MAX_KEYS, MainItem, Usage, usage_at, usage_count};
 
@@ -28,9 +28,16 @@ fn switch_at(before: &Flags, numbers: &[i64], index: usize) -> bool
 {
     let before = before.get(index);
     let number = number_at(numbers, index);
-    if number == 0 {
+    read_switch(before, &number)
+}
+
+/// A switch, as an element's number leaves it.
+fn read_switch(before: bool, number: &i64) -> bool
+    ensures { result ≡ read_switch before number.now }
+{
+    if *number == 0 {
         false
-    } else if number == 1 {
+    } else if *number == 1 {
         true
     } else {
         before
@@ -63,8 +70,16 @@ fn value_at(
 {
     let before = before.get(index);
     let number = number_at(numbers, index);
-    if bounds.least <= number && number <= bounds.greatest {
-        Some(number)
+    read_value(before, has_null, bounds, &number)
+}
+
+/// A value, as an element's number leaves it.
+fn read_value(before: Option<i64>, has_null: bool, bounds: &Bounds, number: &i64) -> Option<i64>
+    ensures { result
+        ≡ read_value has_null bounds.now.least bounds.now.greatest before number.now }
+{
+    if bounds.least <= *number && *number <= bounds.greatest {
+        Some(*number)
     } else if has_null {
         None
     } else {

@@ -1,19 +1,20 @@
 //! What a report of any bytes makes of a view, and the events of it.
 
-ghost use Rattle.std.specs.Prelude.{All, pos, ◌≡◌, ◌<◌, ◌≤◌, ◌+◌, ◌*◌, ◌++◌, ℕ, Bool, ℤ, if◌then◌else◌, false, map, length, slice_get, Some, vec_len, vec_capacity};
-ghost use Rattle.std.specs.List.{list_any, zip};
+ghost use Rattle.std.specs.Prelude.{All, pos, ◌≡◌, ◌<◌, ◌≤◌, ◌++◌, false, map, length, slice_get, Some, vec_capacity};
+ghost use Rattle.std.specs.List.{zip};
 ghost use Rattle.hid_layout.specs.Controls.{items_of, form_at, head_of};
 ghost use Rattle.hid_layout.specs.Index.{plan_of};
 ghost use Rattle.hid_descriptor.specs.Usages.{usage_list};
 ghost use Rattle.hid_descriptor.specs.Fields.{is_padding};
 ghost use Rattle.hid_layout.specs.Reports.{HasElements, IsLayout, report_bytes};
+ghost use Rattle.hid_views.specs.Appending.{HasSpace, Appends};
 ghost use Rattle.hid_views.specs.Taking.{IsFormOf, usages_in, keys_in, form_in, read_in, told_in, read_carried, motion_carried, read_by_report, told_by_report, read_view, read_events, ArePairs};
 ghost use Rattle.hid_cells.specs.Parts.{IsInput};
 ghost use Rattle.hid_layout.specs.declared.control.Controls.TheVariants as head;
 ghost use Rattle.hid_cells.specs.Cells.{HasRoom, FitsView};
-ghost use Rattle.hid_views.specs.Events.{usages_at, element_events, key_events, switch_events, value_events, ups, downs, HasPlaces};
+ghost use Rattle.hid_views.specs.Events.{element_events, key_events, switch_events, value_events, HasPlaces};
 ghost use Rattle.hid_views.specs.Views.{HasNext};
-ghost use Rattle.hid_views.specs.Reading.{array_keys, AreBounds, has_null, read_switch, read_value, keys_at, read_elements, read_keys, motion_elements};
+ghost use Rattle.hid_views.specs.Reading.{array_keys, has_null, read_switch, read_value, read_keys};
 ghost use Rattle.hid_views.specs.Views.{motions_of};
 ghost use Rattle.hid_views.specs.Bits.{read_bits};
 ghost use Rattle.hid_views.specs.Reading.{item_numbers};
@@ -21,13 +22,22 @@ ghost use Rattle.hid_parts.specs.Encoding.{IsData};
 ghost use Rattle.hid_layout.specs.declared.control.ControlKind.TheVariants as ControlKind;
 
 use crate::bits::{are_bits, take_bits};
-use crate::differences::{Bounds, flag_changes, motions, switch_changes, value_changes};
+use crate::bounds::{Bounds, bounds_of};
+use crate::differences::{flag_changes, motions, switch_changes, value_changes};
 use crate::read::{KeyArray, read_keys as read_named_keys, read_switches, read_values};
 use hid_cells::{Cell, Event, Flags, Values, item_at};
 use hid_fields::FieldCodec;
 use hid_layout::{ControlKind, Controls, Layout, MainItem, Shape, Usage};
-use hid_parts::{first_bit, get_all, is_data};
+use hid_parts::{MAX_NUMBERS, first_bit, get_all, is_data};
 use std::mem;
+
+/// The bytes of an Input report, with its layout and its number there.
+#[derive(Clone, Copy)]
+pub(crate) struct Received<'a> {
+    pub(crate) layout: &'a Layout,
+    pub(crate) report: usize,
+    pub(crate) bytes: &'a [u8],
+}
 
 /// A listed item, with its layout and its place there.
 #[derive(Clone, Copy)]
@@ -45,177 +55,197 @@ struct Carried<'a> {
     numbers: &'a [i64],
 }
 
-/// The bytes of an Input report, with its layout and its number there.
-#[derive(Clone, Copy)]
-pub(crate) struct Received<'a> {
-    pub(crate) layout: &'a Layout,
-    pub(crate) report: usize,
-    pub(crate) bytes: &'a [u8],
-}
-
-/// The held keys of an array, as these numbers leave them, and what they tell. Where one names ErrorRollOver, the keys
-/// stay (HID 1.11, appendix C).
-fn take_flags(
-    listed: &Listed<'_>,
-    entries: &[(Usage, Usage)],
-    numbers: &[i64],
-    held: &mut Flags,
-    named: &mut Flags,
+/// What is kept of a layout's items once the bytes of a report, whose items stand at these places, are read, and what
+/// they tell.
+pub(crate) fn take_items<C: FieldCodec>(
+    received: &Received<'_>,
+    places: &[usize],
+    numbers: &mut Vec<i64>,
+    cells: &mut [Cell],
+    nexts: &mut [Cell],
     out: &mut Vec<Event>,
 )
-    requires elements { HasElements listed.now.item.now }
-    requires entries { length entries.now ≤ 64 }
-    requires keys { keys_in listed.now ≡ array_keys listed.now.item.now (usage_list entries.now) }
-    requires usages { length (usages_in listed.now) ≡ length (keys_in listed.now) }
-    requires held { length held.old ≡ length (keys_in listed.now) }
-    requires named { length named.old ≡ length (keys_in listed.now) }
-    requires room { vec_len out.old
-        + length (key_events listed.now.place (usages_in listed.now) (Cell.Pressed held.old)
-        (read_keys listed.now.item.now (usage_list entries.now) (keys_in listed.now)
-        (Cell.Pressed held.old) numbers.now)) ≤ vec_capacity out.old }
-    ensures held { Cell.Pressed held.new
-        ≡ read_keys listed.now.item.now (usage_list entries.now) (keys_in listed.now)
-        (Cell.Pressed held.old) numbers.now }
-    ensures held_len { length held.new ≡ length held.old }
-    ensures named_len { length named.new ≡ length held.old }
-    ensures events { out.new.items
-        ≡ out.old.items
-        ++ key_events listed.now.place (usages_in listed.now) (Cell.Pressed held.old)
-        (Cell.Pressed held.new) }
-    ensures len { vec_len out.new
-        ≡ vec_len out.old
-        + length (key_events listed.now.place (usages_in listed.now) (Cell.Pressed held.old)
-        (Cell.Pressed held.new)) }
-    ensures room { vec_capacity out.new ≡ vec_capacity out.old }
+    requires input { IsInput received.now.layout.now received.now.report }
+    requires plan { places.now ≡ plan_of received.now.layout.now received.now.report }
+    requires within { All (λ place. place < length received.now.layout.now.items) places.now }
+    requires all { length (items_of received.now.layout.now)
+        ≡ length received.now.layout.now.items }
+    requires whole { report_bytes received.now.layout.now received.now.report
+        ≤ length received.now.bytes.now }
+    requires numbers { MAX_NUMBERS ≤ vec_capacity numbers.old }
+    requires fits { FitsView (items_of received.now.layout.now) cells.old }
+    requires pairs { ArePairs cells.old nexts.old }
+    requires room { HasSpace out.old (read_events received.now.layout.now received.now.report
+        received.now.bytes.now cells.old) }
+    ensures numbers { vec_capacity numbers.new ≡ vec_capacity numbers.old }
+    ensures view { cells.new
+        ≡ read_view received.now.layout.now received.now.report received.now.bytes.now cells.old }
+    ensures pairs { ArePairs cells.new nexts.new }
+    ensures told { Appends out.old (read_events received.now.layout.now received.now.report
+        received.now.bytes.now cells.old) out.new }
 {
-    let array = KeyArray {
-        item: listed.item,
-        entries,
-        range: bounds_of(listed.item),
-    };
-    if read_named_keys(&array, numbers, named) {
-        flag_changes(listed.layout, listed.place, held, named, out);
-        mem::swap(held, named);
+    for place in places {
+        let i = *place;
+        take_item::<C>(received, i, numbers, &mut cells[i], &mut nexts[i], out);
     }
 }
 
-/// The numbers that an element of an item with data can carry.
-fn bounds_of(item: &MainItem) -> Bounds
-    requires { HasElements item.now }
-    ensures { AreBounds item.now result.least result.greatest }
+/// What is kept of a listed item once the bytes of a report are read, and what they tell.
+fn take_item<C: FieldCodec>(
+    received: &Received<'_>,
+    place: usize,
+    numbers: &mut Vec<i64>,
+    cell: &mut Cell,
+    next: &mut Cell,
+    out: &mut Vec<Event>,
+)
+    requires listed { place < length received.now.layout.now.items }
+    requires input { IsInput received.now.layout.now received.now.report }
+    requires whole { report_bytes received.now.layout.now received.now.report
+        ≤ length received.now.bytes.now }
+    requires numbers { MAX_NUMBERS ≤ vec_capacity numbers.old }
+    requires held { HasRoom (head_of (form_at (items_of received.now.layout.now) place)) cell.old }
+    requires next { HasNext cell.old next.old }
+    requires room { HasSpace out.old (told_by_report received.now.layout.now received.now.report
+        received.now.bytes.now place cell.old) }
+    ensures numbers { vec_capacity numbers.new ≡ vec_capacity numbers.old }
+    ensures cell { cell.new
+        ≡ read_by_report received.now.layout.now received.now.report received.now.bytes.now place
+        cell.old }
+    ensures next { HasNext cell.new next.new }
+    ensures told { Appends out.old (told_by_report received.now.layout.now received.now.report
+        received.now.bytes.now place cell.old) out.new }
 {
-    Bounds {
-        least: item.least(),
-        greatest: item.greatest(),
+    let layout = received.layout;
+    let item = item_at(layout, place);
+    if is_data(item, received.report) {
+        let listed = Listed {
+            layout,
+            place,
+            item,
+        };
+        take_fields::<C>(&listed, received.bytes, numbers, cell, next, out);
     }
 }
 
-/// Switches, as these numbers leave them, and what they tell.
-fn take_switches(
+/// What is kept of an item with data once the bytes of its report are read, and what they tell.
+fn take_fields<C: FieldCodec>(
     listed: &Listed<'_>,
-    numbers: &[i64],
-    held: &mut Flags,
-    next: &mut Flags,
+    bytes: &[u8],
+    numbers: &mut Vec<i64>,
+    cell: &mut Cell,
+    next: &mut Cell,
     out: &mut Vec<Event>,
 )
-    requires numbers { length numbers.now ≡ length (usages_in listed.now) }
-    requires held { length held.old ≡ length (usages_in listed.now) }
-    requires next { length next.old ≡ length (usages_in listed.now) }
-    requires room { vec_len out.old
-        + length (switch_events listed.now.place (usages_in listed.now) held.old
-        (map (λ p. read_switch p.0 p.1) (zip held.old numbers.now))) ≤ vec_capacity out.old }
-    ensures held { held.new ≡ map (λ p. read_switch p.0 p.1) (zip held.old numbers.now) }
-    ensures held_len { length held.new ≡ length held.old }
-    ensures next_len { length next.new ≡ length held.old }
-    ensures events { out.new.items
-        ≡ out.old.items ++ switch_events listed.now.place (usages_in listed.now) held.old held.new }
-    ensures len { vec_len out.new
-        ≡ vec_len out.old
-        + length (switch_events listed.now.place (usages_in listed.now) held.old held.new) }
-    ensures room { vec_capacity out.new ≡ vec_capacity out.old }
+    requires layout { IsLayout listed.now.layout.now }
+    requires input { IsFormOf listed.now.layout.now listed.now.place listed.now.item.now }
+    requires data { IsData listed.now.layout.now listed.now.item.now.report listed.now.place
+        listed.now.item.now }
+    requires whole { report_bytes listed.now.layout.now listed.now.item.now.report
+        ≤ length bytes.now }
+    requires numbers { MAX_NUMBERS ≤ vec_capacity numbers.old }
+    requires held { HasRoom (head_of (form_in listed.now)) cell.old }
+    requires next { HasNext cell.old next.old }
+    requires room { HasSpace out.old (told_in listed.now cell.old
+        (read_in listed.now cell.old (item_numbers listed.now.layout.now bytes.now
+        listed.now.item.now)) (item_numbers listed.now.layout.now bytes.now listed.now.item.now)) }
+    ensures numbers { vec_capacity numbers.new ≡ vec_capacity numbers.old }
+    ensures cell { cell.new
+        ≡ read_in listed.now cell.old
+        (item_numbers listed.now.layout.now bytes.now listed.now.item.now) }
+    ensures next { HasNext cell.new next.new }
+    ensures told { Appends out.old (told_in listed.now cell.old cell.new
+        (item_numbers listed.now.layout.now bytes.now listed.now.item.now)) out.new }
 {
-    read_switches(held, numbers, next);
-    switch_changes(listed.layout, listed.place, held, next, out);
-    mem::swap(held, next);
+    let item = listed.item;
+    let at = first_bit(listed.layout) + item.offset as usize;
+    if are_bits(item) {
+        take_pattern(listed, C::get(bytes, at, item.count), cell, out);
+    } else {
+        let count = item.count as usize;
+        get_all::<C>(bytes, at, item.size, item.min < 0, count, numbers);
+        take_numbers(listed, numbers, cell, next, out);
+    }
 }
 
-/// Values, as these numbers leave them, and what they tell.
-fn take_values(
-    listed: &Listed<'_>,
-    carried: &Carried<'_>,
-    held: &mut Values,
-    next: &mut Values,
-    out: &mut Vec<Event>,
-)
-    requires numbers { length carried.now.numbers.now ≡ length (usages_in listed.now) }
-    requires held { length held.old ≡ length (usages_in listed.now) }
-    requires next { length next.old ≡ length (usages_in listed.now) }
-    requires room { vec_len out.old
-        + length (value_events listed.now.place (usages_in listed.now) held.old
-        (map (λ p. read_value (has_null carried.now.kind) carried.now.bounds.least
-        carried.now.bounds.greatest p.0 p.1) (zip held.old carried.now.numbers.now)))
-        ≤ vec_capacity out.old }
-    ensures held { held.new
-        ≡ map (λ p. read_value (has_null carried.now.kind) carried.now.bounds.least
-        carried.now.bounds.greatest p.0 p.1) (zip held.old carried.now.numbers.now) }
-    ensures held_len { length held.new ≡ length held.old }
-    ensures next_len { length next.new ≡ length held.old }
-    ensures events { out.new.items
-        ≡ out.old.items ++ value_events listed.now.place (usages_in listed.now) held.old held.new }
-    ensures len { vec_len out.new
-        ≡ vec_len out.old
-        + length (value_events listed.now.place (usages_in listed.now) held.old held.new) }
-    ensures room { vec_capacity out.new ≡ vec_capacity out.old }
+/// Switches of one bit each, as their pattern leaves them, and what they tell.
+fn take_pattern(listed: &Listed<'_>, pattern: u32, cell: &mut Cell, out: &mut Vec<Event>)
+    requires held { HasRoom (head.Elements ControlKind.Switch (pos 0) (pos 1)
+        (length (usages_in listed.now))) cell.old }
+    requires few { length (usages_in listed.now) ≤ 32 }
+    requires room { HasSpace out.old (element_events listed.now.place
+        (usages_in listed.now) cell.old (read_bits pattern cell.old)) }
+    ensures cell { cell.new ≡ read_bits pattern cell.old }
+    ensures told { Appends out.old (element_events listed.now.place
+        (usages_in listed.now) cell.old cell.new) out.new }
 {
-    read_values(
-        held,
-        has_null(carried.kind),
-        &carried.bounds,
-        carried.numbers,
-        next,
-    );
-    value_changes(listed.layout, listed.place, held, next, out);
-    mem::swap(held, next);
+    match cell {
+        Cell::Pressed(held) => take_bits(listed.layout, listed.place, pattern, held, out),
+        Cell::Vacant | Cell::Holding(_) | Cell::Moved(_) | Cell::RolledOver(_) => {}
+    }
 }
 
-/// The keys of an array, as these numbers leave them, and what they tell.
-fn take_array(
+/// What is kept of an item, as these numbers of its elements leave it, and what they tell.
+fn take_numbers(
     listed: &Listed<'_>,
-    entries: &[(Usage, Usage)],
     numbers: &[i64],
     cell: &mut Cell,
     next: &mut Cell,
     out: &mut Vec<Event>,
 )
-    requires elements { HasElements listed.now.item.now }
-    requires entries { length entries.now ≤ 64 }
-    requires keys { keys_in listed.now ≡ array_keys listed.now.item.now (usage_list entries.now) }
-    requires usages { length (usages_in listed.now) ≡ length (keys_in listed.now) }
-    requires held { HasPlaces cell.old (length (keys_in listed.now)) }
+    requires layout { IsLayout listed.now.layout.now }
+    requires listed { slice_get listed.now.layout.now.items listed.now.place
+        ≡ Some listed.now.item.now }
+    requires input { IsFormOf listed.now.layout.now listed.now.place listed.now.item.now }
+    requires data { is_padding listed.now.item.now.shape ≡ false }
+    requires numbers { length numbers.now ≡ listed.now.item.now.count }
+    requires held { HasRoom (head_of (form_in listed.now)) cell.old }
     requires next { HasNext cell.old next.old }
-    requires room { vec_len out.old
-        + length (key_events listed.now.place (usages_in listed.now) cell.old
-        (read_keys listed.now.item.now (usage_list entries.now)
-        (keys_in listed.now) cell.old numbers.now)) ≤ vec_capacity out.old }
-    ensures cell { cell.new
-        ≡ read_keys listed.now.item.now (usage_list entries.now)
-        (keys_in listed.now) cell.old numbers.now }
+    requires room { HasSpace out.old (told_in listed.now cell.old
+        (read_in listed.now cell.old numbers.now) numbers.now) }
+    ensures cell { cell.new ≡ read_in listed.now cell.old numbers.now }
     ensures next { HasNext cell.new next.new }
-    ensures events { out.new.items
-        ≡ out.old.items ++ key_events listed.now.place (usages_in listed.now) cell.old cell.new }
-    ensures len { vec_len out.new
-        ≡ vec_len out.old
-        + length (key_events listed.now.place (usages_in listed.now) cell.old cell.new) }
-    ensures room { vec_capacity out.new ≡ vec_capacity out.old }
+    ensures told { Appends out.old (told_in listed.now cell.old cell.new numbers.now) out.new }
 {
-    match cell {
-        Cell::Pressed(held) => match next {
-            Cell::Pressed(named) => {
-                take_flags(listed, entries, numbers, held, named, out);
-            }
-            Cell::Vacant | Cell::Holding(_) | Cell::Moved(_) | Cell::RolledOver(_) => {}
+    match controls_of(listed) {
+        Controls::None => {}
+        Controls::Elements {
+            kind,
+            least,
+            greatest,
+            ..
+        } => {
+            let carried = Carried {
+                kind,
+                bounds: Bounds { least, greatest },
+                numbers,
+            };
+            take_elements(listed, &carried, cell, next, out);
+        }
+        Controls::Keys { .. } => {
+            let entries = listed.layout.entries(listed.place);
+            take_array(listed, entries, numbers, cell, next, out);
+        }
+    }
+}
+
+/// The controls of an item, by its shape.
+fn controls_of(listed: &Listed<'_>) -> Controls
+    requires layout { IsLayout listed.now.layout.now }
+    requires listed { slice_get listed.now.layout.now.items listed.now.place
+        ≡ Some listed.now.item.now }
+    requires input { IsFormOf listed.now.layout.now listed.now.place listed.now.item.now }
+    ensures { result ≡ head_of (form_in listed.now) }
+{
+    let item = listed.item;
+    match item.shape {
+        Shape::Variable => Controls::Elements {
+            kind: item.element_kind(),
+            least: item.least(),
+            greatest: item.greatest(),
+            count: item.count as usize,
         },
-        Cell::Vacant | Cell::Holding(_) | Cell::Moved(_) | Cell::RolledOver(_) => {}
+        Shape::Array | Shape::Padding => listed.layout.controls(listed.place),
     }
 }
 
@@ -231,22 +261,14 @@ fn take_elements(
     requires held { HasRoom (head.Elements carried.now.kind carried.now.bounds.least
         carried.now.bounds.greatest (length (usages_in listed.now))) cell.old }
     requires next { HasNext cell.old next.old }
-    requires room { vec_len out.old
-        + length (element_events listed.now.place (usages_in listed.now) cell.old
-        (read_carried carried.now cell.old)
-        ++ motions_of listed.now.place (usages_in listed.now) (motion_carried carried.now))
-        ≤ vec_capacity out.old }
+    requires room { HasSpace out.old (element_events listed.now.place
+        (usages_in listed.now) cell.old (read_carried carried.now cell.old)
+        ++ motions_of listed.now.place (usages_in listed.now) (motion_carried carried.now)) }
     ensures cell { cell.new ≡ read_carried carried.now cell.old }
     ensures next { HasNext cell.new next.new }
-    ensures events { out.new.items
-        ≡ out.old.items
-        ++ (element_events listed.now.place (usages_in listed.now) cell.old cell.new
-        ++ motions_of listed.now.place (usages_in listed.now) (motion_carried carried.now)) }
-    ensures len { vec_len out.new
-        ≡ vec_len out.old
-        + length (element_events listed.now.place (usages_in listed.now) cell.old cell.new
-        ++ motions_of listed.now.place (usages_in listed.now) (motion_carried carried.now)) }
-    ensures room { vec_capacity out.new ≡ vec_capacity out.old }
+    ensures told { Appends out.old (element_events listed.now.place
+        (usages_in listed.now) cell.old cell.new ++ motions_of listed.now.place
+        (usages_in listed.now) (motion_carried carried.now)) out.new }
 {
     match carried.kind {
         ControlKind::Switch => match cell {
@@ -273,237 +295,141 @@ fn take_elements(
     }
 }
 
-fn has_null(kind: ControlKind) -> bool
-    ensures { result ≡ has_null kind }
-{
-    match kind {
-        ControlKind::NullValue => true,
-        ControlKind::Switch | ControlKind::Value | ControlKind::Relative => false,
-    }
-}
-
-/// The controls of an item, by its shape.
-fn controls_of(listed: &Listed<'_>) -> Controls
-    requires layout { IsLayout listed.now.layout.now }
-    requires listed { slice_get listed.now.layout.now.items listed.now.place
-        ≡ Some listed.now.item.now }
-    requires input { IsFormOf listed.now.layout.now listed.now.place listed.now.item.now }
-    ensures { result ≡ head_of (form_in listed.now) }
-{
-    let item = listed.item;
-    match item.shape {
-        Shape::Variable => Controls::Elements {
-            kind: item.element_kind(),
-            least: item.least(),
-            greatest: item.greatest(),
-            count: item.count as usize,
-        },
-        Shape::Array | Shape::Padding => listed.layout.controls(listed.place),
-    }
-}
-
-/// What is kept of an item, as these numbers of its elements leave it, and what they tell.
-fn take_numbers(
+/// Switches, as these numbers leave them, and what they tell.
+fn take_switches(
     listed: &Listed<'_>,
+    numbers: &[i64],
+    held: &mut Flags,
+    next: &mut Flags,
+    out: &mut Vec<Event>,
+)
+    requires numbers { length numbers.now ≡ length (usages_in listed.now) }
+    requires held { length held.old ≡ length (usages_in listed.now) }
+    requires next { length next.old ≡ length (usages_in listed.now) }
+    requires room { HasSpace out.old (switch_events listed.now.place (usages_in listed.now) held.old
+        (map (λ p. read_switch p.0 p.1) (zip held.old numbers.now))) }
+    ensures held { held.new ≡ map (λ p. read_switch p.0 p.1) (zip held.old numbers.now) }
+    ensures held_len { length held.new ≡ length held.old }
+    ensures next_len { length next.new ≡ length held.old }
+    ensures told { Appends out.old (switch_events listed.now.place
+        (usages_in listed.now) held.old held.new) out.new }
+{
+    read_switches(held, numbers, next);
+    switch_changes(listed.layout, listed.place, held, next, out);
+    keep(held, next);
+}
+
+/// Values, as these numbers leave them, and what they tell.
+fn take_values(
+    listed: &Listed<'_>,
+    carried: &Carried<'_>,
+    held: &mut Values,
+    next: &mut Values,
+    out: &mut Vec<Event>,
+)
+    requires numbers { length carried.now.numbers.now ≡ length (usages_in listed.now) }
+    requires held { length held.old ≡ length (usages_in listed.now) }
+    requires next { length next.old ≡ length (usages_in listed.now) }
+    requires room { HasSpace out.old (value_events listed.now.place (usages_in listed.now) held.old
+        (map (λ p. read_value (has_null carried.now.kind) carried.now.bounds.least
+        carried.now.bounds.greatest p.0 p.1) (zip held.old carried.now.numbers.now))) }
+    ensures held { held.new
+        ≡ map (λ p. read_value (has_null carried.now.kind) carried.now.bounds.least
+        carried.now.bounds.greatest p.0 p.1) (zip held.old carried.now.numbers.now) }
+    ensures held_len { length held.new ≡ length held.old }
+    ensures next_len { length next.new ≡ length held.old }
+    ensures told { Appends out.old (value_events listed.now.place
+        (usages_in listed.now) held.old held.new) out.new }
+{
+    read_values(
+        held,
+        carried.kind.has_null(),
+        &carried.bounds,
+        carried.numbers,
+        next,
+    );
+    value_changes(listed.layout, listed.place, held, next, out);
+    mem::swap(held, next);
+}
+
+/// The keys of an array, as these numbers leave them, and what they tell.
+fn take_array(
+    listed: &Listed<'_>,
+    entries: &[(Usage, Usage)],
     numbers: &[i64],
     cell: &mut Cell,
     next: &mut Cell,
     out: &mut Vec<Event>,
 )
-    requires layout { IsLayout listed.now.layout.now }
-    requires listed { slice_get listed.now.layout.now.items listed.now.place
-        ≡ Some listed.now.item.now }
-    requires input { IsFormOf listed.now.layout.now listed.now.place listed.now.item.now }
-    requires data { is_padding listed.now.item.now.shape ≡ false }
-    requires numbers { length numbers.now ≡ listed.now.item.now.count }
-    requires held { HasRoom (head_of (form_in listed.now)) cell.old }
+    requires elements { HasElements listed.now.item.now }
+    requires entries { length entries.now ≤ 64 }
+    requires keys { keys_in listed.now ≡ array_keys listed.now.item.now (usage_list entries.now) }
+    requires usages { length (usages_in listed.now) ≡ length (keys_in listed.now) }
+    requires held { HasPlaces cell.old (length (keys_in listed.now)) }
     requires next { HasNext cell.old next.old }
-    requires room { vec_len out.old
-        + length (told_in listed.now cell.old (read_in listed.now cell.old numbers.now) numbers.now)
-        ≤ vec_capacity out.old }
-    ensures cell { cell.new ≡ read_in listed.now cell.old numbers.now }
+    requires room { HasSpace out.old (key_events listed.now.place (usages_in listed.now) cell.old
+        (read_keys listed.now.item.now (usage_list entries.now)
+        (keys_in listed.now) cell.old numbers.now)) }
+    ensures cell { cell.new
+        ≡ read_keys listed.now.item.now (usage_list entries.now)
+        (keys_in listed.now) cell.old numbers.now }
     ensures next { HasNext cell.new next.new }
-    ensures events { out.new.items
-        ≡ out.old.items ++ told_in listed.now cell.old cell.new numbers.now }
-    ensures len { vec_len out.new
-        ≡ vec_len out.old + length (told_in listed.now cell.old cell.new numbers.now) }
-    ensures room { vec_capacity out.new ≡ vec_capacity out.old }
-{
-    match controls_of(listed) {
-        Controls::None => {}
-        Controls::Elements {
-            kind,
-            least,
-            greatest,
-            ..
-        } => {
-            let carried = Carried {
-                kind,
-                bounds: Bounds { least, greatest },
-                numbers,
-            };
-            take_elements(listed, &carried, cell, next, out);
-        }
-        Controls::Keys { .. } => {
-            let entries = listed.layout.entries(listed.place);
-            take_array(listed, entries, numbers, cell, next, out);
-        }
-    }
-}
-
-/// Switches of one bit each, as their pattern leaves them, and what they tell.
-fn take_pattern(listed: &Listed<'_>, pattern: u32, cell: &mut Cell, out: &mut Vec<Event>)
-    requires held { HasRoom (head.Elements ControlKind.Switch (pos 0) (pos 1)
-        (length (usages_in listed.now))) cell.old }
-    requires few { length (usages_in listed.now) ≤ 32 }
-    requires room { vec_len out.old
-        + length (element_events listed.now.place (usages_in listed.now) cell.old
-        (read_bits pattern cell.old)) ≤ vec_capacity out.old }
-    ensures cell { cell.new ≡ read_bits pattern cell.old }
-    ensures events { out.new.items
-        ≡ out.old.items
-        ++ element_events listed.now.place (usages_in listed.now) cell.old cell.new }
-    ensures len { vec_len out.new
-        ≡ vec_len out.old
-        + length (element_events listed.now.place (usages_in listed.now) cell.old cell.new) }
-    ensures room { vec_capacity out.new ≡ vec_capacity out.old }
+    ensures told { Appends out.old (key_events listed.now.place
+        (usages_in listed.now) cell.old cell.new) out.new }
 {
     match cell {
-        Cell::Pressed(held) => take_bits(listed.layout, listed.place, pattern, held, out),
+        Cell::Pressed(held) => match next {
+            Cell::Pressed(named) => {
+                take_flags(listed, entries, numbers, held, named, out);
+            }
+            Cell::Vacant | Cell::Holding(_) | Cell::Moved(_) | Cell::RolledOver(_) => {}
+        },
         Cell::Vacant | Cell::Holding(_) | Cell::Moved(_) | Cell::RolledOver(_) => {}
     }
 }
 
-/// What is kept of an item with data once the bytes of its report are read, and what they tell.
-fn take_fields<C: FieldCodec>(
+/// The held keys of an array, as these numbers leave them, and what they tell. Where one names ErrorRollOver, the keys
+/// stay (HID 1.11, appendix C).
+fn take_flags(
     listed: &Listed<'_>,
-    bytes: &[u8],
-    numbers: &mut Vec<i64>,
-    cell: &mut Cell,
-    next: &mut Cell,
+    entries: &[(Usage, Usage)],
+    numbers: &[i64],
+    held: &mut Flags,
+    named: &mut Flags,
     out: &mut Vec<Event>,
 )
-    requires layout { IsLayout listed.now.layout.now }
-    requires input { IsFormOf listed.now.layout.now listed.now.place listed.now.item.now }
-    requires data { IsData listed.now.layout.now listed.now.item.now.report listed.now.place
-        listed.now.item.now }
-    requires whole { report_bytes listed.now.layout.now listed.now.item.now.report
-        ≤ length bytes.now }
-    requires numbers { 512 ≤ vec_capacity numbers.old }
-    requires held { HasRoom (head_of (form_in listed.now)) cell.old }
-    requires next { HasNext cell.old next.old }
-    requires room { vec_len out.old
-        + length (told_in listed.now cell.old
-        (read_in listed.now cell.old
-        (item_numbers listed.now.layout.now bytes.now listed.now.item.now))
-        (item_numbers listed.now.layout.now bytes.now listed.now.item.now)) ≤ vec_capacity out.old }
-    ensures numbers { vec_capacity numbers.new ≡ vec_capacity numbers.old }
-    ensures cell { cell.new
-        ≡ read_in listed.now cell.old
-        (item_numbers listed.now.layout.now bytes.now listed.now.item.now) }
-    ensures next { HasNext cell.new next.new }
-    ensures events { out.new.items
-        ≡ out.old.items
-        ++ told_in listed.now cell.old cell.new
-        (item_numbers listed.now.layout.now bytes.now listed.now.item.now) }
-    ensures len { vec_len out.new
-        ≡ vec_len out.old
-        + length (told_in listed.now cell.old cell.new
-        (item_numbers listed.now.layout.now bytes.now listed.now.item.now)) }
-    ensures room { vec_capacity out.new ≡ vec_capacity out.old }
+    requires elements { HasElements listed.now.item.now }
+    requires entries { length entries.now ≤ 64 }
+    requires keys { keys_in listed.now ≡ array_keys listed.now.item.now (usage_list entries.now) }
+    requires usages { length (usages_in listed.now) ≡ length (keys_in listed.now) }
+    requires held { length held.old ≡ length (keys_in listed.now) }
+    requires named { length named.old ≡ length (keys_in listed.now) }
+    requires room { HasSpace out.old (key_events listed.now.place (usages_in listed.now)
+        (Cell.Pressed held.old) (read_keys listed.now.item.now (usage_list entries.now)
+        (keys_in listed.now) (Cell.Pressed held.old) numbers.now)) }
+    ensures held { Cell.Pressed held.new
+        ≡ read_keys listed.now.item.now (usage_list entries.now) (keys_in listed.now)
+        (Cell.Pressed held.old) numbers.now }
+    ensures held_len { length held.new ≡ length held.old }
+    ensures named_len { length named.new ≡ length held.old }
+    ensures told { Appends out.old (key_events listed.now.place (usages_in listed.now)
+        (Cell.Pressed held.old) (Cell.Pressed held.new)) out.new }
 {
-    let item = listed.item;
-    let at = first_bit(listed.layout) + item.offset as usize;
-    if are_bits(item) {
-        take_pattern(listed, C::get(bytes, at, item.count), cell, out);
-    } else {
-        let count = item.count as usize;
-        get_all::<C>(bytes, at, item.size, item.min < 0, count, numbers);
-        take_numbers(listed, numbers, cell, next, out);
+    let array = KeyArray {
+        item: listed.item,
+        entries,
+        range: bounds_of(listed.item),
+    };
+    if read_named_keys(&array, numbers, named) {
+        flag_changes(listed.layout, listed.place, held, named, out);
+        keep(held, named);
     }
 }
 
-/// What is kept of a listed item once the bytes of a report are read, and what they tell.
-fn take_item<C: FieldCodec>(
-    received: &Received<'_>,
-    place: usize,
-    numbers: &mut Vec<i64>,
-    cell: &mut Cell,
-    next: &mut Cell,
-    out: &mut Vec<Event>,
-)
-    requires listed { place < length received.now.layout.now.items }
-    requires input { IsInput received.now.layout.now received.now.report }
-    requires whole { report_bytes received.now.layout.now received.now.report
-        ≤ length received.now.bytes.now }
-    requires numbers { 512 ≤ vec_capacity numbers.old }
-    requires held { HasRoom (head_of (form_at (items_of received.now.layout.now) place)) cell.old }
-    requires next { HasNext cell.old next.old }
-    requires room { vec_len out.old
-        + length (told_by_report received.now.layout.now received.now.report received.now.bytes.now
-        place cell.old) ≤ vec_capacity out.old }
-    ensures numbers { vec_capacity numbers.new ≡ vec_capacity numbers.old }
-    ensures cell { cell.new
-        ≡ read_by_report received.now.layout.now received.now.report received.now.bytes.now place
-        cell.old }
-    ensures next { HasNext cell.new next.new }
-    ensures events { out.new.items
-        ≡ out.old.items
-        ++ told_by_report received.now.layout.now received.now.report received.now.bytes.now place
-        cell.old }
-    ensures len { vec_len out.new
-        ≡ vec_len out.old
-        + length (told_by_report received.now.layout.now received.now.report received.now.bytes.now
-        place cell.old) }
-    ensures room { vec_capacity out.new ≡ vec_capacity out.old }
+/// Keeps what was read; what was held is the room for what is read next.
+fn keep(held: &mut Flags, read: &mut Flags)
+    ensures held { held.new ≡ read.old }
+    ensures read { read.new ≡ held.old }
 {
-    let layout = received.layout;
-    let item = item_at(layout, place);
-    if is_data(item, received.report) {
-        let listed = Listed {
-            layout,
-            place,
-            item,
-        };
-        take_fields::<C>(&listed, received.bytes, numbers, cell, next, out);
-    }
-}
-
-/// What is kept of a layout's items once the bytes of a report, whose items stand at these places, are read, and what
-/// they tell.
-pub(crate) fn take_items<C: FieldCodec>(
-    received: &Received<'_>,
-    places: &[usize],
-    numbers: &mut Vec<i64>,
-    cells: &mut [Cell],
-    nexts: &mut [Cell],
-    out: &mut Vec<Event>,
-)
-    requires input { IsInput received.now.layout.now received.now.report }
-    requires plan { places.now ≡ plan_of received.now.layout.now received.now.report }
-    requires within { All (λ place. place < length received.now.layout.now.items) places.now }
-    requires all { length (items_of received.now.layout.now)
-        ≡ length received.now.layout.now.items }
-    requires whole { report_bytes received.now.layout.now received.now.report
-        ≤ length received.now.bytes.now }
-    requires numbers { 512 ≤ vec_capacity numbers.old }
-    requires fits { FitsView (items_of received.now.layout.now) cells.old }
-    requires pairs { ArePairs cells.old nexts.old }
-    requires room { vec_len out.old
-        + length (read_events received.now.layout.now received.now.report received.now.bytes.now
-        cells.old) ≤ vec_capacity out.old }
-    ensures numbers { vec_capacity numbers.new ≡ vec_capacity numbers.old }
-    ensures view { cells.new
-        ≡ read_view received.now.layout.now received.now.report received.now.bytes.now cells.old }
-    ensures pairs { ArePairs cells.new nexts.new }
-    ensures events { out.new.items
-        ≡ out.old.items
-        ++ read_events received.now.layout.now received.now.report received.now.bytes.now
-        cells.old }
-    ensures room { vec_capacity out.new ≡ vec_capacity out.old }
-{
-    for place in places {
-        let i = *place;
-        take_item::<C>(received, i, numbers, &mut cells[i], &mut nexts[i], out);
-    }
+    mem::swap(held, read);
 }

@@ -14,6 +14,7 @@ use crate::take::{Received, take_items};
 use hid_cells::{Cell, Event, MemoryFault, ReportFault, blank_cells, key_words, plan_of};
 use hid_fields::FieldCodec;
 use hid_layout::{ControlId, Layout};
+use hid_parts::MAX_NUMBERS;
 use std::alloc::Global;
 use std::marker::Model;
 
@@ -37,8 +38,9 @@ impl Model for View {
     ghost view = { λ v. v.cells.items };
 
     ghost use Rattle.hid_views.specs.Taking.{ArePairs};
+    ghost use Rattle.hid_parts.specs.declared.numbers.TheConstants.{MAX_NUMBERS};
 
-    ghost invariant = { λ v. ArePairs v.cells.items v.nexts.items × (512 ≤ vec_capacity v.numbers) };
+    ghost invariant = { λ v. ArePairs v.cells.items v.nexts.items × (MAX_NUMBERS ≤ vec_capacity v.numbers) };
 }
 
 impl View {
@@ -56,7 +58,7 @@ impl View {
             Ok(nexts) => nexts,
             Err(_) => return Err(MemoryFault),
         };
-        match Vec::with_capacity(alloc, 512) {
+        match Vec::with_capacity(alloc, MAX_NUMBERS) {
             Ok(numbers) => Ok(View {
                 cells,
                 nexts,
@@ -80,6 +82,8 @@ impl View {
         ensures taken { TakesReport layout.now bytes.now self.old out.old.items result self.new
             out.new.items }
         ensures fits { FitsView (items_of layout.now) self.new }
+        // At most so many events, in the room that was there.
+        ensures few { vec_len out.new ≤ vec_len out.old + max_events (items_of layout.now) }
         ensures room { vec_capacity out.new ≡ vec_capacity out.old }
     {
         match input_report(layout, bytes) {

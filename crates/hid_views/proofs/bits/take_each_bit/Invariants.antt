@@ -14,6 +14,5 @@ invariant-loop-index l =
       same_length : length l.held ≡ length l.fn.held;
       events : l.out.items ++ left ≡ l.fn.out.items ++ switch_events l.i us l.fn.held target;
       room : vec_len l.out + length left ≤ vec_capacity l.out;
-      len : vec_len l.out + length left ≡ vec_len l.fn.out + length (switch_events l.i us l.fn.held target);
       same_room : vec_capacity l.out ≡ vec_capacity l.fn.out;
     }

@@ -1,9 +1,9 @@
-use Rattle.std.proofs.Common.{◌≡◌, ◌∙◌, ap, sym, map, Some, ℤ, to_z, of_z, w64, rules}
+use Rattle.std.proofs.Common.{arith, drop, ◌≡◌, ◌∙◌, ap, sym, map, Some, ℤ, to_z, of_z, w64, rules}
 use Rattle.std.specs.List.{slice_get}
 use Rattle.std.proofs.lemmas.Int.{to_z-of_z}
 use Rattle.hid_views.specs.Reading.{read_motion}
 use Rattle.hid_views.specs.Events.{usages_at, at, motion_event}
-use Rattle.hid_views.proofs.EventLemmas.{each-from, room_for, room_left, len_left, told}
+use Rattle.hid_views.proofs.EventLemmas.{all_appended, each-from, each_end, room_for, room_left, told}
 use Rattle.hid_views.proofs.differences.motions.Goals as goal
 
 pub motion_event-requires : goal.motion_event-requires
@@ -22,8 +22,12 @@ loop-index-preserved c =
     let here : slice_get all c.loop-index.index ≡ Some by = c.motion.ensures ∙ ap (λ (v : ℤ). Some v) (sym same) in
     let step = each-from (λ j u m. motion_event (at c.args.item j) u m) (usages_at c.args.layout.now c.args.item) all c.loop-index.index c.usage_at.result by c.usage_at.ensures here in
     record {
-      events = told _ _ _ _ _ _ step c.loop-index.invariant.events c.motion_event.ensures.events;
+      events = told _ _ _ _ _ _ step c.loop-index.invariant.events c.motion_event.ensures.items;
       room = room_left _ _ _ _ _ _ _ step c.loop-index.invariant.room c.motion_event.ensures.len c.motion_event.ensures.room;
-      len = len_left _ _ _ _ _ _ step c.loop-index.invariant.len c.motion_event.ensures.len;
       same_room = c.motion_event.ensures.room ∙ c.loop-index.invariant.same_room;
     }
+
+pub returns : goal.returns
+returns c =
+    let all = map (read_motion c.args.bounds.now.least c.args.bounds.now.greatest) c.args.numbers.now in
+    all_appended _ _ _ _ (each_end (λ j u m. motion_event (at c.args.item j) u m) (usages_at c.args.layout.now c.args.item) (drop c.loop-index.index all) c.loop-index.index (omega arith)) c.loop-index.invariant.events c.loop-index.invariant.same_room

@@ -11,6 +11,5 @@ invariant-loop-index l =
     record {
       events : l.out.items ++ left ≡ l.fn.out.items ++ motion_events l.item us (map (read_motion l.bounds.least l.bounds.greatest) l.numbers);
       room : vec_len l.out + length left ≤ vec_capacity l.out;
-      len : vec_len l.out + length left ≡ vec_len l.fn.out + length (motion_events l.item us (map (read_motion l.bounds.least l.bounds.greatest) l.numbers));
       same_room : vec_capacity l.out ≡ vec_capacity l.fn.out;
     }

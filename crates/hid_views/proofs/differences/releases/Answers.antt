@@ -1,9 +1,9 @@
-use Rattle.std.proofs.Common.{◌≡◌, ◌+◌, ◌<◌, ◌≤◌, ◌∙◌, sym, ap, subst, ℕ, false, List, [], ◌∷◌, ◌++◌, length, append-nil, vec_len, vec_capacity, arith}
+use Rattle.std.proofs.Common.{◌≡◌, ◌+◌, ◌<◌, ◌≤◌, ◌∙◌, subst, ℕ, false, List, [], ◌∷◌, vec_len, vec_capacity, arith}
 use Rattle.hid_cells.specs.declared.event.Event.{Event}
 use Rattle.hid_cells.specs.declared.event.Event.TheVariants as event
 use Rattle.hid_cells.specs.Words.{IsFirst, is_alone}
 use Rattle.hid_views.specs.Events.{usages_at, at, up_event}
-use Rattle.hid_views.proofs.EventLemmas.{ups_by, each_next, each_done, room_for, room_left, len_left, told}
+use Rattle.hid_views.proofs.EventLemmas.{all_appended, ups_by, each_next, each_done, room_for, room_left, told}
 use Rattle.hid_views.proofs.differences.releases.Goals as goal
 
 pub usage_at-usage-requires : goal.usage_at-usage-requires
@@ -27,16 +27,10 @@ loop-index-preserved c =
       within = omega (arith, c.requires.before, c.requires.after);
       events = told _ _ _ _ now _ step c.loop-index.invariant.events c.push_reserved.ensures.items;
       room = room_left _ _ _ _ _ now _ step c.loop-index.invariant.room c.push_reserved.ensures.len c.push_reserved.ensures.capacity;
-      len = len_left _ _ _ _ now _ step c.loop-index.invariant.len c.push_reserved.ensures.len;
       same_room = c.push_reserved.ensures.capacity ∙ c.loop-index.invariant.same_room;
     }
 
-pub returns-clause-events : goal.returns-clause-events
-returns-clause-events c =
+pub returns : goal.returns
+returns c =
     let done = each_done (λ j u p. up_event (at c.args.item j) u p.0 p.1) (is_alone c.args.before.now c.args.after.now) c.args.before.now c.args.after.now (λ j u. event.Up (at c.args.item j) u) (usages_at c.args.layout.now c.args.item) c.loop-index.from (ups_by c.args.item c.args.before.now c.args.after.now) c.requires.before c.requires.after c.loop-index.invariant.within (subst (λ (n : ℕ). (j : ℕ) → c.loop-index.from ≤ j → j < n → is_alone c.args.before.now c.args.after.now j ≡ false) c.requires.before c.in_default.ensures.first) in
-    sym (append-nil c.loop-index.out.items) ∙ ap (λ (t : List Event). c.loop-index.out.items ++ t) (sym done) ∙ c.loop-index.invariant.events
-
-pub returns-clause-len : goal.returns-clause-len
-returns-clause-len c =
-    let done = each_done (λ j u p. up_event (at c.args.item j) u p.0 p.1) (is_alone c.args.before.now c.args.after.now) c.args.before.now c.args.after.now (λ j u. event.Up (at c.args.item j) u) (usages_at c.args.layout.now c.args.item) c.loop-index.from (ups_by c.args.item c.args.before.now c.args.after.now) c.requires.before c.requires.after c.loop-index.invariant.within (subst (λ (n : ℕ). (j : ℕ) → c.loop-index.from ≤ j → j < n → is_alone c.args.before.now c.args.after.now j ≡ false) c.requires.before c.in_default.ensures.first) in
-    omega (arith, c.loop-index.invariant.len, ap length done)
+    all_appended _ _ _ _ done c.loop-index.invariant.events c.loop-index.invariant.same_room

@@ -11,7 +11,6 @@ invariant-loop-index l =
       within : l.from ≤ length us;
       events : l.out.items ++ left ≡ l.fn.out.items ++ ups l.item us l.before l.after;
       room : vec_len l.out + length left ≤ vec_capacity l.out;
-      len : vec_len l.out + length left ≡ vec_len l.fn.out + length (ups l.item us l.before l.after);
       same_room : vec_capacity l.out ≡ vec_capacity l.fn.out;
     }
 

@@ -10,6 +10,5 @@ invariant-loop-index l =
     record {
       events : l.out.items ++ left ≡ l.fn.out.items ++ switch_events l.item us l.before l.after;
       room : vec_len l.out + length left ≤ vec_capacity l.out;
-      len : vec_len l.out + length left ≡ vec_len l.fn.out + length (switch_events l.item us l.before l.after);
       same_room : vec_capacity l.out ≡ vec_capacity l.fn.out;
     }

@@ -1,7 +1,7 @@
-use Rattle.std.proofs.Common.{◌∙◌}
+use Rattle.std.proofs.Common.{◌∙◌, drop, arith}
 use Rattle.std.specs.List.{zip}
 use Rattle.hid_views.specs.Events.{usages_at, at, value_event}
-use Rattle.hid_views.proofs.EventLemmas.{each-from, zip_at, room_for, room_left, len_left, told}
+use Rattle.hid_views.proofs.EventLemmas.{all_appended, each-from, each_end, zip_at, room_for, room_left, told}
 use Rattle.hid_views.proofs.differences.value_changes.Goals as goal
 
 pub value_event-requires : goal.value_event-requires
@@ -12,8 +12,11 @@ pub loop-index-preserved : goal.loop-index-preserved
 loop-index-preserved c =
     let step = each-from (λ j u p. value_event (at c.args.item j) u p.0 p.1) (usages_at c.args.layout.now c.args.item) (zip c.args.before.now c.args.after.now) c.loop-index.index c.usage_at.result (c.get.result, c.get-in-loop-index.result) c.usage_at.ensures (zip_at c.args.before.now c.args.after.now c.loop-index.index c.get.result c.get-in-loop-index.result c.get.ensures c.get-in-loop-index.ensures) in
     record {
-      events = told _ _ _ _ _ _ step c.loop-index.invariant.events c.value_event.ensures.events;
+      events = told _ _ _ _ _ _ step c.loop-index.invariant.events c.value_event.ensures.items;
       room = room_left _ _ _ _ _ _ _ step c.loop-index.invariant.room c.value_event.ensures.len c.value_event.ensures.room;
-      len = len_left _ _ _ _ _ _ step c.loop-index.invariant.len c.value_event.ensures.len;
       same_room = c.value_event.ensures.room ∙ c.loop-index.invariant.same_room;
     }
+
+pub returns : goal.returns
+returns c =
+    all_appended _ _ _ _ (each_end (λ j u p. value_event (at c.args.item j) u p.0 p.1) (usages_at c.args.layout.now c.args.item) (drop c.loop-index.index (zip c.args.before.now c.args.after.now)) c.loop-index.index (omega arith)) c.loop-index.invariant.events c.loop-index.invariant.same_room

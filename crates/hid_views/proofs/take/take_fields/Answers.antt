@@ -1,6 +1,7 @@
-use Rattle.std.proofs.Common.{◌≡◌, ◌+◌, ◌*◌, ◌++◌, ◌∙◌, ℕ, true, List, sym, ap, subst, length, vec_len, arith, rules}
+use Rattle.std.proofs.Common.{◌≡◌, ◌*◌, ◌∙◌, ℕ, true, List, sym, ap, subst, length, arith, rules}
 use Rattle.hid_cells.specs.declared.cell.Cell.{Cell}
 use Rattle.hid_cells.specs.declared.event.Event.{Event}
+use Rattle.hid_views.specs.Appending.{Appends}
 use Rattle.hid_views.specs.Events.{usages_at, element_events}
 use Rattle.hid_views.specs.Reading.{item_numbers}
 use Rattle.hid_views.specs.Taking.{read_by_numbers}
@@ -92,14 +93,8 @@ pub returns-then-are_bits-clause-next : goal.returns-then-are_bits-clause-next
 returns-then-are_bits-clause-next g c =
     subst (λ (cell : Cell). HasNext cell c.args.next.now) (sym c.take_pattern.ensures.cell) (next_of_bits c.get.result c.args.cell.now c.args.next.now c.requires.next)
 
-pub returns-then-are_bits-clause-events : goal.returns-then-are_bits-clause-events
-returns-then-are_bits-clause-events g c =
+pub returns-then-are_bits-clause-told : goal.returns-then-are_bits-clause-told
+returns-then-are_bits-clause-told g c =
     let on : are_bits c.args.listed.now.item.now ≡ true = search rules in
     let reads = reads_as_bits c.args.listed.now.layout.now c.args.bytes.now c.args.listed.now.place c.args.listed.now.item.now c.args.cell.now c.requires.layout c.requires.data.listed c.requires.input (has_bits c.args.listed.now.item.now on) c.requires.held in
-    c.take_pattern.ensures.events ∙ ap (λ (es : List Event). c.args.out.now.items ++ es) (reads.told c.take_pattern.new.cell)
-
-pub returns-then-are_bits-clause-len : goal.returns-then-are_bits-clause-len
-returns-then-are_bits-clause-len g c =
-    let on : are_bits c.args.listed.now.item.now ≡ true = search rules in
-    let reads = reads_as_bits c.args.listed.now.layout.now c.args.bytes.now c.args.listed.now.place c.args.listed.now.item.now c.args.cell.now c.requires.layout c.requires.data.listed c.requires.input (has_bits c.args.listed.now.item.now on) c.requires.held in
-    c.take_pattern.ensures.len ∙ ap (λ (es : List Event). vec_len c.args.out.now + length es) (reads.told c.take_pattern.new.cell)
+    subst (λ (es : List Event). Appends c.args.out.now es c.take_pattern.new.out) (reads.told c.take_pattern.new.cell) c.take_pattern.ensures.told

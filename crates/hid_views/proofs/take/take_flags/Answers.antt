@@ -1,12 +1,12 @@
-use Rattle.std.proofs.Common.{◌≡◌, ◌∙◌, ◌++◌, true, false, List, ap, sym, length, append-nil, arith, rules}
+use Rattle.std.proofs.Common.{◌≡◌, ◌∙◌, true, false, List, ap, sym, length, arith, rules}
 use Rattle.std.specs.List.{list_any}
 use Rattle.hid_cells.specs.declared.cell.Cell.{Cell}
 use Rattle.hid_cells.specs.declared.cell.Cell.TheVariants.{Pressed}
-use Rattle.hid_cells.specs.declared.event.Event.{Event}
 use Rattle.hid_descriptor.specs.Usages.{usage_list}
 use Rattle.hid_layout.specs.Controls.{Key}
 use Rattle.hid_views.specs.Events.{usages_at, key_events}
 use Rattle.hid_views.specs.Reading.{keys_at, named_from, names_rollover, read_keys}
+use Rattle.hid_views.proofs.EventLemmas.{nothing_appended}
 use Rattle.hid_views.proofs.ViewLemmas.{same_keys}
 use Rattle.hid_views.proofs.PressLemmas.{keys_stay, keys_named, is_not, is_so}
 use Rattle.hid_views.proofs.take.take_flags.Goals as goal
@@ -24,7 +24,7 @@ returns-then-read_keys-clause-held c =
     let us = usage_list c.args.entries.now in
     let off : list_any (names_rollover c.args.listed.now.item.now us) c.args.numbers.now ≡ false = is_not (list_any (names_rollover c.args.listed.now.item.now us) c.args.numbers.now) c.read_keys.result c.read_keys.ensures.rolls (search rules) in
     let named : c.read_keys.new.after ≡ named_from c.args.listed.now.item.now c.args.numbers.now 0 (keys_at c.args.listed.now.layout.now c.args.listed.now.place) = c.read_keys.ensures.keys (search rules) ∙ ap (λ (keys : List Key). named_from c.args.listed.now.item.now c.args.numbers.now 0 keys) (sym c.requires.keys) in
-    ap Pressed (c.swap.ensures.x_after ∙ named) ∙ sym (keys_named c.args.listed.now.item.now us (keys_at c.args.listed.now.layout.now c.args.listed.now.place) c.args.held.now c.args.numbers.now off)
+    ap Pressed (c.keep.ensures.held ∙ named) ∙ sym (keys_named c.args.listed.now.item.now us (keys_at c.args.listed.now.layout.now c.args.listed.now.place) c.args.held.now c.args.numbers.now off)
 
 pub returns-else-read_keys-clause-held : goal.returns-else-read_keys-clause-held
 returns-else-read_keys-clause-held c =
@@ -32,10 +32,6 @@ returns-else-read_keys-clause-held c =
     let on : list_any (names_rollover c.args.listed.now.item.now us) c.args.numbers.now ≡ true = is_so (list_any (names_rollover c.args.listed.now.item.now us) c.args.numbers.now) c.read_keys.result c.read_keys.ensures.rolls (search rules) in
     sym (keys_stay c.args.listed.now.item.now us (keys_at c.args.listed.now.layout.now c.args.listed.now.place) c.args.held.now c.args.numbers.now on)
 
-pub returns-else-read_keys-clause-events : goal.returns-else-read_keys-clause-events
-returns-else-read_keys-clause-events c =
-    sym (ap (λ (es : List Event). c.args.out.now.items ++ es) (same_keys c.args.listed.now.place (usages_at c.args.listed.now.layout.now c.args.listed.now.place) (Pressed c.args.held.now)) ∙ append-nil c.args.out.now.items)
-
-pub returns-else-read_keys-clause-len : goal.returns-else-read_keys-clause-len
-returns-else-read_keys-clause-len c =
-    omega (arith, ap (λ (es : List Event). length es) (same_keys c.args.listed.now.place (usages_at c.args.listed.now.layout.now c.args.listed.now.place) (Pressed c.args.held.now)))
+pub returns-else-read_keys-clause-told : goal.returns-else-read_keys-clause-told
+returns-else-read_keys-clause-told c =
+    nothing_appended c.args.out.now _ (same_keys c.args.listed.now.place (usages_at c.args.listed.now.layout.now c.args.listed.now.place) (Pressed c.args.held.now))

@@ -2,7 +2,7 @@ use Rattle.std.proofs.Common.{◌≡◌, ◌<◌, ◌∙◌, get_or, length, ari
 use Rattle.hid_layout.specs.Controls.{items_of}
 use Rattle.hid_cells.specs.Cells.{InView}
 use Rattle.hid_views.specs.Taking.{read_view}
-use Rattle.hid_views.proofs.EventLemmas.{room_for, room_left, told}
+use Rattle.hid_views.proofs.EventLemmas.{appends, room_for, room_left, told}
 use Rattle.hid_cells.proofs.FillLemmas.{filled}
 use Rattle.hid_cells.proofs.PlanLemmas.{along_next, along_step, along_end}
 use Rattle.hid_views.proofs.TakeLemmas.{read_start, read_next, told_from-next, pairs_set, pair_at, read_from-length, taking_skips, all_told}
@@ -45,12 +45,12 @@ loop-place-preserved g c =
     record {
       along = along_step c.args.received.now.layout.now c.args.received.now.report c.loop-place.place-index _ _ _ next (record {
         cells = read_next c.args.received.now.layout.now c.args.received.now.report c.args.received.now.bytes.now c.args.cells.now c.loop-place.cells (get_or c.args.places.now c.loop-place.place-index 0) c.index-cells-i.result c.take_item.new.cell next.holds.cells within c.loop-place.auto.cells c.take_item.ensures.cell;
-        events = told _ _ _ _ _ _ step next.holds.events c.take_item.ensures.events;
-        fits = room_left _ _ _ _ _ _ _ step next.holds.fits c.take_item.ensures.len c.take_item.ensures.room;
+        events = told _ _ _ _ _ _ step next.holds.events c.take_item.ensures.told.items;
+        fits = room_left _ _ _ _ _ _ _ step next.holds.fits c.take_item.ensures.told.len c.take_item.ensures.told.room;
       });
       pairs = pairs_set c.loop-place.cells c.loop-place.nexts (get_or c.args.places.now c.loop-place.place-index 0) c.take_item.new.cell c.take_item.new.next c.loop-place.invariant.pairs (omega (arith, within, c.loop-place.auto.cells)) c.take_item.ensures.next;
       numbers = c.take_item.ensures.numbers ∙ c.loop-place.invariant.numbers;
-      same_room = c.take_item.ensures.room ∙ c.loop-place.invariant.same_room;
+      same_room = c.take_item.ensures.told.room ∙ c.loop-place.invariant.same_room;
     }
 
 pub returns-clause-view : goal.returns-clause-view
@@ -61,8 +61,8 @@ returns-clause-view g c =
     let len : length target ≡ length c.args.cells.now = read_from-length c.args.received.now.layout.now c.args.received.now.report c.args.received.now.bytes.now 0 c.args.cells.now in
     all.cells ∙ filled target c.args.cells.now (length c.args.received.now.layout.now.items) (omega (arith, c.requires.fits.one_each, c.requires.all)) (omega (arith, len))
 
-pub returns-clause-events : goal.returns-clause-events
-returns-clause-events g c =
+pub returns-clause-told : goal.returns-clause-told
+returns-clause-told g c =
     let skips = taking_skips c.args.received.now.layout.now c.args.received.now.report c.args.received.now.bytes.now c.args.cells.now c.loop-place.cells c.args.out.now.items c.loop-place.out.items (vec_len c.loop-place.out) (vec_capacity c.loop-place.out) (c.requires.fits.one_each ∙ c.requires.all) c.loop-place.auto.cells in
     let all = along_end c.args.received.now.layout.now c.args.received.now.report c.loop-place.place-index c.args.places.now _ skips c.requires.plan c.loop-place-test.false c.loop-place.invariant.along in
-    all_told c.args.received.now.layout.now c.args.received.now.report c.args.received.now.bytes.now c.args.cells.now (length c.args.received.now.layout.now.items) c.loop-place.out.items _ (omega (arith, c.requires.fits.one_each, c.requires.all)) all.events
+    appends _ _ _ (all_told c.args.received.now.layout.now c.args.received.now.report c.args.received.now.bytes.now c.args.cells.now (length c.args.received.now.layout.now.items) c.loop-place.out.items _ (omega (arith, c.requires.fits.one_each, c.requires.all)) all.events) c.loop-place.invariant.same_room

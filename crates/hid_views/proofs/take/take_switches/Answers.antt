@@ -9,4 +9,4 @@ switch_changes-requires-clause-after c =
 
 pub returns-clause-held_len : goal.returns-clause-held_len
 returns-clause-held_len c =
-    ap length c.swap.ensures.x_after ∙ ap length c.read_switches.ensures ∙ length_map_zip (λ (p : Bool × ℤ). read_switch p.0 p.1) c.args.held.now c.args.numbers.now (c.requires.numbers ∙ sym c.requires.held)
+    ap length c.keep.ensures.held ∙ ap length c.read_switches.ensures ∙ length_map_zip (λ (p : Bool × ℤ). read_switch p.0 p.1) c.args.held.now c.args.numbers.now (c.requires.numbers ∙ sym c.requires.held)

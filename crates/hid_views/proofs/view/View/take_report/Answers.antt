@@ -25,3 +25,10 @@ returns-in-Ok-clause-fits g c =
     let input = named_input c.args.layout.now c.args.bytes.now c.in-Ok.report (sym c.input_report.ensures ∙ c.in-Ok.is) in
     let is : take c.self.inside.cells.len (c.take_items.new.cells ++ drop (length c.take_items.new.cells) c.self.inside.cells.items) ≡ read_view c.args.layout.now c.in-Ok.report c.args.bytes.now c.args.self.now = grind (arith, common_steps) in
     subst (λ (cells : List Cell). Suits InView (items_of c.args.layout.now) cells) (sym is) (read_view_fits c.args.layout.now c.in-Ok.report c.args.bytes.now c.args.self.now c.plan_of-places.ensures.layout input c.requires.fits)
+
+pub returns-in-Ok-clause-few : goal.returns-in-Ok-clause-few
+returns-in-Ok-clause-few g c =
+    let input = named_input c.args.layout.now c.args.bytes.now c.in-Ok.report (sym c.input_report.ensures ∙ c.in-Ok.is) in
+    let same : c.deref_mut.result.now ≡ c.args.self.now = search rules in
+    let few = read_events_few c.args.layout.now c.in-Ok.report c.args.bytes.now c.args.self.now c.plan_of-places.ensures.layout input c.requires.fits in
+    omega (arith, few, ap (λ (view : List Cell). length (read_events c.args.layout.now c.in-Ok.report c.args.bytes.now view)) same, c.take_items.ensures.told.len)

@@ -1,4 +1,5 @@
--- The reports of the boot keyboard and the boot mouse, the layouts of their descriptors, and that both tell the same (HID 1.11, appendix B).
+-- The reports of the boot keyboard and the boot mouse, the layouts of their descriptors, and that both
+-- tell the same (HID 1.11, appendix B).
 use Rattle.std.specs.Prelude.{◌≡◌, ℕ, ◌-◌, ◌%◌, ◌≤◌, ◌==◌, ◌&&◌, not, nat_lt, nat_le, if◌then◌else◌, Bool, true, false, List, [], ◌∷◌, ◌++◌, length, map, slice_index, Some, Result, Ok, Err, ℤ, pos, negsuc, ◌≤ℤ◌}
 use Rattle.std.specs.Int.{bit_at}
 use Rattle.std.specs.List.{list_any, range_with_len}
@@ -17,8 +18,8 @@ use Rattle.hid_layout.specs.Layout.{Contents, layout_of}
 use Rattle.hid_descriptor.specs.Faults.{Accepts}
 use Rattle.hid_layout.specs.Controls.{items_of}
 use Rattle.hid_layout.specs.Finding.{shown_at}
-use Rattle.hid_views.specs.declared.boot.KeyboardReport.{KeyboardReport}
-use Rattle.hid_views.specs.declared.boot.MouseReport.{MouseReport}
+use Rattle.hid_usages.specs.declared.boot.KeyboardReport.{KeyboardReport}
+use Rattle.hid_usages.specs.declared.boot.MouseReport.{MouseReport}
 use Rattle.hid_cells.specs.declared.cell.Cell.{Cell}
 use Rattle.hid_cells.specs.declared.cell.Cell.TheVariants.{Pressed}
 use Rattle.hid_cells.specs.declared.fault.ReportFault.{ReportFault}
@@ -33,9 +34,11 @@ use Rattle.hid_views.specs.Taking.{read_view, read_events}
 abbrev pub keyboard_of : List ℕ → KeyboardReport
 keyboard_of bytes = record { modifiers = slice_index bytes 0; keys = map (slice_index bytes) (range_with_len 2 6) }
 
+-- the keyboard's report in these bytes; Short where they are under eight
 abbrev pub keyboard_in : List ℕ → Result KeyboardReport ReportFault
 keyboard_in bytes = if nat_lt (length bytes) 8 then Err Short else Ok (keyboard_of bytes)
 
+-- the bytes of the keyboard's report, with 0 in the reserved one
 abbrev pub keyboard_bytes : KeyboardReport → List ℕ
 keyboard_bytes report = report.modifiers ∷ 0 ∷ report.keys
 
@@ -47,9 +50,11 @@ names id report = list_any (λ key. key == id) report.keys
 abbrev pub is_rolled : KeyboardReport → Bool
 is_rolled report = names 1 report
 
+-- 07:id is a modifier
 abbrev pub is_modifier : ℕ → Bool
 is_modifier id = nat_le 0xE0 id && nat_le id 0xE7
 
+-- 07:id is a key of the keyboard's array
 abbrev pub is_key : ℕ → Bool
 is_key id = nat_le 0x04 id && nat_le id 0x65
 
@@ -64,12 +69,20 @@ is_held report id =
 abbrev pub motion_in : ℕ → ℤ
 motion_in byte = if byte == 0x80 then pos 0 else value_of byte 8 true
 
+-- the low three bits of byte 0 are the buttons, bytes 1 and 2 the motions x and y
 abbrev pub mouse_of : List ℕ → MouseReport
-mouse_of bytes = record { buttons = slice_index bytes 0 % 8; x = motion_in (slice_index bytes 1); y = motion_in (slice_index bytes 2) }
+mouse_of bytes =
+    record {
+      buttons = slice_index bytes 0 % 8;
+      x = motion_in (slice_index bytes 1);
+      y = motion_in (slice_index bytes 2);
+    }
 
+-- the mouse's report in these bytes; Short where they are under three
 abbrev pub mouse_in : List ℕ → Result MouseReport ReportFault
 mouse_in bytes = if nat_lt (length bytes) 3 then Err Short else Ok (mouse_of bytes)
 
+-- the bytes of the mouse's report
 abbrev pub mouse_bytes : MouseReport → List ℕ
 mouse_bytes report = report.buttons ∷ pattern_for report.x 8 ∷ pattern_for report.y 8 ∷ []
 
@@ -79,30 +92,47 @@ KeyboardReadsBack = (modifiers a b c d e f : ℕ) →
     let report : KeyboardReport = record { modifiers = modifiers; keys = a ∷ b ∷ c ∷ d ∷ e ∷ f ∷ [] } in
     keyboard_in (keyboard_bytes report) ≡ Ok report
 
+-- a number of a signed byte
 abbrev pub IsByteNumber : ℤ → Type 0
 IsByteNumber v = (negsuc 127 ≤ℤ v) × (v ≤ℤ pos 127)
 
+-- the motion that is read where this one was written
 abbrev pub motion_read : ℤ → ℤ
 motion_read v = if int_eq v (negsuc 127) then pos 0 else v
 
+-- a mouse's report of up to three buttons that is written is read again, save a motion of -128
 abbrev pub MouseReadsBack : Type 0
 MouseReadsBack = (buttons : ℕ) (x y : ℤ) → buttons ≤ 7 → IsByteNumber x → IsByteNumber y →
-    mouse_in (mouse_bytes (record { buttons = buttons; x = x; y = y })) ≡ Ok (record { buttons = buttons; x = motion_read x; y = motion_read y })
+    mouse_in (mouse_bytes (record { buttons = buttons; x = x; y = y }))
+    ≡ Ok (record { buttons = buttons; x = motion_read x; y = motion_read y })
 
--- The layouts of the two descriptors.
+-- a range of usages of one page
 abbrev pub usages : ℕ → ℕ → ℕ → Entry
 usages page first last = (usage page first, usage page last)
 
+-- a collection of this kind with its usage
 abbrev pub collection : ℕ → Usage → Collection
 collection kind u = record { kind = kind; usage = Some u }
 
+-- an item of a report: its place, its width, the number of its elements, its flags, range and shape
 abbrev pub field : ℕ → ℕ → ℕ → ℕ → ℕ → ℤ → ℤ → Shape → MainItem
 field report offset size count flags min max shape =
-    record { report = report; offset = offset; size = size; count = count; flags = record { 0 = flags }; min = min; max = max; shape = shape }
+    record {
+      report = report;
+      offset = offset;
+      size = size;
+      count = count;
+      flags = record { 0 = flags };
+      min = min;
+      max = max;
+      shape = shape;
+    }
 
+-- the keyboard's one collection
 abbrev pub keyboard_path : List Collection
 keyboard_path = collection 1 (usage 0x01 0x06) ∷ []
 
+-- the layout of the boot keyboard's descriptor (B.1)
 abbrev pub keyboard_layout : Contents
 keyboard_layout = record {
   reports = record { kind = Input; id = 0; bits = 64 } ∷ record { kind = Output; id = 0; bits = 8 } ∷ [];
@@ -118,9 +148,11 @@ keyboard_layout = record {
   paths = keyboard_path ∷ keyboard_path ∷ keyboard_path ∷ keyboard_path ∷ keyboard_path ∷ [];
 }
 
+-- the mouse's two collections
 abbrev pub mouse_path : List Collection
 mouse_path = collection 1 (usage 0x01 0x02) ∷ collection 0 (usage 0x01 0x01) ∷ []
 
+-- the layout of the boot mouse's descriptor (B.2)
 abbrev pub mouse_layout : Contents
 mouse_layout = record {
   reports = record { kind = Input; id = 0; bits = 24 } ∷ [];
@@ -141,28 +173,37 @@ pub record GivesOnly (descriptor : List ℕ) (layout : Contents) : Type 0 where
 
 -- Of these bytes, the control of 07:id is held in the view that is read exactly where the report tells so.
 abbrev pub IsTold : List Cell → KeyboardReport → ℕ → Type 0
-IsTold view report id = (c : ControlId) → shown_at (items_of keyboard_layout) c ≡ Some (usage 7 id) → is_pressed (cell_at view c.item) c.index ≡ is_held report id
+IsTold view report id =
+    (c : ControlId) → shown_at (items_of keyboard_layout) c ≡ Some (usage 7 id)
+    → is_pressed (cell_at view c.item) c.index ≡ is_held report id
 
 -- some control has the usage
 abbrev pub IsControl : ℕ → Type 0
 IsControl id = (c : ControlId) × (shown_at (items_of keyboard_layout) c ≡ Some (usage 7 id))
 
--- The bytes read along the boot keyboard's layout in a view: they are of its Input report, and each modifier is held where the report tells so, and so is each key where it isn't rolled over.
+-- The bytes read along the boot keyboard's layout in a view: they are of its Input report, and each
+-- modifier is held where the report tells so, and so is each key where it isn't rolled over.
 pub record TellsKeys (bytes : List ℕ) (view : List Cell) : Type 0 where
   pub named : report_named keyboard_layout bytes ≡ Ok 0
   pub modifier_there : (id : ℕ) → 0xE0 ≤ id → id ≤ 0xE7 → IsControl id
-  pub modifiers : (id : ℕ) → 0xE0 ≤ id → id ≤ 0xE7 → IsTold (read_view keyboard_layout 0 bytes view) (keyboard_of bytes) id
+  pub modifiers : (id : ℕ) → 0xE0 ≤ id → id ≤ 0xE7
+      → IsTold (read_view keyboard_layout 0 bytes view) (keyboard_of bytes) id
   pub key_there : (id : ℕ) → 0x04 ≤ id → id ≤ 0x65 → IsControl id
   pub keys : (id : ℕ) → 0x04 ≤ id → id ≤ 0x65 → is_rolled (keyboard_of bytes) ≡ false
       → IsTold (read_view keyboard_layout 0 bytes view) (keyboard_of bytes) id
 
--- The bytes read along the boot mouse's layout in a view: they are of its Input report, the buttons that are held are those of the report, and what they tell is what changes at the buttons, and then the motions x and y where they aren't 0.
+-- which of the three buttons the bytes hold
 abbrev pub buttons_in : List ℕ → List Bool
 buttons_in bytes = map (λ n. bit_at (mouse_of bytes).buttons n == 1) (range_with_len 0 3)
 
+-- The bytes read along the boot mouse's layout in a view: they are of its Input report, the buttons
+-- that are held are those of the report, and what they tell is what changes at the buttons, and then
+-- the motions x and y where they aren't 0.
 pub record TellsButtons (bytes : List ℕ) (view : List Cell) : Type 0 where
   pub named : report_named mouse_layout bytes ≡ Ok 0
   pub held : cell_at (read_view mouse_layout 0 bytes view) 0 ≡ Pressed (buttons_in bytes)
-  pub motions : (before : List Bool) → cell_at view 0 ≡ Pressed before → read_events mouse_layout 0 bytes view
+  pub motions : (before : List Bool) → cell_at view 0 ≡ Pressed before
+      → read_events mouse_layout 0 bytes view
       ≡ switch_events 0 (map (usage 9) (range_with_len 1 3)) before (buttons_in bytes)
-      ++ (motion_event (at 2 0) (usage 0x01 0x30) (mouse_of bytes).x ++ motion_event (at 2 1) (usage 0x01 0x31) (mouse_of bytes).y)
+      ++ (motion_event (at 2 0) (usage 0x01 0x30) (mouse_of bytes).x
+      ++ motion_event (at 2 1) (usage 0x01 0x31) (mouse_of bytes).y)

@@ -8,8 +8,8 @@ use Rattle.hid_descriptor.specs.Faults.{Accepts, AreAccepted, field_fault, are_t
 use Rattle.hid_layout.specs.Layout.{layout_of}
 use Rattle.hid_descriptor.specs.Reporting.{reports_of, reports_of_kind}
 use Rattle.hid_descriptor.specs.Laws.{HasOneReading}
-use Rattle.hid_views.specs.declared.boot.TheConstants.{KEYBOARD, MOUSE}
-use Rattle.hid_views.specs.Boot.{keyboard_layout, mouse_layout, GivesOnly}
+use Rattle.hid_usages.specs.declared.boot.TheConstants.{KEYBOARD, MOUSE}
+use Rattle.hid_usages.specs.Boot.{keyboard_layout, mouse_layout, GivesOnly}
 
 -- the items of the boot keyboard's descriptor, the last one first
 abbrev keyboard_items : List Item

@@ -21,8 +21,8 @@ use Rattle.hid_layout.specs.Controls.{Item, Key, Elements, Keys, items_of, items
 use Rattle.hid_layout.specs.Finding.{shown_at}
 use Rattle.hid_cells.specs.declared.cell.Cell.{Cell}
 use Rattle.hid_cells.specs.declared.cell.Cell.TheVariants.{Vacant, Pressed, Holding, Moved, RolledOver}
-use Rattle.hid_views.specs.declared.boot.KeyboardReport.{KeyboardReport}
-use Rattle.hid_views.specs.Boot.{field, keyboard_layout, mouse_layout, keyboard_of, mouse_of, motion_in, is_held, is_rolled, names, buttons_in, TellsKeys, TellsButtons}
+use Rattle.hid_usages.specs.declared.boot.KeyboardReport.{KeyboardReport}
+use Rattle.hid_usages.specs.Boot.{field, keyboard_layout, mouse_layout, keyboard_of, mouse_of, motion_in, is_held, is_rolled, names, buttons_in, TellsKeys, TellsButtons}
 use Rattle.hid_cells.specs.Cells.{is_in, FitsView, HasRoom, InView}
 use Rattle.hid_parts.specs.Encoding.{AreBytes}
 use Rattle.hid_parts.specs.Numbers.{number_at, numbers_in}

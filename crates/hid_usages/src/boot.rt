@@ -3,7 +3,7 @@
 ghost use Rattle.std.specs.Prelude.{◌≡◌, ◌≤◌, ℕ, List, length};
 ghost use Rattle.hid_fields.specs.Value.{pattern_for};
 ghost use Rattle.hid_layout.specs.Controls.{items_of};
-ghost use Rattle.hid_views.specs.Boot.{keyboard_in, keyboard_bytes, is_rolled, is_held, mouse_in, mouse_bytes, motion_in, keyboard_layout, mouse_layout, GivesOnly, TellsKeys, TellsButtons, KeyboardReadsBack, MouseReadsBack};
+ghost use Rattle.hid_usages.specs.Boot.{keyboard_in, keyboard_bytes, is_rolled, is_held, mouse_in, mouse_bytes, motion_in, keyboard_layout, mouse_layout, GivesOnly, TellsKeys, TellsButtons, KeyboardReadsBack, MouseReadsBack};
 ghost use Rattle.hid_cells.specs.Cells.{FitsView};
 ghost use Rattle.hid_parts.specs.Encoding.{AreBytes};
 ghost use Rattle.hid_cells.specs.declared.cell.Cell.{Cell};

@@ -1,6 +1,6 @@
-use Rattle.hid_views.proofs.BootDescriptors.{keyboard_given, mouse_given}
-use Rattle.hid_views.proofs.BootLemmas.{keys_told, buttons_are_told}
-use Rattle.hid_views.proofs.boot.laws.Goals as goal
+use Rattle.hid_usages.proofs.BootDescriptors.{keyboard_given, mouse_given}
+use Rattle.hid_usages.proofs.BootLemmas.{keys_told, buttons_are_told}
+use Rattle.hid_usages.proofs.boot.laws.Goals as goal
 
 pub returns-clause-keyboard : goal.returns-clause-keyboard
 returns-clause-keyboard c = keyboard_given c.one_reading.ensures
