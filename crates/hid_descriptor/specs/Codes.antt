@@ -1,10 +1,11 @@
--- What a refusal of a descriptor is printed as.
+-- What a refusal of a descriptor is printed as (our choice).
 use Rattle.std.specs.Prelude.{ℕ, List, ◌++◌, codes}
 use Rattle.std.specs.Fmt.{decimal}
 use Rattle.hid_descriptor.specs.declared.fault.Cause.{Cause}
 use Rattle.hid_descriptor.specs.declared.fault.Cause.TheVariants.{Truncated, TooLong, PopEmpty, PushDepth, CollectionDepth, EndWithout, Unclosed, BadReportId, MixedReportId, BadRange, BadSize, BadUsageRange, UnpairedUsage, Delimiter, ReportTooLong, TooMany, Memory}
 use Rattle.hid_descriptor.specs.declared.fault.LayoutFault.{LayoutFault}
 
+-- each cause has its code, from L1 to L17
 abbrev pub code_of : Cause → List ℕ
 code_of Truncated = codes "L1"
 code_of TooLong = codes "L2"
@@ -24,5 +25,6 @@ code_of ReportTooLong = codes "L15"
 code_of TooMany = codes "L16"
 code_of Memory = codes "L17"
 
+-- a refusal is printed as its code, the word at, and its place in decimal
 abbrev pub fault_text : LayoutFault → List ℕ
 fault_text fault = code_of fault.cause ++ codes " at " ++ decimal fault.at

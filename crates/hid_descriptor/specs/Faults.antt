@@ -1,4 +1,5 @@
--- Which descriptors are refused, for which cause and at which place.
+-- Which descriptors are refused, for which cause and at which place (HID 1.11, 5.6 and 6.2.2; the limits
+-- and the order of causes are our choice).
 use Rattle.std.specs.Prelude.{◌≡◌, ℕ, zero, suc, ◌+◌, ◌-◌, ◌*◌, ◌^◌, ◌<◌, ◌≤◌, Bool, true, false, not, List, [], ◌∷◌, ◌++◌, length, take, drop, reverse, filter, sum_by, Option, Some, None, Result, Ok, Err, ◌==◌, nat_le, nat_lt, ◌&&◌, ◌||◌, if◌then◌else◌, ℤ, pos, neg_ℤ, int_le, int_lt, ◌⊎◌}
 use Rattle.std.specs.List.{list_any}
 use Rattle.std.specs.Option.{option_map}
@@ -12,7 +13,7 @@ use Rattle.hid_descriptor.specs.Usages.{Entry, entries, are_paired, are_ranges}
 use Rattle.hid_descriptor.specs.Path.{path}
 use Rattle.hid_descriptor.specs.Fields.{Field, fields, list_field, field_of, report_bits, has_flag, CONSTANT, is_padding}
 
--- what a test that may refuse tells
+-- a step that is done has no fault, and one that is refused has its cause
 abbrev pub Tells : Result Unit Cause → Option Cause → Type 0
 Tells (Ok done) fault = fault ≡ None
 Tells (Err cause) fault = fault ≡ Some cause
@@ -22,16 +23,18 @@ abbrev pub first_met : List (Bool × Cause) → Option Cause
 first_met [] = None
 first_met (t ∷ ts) = if t.0 then Some t.1 else first_met ts
 
--- the least and the greatest value of a field of this width, in two's complement where the minimum is negative
+-- the least value of a field of this width, in two's complement where the minimum is negative
 abbrev pub least_value : ℤ → ℕ → ℤ
 least_value min width = if int_lt min (pos 0) then neg_ℤ (pos (2 ^ (width - 1))) else pos 0
 
+-- the greatest value of a field of this width, in two's complement where the minimum is negative
 abbrev pub greatest_value : ℤ → ℕ → ℤ
 greatest_value min width = if int_lt min (pos 0) then pos (2 ^ (width - 1) - 1) else pos (2 ^ width - 1)
 
 -- some pattern of the width stands for a value from the minimum to the maximum
 abbrev pub has_value : ℤ → ℤ → ℕ → Bool
-has_value min max width = int_le min max && (int_le (least_value min width) max && int_le min (greatest_value min width))
+has_value min max width =
+    int_le min max && (int_le (least_value min width) max && int_le min (greatest_value min width))
 
 -- the numbers from `from` on
 unfoldable pub upward : ℕ → ℕ → List ℕ
@@ -48,7 +51,9 @@ element_count fs = sum_by (λ field. if is_padding field.shape then 0 else field
 
 -- the fields are more than the limits allow
 unfoldable pub are_too_many : List Field → Bool
-are_too_many fs = nat_lt MAX_ITEMS (length fs) || (nat_lt MAX_ELEMENTS (element_count fs) || nat_lt MAX_REPORT_IDS (length (report_ids fs)))
+are_too_many fs =
+    nat_lt MAX_ITEMS (length fs)
+    || (nat_lt MAX_ELEMENTS (element_count fs) || nat_lt MAX_REPORT_IDS (length (report_ids fs)))
 
 -- the most bits of a report behind its ID, which takes a byte where it isn't 0
 abbrev pub report_limit : ℕ → ℕ
@@ -66,7 +71,8 @@ value_tests field paired es =
 
 -- the same, with no test where the item is Constant or has no elements
 abbrev pub checked_values : Field → Bool → List Entry → List (Bool × Cause)
-checked_values field paired es = if has_flag CONSTANT field.flags || (field.count == 0) then [] else value_tests field paired es
+checked_values field paired es =
+    if has_flag CONSTANT field.flags || (field.count == 0) then [] else value_tests field paired es
 
 -- what is wrong with an item whatever its values are, once the fields are these
 abbrev pub limit_tests : List Field → Field → List (Bool × Cause)
@@ -77,11 +83,13 @@ limit_tests fs field =
 
 -- all tests of a field, in the order in which a cause is told
 abbrev pub field_tests : List Field → List Item → Field → List (Bool × Cause)
-field_tests earlier before field = checked_values field (are_paired before) (entries before) ++ limit_tests (list_field earlier field) field
+field_tests earlier before field =
+    checked_values field (are_paired before) (entries before) ++ limit_tests (list_field earlier field) field
 
 -- the cause for which an Input, Output or Feature item is refused behind the items before it
 unfoldable pub field_fault : List Item → Item → Option Cause
-field_fault before item = first_met (field_tests (fields before) before (field_of (fields before) before item))
+field_fault before item =
+    first_met (field_tests (fields before) before (field_of (fields before) before item))
 
 -- the cause for which another item is refused
 abbrev pub other_fault : List Item → Item → Option Cause
@@ -125,14 +133,19 @@ pub record IsRefused (bytes : List ℕ) (cause : Cause) (at : ℕ) (before : Lis
 abbrev pub IsRefusedAtItem : List ℕ → Cause → ℕ → Type 0
 IsRefusedAtItem bytes cause at = (before : List Item) × (item : Item) × IsRefused bytes cause at before item
 
--- The descriptor is refused as a whole: it is too long, cut off behind its items, or its items are accepted and a collection is open at the end, or an item has no report ID though some item sets one.
+-- The descriptor is refused as a whole: it is too long, cut off behind its items, or its items are accepted
+-- and a collection is open at the end, or an item has no report ID though some item sets one.
 abbrev pub IsRefusedAsWhole : List ℕ → Cause → ℕ → Type 0
 IsRefusedAsWhole bytes TooLong at = (MAX_DESCRIPTOR < length bytes) × (at ≡ MAX_DESCRIPTOR)
 IsRefusedAsWhole bytes Truncated at = (before : List Item) × Reaches bytes at before × IsCut (drop at bytes)
-IsRefusedAsWhole bytes Unclosed at = (before : List Item) × Reaches bytes at before × (at ≡ length bytes) × (0 < length (path before))
-IsRefusedAsWhole bytes MixedReportId at = (before : List Item) × Reaches bytes at before × (at ≡ length bytes) × (length (path before) ≡ 0) × (is_mixed before ≡ true)
+IsRefusedAsWhole bytes Unclosed at =
+    (before : List Item) × Reaches bytes at before × (at ≡ length bytes) × (0 < length (path before))
+IsRefusedAsWhole bytes MixedReportId at =
+    (before : List Item) × Reaches bytes at before × (at ≡ length bytes)
+    × (length (path before) ≡ 0) × (is_mixed before ≡ true)
 IsRefusedAsWhole bytes cause at = ⊥
 
+-- the descriptor is refused for this cause at this place, at an item or as a whole
 abbrev pub Refuses : List ℕ → Cause → ℕ → Type 0
 Refuses bytes cause at = IsRefusedAtItem bytes cause at ⊎ IsRefusedAsWhole bytes cause at
 
@@ -147,6 +160,7 @@ pub record Accepts (bytes : List ℕ) (before : List Item) : Type 0 where
   pub closed : length (path before) ≡ 0
   pub unmixed : is_mixed before ≡ false
 
+-- the first of two places that there is
 abbrev pub or_else : Option (Cause × ℕ) → Option (Cause × ℕ) → Option (Cause × ℕ)
 or_else None other = other
 or_else (Some x) other = Some x
@@ -154,4 +168,6 @@ or_else (Some x) other = Some x
 -- the first refused item behind the items before it, with its cause and its place
 abbrev pub first_fault : List Item → ℕ → List Item → Option (Cause × ℕ)
 first_fault before at [] = None
-first_fault before at (item ∷ items) = or_else (option_map (λ cause. (cause, at)) (fault_of before item)) (first_fault (item ∷ before) (at + length item) items)
+first_fault before at (item ∷ items) =
+    or_else (option_map (λ cause. (cause, at)) (fault_of before item))
+    (first_fault (item ∷ before) (at + length item) items)

@@ -27,9 +27,11 @@ pub record Field : Type 0 where
   pub entries : List Entry
   pub path : List Collection
 
+-- the kind of the report that an item puts fields into (6.2.2.5)
 abbrev pub kind_of : Item → ReportKind
 kind_of item = if is INPUT item then Input else (if is OUTPUT item then Output else Feature)
 
+-- a field takes its size as often as its count says (6.2.2.7)
 abbrev pub bits_of : Field → ℕ
 bits_of field = field.size * field.count
 
@@ -40,13 +42,17 @@ report_bits kind id fields = sum_by bits_of (filter (λ field. same_kind field.k
 -- padding: Constant, or no elements, or no usage
 abbrev pub shape_of : ℕ → ℕ → List Entry → Shape
 shape_of flags count [] = Padding
-shape_of flags count (e ∷ es) = if has_flag CONSTANT flags || (count == 0) then Padding else (if has_flag VARIABLE flags then Variable else Array)
+shape_of flags count (e ∷ es) =
+    if has_flag CONSTANT flags || (count == 0) then Padding
+    else (if has_flag VARIABLE flags then Variable else Array)
 
+-- whether a field is padding (6.2.2.9)
 abbrev pub is_padding : Shape → Bool
 is_padding Padding = true
 is_padding Variable = false
 is_padding Array = false
 
+-- padding shows no usages
 abbrev pub shown_entries : Shape → List Entry → List Entry
 shown_entries Padding es = []
 shown_entries Variable es = es
@@ -75,6 +81,7 @@ field_of earlier before item =
 abbrev pub list_field : List Field → Field → List Field
 list_field earlier field = if bits_of field == 0 then earlier else earlier ++ field ∷ []
 
+-- the listed fields, once one more item has come
 unfoldable pub add_field : List Field → List Item → Item → List Field
 add_field earlier before item = if is_field item then list_field earlier (field_of earlier before item) else earlier
 

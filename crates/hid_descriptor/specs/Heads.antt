@@ -1,4 +1,4 @@
--- Fields as the parser keeps them: without their usages and collections.
+-- Fields as the parser keeps them (our choice): without their usages and collections.
 use Rattle.std.specs.Prelude.{◌≡◌, ℕ, ◌+◌, ◌*◌, ◌≤◌, List, slice_get, Some}
 use Rattle.hid_descriptor.specs.declared.limits.TheConstants.{MAX_REPORT_BYTES}
 use Rattle.hid_descriptor.specs.declared.collection.Collection.{Collection}
@@ -8,12 +8,35 @@ use Rattle.hid_descriptor.specs.Fields.{Field}
 
 -- a field without its usages and its collections
 abbrev pub head_of : Field → KeptField
-head_of field = record { kind = field.kind; id = field.id; offset = field.offset; size = field.size; count = field.count; flags = record { 0 = field.flags }; min = field.min; max = field.max; shape = field.shape }
+head_of field = record {
+  kind = field.kind;
+  id = field.id;
+  offset = field.offset;
+  size = field.size;
+  count = field.count;
+  flags = record { 0 = field.flags };
+  min = field.min;
+  max = field.max;
+  shape = field.shape;
+}
 
 -- a field with its usages and its collections
 abbrev pub whole_field : KeptField → List Entry → List Collection → Field
-whole_field head es path = record { kind = head.kind; id = head.id; offset = head.offset; size = head.size; count = head.count; flags = head.flags.0; min = head.min; max = head.max; shape = head.shape; entries = es; path = path }
+whole_field head es path = record {
+  kind = head.kind;
+  id = head.id;
+  offset = head.offset;
+  size = head.size;
+  count = head.count;
+  flags = head.flags.0;
+  min = head.min;
+  max = head.max;
+  shape = head.shape;
+  entries = es;
+  path = path;
+}
 
 -- no field reaches past the bits of the longest report
 abbrev pub ArePlaced : List KeptField → Type 0
-ArePlaced heads = (i : ℕ) (head : KeptField) → slice_get heads i ≡ Some head → head.offset + head.size * head.count ≤ 8 * MAX_REPORT_BYTES
+ArePlaced heads = (i : ℕ) (head : KeptField) → slice_get heads i ≡ Some head
+    → head.offset + head.size * head.count ≤ 8 * MAX_REPORT_BYTES

@@ -1,4 +1,4 @@
--- What the parser keeps of the listed fields.
+-- What the parser keeps of the listed fields (our choice).
 use Rattle.std.specs.Prelude.{◌≡◌, ℕ, List, [], ◌∷◌, ◌++◌, length, map, true, false, not, ◌==◌, ◌&&◌, Result, Ok, Err}
 use Rattle.std.specs.List.{list_any}
 use Rattle.hid_descriptor.specs.declared.fault.Cause.{Cause}
@@ -18,7 +18,8 @@ pub record AreKept (fs : List Field) (kept : KeptFields) : Type 0 where
   pub reports : kept.reports.list.items ≡ reports_of fs
   pub elements : kept.elements ≡ element_count fs
   pub id_count : length kept.ids.list.items ≡ length (report_ids fs)
-  pub ids : (id : ℕ) → list_any (λ other. other == id) kept.ids.list.items ≡ (not (id == 0) && list_any (λ field. field.id == id) fs)
+  pub ids : (id : ℕ) → list_any (λ other. other == id) kept.ids.list.items
+      ≡ (not (id == 0) && list_any (λ field. field.id == id) fs)
 
 -- the field is listed and the fields aren't too many, or they are, or memory was wanting
 abbrev pub Keeps : List Field → Field → Result Unit Cause → KeptFields → Type 0

@@ -1,4 +1,4 @@
--- Laws of acceptance and refusal, which hold whatever reads a descriptor.
+-- Laws of acceptance and refusal, which hold whatever reads a descriptor (HID 1.11, 6.2.2).
 use Rattle.std.specs.Prelude.{◌≡◌, ◌≢◌, ℕ, List, ◌∷◌, ◌++◌, true}
 use Rattle.hid_items.specs.Spelling.{prefix_of}
 use Rattle.hid_descriptor.specs.declared.fault.Cause.{Cause}
@@ -8,20 +8,26 @@ use Rattle.hid_descriptor.specs.Faults.{Accepts, Refuses}
 
 -- a descriptor is accepted with one list of items at most
 abbrev pub HasOneReading : Type 0
-HasOneReading = (bytes : List ℕ) (before others : List Item) → Accepts bytes before → Accepts bytes others → before ≡ others
+HasOneReading = (bytes : List ℕ) (before others : List Item)
+    → Accepts bytes before → Accepts bytes others → before ≡ others
 
 -- what is accepted is not refused
 abbrev pub AcceptsNoRefused : Type 0
-AcceptsNoRefused = (bytes : List ℕ) (before : List Item) (cause : Cause) (at : ℕ) → Accepts bytes before → Refuses bytes cause at → ⊥
+AcceptsNoRefused = (bytes : List ℕ) (before : List Item) (cause : Cause) (at : ℕ)
+    → Accepts bytes before → Refuses bytes cause at → ⊥
 
--- a descriptor is refused for one cause at most, and at one place
+-- a descriptor is refused for one cause at most
 abbrev pub HasOneCause : Type 0
-HasOneCause = (bytes : List ℕ) (cause other : Cause) (at there : ℕ) → Refuses bytes cause at → Refuses bytes other there → cause ≡ other
+HasOneCause = (bytes : List ℕ) (cause other : Cause) (at there : ℕ)
+    → Refuses bytes cause at → Refuses bytes other there → cause ≡ other
 
+-- a descriptor is refused at one place at most
 abbrev pub HasOnePlace : Type 0
-HasOnePlace = (bytes : List ℕ) (cause other : Cause) (at there : ℕ) → Refuses bytes cause at → Refuses bytes other there → at ≡ there
+HasOnePlace = (bytes : List ℕ) (cause other : Cause) (at there : ℕ)
+    → Refuses bytes cause at → Refuses bytes other there → at ≡ there
 
--- a global behind a Pop is the one that was in force before the matching Push
+-- a global behind a Pop is the one that was in force before the matching Push (6.2.2.7)
 abbrev pub PopRestores : Type 0
-PopRestores = (prefix : ℕ) (pop push : Item) (between before : List Item) → prefix ≢ POP → prefix_of pop ≡ POP → is PUSH push ≡ true → IsBetween 0 between
+PopRestores = (prefix : ℕ) (pop push : Item) (between before : List Item)
+    → prefix ≢ POP → prefix_of pop ≡ POP → is PUSH push ≡ true → IsBetween 0 between
     → in_force prefix (pop ∷ (between ++ push ∷ before)) ≡ in_force prefix before

@@ -1,8 +1,8 @@
--- The fields that a report descriptor lists, as they are handed on.
+-- The fields that a report descriptor lists, as they are handed on (HID 1.11, 6.2.2).
 use Rattle.std.specs.Prelude.{◌≡◌, ◌≤◌, List, length, map}
 use Rattle.std.specs.List.{list_any}
 use Rattle.hid_descriptor.specs.declared.limits.TheConstants.{MAX_ITEMS}
-use Rattle.hid_descriptor.specs.declared.listed.ListedFields.{ListedFields}
+use Rattle.hid_descriptor.specs.declared.listing.ListedFields.{ListedFields}
 use Rattle.hid_descriptor.specs.Items.{Item, is, REPORT_ID}
 use Rattle.hid_descriptor.specs.Fields.{fields}
 use Rattle.hid_descriptor.specs.Heads.{head_of}

@@ -1,4 +1,4 @@
--- Lists that stand one behind the other in one list.
+-- Lists that stand one behind the other in one list (our choice).
 use Rattle.std.specs.Prelude.{◌≡◌, ℕ, ◌≤◌, List, map, length, slice_get, slice_range, Some}
 use Rattle.hid_descriptor.specs.declared.span.Span.{Span}
 
@@ -8,4 +8,5 @@ lists_at values spans = map (λ span. slice_range values span.start span.end) sp
 
 -- each place lies among the values
 abbrev pub AreWithin : {T : Type 0} → List T → List Span → Type 0
-AreWithin values spans = (i : ℕ) (span : Span) → slice_get spans i ≡ Some span → (span.start ≤ span.end) × (span.end ≤ length values)
+AreWithin values spans = (i : ℕ) (span : Span) → slice_get spans i ≡ Some span
+    → (span.start ≤ span.end) × (span.end ≤ length values)

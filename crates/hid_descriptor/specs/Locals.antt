@@ -1,4 +1,4 @@
--- What the parser keeps of the local items.
+-- What the parser keeps of the local items (HID 1.11, 6.2.2.8).
 use Rattle.std.specs.Prelude.{◌≡◌, ℕ, ◌/◌, ◌%◌, ◌^◌, List, [], ◌∷◌, ◌++◌, map, length, slice_get, Some, None, unwrap_or, ◌==◌, if◌then◌else◌}
 use Rattle.std.specs.Option.{option_map}
 use Rattle.hid_items.specs.Spelling.{data_of, unsigned_of}
@@ -12,11 +12,14 @@ use Rattle.hid_descriptor.specs.Usages.{Entry, to_list, locals, minima, maxima, 
 abbrev pub named : Item → NamedUsage
 named item =
     let n = unsigned_of (data_of item) in
-    if length (data_of item) == 4 then record { page = Some (n / 2 ^ 16); id = n % 2 ^ 16 } else record { page = None; id = n }
+    if length (data_of item) == 4 then record { page = Some (n / 2 ^ 16); id = n % 2 ^ 16 }
+    else record { page = None; id = n }
 
+-- the usage, on its own page or else on this one
 abbrev pub on_page : ℕ → NamedUsage → Usage
 on_page page usage = record { page = unwrap_or usage.page page; id = usage.id }
 
+-- the range, each end on its own page or else on this one
 abbrev pub entry_on_page : ℕ → NamedUsage × NamedUsage → Entry
 entry_on_page page e = (on_page page (e.0), on_page page (e.1))
 
@@ -36,6 +39,7 @@ entry_completed prefix usage lows highs =
 
 -- one more local item is kept
 pub record AddsLocal (prefix : ℕ) (usage : NamedUsage) (old new : Locals) : Type 0 where
-  pub entries_after : new.entries.items ≡ old.entries.items ++ entry_completed prefix usage old.minima.items old.maxima.items
+  pub entries_after : new.entries.items
+      ≡ old.entries.items ++ entry_completed prefix usage old.minima.items old.maxima.items
   pub minima_after : new.minima.items ≡ old.minima.items ++ (if prefix == USAGE_MINIMUM then usage ∷ [] else [])
   pub maxima_after : new.maxima.items ≡ old.maxima.items ++ (if prefix == USAGE_MAXIMUM then usage ∷ [] else [])

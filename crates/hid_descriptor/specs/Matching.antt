@@ -1,8 +1,10 @@
--- Which opening item a closing one matches, by counting (Push and Pop, Collection and End Collection).
+-- Which opening item a closing one matches, by counting: Push and Pop, Collection and End Collection
+-- (HID 1.11, 6.2.2.6 and 6.2.2.7).
 use Rattle.std.specs.Prelude.{ℕ, ◌+◌, ◌-◌, List, [], ◌∷◌, ◌++◌, ◌==◌, ◌&&◌, if◌then◌else◌}
 use Rattle.hid_descriptor.specs.Items.{Item, is}
 
--- Going back over an item: how many of the closing items passed still wait for their opening one, which is the nearest with as many closing as opening items in between.
+-- Going back over an item: how many of the closing items passed still wait for their opening one, which is
+-- the nearest with as many closing as opening items in between.
 abbrev pub waiting_after : ℕ → ℕ → ℕ → Item → ℕ
 waiting_after opening closing waiting item =
     if is closing item then waiting + 1 else (if is opening item then waiting - 1 else waiting)

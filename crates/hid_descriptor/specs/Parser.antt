@@ -1,4 +1,4 @@
--- What the parser's state says of the items behind it, and what one step of it does.
+-- What the parser's state says of the items behind it, and what one step of it does (HID 1.11, 6.2.2).
 use Rattle.std.specs.Prelude.{◌≡◌, ◌≢◌, ℕ, List, ◌∷◌, ◌++◌, ◌%◌, length, reverse, All, Some, None, Result, Ok, Err}
 use Rattle.std.specs.List.{list_any, flat_map}
 use Rattle.hid_items.specs.Spelling.{IsSpelling, data_of, unsigned_of}
@@ -31,7 +31,8 @@ pub record StandsAt (before : List Item) (parser : Parser) : Type 0 where
   pub fields_there : AreKept (fields before) parser.fields
   pub numbered_there : parser.numbered ≡ list_any (is REPORT_ID) before
 
--- One step: the item is accepted, and the state moves behind it, or it is refused for this cause. Memory may be wanting at any item.
+-- One step: the item is accepted, and the state moves behind it, or it is refused for this cause. Memory may
+-- be wanting at any item.
 abbrev pub Took : List Item → Item → Result Unit Cause → Parser → Type 0
 Took before item (Ok done) parser = (fault_of before item ≡ None) × StandsAt (item ∷ before) parser
 Took before item (Err Memory) parser = Unit {0}
@@ -62,6 +63,7 @@ pub record HasTaken (bytes : List ℕ) (before : List Item) (rest : Items) (pars
   pub accepted : AreAccepted before
   pub stands : StandsAt before parser
 
+-- the place of the item that is cut off
 abbrev pub place_of : ItemFault → ℕ
 place_of (Truncated at) = at
 
@@ -77,8 +79,10 @@ pub record IsDescribed (kind : ReportKind) (item : Item) (globals : Globals) (re
   pub max : field.max ≡ maximum_of globals
   pub shape : field.shape ≡ shape_of field.flags.0 field.count es
 
--- The field is listed where it has bits, and no limit is passed, or the tests of the limits tell which. Memory may be wanting.
+-- The field is listed where it has bits, and no limit is passed, or the tests of the limits tell which.
+-- Memory may be wanting.
 abbrev pub Lists : List Field → Field → Result Unit Cause → KeptFields → Type 0
-Lists fs field (Ok done) new = AreKept (list_field fs field) new × (first_met (limit_tests (list_field fs field) field) ≡ None)
+Lists fs field (Ok done) new =
+    AreKept (list_field fs field) new × (first_met (limit_tests (list_field fs field) field) ≡ None)
 Lists fs field (Err Memory) new = Unit {0}
 Lists fs field (Err cause) new = first_met (limit_tests (list_field fs field) field) ≡ Some cause

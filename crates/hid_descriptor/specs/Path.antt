@@ -8,7 +8,10 @@ use Rattle.hid_descriptor.specs.Usages.{entries, usage_list}
 
 -- the collection that an item opens, with the first of its usages
 abbrev pub collection_of : Placed → Collection
-collection_of (before, item) = record { kind = unsigned_of (data_of item) % 2 ^ 8; usage = slice_get (usage_list (entries before)) 0 }
+collection_of (before, item) = record {
+  kind = unsigned_of (data_of item) % 2 ^ 8;
+  usage = slice_get (usage_list (entries before)) 0;
+}
 
 -- the collections that are open behind these items, the outermost first
 abbrev pub path : List Item → List Collection

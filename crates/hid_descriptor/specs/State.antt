@@ -1,4 +1,4 @@
--- What the parser keeps of the items behind it. The values are those that looking back gives.
+-- What the parser keeps of the globals (HID 1.11, 6.2.2.7). The values are those that looking back gives.
 use Rattle.std.specs.Prelude.{◌≡◌, List, map, if◌then◌else◌, ℤ, pos, int_le}
 use Rattle.hid_items.specs.Spelling.{unsigned_of, signed_of}
 use Rattle.hid_descriptor.specs.declared.globals.Globals.{Globals}

@@ -1,4 +1,4 @@
--- What the parser keeps of the reports and their IDs.
+-- What the parser keeps of the reports and their IDs (HID 1.11, 5.6).
 use Rattle.std.specs.Prelude.{ℕ, ◌+◌, Bool, false, not, Option, Some, None, List, [], ◌∷◌, ◌++◌, ◌==◌, nat_lt, ◌&&◌, ◌||◌, if◌then◌else◌}
 use Rattle.std.specs.List.{list_any}
 use Rattle.hid_descriptor.specs.declared.report.Report.{Report}

@@ -21,27 +21,35 @@ usage_named page item =
 abbrev pub Entry : Type 0
 Entry = Usage × Usage
 
+-- the range from the usage of one item to that of another
 abbrev pub entry_of : ℕ → Item → Item → Entry
 entry_of page low high = (usage_named page low, usage_named page high)
 
+-- the Usage Minimum items among these
 abbrev pub minima : List Item → List Item
 minima items = filter (is USAGE_MINIMUM) items
 
+-- the Usage Maximum items among these
 abbrev pub maxima : List Item → List Item
 maxima items = filter (is USAGE_MAXIMUM) items
 
+-- a value that may be there, as a list
 abbrev pub to_list : {A : Type 0} → Option A → List A
 to_list None = []
 to_list (Some x) = x ∷ []
 
--- The entry that is whole at a local item, behind the locals in front of it: a Usage's own, or that of the k-th Usage Minimum with the k-th Usage Maximum, at the later of the two.
+-- The entry that is whole at a local item, behind the locals in front of it: a Usage's own, or that of the
+-- k-th Usage Minimum with the k-th Usage Maximum, at the later of the two.
 abbrev pub entry_at : ℕ → List Item → Item → List Entry
 entry_at page front item =
     if is USAGE item then entry_of page item item ∷ []
-    else (if is USAGE_MINIMUM item then to_list (option_map (λ high. entry_of page item high) (slice_get (maxima front) (length (minima front))))
-    else (if is USAGE_MAXIMUM item then to_list (option_map (λ low. entry_of page low item) (slice_get (minima front) (length (maxima front))))
+    else (if is USAGE_MINIMUM item
+    then to_list (option_map (λ high. entry_of page item high) (slice_get (maxima front) (length (minima front))))
+    else (if is USAGE_MAXIMUM item
+    then to_list (option_map (λ low. entry_of page low item) (slice_get (minima front) (length (maxima front))))
     else []))
 
+-- the entries that these local items make whole, behind the locals in front of them
 abbrev pub entries_behind : ℕ → List Item → List Item → List Entry
 entries_behind page front [] = []
 entries_behind page front (item ∷ items) = entry_at page front item ++ entries_behind page (front ++ item ∷ []) items
@@ -58,6 +66,7 @@ are_paired before = length (minima (locals before)) == length (maxima (locals be
 abbrev pub is_range : Entry → Bool
 is_range e = e.0.page == e.1.page && nat_le e.0.id e.1.id
 
+-- each entry is a range from a lower to a higher usage of one page
 abbrev pub are_ranges : List Entry → Bool
 are_ranges es = list_all is_range es
 
@@ -66,6 +75,7 @@ abbrev pub rising : ℕ → ℕ → ℕ → List Usage
 rising page id zero = []
 rising page id (suc n) = record { page = page; id = id } ∷ rising page (id + 1) n
 
+-- a range has so many usages, and none where its minimum is over its maximum
 abbrev pub entry_count : Entry → ℕ
 entry_count e = (e.1.id + 1) - e.0.id
 
@@ -78,12 +88,14 @@ abbrev pub starts_from : ℕ → List Entry → List ℕ
 starts_from n [] = []
 starts_from n (e ∷ es) = n ∷ starts_from (n + entry_count e) es
 
+-- for each range of a main item how many of its usages stand before it
 abbrev pub starts_of : List Entry → List ℕ
 starts_of es = starts_from 0 es
 
--- the usages ErrorRollOver, POSTFail and ErrorUndefined of a keyboard, which tell an error
+-- a usage is a keyboard's ErrorRollOver (HID Usage Tables, Keyboard/Keypad page)
 abbrev pub is_rollover : Usage → Bool
 is_rollover u = (u.page == 7) && (u.id == 1)
 
+-- a usage is a keyboard's ErrorRollOver, POSTFail or ErrorUndefined, which tell an error
 abbrev pub tells_error : Usage → Bool
 tells_error u = (u.page == 7) && ((u.id == 1) || ((u.id == 2) || (u.id == 3)))

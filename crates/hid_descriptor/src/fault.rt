@@ -57,29 +57,38 @@ impl From<AllocError> for Cause {
     }
 }
 
+impl Cause {
+    /// The code as which it is printed.
+    fn code(&self) -> &'static str
+        ensures { result.now ≡ code_of self.now }
+    {
+        match self {
+            Cause::Truncated => "L1",
+            Cause::TooLong => "L2",
+            Cause::PopEmpty => "L3",
+            Cause::PushDepth => "L4",
+            Cause::CollectionDepth => "L5",
+            Cause::EndWithout => "L6",
+            Cause::Unclosed => "L7",
+            Cause::BadReportId => "L8",
+            Cause::MixedReportId => "L9",
+            Cause::BadRange => "L10",
+            Cause::BadSize => "L11",
+            Cause::BadUsageRange => "L12",
+            Cause::UnpairedUsage => "L13",
+            Cause::Delimiter => "L14",
+            Cause::ReportTooLong => "L15",
+            Cause::TooMany => "L16",
+            Cause::Memory => "L17",
+        }
+    }
+}
+
 impl fmt::Display for Cause {
     ghost output = { λ cause. Some (code_of cause) };
 
     fn fmt<W: fmt::Write>(&self, f: &mut fmt::Formatter<W>) -> fmt::Result {
-        match self {
-            Cause::Truncated => write!(f, "L1"),
-            Cause::TooLong => write!(f, "L2"),
-            Cause::PopEmpty => write!(f, "L3"),
-            Cause::PushDepth => write!(f, "L4"),
-            Cause::CollectionDepth => write!(f, "L5"),
-            Cause::EndWithout => write!(f, "L6"),
-            Cause::Unclosed => write!(f, "L7"),
-            Cause::BadReportId => write!(f, "L8"),
-            Cause::MixedReportId => write!(f, "L9"),
-            Cause::BadRange => write!(f, "L10"),
-            Cause::BadSize => write!(f, "L11"),
-            Cause::BadUsageRange => write!(f, "L12"),
-            Cause::UnpairedUsage => write!(f, "L13"),
-            Cause::Delimiter => write!(f, "L14"),
-            Cause::ReportTooLong => write!(f, "L15"),
-            Cause::TooMany => write!(f, "L16"),
-            Cause::Memory => write!(f, "L17"),
-        }
+        f.write_str(self.code())
     }
 }
 

@@ -10,7 +10,7 @@ use crate::prefix;
 use hid_items::Item;
 use std::alloc::{AllocError, Global};
 
-#[derive(Clone, Copy, Debug)]
+#[derive(Clone, Copy)]
 pub(crate) struct Globals {
     pub(crate) page: u16,
     pub(crate) minimum: i64,
@@ -76,7 +76,7 @@ impl Globals {
 }
 
 /// The globals in force, and those that open Pushes saved.
-#[derive(Debug, Drop)]
+#[derive(Drop)]
 pub(crate) struct SavedGlobals {
     pub(crate) now: Globals,
     pub(crate) saved: Vec<Globals>,

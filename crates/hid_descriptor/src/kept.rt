@@ -20,7 +20,7 @@ use std::alloc::{AllocError, Global};
 const FIRST_ITEMS: usize = 8;
 
 /// The listed fields, in order.
-#[derive(Debug, Drop)]
+#[derive(Drop)]
 pub(crate) struct KeptFields {
     pub(crate) list: Vec<KeptField>,
     pub(crate) lists: ItemLists,

@@ -29,7 +29,7 @@ mod item_lists;
 mod kept;
 pub mod laws;
 mod limits;
-mod listed;
+mod listing;
 mod locals;
 mod parse;
 mod parser;
@@ -51,7 +51,7 @@ pub use limits::{
     MAX_DESCRIPTOR, MAX_ELEMENTS, MAX_ENTRIES, MAX_ITEMS, MAX_KEYS, MAX_OPEN_COLLECTIONS,
     MAX_OPEN_PUSHES, MAX_REPORT_BYTES, MAX_REPORT_IDS, MAX_WIDTH,
 };
-pub use listed::{ListedFields, list_fields};
+pub use listing::{ListedFields, list_fields};
 pub use report::{Report, ReportKind};
 pub use shape::Shape;
 pub use span::Span;

@@ -18,7 +18,7 @@ use std::alloc::{AllocError, Global};
 const FIRST_ENTRIES: usize = 8;
 
 /// A usage as an item names it: with a page of its own, or to be put on the Usage Page in force.
-#[derive(Clone, Copy, Debug, Default)]
+#[derive(Clone, Copy, Default)]
 pub(crate) struct NamedUsage {
     pub(crate) page: Option<u16>,
     pub(crate) id: u16,
@@ -68,7 +68,7 @@ fn usage_at(usages: &[NamedUsage], n: usize) -> Option<NamedUsage>
 }
 
 /// The local items that count, since the last main item.
-#[derive(Debug, Drop)]
+#[derive(Drop)]
 pub(crate) struct Locals {
     /// The ranges from a first to a last usage.
     pub(crate) entries: Vec<(NamedUsage, NamedUsage)>,

@@ -1,6 +1,6 @@
 //! The parser behind all items of a descriptor.
 
-ghost use Rattle.std.specs.Prelude.{◌≡◌, ◌≢◌, ℕ, List, [], ◌∷◌, ◌<◌, ◌≤◌, true, false, length, IfOk, IfErr};
+ghost use Rattle.std.specs.Prelude.{◌≡◌, ◌≢◌, ℕ, List, [], ◌∷◌, ◌<◌, ◌≤◌, true, false, length, IfOk, IfErr, OnOk};
 ghost use Rattle.hid_descriptor.specs.Items.{Item as Spelled};
 ghost use Rattle.hid_descriptor.specs.Faults.{Reaches, Explains};
 ghost use Rattle.hid_descriptor.specs.Parser.{StandsAt, told_place, place_of};
@@ -30,12 +30,12 @@ fn truncated_at(e: ItemFault) -> usize
     }
 }
 
-/// The parser behind all items, from one that has taken none.
-fn take_items(mut parser: Parser, descriptor: &[u8]) -> Result<Parser, LayoutFault>
+/// Takes all items, by a parser that has taken none.
+fn take_items(parser: &mut Parser, descriptor: &[u8]) -> Result<(), LayoutFault>
     requires short { length descriptor.now ≤ MAX_DESCRIPTOR }
-    requires fresh { StandsAt [] parser }
-    ensures ok { IfOk result (λ parser. (before : List Spelled)
-        × Reaches descriptor.now (length descriptor.now) before × StandsAt before parser) }
+    requires fresh { StandsAt [] parser.old }
+    ensures ok { OnOk result ((before : List Spelled)
+        × Reaches descriptor.now (length descriptor.now) before × StandsAt before parser.new) }
     ensures err { IfErr result (λ f. Explains descriptor.now f.cause f.at) }
 {
     for next in Items::new(descriptor) {
@@ -49,7 +49,7 @@ fn take_items(mut parser: Parser, descriptor: &[u8]) -> Result<Parser, LayoutFau
             Err(e) => return Err(fault(Cause::Truncated, truncated_at(e))),
         }
     }
-    Ok(parser)
+    Ok(())
 }
 
 /// The parser behind all items.
@@ -59,11 +59,17 @@ pub(crate) fn parse_items(alloc: Global, descriptor: &[u8]) -> Result<Parser, La
         × Reaches descriptor.now (length descriptor.now) before × StandsAt before parser) }
     ensures err { IfErr result (λ f. Explains descriptor.now f.cause f.at) }
 {
-    match Parser::new(alloc) {
-        Ok(parser) => take_items(parser, descriptor),
-        Err(_) => Err(LayoutFault {
-            cause: Cause::Memory,
-            at: 0,
-        }),
+    let mut parser = match Parser::new(alloc) {
+        Ok(parser) => parser,
+        Err(_) => {
+            return Err(LayoutFault {
+                cause: Cause::Memory,
+                at: 0,
+            });
+        }
+    };
+    match take_items(&mut parser, descriptor) {
+        Ok(()) => Ok(parser),
+        Err(f) => Err(f),
     }
 }

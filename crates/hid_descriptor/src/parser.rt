@@ -21,7 +21,7 @@ use hid_items::{Item, ItemKind};
 use std::alloc::{AllocError, Global};
 
 /// What the items so far leave in force, open and listed.
-#[derive(Debug, Drop)]
+#[derive(Drop)]
 pub(crate) struct Parser {
     pub(crate) globals: SavedGlobals,
     pub(crate) locals: Locals,

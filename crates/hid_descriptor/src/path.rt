@@ -28,7 +28,7 @@ fn first_usage(entries: &[(NamedUsage, NamedUsage)], page: u16) -> Option<Usage>
     None
 }
 
-#[derive(Debug, Drop)]
+#[derive(Drop)]
 pub(crate) struct OpenCollections {
     pub(crate) open: ArrayVec<Collection, MAX_OPEN_COLLECTIONS>,
 }

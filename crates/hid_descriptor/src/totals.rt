@@ -26,7 +26,7 @@ impl Report {
 const FIRST_REPORTS: usize = 4;
 
 /// The reports that have bits so far, by kind and then by ID.
-#[derive(Debug, Drop)]
+#[derive(Drop)]
 pub(crate) struct ReportTotals {
     pub(crate) list: Vec<Report>,
 }
@@ -91,7 +91,7 @@ impl ReportTotals {
 }
 
 /// The report IDs but 0 that fields have, each once.
-#[derive(Debug, Drop)]
+#[derive(Drop)]
 pub(crate) struct ReportIds {
     pub(crate) list: Vec<u8>,
 }

@@ -1,4 +1,5 @@
--- A field inside a word: what `put` does to the bytes that a field touches, taken as one number.
+-- A field inside a word: what `put` does to the bytes that a field touches, taken as one number (our own,
+-- of the fast codec).
 use Rattle.std.specs.Prelude.{ℕ, ◌+◌, ◌*◌, ◌/◌, ◌%◌, ◌^◌}
 
 -- The word with the field of this width at bit `shift` replaced by the pattern: what is above the

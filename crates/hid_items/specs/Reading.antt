@@ -8,10 +8,11 @@ use Rattle.hid_items.specs.declared.fault.ItemFault.TheVariants.{Truncated}
 use Rattle.hid_items.specs.declared.reading.Items.{Items}
 use Rattle.hid_items.specs.Spelling.{IsSpelling, IsCut, prefix_of}
 
--- the place of the next item, and the bytes that are left from there on
+-- the place of the next item
 abbrev pub place : Items → ℕ
 place items = items.at
 
+-- the bytes that are left, from the next item on
 abbrev pub left : Items → List ℕ
 left items = items.rest.now
 

@@ -1,4 +1,5 @@
--- What items a report descriptor is made of (HID 1.11, 6.2.2). An item is known by its spelling, the bytes that it takes.
+-- What items a report descriptor is made of (HID 1.11, 6.2.2). An item is known by its spelling, the
+-- bytes that it takes.
 use Rattle.std.specs.Prelude.{◌≡◌, ℕ, ◌+◌, ◌-◌, ◌*◌, ◌%◌, ◌^◌, ◌<◌, List, [], ◌∷◌, ◌++◌, length, take, drop, All, ◌==◌, nat_lt, if◌then◌else◌, ℤ, pos, ◌-ℤ◌}
 use Rattle.std.specs.Bool.{MatchBool}
 use Rattle.std.specs.List.{flat_map}
@@ -53,9 +54,10 @@ little_endian (byte ∷ bytes) = byte + 256 * little_endian bytes
 abbrev pub two's_complement : ℕ → ℕ → ℤ
 two's_complement patterns n = if nat_lt (2 * n) patterns then pos n else pos n -ℤ pos patterns
 
--- data read as a number without sign, and with one; no data is 0
+-- data read as a number without sign; no data is 0 (5.8)
 abbrev pub unsigned_of : List ℕ → ℕ
 unsigned_of bytes = little_endian bytes
 
+-- data read as a number in two's complement of its size; no data is 0 (5.8)
 abbrev pub signed_of : List ℕ → ℤ
 signed_of bytes = two's_complement (256 ^ length bytes) (little_endian bytes)

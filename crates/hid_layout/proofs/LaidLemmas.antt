@@ -3,7 +3,7 @@ use Rattle.std.proofs.Common.{◌≡◌, Bool, List, [], ◌∷◌, map, refl, �
 use Rattle.std.specs.List.{list_any}
 use Rattle.hid_layout.specs.declared.main_item.MainItem.{MainItem}
 use Rattle.hid_layout.specs.Layout.{item_of, main_item, layout_of}
-use Rattle.hid_descriptor.specs.declared.listed.ListedFields.{ListedFields}
+use Rattle.hid_descriptor.specs.declared.listing.ListedFields.{ListedFields}
 use Rattle.hid_descriptor.specs.Items.{Item, is, REPORT_ID}
 use Rattle.hid_descriptor.specs.Fields.{Field, fields}
 use Rattle.hid_descriptor.specs.Heads.{head_of}

@@ -39,19 +39,22 @@ pub record Item : Type 0 where
   pub report : Option ℕ
   pub form : Form
 
--- the least and the greatest number of the logical range that some pattern stands for
+-- the least number of the logical range that some pattern stands for
 abbrev pub least_of : MainItem → ℤ
 least_of item = int_max item.min (least_value item.min item.size)
 
+-- the greatest number of the logical range that some pattern stands for
 abbrev pub greatest_of : MainItem → ℤ
 greatest_of item = int_min item.max (greatest_value item.min item.size)
 
+-- a number of the logical range that some pattern stands for
 abbrev pub is_encodable : MainItem → ℤ → Bool
 is_encodable item v = int_le (least_of item) v && int_le v (greatest_of item)
 
 -- some pattern of the width lies outside the range
 abbrev pub has_outside : MainItem → Bool
-has_outside item = int_lt (least_value item.min item.size) item.min || int_lt item.max (greatest_value item.min item.size)
+has_outside item =
+    int_lt (least_value item.min item.size) item.min || int_lt item.max (greatest_value item.min item.size)
 
 -- of what kind the elements of a variable item are
 abbrev pub element_kind : MainItem → ControlKind
@@ -67,8 +70,10 @@ spread (suc n) [] = []
 spread (suc n) (u ∷ []) = u ∷ spread n (u ∷ [])
 spread (suc n) (u ∷ v ∷ us) = u ∷ spread n (v ∷ us)
 
+-- a place of an array's usage list is a key where an element can carry its number and its usage is neither 0 nor an error
 abbrev pub is_key : MainItem → ℕ → Usage → Bool
-is_key item i u = is_encodable item (item.min +ℤ pos i) && (nat_lt i MAX_KEYS && (not (u.id == 0) && not (tells_error u)))
+is_key item i u =
+    is_encodable item (item.min +ℤ pos i) && (nat_lt i MAX_KEYS && (not (u.id == 0) && not (tells_error u)))
 
 -- the keys from the place i of the usage list on
 unfoldable pub keys_from : MainItem → ℕ → List Usage → List Key
@@ -86,30 +91,37 @@ array_keys item us = keys_from item 0 (key_places us)
 -- the least place, from i on, that an element can carry and that names ErrorRollOver
 unfoldable pub rollover_from : MainItem → ℕ → List Usage → Option ℕ
 rollover_from item i [] = None
-rollover_from item i (u ∷ us) = if is_rollover u && is_encodable item (item.min +ℤ pos i) then Some i else rollover_from item (i + 1) us
+rollover_from item i (u ∷ us) =
+    if is_rollover u && is_encodable item (item.min +ℤ pos i) then Some i else rollover_from item (i + 1) us
 
+-- there is a place
 abbrev pub has_place : Option ℕ → Bool
 has_place None = false
 has_place (Some i) = true
 
+-- the controls of an item with these usages
 abbrev pub form_of : MainItem → List Usage → Shape → Form
 form_of item us Padding = NoControls
 form_of item us Variable = Elements (element_kind item) (least_of item) (greatest_of item) (spread item.count us)
 form_of item us Array = Keys item.count (has_place (rollover_from item 0 us)) (array_keys item us)
 
--- whether an item stands in an Input report
+-- a report that may be there is an Input report
 abbrev pub is_input_report : Option Report → Bool
 is_input_report None = false
 is_input_report (Some report) = same_kind report.kind Input
 
+-- an item of the report at this place stands in an Input report
 abbrev pub is_input : List Report → ℕ → Bool
 is_input reports r = is_input_report (slice_get reports r)
 
+-- a listed item as it is seen: controls stand in Input reports alone
 abbrev pub item_of : List Report → MainItem → List Entry → Item
 item_of reports item es =
-    if is_input reports item.report then record { report = Some item.report; form = form_of item (usage_list es) item.shape }
+    if is_input reports item.report
+    then record { report = Some item.report; form = form_of item (usage_list es) item.shape }
     else record { report = None; form = NoControls }
 
+-- these listed items with their entries, as they are seen
 unfoldable pub items_from : List Report → List MainItem → List (List Entry) → List Item
 items_from reports [] ess = []
 items_from reports (item ∷ items) [] = []
@@ -124,38 +136,43 @@ abbrev pub control_of_key : Option Key → Option Control
 control_of_key None = None
 control_of_key (Some key) = if key.is_switch then Some (record { kind = Switch; usage = key.usage }) else None
 
--- the control at a place
+-- the control at a place of an item
 abbrev pub control_in : Form → ℕ → Option Control
 control_in NoControls j = None
-control_in (Elements kind least greatest usages) j = option_map (λ u. record { kind = kind; usage = u }) (slice_get usages j)
+control_in (Elements kind least greatest usages) j =
+    option_map (λ u. record { kind = kind; usage = u }) (slice_get usages j)
 control_in (Keys elements rolls keys) j = control_of_key (slice_get keys j)
 
+-- the control at a place of an item that may be there
 abbrev pub control_of_item : ℕ → Option Item → Option Control
 control_of_item j None = None
 control_of_item j (Some item) = control_in item.form j
 
+-- the control that an ID names
 abbrev pub control_of : List Item → ControlId → Option Control
 control_of items c = control_of_item c.index (slice_get items c.item)
 
--- variable Input elements, and twice the array Input elements
+-- a reading gives an event for each variable element, and two for each array element
 abbrev pub events_in : Form → ℕ
 events_in NoControls = 0
 events_in (Elements kind least greatest usages) = length usages
 events_in (Keys elements rolls keys) = 2 * elements
 
+-- the events of all items together
 abbrev pub max_events : List Item → ℕ
 max_events items = sum_by (λ item. events_in item.form) items
 
--- the least and greatest of a list of usages' form, without the usages
+-- what is told of controls without their usages
 abbrev pub head_of : Form → Controls
 head_of NoControls = head.None
 head_of (Elements kind least greatest usages) = head.Elements kind least greatest (length usages)
 head_of (Keys elements rolls keys) = head.Keys elements rolls (length keys)
 
--- the controls of the item at a place
+-- the controls of an item that may be there
 abbrev pub form_of_item : Option Item → Form
 form_of_item None = NoControls
 form_of_item (Some item) = item.form
 
+-- the controls of the item at a place
 abbrev pub form_at : List Item → ℕ → Form
 form_at items i = form_of_item (slice_get items i)

@@ -1,4 +1,4 @@
--- The usages of controls, by which they are found.
+-- The usages of controls, by which they are found (HID 1.11, 6.2.2.8).
 use Rattle.std.specs.Prelude.{ℕ, Bool, ◌==◌, ◌&&◌, nat_le, List, Option}
 use Rattle.std.specs.Option.{option_map}
 use Rattle.hid_descriptor.specs.declared.usage.Usage.{Usage}

@@ -1,4 +1,4 @@
--- What a layout keeps beside its items, so that they are read without a search.
+-- What a layout keeps beside its items, so that they are read without a search (our choice).
 use Rattle.std.specs.Prelude.{◌≡◌, ℕ, ◌+◌, false, ◌==◌, if◌then◌else◌, List, [], ◌∷◌, map, length, slice_get, Some}
 use Rattle.hid_layout.specs.declared.main_item.MainItem.{MainItem}
 use Rattle.hid_layout.specs.declared.sent.Codes.{Codes}
@@ -11,7 +11,8 @@ use Rattle.hid_layout.specs.Sent.{AreCodes}
 -- the places of a report's items, from the place i on
 abbrev pub places_from : ℕ → ℕ → List MainItem → List ℕ
 places_from i r [] = []
-places_from i r (item ∷ items) = if item.report == r then i ∷ places_from (i + 1) r items else places_from (i + 1) r items
+places_from i r (item ∷ items) =
+    if item.report == r then i ∷ places_from (i + 1) r items else places_from (i + 1) r items
 
 -- the places of a report's items, in order
 abbrev pub plan_of : Contents → ℕ → List ℕ
@@ -20,7 +21,8 @@ plan_of layout r = places_from 0 r layout.items
 -- each data item has its codes
 pub record AreAllCodes (items : List MainItem) (entries : List (List Entry)) (codes : List Codes) : Type 0 where
   pub one_each : length codes ≡ length items
-  pub at_each : (i : ℕ) (item : MainItem) (es : List Entry) (c : Codes) → slice_get items i ≡ Some item → slice_get entries i ≡ Some es → slice_get codes i ≡ Some c
+  pub at_each : (i : ℕ) (item : MainItem) (es : List Entry) (c : Codes)
+      → slice_get items i ≡ Some item → slice_get entries i ≡ Some es → slice_get codes i ≡ Some c
       → is_padding item.shape ≡ false → AreCodes item (usage_list es) c
 
 -- what is kept is that of the layout

@@ -1,4 +1,4 @@
--- The layout that a list of items gives.
+-- The layout that a list of items gives (HID 1.11, 5.6 and 8).
 use Rattle.std.specs.Prelude.{Bool, List, map}
 use Rattle.std.specs.List.{list_any}
 use Rattle.hid_descriptor.specs.declared.collection.Collection.{Collection}
@@ -34,7 +34,16 @@ main_item reports field = record {
 
 -- an item of a layout with these reports, by what is kept
 abbrev pub item_of : List Report → KeptField → MainItem
-item_of reports head = record { report = place_of head.kind head.id reports; offset = head.offset; size = head.size; count = head.count; flags = head.flags; min = head.min; max = head.max; shape = head.shape }
+item_of reports head = record {
+  report = place_of head.kind head.id reports;
+  offset = head.offset;
+  size = head.size;
+  count = head.count;
+  flags = head.flags;
+  min = head.min;
+  max = head.max;
+  shape = head.shape;
+}
 
 -- the layout of these fields
 abbrev pub contents_of : List Field → Bool → Contents

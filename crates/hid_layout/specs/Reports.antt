@@ -1,4 +1,4 @@
--- The reports of a layout, and what holds of every layout.
+-- The reports of a layout, and what holds of every layout (HID 1.11, 5.6 and 8).
 use Rattle.std.specs.Prelude.{◌≡◌, ℕ, ◌+◌, ◌*◌, ◌/◌, ◌<◌, ◌≤◌, false, if◌then◌else◌, Option, not, ◌&&◌, nat_lt, int_lt, List, length, slice_get, Some, None, pos, neg_ℤ, ◌^◌, ◌≤ℤ◌}
 use Rattle.hid_descriptor.specs.declared.limits.TheConstants.{MAX_ENTRIES, MAX_REPORT_BYTES, MAX_WIDTH}
 use Rattle.hid_layout.specs.declared.main_item.MainItem.{MainItem}
@@ -15,6 +15,7 @@ use Rattle.std.specs.Option.{option_and_then}
 abbrev pub first_bit : Contents → ℕ
 first_bit layout = if layout.numbered then 8 else 0
 
+-- the bits of the report at a place, 0 where there is none
 abbrev pub bits_of : List Report → ℕ → ℕ
 bits_of reports r = elim (slice_get reports r) [ None ↦ 0 | Some report ↦ report.bits ]
 
@@ -28,15 +29,24 @@ usage_of layout item index = option_and_then (λ es. slice_get (usage_list es) i
 
 -- the field at a place of an item: fields lie one behind the other
 abbrev pub field_at : MainItem → ℕ → Element
-field_at item j = record { bit = item.offset + j * item.size; width = item.size; signed = int_lt item.min (pos 0); min = item.min; max = item.max }
+field_at item j = record {
+  bit = item.offset + j * item.size;
+  width = item.size;
+  signed = int_lt item.min (pos 0);
+  min = item.min;
+  max = item.max;
+}
 
 -- the data field at a place: none of padding, and none past the last
 abbrev pub element_in : MainItem → ℕ → Option Element
-element_in item j = if not (is_padding item.shape) && nat_lt j item.count then Some (field_at item j) else None
+element_in item j =
+    if not (is_padding item.shape) && nat_lt j item.count then Some (field_at item j) else None
 
+-- the data field at a place of the listed item at a place
 abbrev pub element_of : Contents → ℕ → ℕ → Option Element
 element_of layout item j = option_and_then (λ found. element_in found j) (slice_get layout.items item)
 
+-- the ID of the report at a place, 0 where there is none
 abbrev pub report_id : Contents → ℕ → ℕ
 report_id layout r = elim (slice_get layout.reports r) [ None ↦ 0 | Some report ↦ report.id ]
 
@@ -50,18 +60,27 @@ pub record HasElements (item : MainItem) : Type 0 where
   pub not_low : neg_ℤ (pos (2 ^ 32)) ≤ℤ item.min
   pub not_high : item.min ≤ℤ pos (2 ^ 32)
 
--- What holds of every layout: fields lie behind one another in their report, reports are short, and no two of them have the same kind and ID.
+-- What holds of every layout: fields lie behind one another in their report, reports are short, and no two of
+-- them have the same kind and ID.
 pub record IsLayout (layout : Contents) : Type 0 where
   pub entries_there : length layout.entries ≡ length layout.items
   pub few_entries : (i : ℕ) (es : List Entry) → slice_get layout.entries i ≡ Some es → length es ≤ MAX_ENTRIES
-  pub some_usage : (i : ℕ) (item : MainItem) (es : List Entry) → slice_get layout.items i ≡ Some item → slice_get layout.entries i ≡ Some es → is_padding item.shape ≡ false
+  pub some_usage : (i : ℕ) (item : MainItem) (es : List Entry)
+      → slice_get layout.items i ≡ Some item → slice_get layout.entries i ≡ Some es → is_padding item.shape ≡ false
       → 0 < length (usage_list es)
-  pub report_there : (i : ℕ) (item : MainItem) → slice_get layout.items i ≡ Some item → item.report < length layout.reports
-  pub elements : (i : ℕ) (item : MainItem) → slice_get layout.items i ≡ Some item → is_padding item.shape ≡ false → HasElements item
-  pub apart : (i k : ℕ) (a b : MainItem) → i < k → slice_get layout.items i ≡ Some a → slice_get layout.items k ≡ Some b → a.report ≡ b.report
+  pub report_there : (i : ℕ) (item : MainItem) → slice_get layout.items i ≡ Some item
+      → item.report < length layout.reports
+  pub elements : (i : ℕ) (item : MainItem) → slice_get layout.items i ≡ Some item
+      → is_padding item.shape ≡ false → HasElements item
+  pub apart : (i k : ℕ) (a b : MainItem)
+      → i < k → slice_get layout.items i ≡ Some a → slice_get layout.items k ≡ Some b → a.report ≡ b.report
       → a.offset + a.size * a.count ≤ b.offset
-  pub inside : (i : ℕ) (item : MainItem) → slice_get layout.items i ≡ Some item → first_bit layout + (item.offset + item.size * item.count) ≤ 8 * report_bytes layout item.report
+  pub inside : (i : ℕ) (item : MainItem) → slice_get layout.items i ≡ Some item
+      → first_bit layout + (item.offset + item.size * item.count) ≤ 8 * report_bytes layout item.report
   pub short : (r : ℕ) → report_bytes layout r ≤ MAX_REPORT_BYTES
-  pub one_place : (r k : ℕ) (a b : Report) → slice_get layout.reports r ≡ Some a → slice_get layout.reports k ≡ Some b → a.kind ≡ b.kind → a.id ≡ b.id → r ≡ k
+  pub one_place : (r k : ℕ) (a b : Report)
+      → slice_get layout.reports r ≡ Some a → slice_get layout.reports k ≡ Some b → a.kind ≡ b.kind → a.id ≡ b.id
+      → r ≡ k
   pub byte_id : (r : ℕ) (report : Report) → slice_get layout.reports r ≡ Some report → report.id < 256
-  pub unnumbered : (r : ℕ) (report : Report) → layout.numbered ≡ false → slice_get layout.reports r ≡ Some report → report.id ≡ 0
+  pub unnumbered : (r : ℕ) (report : Report) → layout.numbered ≡ false
+      → slice_get layout.reports r ≡ Some report → report.id ≡ 0

@@ -1,5 +1,5 @@
--- The codes of an item: the numbers by which its elements tell null (HID 1.11, 5.10), that they are empty, and that the array
--- rolled over (HID Usage Tables, Keyboard/Keypad page).
+-- The codes of an item: the numbers by which its elements tell null (HID 1.11, 5.10), that they are empty (our
+-- choice), and that the array rolled over (HID Usage Tables, Keyboard/Keypad page).
 use Rattle.std.specs.Prelude.{◌≡◌, ℕ, zero, suc, ◌+◌, ◌^◌, Bool, true, not, ◌&&◌, ◌||◌, if◌then◌else◌, List, slice_get, Option, Some, None, ℤ, pos, negsuc, ◌+ℤ◌, ◌-ℤ◌, int_le}
 use Rattle.std.specs.Option.{option_map}
 use Rattle.hid_fields.specs.Value.{value_of, is_negative}
@@ -9,14 +9,16 @@ use Rattle.hid_layout.specs.declared.sent.Codes.{Codes}
 use Rattle.hid_layout.specs.Controls.{is_key, rollover_from}
 use Rattle.hid_descriptor.specs.Usages.{tells_error}
 
+-- a number is in a range
 abbrev pub is_in : ℤ → ℤ → ℤ → Bool
 is_in least greatest v = int_le least v && int_le v greatest
 
--- the place of an array's usage list that an element of this number names
+-- a number that is not below 0
 abbrev pub at_zero : ℤ → ℕ
 at_zero (pos n) = n
 at_zero (negsuc n) = 0
 
+-- the place of an array's usage list that an element of this number names
 abbrev pub place_named : MainItem → ℤ → Option ℕ
 place_named item v = if is_in item.min item.max v then Some (at_zero (v -ℤ item.min)) else None
 
@@ -29,6 +31,7 @@ unfoldable pub first_passing : (ℕ → Bool) → ℕ → ℕ → Option ℕ
 first_passing test n zero = None
 first_passing test n (suc count) = if test n then Some n else first_passing test (n + 1) count
 
+-- the least pattern of the item's width whose number passes
 abbrev pub least_pattern : MainItem → (ℤ → Bool) → Option ℕ
 least_pattern item test = first_passing (λ pattern. test (number_of item pattern)) 0 (2 ^ item.size)
 
@@ -36,11 +39,15 @@ least_pattern item test = first_passing (λ pattern. test (number_of item patter
 abbrev pub null_code : MainItem → Option ℕ
 null_code item = least_pattern item (λ v. not (is_in item.min item.max v))
 
--- An array's empty code is the least pattern that names neither a control nor an error.
+-- a number of an array names neither a key nor an error
 abbrev pub names_nothing : MainItem → List Usage → ℤ → Bool
 names_nothing item us v =
-    elim (place_named item v) [ None ↦ true | Some i ↦ elim (slice_get us i) [ None ↦ true | Some u ↦ not (is_key item i u || tells_error u) ] ]
+    elim (place_named item v) [
+      | None ↦ true
+      | Some i ↦ elim (slice_get us i) [ None ↦ true | Some u ↦ not (is_key item i u || tells_error u) ]
+    ]
 
+-- an empty element of an array is sent as the least pattern that names neither a key nor an error
 abbrev pub empty_code : MainItem → List Usage → Option ℕ
 empty_code item us = least_pattern item (names_nothing item us)
 
@@ -48,12 +55,15 @@ empty_code item us = least_pattern item (names_nothing item us)
 abbrev pub code_number : MainItem → Option ℕ → Option ℤ
 code_number item code = option_map (number_of item) code
 
+-- the number by which an element tells null
 abbrev pub null_number : MainItem → Option ℤ
 null_number item = code_number item (null_code item)
 
+-- the number by which an element of an array tells no key
 abbrev pub empty_number : MainItem → List Usage → Option ℤ
 empty_number item us = code_number item (empty_code item us)
 
+-- the number by which the elements of an array tell that it rolled over: the least place of ErrorRollOver
 abbrev pub rollover_number : MainItem → List Usage → Option ℤ
 rollover_number item us = option_map (λ i. item.min +ℤ pos i) (rollover_from item 0 us)
 

@@ -1,4 +1,4 @@
--- Places of an array's usage list that name neither a key nor an error.
+-- Places of an array's usage list that name neither a key nor an error (our choice: see Sent.antt).
 use Rattle.std.specs.Prelude.{◌≡◌, ◌≢◌, ℕ, ◌+◌, ◌-◌, ◌<◌, ◌≤◌, Bool, true, false, not, ◌==◌, ◌&&◌, ◌||◌, nat_lt, List, ◌++◌, slice_get, Option, Some, None, ℤ, ◌≤ℤ◌, ◌<ℤ◌}
 use Rattle.hid_descriptor.specs.declared.limits.TheConstants.{MAX_KEYS}
 use Rattle.hid_descriptor.specs.declared.usage.Usage.{Usage}
@@ -28,7 +28,7 @@ pub record IsFirstNothing (low : Usage) (start from end place : ℕ) : Type 0 wh
   pub nothing : place < end → is_named place (usage_behind low start place) ≡ false
   pub named : (k : ℕ) → from ≤ k → k < place → is_named k (usage_behind low start k) ≡ true
 
--- of a whole list
+-- the same of a whole list, also behind its end
 pub record IsFirst (us : List Usage) (from place : ℕ) : Type 0 where
   pub low_bound : from ≤ place
   pub nothing : is_nothing place (slice_get us place) ≡ true
@@ -54,5 +54,8 @@ RollsOverAt e start (Some place) =
 
 -- of an item: the search for the rollover ends in this entry, or goes on behind it
 abbrev pub RollsOverIn : MainItem → Entry → ℕ → List Usage → Option ℕ → Type 0
-RollsOverIn item e start us None = rollover_from item start (rising e.0.page e.0.id (entry_count e) ++ us) ≡ rollover_from item (start + entry_count e) us
-RollsOverIn item e start us (Some place) = rollover_from item start (rising e.0.page e.0.id (entry_count e) ++ us) ≡ Some place
+RollsOverIn item e start us None =
+    rollover_from item start (rising e.0.page e.0.id (entry_count e) ++ us)
+    ≡ rollover_from item (start + entry_count e) us
+RollsOverIn item e start us (Some place) =
+    rollover_from item start (rising e.0.page e.0.id (entry_count e) ++ us) ≡ Some place

@@ -1,6 +1,6 @@
 use Rattle.std.proofs.Common.{sym, arith}
 use Rattle.hid_descriptor.proofs.Ends.{mixed_refused, all_accepted}
-use Rattle.hid_descriptor.proofs.listed.list_fields.Goals as goal
+use Rattle.hid_descriptor.proofs.listing.list_fields.Goals as goal
 
 pub returns-then-mixes_ids-clause-err : goal.returns-then-mixes_ids-clause-err
 returns-then-mixes_ids-clause-err c =
