@@ -3,8 +3,9 @@
 HIDRUN := bin/hidrun
 SCRIPT ?= examples/layouts/mouse.script
 ARGS ?=
+COUNT ?= 20000
 
-.PHONY: run test try hidrun examples documents memory refusals mutants clean
+.PHONY: run test try hidrun examples documents memory refusals mutants descriptors clean
 
 # Runs the mouse example on the proved program.
 run: $(HIDRUN)
@@ -35,8 +36,11 @@ $(HIDRUN): $(BUILT)
 	mkdir -p bin
 	cp $(BUILT) $@
 
-# Runs each example on the proved program.
+# Holds what examples are to print of layouts and reports against a second reader, and runs each on the proved program,
+# and some scripts on a full device.
 examples: $(HIDRUN)
+	tools/second-reader examples/*/*.script
+	tools/check-full-device $(HIDRUN)
 	tools/check-examples $(HIDRUN)
 
 # Looks whether each file, function, clause, definition and wrong body that documents cite is there, and then whether it
@@ -44,6 +48,10 @@ examples: $(HIDRUN)
 documents:
 	tools/check-documents
 	tools/check-documents --self-test
+
+# Compares the proved program with the second reader, on descriptors of the examples with some of their bytes changed.
+descriptors: $(HIDRUN)
+	tools/second-reader --random $(COUNT) $(HIDRUN)
 
 # Runs the mouse example with each of its allocations refused in turn, without a proof. It takes some minutes.
 memory:

@@ -8,4 +8,5 @@ pub mod PlaceLemmas
 pub mod SessionLemmas
 pub mod RepeatLemmas
 pub mod TellingLemmas
+pub mod FlushLemmas
 mod Vectors

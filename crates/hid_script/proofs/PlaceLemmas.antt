@@ -2,7 +2,7 @@
 use Rattle.std.proofs.Common.{◌≡◌, ℕ, ◌+◌, ◌-◌, ◌<◌, ◌≤◌, Bool, true, false, List, [], ◌∷◌, ◌++◌, length, length-append, take, drop, take-append-drop, refl, sym, ap, ◌∙◌, arith, append-nil, append_assoc, subst, Result, Ok, Err, Option, None, Some, IfSome, IsErrAnd, cond, nat_eq, nat_lt, get_or}
 use Rattle.std.specs.List.{slice_split, onto_first, All}
 use Rattle.std.specs.Str.Lines.{lines, lines_of_parts, strip_carriage_return}
-use Rattle.std.specs.Io.KnownBytes.{Appends, Consumes, IsAtEnd, Keeps}
+use Rattle.std.specs.Io.KnownBytes.{Appends, Consumes, IsAtEnd}
 use Rattle.std.proofs.lemmas.List.Splits.{slice_split_at, slice_split_none, slice_split-cons_no}
 use Rattle.std.proofs.lemmas.List.Elements.{All-head, All-tail, All-push}
 use Rattle.std.proofs.lemmas.List.{length-take-le, drop_more, take_more}
@@ -19,7 +19,7 @@ use Rattle.hid_script.specs.Session.{Session, accepted, refused, at_first}
 use Rattle.hid_script.specs.declared.line.Line.{Line}
 use Rattle.hid_script.specs.Session.{Repeats}
 use Rattle.hid_script.specs.Telling.{LineTells, LineBegins, BeginsMeant, Means}
-use Rattle.hid_script.specs.Run.{Silence, ending_of, EndsAs, Ends, FirstTells, FirstBegins, AllTell, RunsTo, Finishes, AppendsScript}
+use Rattle.hid_script.specs.Run.{Silence, ending_of, EndsAs, Ends, FirstTells, FirstBegins, AllTell, RunsTo, AppendsScript}
 use Rattle.hid_script.specs.Place.{Place, IsUnbroken, lines_at, Writes, Advances, RunsFrom, Takes}
 
 -- ---- lines
@@ -243,7 +243,7 @@ whole_run options a b c d e f read written text none now result from grew taken 
     (written ++ text, Appends-trans c d f written text grew last, rw nothing (runs_after (start options) now read [] written text result taken runs))
 
 -- the run broke off
-broken_run : (options : Options) (a b c d f : Option (List ℕ)) (read written text : List ℕ) (now : Place) (result : Result Summary ScriptFault)
+pub broken_run : (options : Options) (a b c d f : Option (List ℕ)) (read written text : List ℕ) (now : Place) (result : Result Summary ScriptFault)
     → Consumes a b read → Appends c d written → Advances (start options) read written now → Appends d f text → ((more : List ℕ) → RunsFrom now more text result)
     → AppendsScript options a c f result
 broken_run options a b c d f read written text now result from grew taken last stops =
@@ -279,7 +279,7 @@ pub begins_nothing : (session : Session) (line : List ℕ) → LineBegins sessio
 unfolding LineBegins
 begins_nothing session line = begins_meant session (meaning_of line)
 
-first_begins : (session : Session) (script : List (List ℕ)) → FirstBegins session script []
+pub first_begins : (session : Session) (script : List (List ℕ)) → FirstBegins session script []
 first_begins session [] = refl
 first_begins session (line ∷ more) = begins_nothing session line
 
@@ -302,37 +302,3 @@ no_line_run options script fault at is = record {
 pub never_begun : (options : Options) (a c : Option (List ℕ)) (fault : ScriptFault) → fault.line ≡ 1 → fault.cause ≡ causes.Memory → AppendsScript options a c c (Err fault)
 never_begun options None c fault at is = tt
 never_begun options (Some script) c fault at is = ([], Appends-nil c, no_line_run options script fault at is)
-
--- ---- what was told is flushed
-
-kept_written : (a b c : Option (List ℕ)) (written : List ℕ) → Appends a b written → Keeps b c → Appends a c written
-kept_written None b c written h k = tt
-kept_written (Some x) None c written h k = absurd h
-kept_written (Some x) (Some y) None written h k = absurd k
-kept_written (Some x) (Some y) (Some z) written h k = k ∙ h
-
-pub flushed_run : (options : Options) (a c d e : Option (List ℕ)) (result : Result Summary ScriptFault) → AppendsScript options a c d result → Keeps d e → AppendsScript options a c e result
-flushed_run options None c d e result h k = tt
-flushed_run options (Some script) c d e result h k = (h.0, kept_written c d e h.0 h.1 k, h.2)
-
--- behind the last line nothing is told that could be cut
-cut_at_end : (session : Session) (script : List (List ℕ)) (written : List ℕ) (summary : Summary) (fault : ScriptFault) → fault.line ≡ summary.lines + 1 → fault.cause ≡ causes.Write
-    → Finishes session script 0 written summary → RunsTo session script 0 written (Err fault)
-unfolding ending_of
-cut_at_end session script written summary fault at is h = record {
-  first = script;
-  others = [];
-  split = sym (append-nil script);
-  line = omega (arith, at, h.lines);
-  text = written;
-  now = h.last;
-  all = h.all;
-  part = [];
-  ends = subst (λ c. Ends (FirstTells h.last []) (FirstBegins h.last []) [] c) (sym is) ([], refl, ([], refl));
-  whole = sym (append-nil written);
-}
-
-pub never_flushed : (options : Options) (a c d e : Option (List ℕ)) (summary : Summary) (fault : ScriptFault) → fault.line ≡ summary.lines + 1 → fault.cause ≡ causes.Write
-    → AppendsScript options a c d (Ok summary) → Keeps d e → AppendsScript options a c e (Err fault)
-never_flushed options None c d e summary fault at is h k = tt
-never_flushed options (Some script) c d e summary fault at is h k = (h.0, kept_written c d e h.0 h.1 k, cut_at_end (at_first options) (lines script) h.0 summary fault at is h.2)

@@ -83,6 +83,11 @@ abbrev pub RunsTo : Session → List (List ℕ) → ℕ → List ℕ → Result 
 RunsTo session script before written (Ok summary) = Finishes session script before written summary
 RunsTo session script before written (Err fault) = Stops session script before written fault
 
+-- the line at which a run ended: behind the last one, where all were run
+abbrev pub line_of : Result Summary ScriptFault → ℕ
+line_of (Ok summary) = summary.lines + 1
+line_of (Err fault) = fault.line
+
 -- the writer's bytes grew by what a run of the reader's bytes writes, where both tell their bytes
 abbrev pub AppendsScript : Options → Option (List ℕ) → Option (List ℕ) → Option (List ℕ) → Result Summary ScriptFault → Type 0
 AppendsScript options reader old new result = IfSome reader (λ script. (written : List ℕ) × Appends old new written × RunsTo (at_first options) (lines script) 0 written result)

@@ -20,6 +20,8 @@ mod device_tests;
 mod event_text;
 mod fault;
 mod fault_text;
+#[cfg(test)]
+mod flush_tests;
 mod interpreter;
 pub mod laws;
 mod layout_text;

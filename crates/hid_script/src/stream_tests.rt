@@ -245,7 +245,7 @@ fn what_comes_before_a_fault_is_flushed(rt: HostRuntime) -> Result<(), Fail> {
 }
 
 #[test]
-fn a_buffer_that_cannot_be_flushed_is_a_fault_behind_the_last_line(
+fn a_buffer_that_cannot_be_flushed_is_a_fault_where_the_run_stands(
     rt: HostRuntime,
 ) -> Result<(), Fail> {
     for sample in SAMPLES {
@@ -258,8 +258,10 @@ fn a_buffer_that_cannot_be_flushed_is_a_fault_behind_the_last_line(
             };
             let mut writer = BufWriter::new(rt.alloc(), narrow)?;
             let result = run(rt.alloc(), &mut reader, &mut writer, sample.options);
+            // One read gives all bytes, so that the fifth line is the one that is read on before the second.
+            let line = if room < sample.breaks[4] { 5 } else { 6 };
             let fault = ScriptFault {
-                line: 6,
+                line,
                 cause: Cause::Write,
             };
             assert_eq!(rt; result, Err(fault), "{room}");

@@ -14,8 +14,7 @@ mod status;
 mod tests;
 mod words;
 
-ghost use Rattle.std.specs.Prelude.{◌≡◌, ◌⊎◌};
-ghost use Rattle.hid_script.specs.declared.fault.Cause.TheVariants.{Memory};
+ghost use Rattle.std.specs.Prelude.{◌≡◌, OnOk, IfErr};
 
 use hid_script::{Cause, Options, ScriptFault, Summary, fault_line, run};
 use status::{OUTSIDE, WRONG_USAGE, exit_of};
@@ -48,16 +47,20 @@ fn main(rt: HostRuntime) -> ExitCode {
 fn run_script(rt: &HostRuntime, options: Options) -> ExitCode {
     match run_buffered(rt, options) {
         Ok(_) => ExitCode::SUCCESS,
-        Err(fault) => ExitCode::from(exit_of(&told(rt, fault))),
+        Err(fault) => {
+            let line = fault_line(rt.alloc(), &fault);
+            ExitCode::from(exit_of(&told(rt, fault, line)))
+        }
     }
 }
 
-/// Writes the fault's line to standard error, and gives the fault that was written: where the line's text finds no
-/// memory, X7 of the same line, which is written without any.
-fn told(rt: &HostRuntime, fault: ScriptFault) -> ScriptFault
-    ensures { (result ≡ fault) ⊎ (result ≡ record fault { cause = Memory }) }
+/// Writes the fault's line to standard error, and gives the fault that was written: where the line found no memory, the
+/// one that `fault_line` gave in its place, X7 of the same line, which is written without any.
+fn told(rt: &HostRuntime, fault: ScriptFault, line: Result<Vec<u8>, ScriptFault>) -> ScriptFault
+    ensures written { OnOk line (result ≡ fault) }
+    ensures wanting { IfErr line (λ wanting. result ≡ wanting) }
 {
-    match fault_line(rt.alloc(), &fault) {
+    match line {
         Ok(line) => {
             let _ = rt.stderr().write_all(line.as_slice());
             fault
