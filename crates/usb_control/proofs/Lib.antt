@@ -8,6 +8,7 @@ pub mod StatusLemmas
 pub mod TryLemmas
 pub mod ReadingLemmas
 pub mod WritingLemmas
+pub mod ActLemmas
 pub mod RunLemmas
 pub mod StepsLemmas
 pub mod LawLemmas

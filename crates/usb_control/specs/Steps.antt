@@ -1,7 +1,8 @@
 -- A whole transfer by its steps, and what answers requests after them (USB 2.0, 8.5.3).
-use Rattle.std.specs.Prelude.{◌≡◌, ℕ, Bool, true, List, [], ◌∷◌, Option}
+use Rattle.std.specs.Prelude.{◌≡◌, ◌⊎◌, ℕ, Bool, true, false, List, [], ◌∷◌, Option}
 use Rattle.usb_transact.specs.declared.transaction.Fate.{Fate}
 use Rattle.usb_control.specs.declared.setup.Setup.{Setup as Request}
+use Rattle.usb_control.specs.SetupBytes.{reads}
 use Rattle.usb_control.specs.Device.{DevControlState}
 use Rattle.usb_control.specs.Host.{HostTransferState, IsRunning}
 use Rattle.usb_control.specs.Transaction.{Transacts}
@@ -20,11 +21,14 @@ Steps {R} prepare_gives apply_gives answer_of (fate ∷ fates) host old host_the
     × IsStep prepare_gives apply_gives answer_of fate host old host_mid mid
     × Steps prepare_gives apply_gives answer_of fates host_mid mid host_then new
 
--- the last that happened: this was decided on the request
-abbrev pub IsDecided : {R : Type 0} → (R → Request → Bool → R → Type 0) → Request → Bool → R → Type 0
-IsDecided {R} prepare_gives request said now = (before : R) × prepare_gives before request said now
+-- the write took effect once, with these bytes: its request was accepted, and then it was carried out
+abbrev pub IsAppliedOnce : {R : Type 0} → (R → Request → Bool → R → Type 0) → (R → List ℕ → R → Type 0) → Request → List ℕ → R → R → Type 0
+IsAppliedOnce {R} prepare_gives apply_gives request bytes old now =
+    (accepted : R) × prepare_gives old request true accepted × apply_gives accepted bytes now
 
--- the last that happened: the request was accepted, and then its write took effect with these bytes
-abbrev pub IsAppliedOnce : {R : Type 0} → (R → Request → Bool → R → Type 0) → (R → List ℕ → R → Type 0) → Request → List ℕ → R → Type 0
-IsAppliedOnce {R} prepare_gives apply_gives request bytes now =
-    (before : R) × (accepted : R) × prepare_gives before request true accepted × apply_gives accepted bytes now
+-- all that a transfer may have done: nothing; or its request was decided on, once; or it is a write that took effect once
+abbrev pub IsOnceAtMost : {R : Type 0} → (R → Request → Bool → R → Type 0) → (R → List ℕ → R → Type 0) → Request → List ℕ → R → R → Type 0
+IsOnceAtMost prepare_gives apply_gives request bytes old now =
+    (now ≡ old)
+    ⊎ (((said : Bool) × prepare_gives old request said now)
+    ⊎ ((reads request ≡ false) × IsAppliedOnce prepare_gives apply_gives request bytes old now))
