@@ -13,6 +13,7 @@ pub mod RunLemmas
 pub mod StepsLemmas
 pub mod LawLemmas
 pub mod CrossingLemmas
+pub mod ComputedLemmas
 pub mod WalkLemmas
 pub mod SearchLemmas
 mod Vectors

@@ -9,6 +9,7 @@ use Rattle.usb_control.specs.declared.fault.ControlFault.TheVariants as faults
 use Rattle.usb_control.specs.declared.host.HostStage.{HostStage}
 use Rattle.usb_control.specs.declared.host.HostStage.TheVariants as tries
 use Rattle.usb_control.specs.SetupBytes.{setup_bytes, setup_of, reads}
+use Rattle.usb_control.specs.Requests.{PrepareGives, ApplyGives, AnswerOf}
 use Rattle.usb_control.specs.Device.{DevControlState}
 use Rattle.usb_control.specs.Host.{HostTransferState, IsRunning, at_start, progress_of}
 use Rattle.usb_control.specs.Transfer.{Shape, shape_of, Decision, Refused, Accepted, decision_of, Position, Setup, Piece, Status, Past, Place, start, answered_bytes, comes, Act, Nothing, Decides, TakesEffect, Acts, act_at, act_of, tried}
@@ -46,12 +47,12 @@ still_untouched shape fate decision p d q a t e =
     subst Stays (sym e) (λ h. setup_untouched shape fate decision d q a t h)
 
 -- what happened since the transfer began
-abbrev pub Since : {R : Type 0} → (R → Request → Bool → R → Type 0) → (R → List ℕ → R → Type 0) → (R → Option (List ℕ)) → Request → List ℕ → R → Position → Option ControlFault → Decision → Bool → R → Type 0
+abbrev pub Since : {R : Type 0} → PrepareGives R → ApplyGives R → AnswerOf R → Request → List ℕ → R → Position → Option ControlFault → Decision → Bool → R → Type 0
 Since prepare_gives apply_gives answer_of request sends begun host fault decision true now = IsAppliedOnce prepare_gives apply_gives request sends begun now
 Since prepare_gives apply_gives answer_of request sends begun host fault decision false now =
     (Untouched host fault × (now ≡ begun)) ⊎ ((said : Bool) × prepare_gives begun request said now × (decision ≡ decision_of said (answer_of now)))
 
-pub record Told {R : Type 0} (prepare_gives : R → Request → Bool → R → Type 0) (apply_gives : R → List ℕ → R → Type 0) (answer_of : R → Option (List ℕ)) (request : Request) (sends : List ℕ) (begun : R) (place : Place) (now : R) : Type 0 where
+pub record Told {R : Type 0} (prepare_gives : PrepareGives R) (apply_gives : ApplyGives R) (answer_of : AnswerOf R) (request : Request) (sends : List ℕ) (begun : R) (place : Place) (now : R) : Type 0 where
   pub sound : IsSound (reads request) place
   pub since : Since prepare_gives apply_gives answer_of request sends begun place.host place.fault place.decision place.applied now
   pub unapplied : reads request ≡ true → place.applied ≡ false
@@ -74,31 +75,31 @@ accepted_said answer_of true decision e h = refl
 accepted_said answer_of false decision e h = absurd (subst IsAccepted e h)
 
 -- one try
-since_nothing : {R : Type 0} (prepare_gives : R → Request → Bool → R → Type 0) (apply_gives : R → List ℕ → R → Type 0) (answer_of : R → Option (List ℕ)) (request : Request) (sends : List ℕ) (begun : R) (p : Position) (q : Decision) (a : Bool) (now : R) (after : Place) → (p ≡ Setup → Untouched after.host after.fault) → Since prepare_gives apply_gives answer_of request sends begun p None q a now → Since prepare_gives apply_gives answer_of request sends begun after.host after.fault q a now
+since_nothing : {R : Type 0} (prepare_gives : PrepareGives R) (apply_gives : ApplyGives R) (answer_of : AnswerOf R) (request : Request) (sends : List ℕ) (begun : R) (p : Position) (q : Decision) (a : Bool) (now : R) (after : Place) → (p ≡ Setup → Untouched after.host after.fault) → Since prepare_gives apply_gives answer_of request sends begun p None q a now → Since prepare_gives apply_gives answer_of request sends begun after.host after.fault q a now
 since_nothing prepare_gives apply_gives answer_of request sends begun p q true now after stays h = h
 since_nothing prepare_gives apply_gives answer_of request sends begun p q false now after stays (inl h) = inl (stays h.0.waits, h.1)
 since_nothing prepare_gives apply_gives answer_of request sends begun p q false now after stays (inr h) = inr h
 
-since_effect : {R : Type 0} (prepare_gives : R → Request → Bool → R → Type 0) (apply_gives : R → List ℕ → R → Type 0) (answer_of : R → Option (List ℕ)) (request : Request) (sends : List ℕ) (begun : R) (p : Position) (q : Decision) (old new : R) → p ≡ Status → IsAccepted q → apply_gives old sends new → Since prepare_gives apply_gives answer_of request sends begun p None q false old → IsAppliedOnce prepare_gives apply_gives request sends begun new
+since_effect : {R : Type 0} (prepare_gives : PrepareGives R) (apply_gives : ApplyGives R) (answer_of : AnswerOf R) (request : Request) (sends : List ℕ) (begun : R) (p : Position) (q : Decision) (old new : R) → p ≡ Status → IsAccepted q → apply_gives old sends new → Since prepare_gives apply_gives answer_of request sends begun p None q false old → IsAppliedOnce prepare_gives apply_gives request sends begun new
 since_effect prepare_gives apply_gives answer_of request sends begun p q old new e accepted h (inl g) = let f = g.0.waits in cc
 since_effect prepare_gives apply_gives answer_of request sends begun p q old new e accepted h (inr (said, decided, f)) =
     (old, subst (λ (b : Bool). prepare_gives begun request b old) (accepted_said (answer_of old) said q f accepted) decided, h)
 
 -- deciding again is deciding once
-abbrev pub DecidesAgain : {R : Type 0} → (R → Request → Bool → R → Type 0) → Request → Type 0
+abbrev pub DecidesAgain : {R : Type 0} → PrepareGives R → Request → Type 0
 DecidesAgain {R} prepare_gives request = (s t u : R) (b said : Bool) → prepare_gives s request b t → prepare_gives t request said u → prepare_gives s request said u
 
-since_decision : {R : Type 0} (prepare_gives : R → Request → Bool → R → Type 0) (apply_gives : R → List ℕ → R → Type 0) (answer_of : R → Option (List ℕ)) (request : Request) (sends : List ℕ) (begun : R) (p : Position) (q : Decision) (said : Bool) (old new : R) → DecidesAgain prepare_gives request → prepare_gives old request said new → Since prepare_gives apply_gives answer_of request sends begun p None q false old → prepare_gives begun request said new
+since_decision : {R : Type 0} (prepare_gives : PrepareGives R) (apply_gives : ApplyGives R) (answer_of : AnswerOf R) (request : Request) (sends : List ℕ) (begun : R) (p : Position) (q : Decision) (said : Bool) (old new : R) → DecidesAgain prepare_gives request → prepare_gives old request said new → Since prepare_gives apply_gives answer_of request sends begun p None q false old → prepare_gives begun request said new
 since_decision prepare_gives apply_gives answer_of request sends begun p q said old new again decided (inl h) = subst (λ (r : _). prepare_gives r request said new) h.1 decided
 since_decision prepare_gives apply_gives answer_of request sends begun p q said old new again decided (inr (b, first, f)) = again begun old new b said first decided
 
 -- the fields of a place may be replaced by equal ones
-since_at : {R : Type 0} (prepare_gives : R → Request → Bool → R → Type 0) (apply_gives : R → List ℕ → R → Type 0) (answer_of : R → Option (List ℕ)) (request : Request) (sends : List ℕ) (begun : R) (p : Position) (fault : Option ControlFault) (q q2 : Decision) (a a2 : Bool) (now : R) → q2 ≡ q → a2 ≡ a → Since prepare_gives apply_gives answer_of request sends begun p fault q a now → Since prepare_gives apply_gives answer_of request sends begun p fault q2 a2 now
+since_at : {R : Type 0} (prepare_gives : PrepareGives R) (apply_gives : ApplyGives R) (answer_of : AnswerOf R) (request : Request) (sends : List ℕ) (begun : R) (p : Position) (fault : Option ControlFault) (q q2 : Decision) (a a2 : Bool) (now : R) → q2 ≡ q → a2 ≡ a → Since prepare_gives apply_gives answer_of request sends begun p fault q a now → Since prepare_gives apply_gives answer_of request sends begun p fault q2 a2 now
 since_at prepare_gives apply_gives answer_of request sends begun p fault q q2 a a2 now e f h =
     subst (λ (x : Decision). Since prepare_gives apply_gives answer_of request sends begun p fault x a2 now) (sym e)
     (subst (λ (b : Bool). Since prepare_gives apply_gives answer_of request sends begun p fault q b now) (sym f) h)
 
-told_by : {R : Type 0} (prepare_gives : R → Request → Bool → R → Type 0) (apply_gives : R → List ℕ → R → Type 0) (answer_of : R → Option (List ℕ)) (request : Request) (sends : List ℕ) (begun : R) (p d : Position) (q : Decision) (a : Bool) (t : ℕ) (act : Act) (old new : R) (after : Place) → Moves (reads request) (at p d q a t) after act → (act ≡ Nothing → p ≡ Setup → Untouched after.host after.fault) → (act ≡ TakesEffect → NeedsEffect p (shape_of request) q a) → ((d : Decision) → act ≡ Decides d → p ≡ Setup) → DecidesAgain prepare_gives request → Acts prepare_gives apply_gives answer_of request sends act old new → Told prepare_gives apply_gives answer_of request sends begun (at p d q a t) old → Told prepare_gives apply_gives answer_of request sends begun after new
+told_by : {R : Type 0} (prepare_gives : PrepareGives R) (apply_gives : ApplyGives R) (answer_of : AnswerOf R) (request : Request) (sends : List ℕ) (begun : R) (p d : Position) (q : Decision) (a : Bool) (t : ℕ) (act : Act) (old new : R) (after : Place) → Moves (reads request) (at p d q a t) after act → (act ≡ Nothing → p ≡ Setup → Untouched after.host after.fault) → (act ≡ TakesEffect → NeedsEffect p (shape_of request) q a) → ((d : Decision) → act ≡ Decides d → p ≡ Setup) → DecidesAgain prepare_gives request → Acts prepare_gives apply_gives answer_of request sends act old new → Told prepare_gives apply_gives answer_of request sends begun (at p d q a t) old → Told prepare_gives apply_gives answer_of request sends begun after new
 told_by prepare_gives apply_gives answer_of request sends begun p d q a t Nothing old new after m stays needs sets again acts h =
     let applied = same_count after.applied a m.applied in
     record {
@@ -135,13 +136,13 @@ open_at shape Status stage e running d q a t = refl
 open_at shape Past stage e running d q a t = let g = ap progress_of e in cc
 
 -- where the ends stand after some steps, and what happened meanwhile
-pub record Reached {R : Type 0} (prepare_gives : R → Request → Bool → R → Type 0) (apply_gives : R → List ℕ → R → Type 0) (answer_of : R → Option (List ℕ)) (request : Request) (sends : List ℕ) (begun : R) (host : HostTransferState) (control : DevControlState R) : Type 0 where
+pub record Reached {R : Type 0} (prepare_gives : PrepareGives R) (apply_gives : ApplyGives R) (answer_of : AnswerOf R) (request : Request) (sends : List ℕ) (begun : R) (host : HostTransferState) (control : DevControlState R) : Type 0 where
   pub place : Place
   pub stands : Stands answer_of (shape_of request) sends place host control
   pub told : Told prepare_gives apply_gives answer_of request sends begun place control.requests
   pub asked : host.setup ≡ request
 
-told_step : {R : Type 0} (prepare_gives : R → Request → Bool → R → Type 0) (apply_gives : R → List ℕ → R → Type 0) (answer_of : R → Option (List ℕ)) (request : Request) (sends : List ℕ) (begun : R) (fate : Fate) (p d : Position) (q : Decision) (a : Bool) (t : ℕ) (fault : Option ControlFault) (host : HostTransferState) (old : DevControlState R) (after : HostTransferState) (new : DevControlState R) → let place : Place = record { host = p; device = d; decision = q; applied = a; tries = t; fault = fault } in setup_of (setup_bytes request) ≡ request → DecidesAgain prepare_gives request → host.setup ≡ request → Stands answer_of (shape_of request) sends place host old → Told prepare_gives apply_gives answer_of request sends begun place old.requests → IsStep prepare_gives apply_gives answer_of fate host old after new → Reached prepare_gives apply_gives answer_of request sends begun after new
+told_step : {R : Type 0} (prepare_gives : PrepareGives R) (apply_gives : ApplyGives R) (answer_of : AnswerOf R) (request : Request) (sends : List ℕ) (begun : R) (fate : Fate) (p d : Position) (q : Decision) (a : Bool) (t : ℕ) (fault : Option ControlFault) (host : HostTransferState) (old : DevControlState R) (after : HostTransferState) (new : DevControlState R) → let place : Place = record { host = p; device = d; decision = q; applied = a; tries = t; fault = fault } in setup_of (setup_bytes request) ≡ request → DecidesAgain prepare_gives request → host.setup ≡ request → Stands answer_of (shape_of request) sends place host old → Told prepare_gives apply_gives answer_of request sends begun place old.requests → IsStep prepare_gives apply_gives answer_of fate host old after new → Reached prepare_gives apply_gives answer_of request sends begun after new
 told_step prepare_gives apply_gives answer_of request sends begun fate p d q a t (Some f) host old after new back again e stands told step =
     let g = ap progress_of stands in let running = step.running in cc
 told_step prepare_gives apply_gives answer_of request sends begun fate p d q a t None host old after new back again e stands told step =
@@ -158,14 +159,14 @@ told_step prepare_gives apply_gives answer_of request sends begun fate p d q a t
       asked = step.same ∙ e;
     }
 
-pub steps_told : {R : Type 0} (prepare_gives : R → Request → Bool → R → Type 0) (apply_gives : R → List ℕ → R → Type 0) (answer_of : R → Option (List ℕ)) (request : Request) (sends : List ℕ) (begun : R) (fates : List Fate) (host : HostTransferState) (old : DevControlState R) (after : HostTransferState) (new : DevControlState R) → setup_of (setup_bytes request) ≡ request → DecidesAgain prepare_gives request → Reached prepare_gives apply_gives answer_of request sends begun host old → Steps prepare_gives apply_gives answer_of fates host old after new → Reached prepare_gives apply_gives answer_of request sends begun after new
+pub steps_told : {R : Type 0} (prepare_gives : PrepareGives R) (apply_gives : ApplyGives R) (answer_of : AnswerOf R) (request : Request) (sends : List ℕ) (begun : R) (fates : List Fate) (host : HostTransferState) (old : DevControlState R) (after : HostTransferState) (new : DevControlState R) → setup_of (setup_bytes request) ≡ request → DecidesAgain prepare_gives request → Reached prepare_gives apply_gives answer_of request sends begun host old → Steps prepare_gives apply_gives answer_of fates host old after new → Reached prepare_gives apply_gives answer_of request sends begun after new
 steps_told prepare_gives apply_gives answer_of request sends begun [] host old after new back again r (e, f) =
     subst (λ (c : DevControlState _). Reached prepare_gives apply_gives answer_of request sends begun after c) (sym f) (subst (λ (h : HostTransferState). Reached prepare_gives apply_gives answer_of request sends begun h old) (sym e) r)
 steps_told prepare_gives apply_gives answer_of request sends begun (fate ∷ fates) host old after new back again r (host_mid, mid, step, more) =
     let next = told_step prepare_gives apply_gives answer_of request sends begun fate r.place.host r.place.device r.place.decision r.place.applied r.place.tries r.place.fault host old host_mid mid back again r.asked r.stands r.told step in
     steps_told prepare_gives apply_gives answer_of request sends begun fates host_mid mid after new back again next more
 
-pub told_from_start : {R : Type 0} (prepare_gives : R → Request → Bool → R → Type 0) (apply_gives : R → List ℕ → R → Type 0) (answer_of : R → Option (List ℕ)) (addr : ℕ) (request : Request) (sends : List ℕ) (fates : List Fate) (old : DevControlState R) (after : HostTransferState) (new : DevControlState R) → setup_of (setup_bytes request) ≡ request → DecidesAgain prepare_gives request → length sends ≡ (if reads request then 0 else request.length) → Steps prepare_gives apply_gives answer_of fates (at_start addr request sends) old after new → Reached prepare_gives apply_gives answer_of request sends old.requests after new
+pub told_from_start : {R : Type 0} (prepare_gives : PrepareGives R) (apply_gives : ApplyGives R) (answer_of : AnswerOf R) (addr : ℕ) (request : Request) (sends : List ℕ) (fates : List Fate) (old : DevControlState R) (after : HostTransferState) (new : DevControlState R) → setup_of (setup_bytes request) ≡ request → DecidesAgain prepare_gives request → length sends ≡ (if reads request then 0 else request.length) → Steps prepare_gives apply_gives answer_of fates (at_start addr request sends) old after new → Reached prepare_gives apply_gives answer_of request sends old.requests after new
 told_from_start prepare_gives apply_gives answer_of addr request sends fates old after new back again whole steps =
     steps_told prepare_gives apply_gives answer_of request sends old.requests fates (at_start addr request sends) old after new back again (record {
       place = start;
@@ -175,7 +176,7 @@ told_from_start prepare_gives apply_gives answer_of addr request sends fates old
     }) steps
 
 -- a read that is done
-accepted_now : {R : Type 0} (prepare_gives : R → Request → Bool → R → Type 0) (apply_gives : R → List ℕ → R → Type 0) (answer_of : R → Option (List ℕ)) (request : Request) (sends : List ℕ) (begun : R) (p : Position) (fault : Option ControlFault) (q : Decision) (a : Bool) (now : R) → p ≡ Past → IsAccepted q → a ≡ false → Since prepare_gives apply_gives answer_of request sends begun p fault q a now → prepare_gives begun request true now × (q ≡ Accepted (answer_of now))
+accepted_now : {R : Type 0} (prepare_gives : PrepareGives R) (apply_gives : ApplyGives R) (answer_of : AnswerOf R) (request : Request) (sends : List ℕ) (begun : R) (p : Position) (fault : Option ControlFault) (q : Decision) (a : Bool) (now : R) → p ≡ Past → IsAccepted q → a ≡ false → Since prepare_gives apply_gives answer_of request sends begun p fault q a now → prepare_gives begun request true now × (q ≡ Accepted (answer_of now))
 accepted_now prepare_gives apply_gives answer_of request sends begun p fault q true now e accepted none h = cc
 accepted_now prepare_gives apply_gives answer_of request sends begun p fault q false now e accepted none (inl h) = let f = h.0.waits in cc
 accepted_now prepare_gives apply_gives answer_of request sends begun p fault q false now e accepted none (inr (said, decided, f)) =
@@ -184,7 +185,7 @@ accepted_now prepare_gives apply_gives answer_of request sends begun p fault q f
       f ∙ ap (λ (b : Bool). decision_of b (answer_of now)) yes_said,
     )
 
-pub read_told : {R : Type 0} (prepare_gives : R → Request → Bool → R → Type 0) (apply_gives : R → List ℕ → R → Type 0) (answer_of : R → Option (List ℕ)) (request : Request) (sends : List ℕ) (begun : R) (host : HostTransferState) (control : DevControlState R) → reads request ≡ true → host.stage ≡ tries.Done → Reached prepare_gives apply_gives answer_of request sends begun host control → prepare_gives begun request true control.requests × (host.bytes ≡ take request.length (unwrap_or (answer_of control.requests) []))
+pub read_told : {R : Type 0} (prepare_gives : PrepareGives R) (apply_gives : ApplyGives R) (answer_of : AnswerOf R) (request : Request) (sends : List ℕ) (begun : R) (host : HostTransferState) (control : DevControlState R) → reads request ≡ true → host.stage ≡ tries.Done → Reached prepare_gives apply_gives answer_of request sends begun host control → prepare_gives begun request true control.requests × (host.bytes ≡ take request.length (unwrap_or (answer_of control.requests) []))
 read_told prepare_gives apply_gives answer_of request sends begun host control is done r =
     let ended = (done_is answer_of (shape_of request) sends r.place host control r.stands).0 done in
     let sound = ended_is (reads request) r.place.host r.place.decision r.place.applied ended.1 r.told.sound.ended in
@@ -192,7 +193,7 @@ read_told prepare_gives apply_gives answer_of request sends begun host control i
     (now.0, read_is answer_of (shape_of request) sends r.place host control r.stands ended is ∙ ap (answered_bytes (shape_of request)) now.1)
 
 -- a write that is done
-pub write_told : {R : Type 0} (prepare_gives : R → Request → Bool → R → Type 0) (apply_gives : R → List ℕ → R → Type 0) (answer_of : R → Option (List ℕ)) (request : Request) (sends : List ℕ) (begun : R) (host : HostTransferState) (control : DevControlState R) → reads request ≡ false → host.stage ≡ tries.Done → Reached prepare_gives apply_gives answer_of request sends begun host control → IsAppliedOnce prepare_gives apply_gives request sends begun control.requests
+pub write_told : {R : Type 0} (prepare_gives : PrepareGives R) (apply_gives : ApplyGives R) (answer_of : AnswerOf R) (request : Request) (sends : List ℕ) (begun : R) (host : HostTransferState) (control : DevControlState R) → reads request ≡ false → host.stage ≡ tries.Done → Reached prepare_gives apply_gives answer_of request sends begun host control → IsAppliedOnce prepare_gives apply_gives request sends begun control.requests
 write_told prepare_gives apply_gives answer_of request sends begun host control is done r =
     let ended = (done_is answer_of (shape_of request) sends r.place host control r.stands).0 done in
     let sound = ended_is (reads request) r.place.host r.place.decision r.place.applied ended.1 r.told.sound.ended in
@@ -209,17 +210,17 @@ no_fault shape (Piece k) f e = way_no_fault shape.reads _ _ f (λ h. cc) (λ h. 
 no_fault shape Status f e = way_no_fault (comes shape Status) _ _ f (λ h. cc) (λ h. cc) e
 no_fault shape Past f e = cc
 
-fault_is : {R : Type 0} (answer_of : R → Option (List ℕ)) (shape : Shape) (sends : List ℕ) (p d : Position) (q : Decision) (a : Bool) (t : ℕ) (fault : Option ControlFault) (f : ControlFault) (host : HostTransferState) (control : DevControlState R) → let place : Place = record { host = p; device = d; decision = q; applied = a; tries = t; fault = fault } in Stands answer_of shape sends place host control → host.stage ≡ tries.Failed f → fault ≡ Some f
+fault_is : {R : Type 0} (answer_of : AnswerOf R) (shape : Shape) (sends : List ℕ) (p d : Position) (q : Decision) (a : Bool) (t : ℕ) (fault : Option ControlFault) (f : ControlFault) (host : HostTransferState) (control : DevControlState R) → let place : Place = record { host = p; device = d; decision = q; applied = a; tries = t; fault = fault } in Stands answer_of shape sends place host control → host.stage ≡ tries.Failed f → fault ≡ Some f
 fault_is answer_of shape sends p d q a t None f host control u e = absurd (no_fault shape p f (sym u.sender.stage ∙ e))
 fault_is answer_of shape sends p d q a t (Some g) f host control u e = let same = sym u ∙ e in cc
 
-refused_now : {R : Type 0} (prepare_gives : R → Request → Bool → R → Type 0) (apply_gives : R → List ℕ → R → Type 0) (answer_of : R → Option (List ℕ)) (request : Request) (sends : List ℕ) (begun : R) (p : Position) (fault : Option ControlFault) (q : Decision) (a : Bool) (now : R) → fault ≡ Some faults.Stalled → q ≡ Refused → a ≡ false → Since prepare_gives apply_gives answer_of request sends begun p fault q a now → prepare_gives begun request false now
+refused_now : {R : Type 0} (prepare_gives : PrepareGives R) (apply_gives : ApplyGives R) (answer_of : AnswerOf R) (request : Request) (sends : List ℕ) (begun : R) (p : Position) (fault : Option ControlFault) (q : Decision) (a : Bool) (now : R) → fault ≡ Some faults.Stalled → q ≡ Refused → a ≡ false → Since prepare_gives apply_gives answer_of request sends begun p fault q a now → prepare_gives begun request false now
 refused_now prepare_gives apply_gives answer_of request sends begun p fault q true now e f none h = cc
 refused_now prepare_gives apply_gives answer_of request sends begun p fault q false now e f none (inl h) = absurd (subst NotStalled e h.0.going)
 refused_now prepare_gives apply_gives answer_of request sends begun p fault q false now e f none (inr (true, decided, g)) = cc
 refused_now prepare_gives apply_gives answer_of request sends begun p fault q false now e f none (inr (false, decided, g)) = decided
 
-pub stall_told : {R : Type 0} (prepare_gives : R → Request → Bool → R → Type 0) (apply_gives : R → List ℕ → R → Type 0) (answer_of : R → Option (List ℕ)) (request : Request) (sends : List ℕ) (begun : R) (host : HostTransferState) (control : DevControlState R) → host.stage ≡ tries.Failed faults.Stalled → Reached prepare_gives apply_gives answer_of request sends begun host control → prepare_gives begun request false control.requests
+pub stall_told : {R : Type 0} (prepare_gives : PrepareGives R) (apply_gives : ApplyGives R) (answer_of : AnswerOf R) (request : Request) (sends : List ℕ) (begun : R) (host : HostTransferState) (control : DevControlState R) → host.stage ≡ tries.Failed faults.Stalled → Reached prepare_gives apply_gives answer_of request sends begun host control → prepare_gives begun request false control.requests
 stall_told prepare_gives apply_gives answer_of request sends begun host control e r =
     let fault = fault_is answer_of (shape_of request) sends r.place.host r.place.device r.place.decision r.place.applied r.place.tries r.place.fault faults.Stalled host control r.stands e in
     let refused : r.place.decision ≡ Refused = subst (λ (f : Option ControlFault). SoundFault f r.place.decision) fault r.told.sound.fault in
@@ -231,10 +232,10 @@ no_read : (r a : Bool) → a ≡ true → (r ≡ true → a ≡ false) → r ≡
 no_read false a e h = refl
 no_read true a e h = let f = h refl in cc
 
-once_now : {R : Type 0} (prepare_gives : R → Request → Bool → R → Type 0) (apply_gives : R → List ℕ → R → Type 0) (answer_of : R → Option (List ℕ)) (request : Request) (sends : List ℕ) (begun : R) (p : Position) (fault : Option ControlFault) (q : Decision) (a : Bool) (now : R) → (reads request ≡ true → a ≡ false) → Since prepare_gives apply_gives answer_of request sends begun p fault q a now → IsOnceAtMost prepare_gives apply_gives request sends begun now
+once_now : {R : Type 0} (prepare_gives : PrepareGives R) (apply_gives : ApplyGives R) (answer_of : AnswerOf R) (request : Request) (sends : List ℕ) (begun : R) (p : Position) (fault : Option ControlFault) (q : Decision) (a : Bool) (now : R) → (reads request ≡ true → a ≡ false) → Since prepare_gives apply_gives answer_of request sends begun p fault q a now → IsOnceAtMost prepare_gives apply_gives request sends begun now
 once_now prepare_gives apply_gives answer_of request sends begun p fault q true now unapplied h = inr (inr (no_read (reads request) true refl unapplied, h))
 once_now prepare_gives apply_gives answer_of request sends begun p fault q false now unapplied (inl h) = inl h.1
 once_now prepare_gives apply_gives answer_of request sends begun p fault q false now unapplied (inr (said, decided, e)) = inr (inl (said, decided))
 
-pub once_told : {R : Type 0} (prepare_gives : R → Request → Bool → R → Type 0) (apply_gives : R → List ℕ → R → Type 0) (answer_of : R → Option (List ℕ)) (request : Request) (sends : List ℕ) (begun : R) (host : HostTransferState) (control : DevControlState R) → Reached prepare_gives apply_gives answer_of request sends begun host control → IsOnceAtMost prepare_gives apply_gives request sends begun control.requests
+pub once_told : {R : Type 0} (prepare_gives : PrepareGives R) (apply_gives : ApplyGives R) (answer_of : AnswerOf R) (request : Request) (sends : List ℕ) (begun : R) (host : HostTransferState) (control : DevControlState R) → Reached prepare_gives apply_gives answer_of request sends begun host control → IsOnceAtMost prepare_gives apply_gives request sends begun control.requests
 once_told prepare_gives apply_gives answer_of request sends begun host control r = once_now prepare_gives apply_gives answer_of request sends begun r.place.host r.place.fault r.place.decision r.place.applied control.requests r.told.unapplied r.told.since

@@ -22,8 +22,11 @@ accepted one (_ ∷ rest) = accepted one rest
 -- the payloads of a data stage for so many bytes: of 8, up to one that is shorter or brings the last byte (8.5.3.2)
 abbrev pub IsDataStage : ℕ → List (List ℕ) → Type 0
 IsDataStage left [] = left ≡ 0
-IsDataStage left (payload ∷ []) = (length payload ≤ 8) × (length payload ≤ left) × ((length payload < 8) ⊎ (length payload ≡ left))
-IsDataStage left (payload ∷ next ∷ rest) = (length payload ≡ 8) × (8 < left) × IsDataStage (left - 8) (next ∷ rest)
+IsDataStage left (payload ∷ []) =
+    (length payload ≤ 8) × (length payload ≤ left)
+    × ((length payload < 8) ⊎ (length payload ≡ left))
+IsDataStage left (payload ∷ next ∷ rest) =
+    (length payload ≡ 8) × (8 < left) × IsDataStage (left - 8) (next ∷ rest)
 
 -- a read for so many bytes got these: behind the first ACK, which answers SETUP, came a data stage, whose payloads they
 -- are joined

@@ -10,11 +10,13 @@ ghost use Rattle.usb_control.specs.declared.device.Heard.{Heard};
 ghost use Rattle.usb_control.specs.declared.host.HostStage.{HostStage};
 ghost use Rattle.usb_control.specs.SetupBytes.{IsSpelled, reads};
 ghost use Rattle.usb_control.specs.Device.{DevControlState, begun, effect};
-ghost use Rattle.usb_control.specs.Host.{HostTransferState, at_start, sent_length};
+ghost use Rattle.usb_control.specs.Host.{HostTransferState, IsRunning, at_start, sent_length};
 ghost use Rattle.usb_control.specs.Reading.{IsReadOf, took_all};
 ghost use Rattle.usb_control.specs.Writing.{AnswersAll, IsApplied, IsNoWrite, given_data};
 ghost use Rattle.usb_control.specs.Transfer.{Shape, Decision, Place, answered_bytes, shape_of, start};
-ghost use Rattle.usb_control.specs.Standing.{Stands};
+ghost use Rattle.usb_control.specs.Standing.{GoesOn, Stands};
+ghost use Rattle.usb_control.specs.Transaction.{Transacts};
+ghost use Rattle.usb_control.specs.Computed.{AppliesBy, PreparesBy, Table, control_tried, host_tried};
 ghost use Rattle.usb_control.specs.Runs.{IsDone, IsOnce};
 ghost use Rattle.usb_control.specs.Steps.{IsAppliedOnce, IsOnceAtMost, Steps};
 
@@ -119,4 +121,22 @@ pub fn places_are_met<R: Requests>()
         → Stands R.answer_of shape sends place host old
         → R.answer_of new.requests ≡ R.answer_of old.requests → new.stage ≡ old.stage
         → Stands R.answer_of shape sends place host new }
+
+    // A try leads from a place to another, whatever code makes it.
+    ensures tried { (sends : List ℕ) (place : Place) (fate : Fate)
+        (host after : HostTransferState) (old new : DevControlState R)
+        → IsSpelled host.setup → IsRunning host.stage
+        → Stands R.answer_of (shape_of host.setup) sends place host old
+        → Transacts R.prepare_gives R.apply_gives R.answer_of fate host old after new
+        → GoesOn R.prepare_gives R.apply_gives R.answer_of host.setup sends fate
+        place old.requests after new }
+{}
+
+/// Where what answers requests does so by functions, a try is a function of both ends: it may leave what the functions
+/// give, and nothing else.
+pub fn tries_are_computed<R>()
+    ensures { (table : Table R) (fate : Fate)
+        (host after : HostTransferState) (old new : DevControlState R)
+        → Transacts (PreparesBy table) (AppliesBy table) table.answer_of fate host old after new
+        ↔ ((after ≡ host_tried table fate host old) × (new ≡ control_tried table fate host old)) }
 {}

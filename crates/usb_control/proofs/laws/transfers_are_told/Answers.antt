@@ -10,7 +10,7 @@ returns g c =
     let apply_gives = g.R.Requests.apply_gives in
     let answer_of = g.R.Requests.answer_of in
     let again : (request : Request) → DecidesAgain prepare_gives request = λ request s t u b said first second.
-        g.met.R.Requests.prepare_forgets s t u request said (g.met.R.Requests.prepare_keeps s t request b first) second in
+    g.met.R.Requests.prepare_forgets s t u request said (g.met.R.Requests.prepare_keeps s t request b first) second in
     record {
       read = λ addr request fates old new host spelled is steps done.
           read_told prepare_gives apply_gives answer_of request [] old.requests host new is done (told_from_start prepare_gives apply_gives answer_of addr request [] fates old host new spelled (again request) (sym (ap (λ b. if b then 0 else request.length) is)) steps);
