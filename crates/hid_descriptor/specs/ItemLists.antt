@@ -35,7 +35,8 @@ listed_at entries paths spans = record {
 }
 
 -- each place lies among the values, and beside each range stands how many usages stand before it
-pub record AreListed (entries : List Entry) (starts : List ℕ) (paths : List Collection) (spans : List ItemSpans) : Type 0 where
+pub record AreListed (entries : List Entry) (starts : List ℕ) (paths : List Collection)
+    (spans : List ItemSpans) : Type 0 where
   pub entries_within : AreWithin entries (entry_spans spans)
   pub paths_within : AreWithin paths (path_spans spans)
   pub beside : length starts ≡ length entries

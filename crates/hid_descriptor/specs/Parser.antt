@@ -68,7 +68,8 @@ abbrev pub place_of : ItemFault → ℕ
 place_of (Truncated at) = at
 
 -- the field that an item describes, by the globals in force, the reports so far and its usages
-pub record IsDescribed (kind : ReportKind) (item : Item) (globals : Globals) (reports : List Report) (es : List Entry) (field : KeptField) : Type 0 where
+pub record IsDescribed (kind : ReportKind) (item : Item) (globals : Globals)
+    (reports : List Report) (es : List Entry) (field : KeptField) : Type 0 where
   pub same_kind : field.kind ≡ kind
   pub id : field.id ≡ globals.id
   pub offset : field.offset ≡ bits_in kind globals.id reports

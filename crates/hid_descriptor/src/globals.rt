@@ -1,6 +1,6 @@
 //! The global items in force.
 
-ghost use Rattle.std.specs.Prelude.{if◌then◌else◌, int_le, pos, ◌≡◌, ◌≢◌, ℕ, ◌^◌, ◌<◌, List, [], ◌∷◌, ◌++◌, false, IfOk, OnOk, IfErr, map, length};
+ghost use Rattle.std.specs.Prelude.{◌≡◌, ◌≢◌, ◌<◌, List, [], ◌∷◌, OnOk, length};
 ghost use Rattle.hid_items.specs.Spelling.{prefix_of, data_of, unsigned_of};
 ghost use Rattle.hid_items.specs.Reading.{IsShort};
 ghost use Rattle.hid_descriptor.specs.Items.{Item as Spelled, PUSH, POP, REPORT_ID};

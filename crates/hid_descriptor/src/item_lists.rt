@@ -1,7 +1,7 @@
 //! The usages and the collections of the listed items, kept one behind the other in a few pieces of memory.
 
-ghost use Rattle.std.specs.Prelude.{◌≡◌, ◌<◌, ◌≤◌, ℕ, List, [], ◌∷◌, ◌++◌, length, map, slice_get, slice_range, IfOk, OnOk, OnErr, Some};
-ghost use Rattle.hid_descriptor.specs.Usages.{starts_of, starts_from};
+ghost use Rattle.std.specs.Prelude.{◌≡◌, ◌<◌, ◌≤◌, ◌++◌, length, map, slice_get, slice_range, IfOk, OnOk, OnErr, Some};
+ghost use Rattle.hid_descriptor.specs.Usages.{starts_of};
 ghost use Rattle.hid_descriptor.specs.Locals.{entry_on_page};
 ghost use Rattle.hid_descriptor.specs.ItemLists.{entry_spans, path_spans};
 

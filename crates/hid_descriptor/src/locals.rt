@@ -1,6 +1,6 @@
 //! The usages behind the last main item.
 
-ghost use Rattle.std.specs.Prelude.{◌≡◌, ◌≢◌, ℕ, List, [], ◌∷◌, ◌++◌, true, false, OnOk, IfOk, map, slice_get, length, ◌==◌};
+ghost use Rattle.std.specs.Prelude.{◌≡◌, List, [], ◌∷◌, ◌++◌, true, false, OnOk, IfOk, slice_get, length, ◌==◌};
 ghost use Rattle.std.specs.Option.{option_map};
 ghost use Rattle.hid_items.specs.Spelling.{prefix_of};
 ghost use Rattle.hid_items.specs.Reading.{IsShort};

@@ -1,8 +1,8 @@
 //! The collections that are open.
 
-ghost use Rattle.std.specs.Prelude.{◌≡◌, ℕ, ◌<◌, ◌%◌, ◌^◌, List, [], ◌∷◌, ◌++◌, OnOk, IfOk, map, slice_get, length};
+ghost use Rattle.std.specs.Prelude.{◌≡◌, ◌<◌, List, [], ◌∷◌, map, slice_get, length};
 ghost use Rattle.std.specs.Bool.{OnTrue, OnFalse};
-ghost use Rattle.hid_items.specs.Spelling.{prefix_of, data_of, unsigned_of};
+ghost use Rattle.hid_items.specs.Spelling.{prefix_of};
 ghost use Rattle.hid_items.specs.Reading.{IsShort};
 ghost use Rattle.hid_descriptor.specs.Items.{Item as Spelled, COLLECTION, END_COLLECTION};
 ghost use Rattle.hid_descriptor.specs.Usages.{usage_list, entries};

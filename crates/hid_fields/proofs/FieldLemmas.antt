@@ -2,9 +2,8 @@
 use Rattle.std.proofs.Common.{◌≡◌, ℕ, zero, suc, ◌+◌, ◌*◌, ◌/◌, ◌%◌, ◌^◌, ◌<◌, ◌≤◌, ◌≢◌, ◌==◌, if◌then◌else◌, inl, inr, length, List, get_or, set, get_or-set_same, get_or-set_other, refl, sym, ◌∙◌, bit_and, bit_or, add_comm, add-one, one-add, arith}
 use Rattle.std.specs.Int.{bit_at}
 use Rattle.std.proofs.lemmas.Nat.Bits.{shr_and_one, bit_at-lt}
-use Rattle.std.proofs.lemmas.Nat.{or_comm, or_shifted, pow_below}
+use Rattle.std.proofs.lemmas.Nat.{or_comm, or_shifted, pow_below, mod-pow-add}
 use Rattle.std.proofs.Math.Nat.{mod-eq_of_lt, pow-suc}
-use Rattle.std.proofs.lemmas.Nat.{mod-pow-add}
 use Rattle.std.proofs.lemmas.Bool.{cases_eq}
 use Rattle.std.proofs.lemmas.Grind.{get_or-set_at}
 use Rattle.hid_fields.specs.Field.{bit_of, pattern_of}

@@ -1,10 +1,15 @@
 -- Worked values of the definitions (HID 1.11, 5.8, 5.10 and 8).
 use Rattle.std.proofs.Common.{◌≡◌, [], ◌∷◌, refl, true, false, pos, neg_ℤ, lit<, arith}
 use Rattle.std.proofs.lemmas.Int.{ints}
+use Rattle.hid_fields.specs.declared.codec.TheConstants.{MAX_WIDTH}
 use Rattle.hid_fields.specs.Field.{bit_of, pattern_of}
 use Rattle.hid_fields.specs.Value.{value_of, pattern_for, IsLeastOutside}
 use Rattle.hid_fields.specs.Word.{spliced}
 use Rattle.hid_fields.proofs.ValueLemmas.{value_of-low}
+
+-- the widest field that is read or written, in bits
+widest_field : MAX_WIDTH ≡ 32
+widest_field = refl
 
 -- the high half of the second byte, and the third byte above it
 twelve_bits : pattern_of (0xBC ∷ 0x3A ∷ 0x12 ∷ []) 12 12 ≡ 0x123

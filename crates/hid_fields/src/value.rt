@@ -1,5 +1,5 @@
 //! The numbers that patterns stand for (HID 1.11, 5.8), and the pattern of a null (5.10).
-ghost use Rattle.std.specs.Prelude.{◌<◌, ◌≤◌, ◌^◌, ◌<ℤ◌, ◌≤ℤ◌, ◌-◌, ◌≡◌, neg_ℤ, pos, ℕ, Bool, IfSome, IfNone};
+ghost use Rattle.std.specs.Prelude.{◌<◌, ◌≤◌, ◌^◌, ◌<ℤ◌, ◌≤ℤ◌, ◌≡◌, neg_ℤ, pos, ℕ, Bool, IfSome, IfNone};
 ghost use Rattle.std.specs.Bool.{OnTrue, OnFalse};
 ghost use Rattle.hid_fields.specs.Value.{value_of, pattern_for, FitsField, FitsEitherSign, is_negative, IsFirstOver, IsWithin, IsLeastOutside};
 

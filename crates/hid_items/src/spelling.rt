@@ -1,6 +1,6 @@
 //! How one item is spelled, and the number that its data is.
 
-ghost use Rattle.std.specs.Prelude.{◌≡◌, ◌≢◌, ℕ, ◌+◌, ◌*◌, ◌^◌, ◌<◌, ◌≤◌, length, take, IfSome, IfNone};
+ghost use Rattle.std.specs.Prelude.{◌≡◌, ◌^◌, ◌<◌, ◌≤◌, length, take, IfSome, IfNone};
 ghost use Rattle.hid_items.specs.Spelling.{data_length, data_of, IsSpelling, IsCut, unsigned_of, two's_complement, signed_of};
 
 /// The first byte of a long item (HID 1.11, 6.2.2.3).

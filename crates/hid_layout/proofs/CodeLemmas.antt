@@ -1,5 +1,5 @@
 -- What an element of an array names by its number.
-use Rattle.std.proofs.Common.{◌≡◌, ℕ, ◌-◌, ◌^◌, ◌≤◌, Bool, true, false, not, ◌&&◌, ◌||◌, List, refl, ap, ◌∙◌, arith, cond, nat_lt, nat_eq, Some, None, Option, T}
+use Rattle.std.proofs.Common.{◌≡◌, ℕ, ◌-◌, ◌^◌, ◌≤◌, Bool, true, false, not, ◌&&◌, ◌||◌, List, refl, ap, subst, ◌∙◌, arith, cond, nat_lt, nat_eq, Some, None, Option, T}
 use Rattle.std.specs.Prelude.{ℤ, pos, negsuc, ◌+ℤ◌, ◌-ℤ◌, ◌≤ℤ◌, ◌<ℤ◌, int_le, int_lt}
 use Rattle.std.specs.Int.{int_min, int_max}
 use Rattle.std.specs.List.{slice_get}
@@ -103,7 +103,7 @@ greatest_facts : (max g v : ℤ) → (v ≤ℤ int_min max g → (v ≤ℤ max) 
 greatest_facts max g v = (λ h. (omega (arith, ints, clamps, h), omega (arith, ints, clamps, h)), λ a b. omega (arith, ints, clamps, a, b))
 
 -- a number up to the greatest names what stands at its place
-pub by_place : (item : MainItem) (us : List Usage) (first end : ℤ) (from place : ℕ) → IsPlaced item us first end from place → (v : ℤ) → first ≤ℤ v → v ≤ℤ greatest_of item
+by_place : (item : MainItem) (us : List Usage) (first end : ℤ) (from place : ℕ) → IsPlaced item us first end from place → (v : ℤ) → first ≤ℤ v → v ≤ℤ greatest_of item
     → (k : ℕ) × ((item.min +ℤ pos k) ≡ v) × (from ≤ k) × (names_nothing item us v ≡ is_nothing k (slice_get us k))
 by_place item us first end from place p v low high =
     let k : ℕ = at_zero (v -ℤ item.min) in
@@ -113,26 +113,26 @@ by_place item us first end from place p v low high =
     (k, e, omega (arith, ints, e, low, p.from_is), named_at item us v k e both.0 (omega (arith, ints, low, p.low)) both.1)
 
 -- a number over the greatest names nothing
-pub by_range : (item : MainItem) (us : List Usage) (first end : ℤ) (from place : ℕ) → IsPlaced item us first end from place → (v : ℤ) → greatest_of item <ℤ v → v <ℤ end → names_nothing item us v ≡ true
+by_range : (item : MainItem) (us : List Usage) (first end : ℤ) (from place : ℕ) → IsPlaced item us first end from place → (v : ℤ) → greatest_of item <ℤ v → v <ℤ end → names_nothing item us v ≡ true
 by_range item us first end from place p v low high =
     out_of_range item us v (above item.min item.max v (over_max (greatest_value item.min item.size) low (omega (arith, ints, high, p.high))))
   where
     over_max : (g : ℤ) → int_min item.max g <ℤ v → v ≤ℤ g → item.max <ℤ v
     over_max g a b = omega (arith, ints, clamps, a, b)
 
-pub all_named : (item : MainItem) (us : List Usage) (first end : ℤ) (from place : ℕ) → IsPlaced item us first end from place → (v : ℤ) → first ≤ℤ v → v ≤ℤ greatest_of item → v <ℤ (item.min +ℤ pos place) → names_nothing item us v ≡ false
+all_named : (item : MainItem) (us : List Usage) (first end : ℤ) (from place : ℕ) → IsPlaced item us first end from place → (v : ℤ) → first ≤ℤ v → v ≤ℤ greatest_of item → v <ℤ (item.min +ℤ pos place) → names_nothing item us v ≡ false
 all_named item us first end from place p v low high less =
     let at = by_place item us first end from place p v low high in
     at.3 ∙ p.is.named at.0 at.2 (omega (arith, ints, at.1, less))
 
-pub first_unnamed : (item : MainItem) (us : List Usage) (first end : ℤ) (from place : ℕ) → IsPlaced item us first end from place → (item.min +ℤ pos place) ≤ℤ greatest_of item → names_nothing item us (item.min +ℤ pos place) ≡ true
+first_unnamed : (item : MainItem) (us : List Usage) (first end : ℤ) (from place : ℕ) → IsPlaced item us first end from place → (item.min +ℤ pos place) ≤ℤ greatest_of item → names_nothing item us (item.min +ℤ pos place) ≡ true
 first_unnamed item us first end from place p high =
     let v : ℤ = item.min +ℤ pos place in
     let both = (greatest_facts item.max (greatest_value item.min item.size) v).0 high in
     let low : first ≤ℤ v = omega (arith, ints, p.from_is, p.is.low_bound) in
     named_at item us v place refl both.0 (omega (arith, ints, low, p.low)) both.1 ∙ p.is.nothing
 
-pub first_within : (item : MainItem) (us : List Usage) (first end : ℤ) (from place : ℕ) → IsPlaced item us first end from place → first ≤ℤ greatest_of item
+first_within : (item : MainItem) (us : List Usage) (first end : ℤ) (from place : ℕ) → IsPlaced item us first end from place → first ≤ℤ greatest_of item
 first_within item us first end from place p = (greatest_facts item.max (greatest_value item.min item.size) first).1 p.within (omega (arith, ints, p.some, p.high))
 
 pub greatest_of_small : (item : MainItem) → item.size ≤ 32 → greatest_of item ≤ℤ pos (2 ^ 32 - 1)
@@ -148,7 +148,7 @@ first_small item first end n h s = by_greatest (greatest_value item.min item.siz
     by_greatest g a b = omega (arith, ints, a, b, s)
 
 -- the number at the place, which is the first one over the greatest at most
-pub by_greatest : (item : MainItem) (us : List Usage) (first end : ℤ) (from place : ℕ) → IsPlaced item us first end from place → (item.min +ℤ pos place) ≤ℤ (greatest_of item +ℤ pos 1) → (item.min +ℤ pos place) <ℤ end
+by_greatest : (item : MainItem) (us : List Usage) (first end : ℤ) (from place : ℕ) → IsPlaced item us first end from place → (item.min +ℤ pos place) ≤ℤ (greatest_of item +ℤ pos 1) → (item.min +ℤ pos place) <ℤ end
     → names_nothing item us (item.min +ℤ pos place) ≡ true
 by_greatest item us first end from place p near below = by_test (int_le (item.min +ℤ pos place) (greatest_of item)) refl
   where
@@ -158,3 +158,48 @@ by_greatest item us first end from place p near below = by_test (int_le (item.mi
       where
         not_at_most : (a b : ℤ) → int_le a b ≡ false → b <ℤ a
         not_at_most a b e = grind (arith, ints)
+
+-- the number of the place, or the first one over the greatest where that is less, is the least that names nothing
+pub unnamed_low : (item : MainItem) (us : List Usage) (first end : ℤ) (from place : ℕ) → IsPlaced item us first end from place
+    → first ≤ℤ int_min (item.min +ℤ pos place) (greatest_of item +ℤ pos 1)
+unnamed_low item us first end from place p = by_both (greatest_of item) (first_within item us first end from place p) (omega (arith, ints, p.from_is, p.is.low_bound))
+  where
+    by_both : (g : ℤ) → first ≤ℤ g → first ≤ℤ (item.min +ℤ pos place) → first ≤ℤ int_min (item.min +ℤ pos place) (g +ℤ pos 1)
+    by_both g a b = omega (arith, ints, clamps, a, b)
+
+pub unnamed_nothing : (item : MainItem) (us : List Usage) (first end : ℤ) (from place : ℕ) → IsPlaced item us first end from place
+    → int_min (item.min +ℤ pos place) (greatest_of item +ℤ pos 1) <ℤ end
+    → names_nothing item us (int_min (item.min +ℤ pos place) (greatest_of item +ℤ pos 1)) ≡ true
+unnamed_nothing item us first end from place p below = by_test (int_le (item.min +ℤ pos place) (greatest_of item +ℤ pos 1)) refl
+  where
+    v : ℤ
+    v = item.min +ℤ pos place
+
+    least_left : (g : ℤ) → v ≤ℤ g → int_min v g ≡ v
+    least_left g h = omega (arith, ints, clamps, h)
+
+    least_right : (g : ℤ) → g <ℤ v → int_min v g ≡ g
+    least_right g h = omega (arith, ints, clamps, h)
+
+    not_at_most : (a b : ℤ) → int_le a b ≡ false → b <ℤ a
+    not_at_most a b e = grind (arith, ints)
+
+    by_test : (b : Bool) → int_le v (greatest_of item +ℤ pos 1) ≡ b → names_nothing item us (int_min v (greatest_of item +ℤ pos 1)) ≡ true
+    by_test true e =
+        let near : v ≤ℤ (greatest_of item +ℤ pos 1) = record { le = T_from_true (int_le v (greatest_of item +ℤ pos 1)) e } in
+        let same : int_min v (greatest_of item +ℤ pos 1) ≡ v = least_left (greatest_of item +ℤ pos 1) near in
+        ap (names_nothing item us) same ∙ by_greatest item us first end from place p near (subst (λ (n : ℤ). n <ℤ end) same below)
+    by_test false e =
+        let over : (greatest_of item +ℤ pos 1) <ℤ v = not_at_most v (greatest_of item +ℤ pos 1) e in
+        let same : int_min v (greatest_of item +ℤ pos 1) ≡ (greatest_of item +ℤ pos 1) = least_right (greatest_of item +ℤ pos 1) over in
+        ap (names_nothing item us) same ∙ by_range item us first end from place p (greatest_of item +ℤ pos 1) (one_more (greatest_of item)) (subst (λ (n : ℤ). n <ℤ end) same below)
+      where
+        one_more : (g : ℤ) → g <ℤ (g +ℤ pos 1)
+        one_more g = omega (arith, ints)
+
+pub unnamed_named : (item : MainItem) (us : List Usage) (first end : ℤ) (from place : ℕ) → IsPlaced item us first end from place
+    → (v : ℤ) → first ≤ℤ v → v <ℤ int_min (item.min +ℤ pos place) (greatest_of item +ℤ pos 1) → names_nothing item us v ≡ false
+unnamed_named item us first end from place p v low less = let both = by_both (greatest_of item) less in all_named item us first end from place p v low both.0 both.1
+  where
+    by_both : (g : ℤ) → v <ℤ int_min (item.min +ℤ pos place) (g +ℤ pos 1) → (v ≤ℤ g) × (v <ℤ (item.min +ℤ pos place))
+    by_both g h = (omega (arith, ints, clamps, h), omega (arith, ints, clamps, h))

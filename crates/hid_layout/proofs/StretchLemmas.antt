@@ -1,13 +1,12 @@
 -- The first place of a usage list that names nothing, entry by entry.
 use Rattle.std.proofs.Common.{◌≡◌, ℕ, zero, suc, ◌+◌, ◌-◌, ◌<◌, ◌≤◌, Bool, true, false, not, ◌&&◌, List, [], ◌∷◌, ◌++◌, length, get_or, drop, refl, sym, ap, subst, ◌∙◌, arith, Some, None, Option, inl, inr}
-use Rattle.std.specs.Prelude.{◌⊎◌}
+use Rattle.std.specs.Prelude.{◌⊎◌, pos, ◌+ℤ◌, ◌≢◌, is_some}
 use Rattle.std.specs.List.{slice_get}
 use Rattle.std.proofs.lemmas.Bool.{cases_lt}
 use Rattle.hid_descriptor.specs.declared.usage.Usage.{Usage}
 use Rattle.hid_layout.specs.declared.main_item.MainItem.{MainItem}
 use Rattle.hid_descriptor.specs.Usages.{is_rollover, Entry, entry_count, usage_list, rising}
 use Rattle.hid_layout.specs.Controls.{is_encodable, rollover_from}
-use Rattle.std.specs.Prelude.{pos, ◌+ℤ◌, ◌≢◌, is_some}
 use Rattle.hid_layout.specs.Stretches.{RollsOverAt, RollsOverIn, is_nothing, usage_behind, IsFirstNothing, IsFirst}
 use Rattle.hid_descriptor.proofs.Places.{found, skipped, list_from}
 

@@ -1,13 +1,12 @@
 -- What holds of every layout that accepted items give.
 use Rattle.std.proofs.Common.{◌≡◌, ◌≢◌, ℕ, zero, suc, ◌+◌, ◌*◌, ◌-◌, ◌/◌, ◌^◌, ◌<◌, ◌≤◌, Bool, true, false, cond, ◌&&◌, ◌||◌, List, [], ◌∷◌, ◌++◌, length, map, reverse, take, refl, sym, ◌∙◌, ap, subst, arith, nat_eq, nat_le, add-one, Some, None, Option, ℤ, length-append}
-use Rattle.std.specs.Prelude.{pos, neg_ℤ, ◌≤ℤ◌, int_le, int_lt}
-use Rattle.std.specs.List.{slice_get, list_any, flat_map}
+use Rattle.std.specs.Prelude.{pos, neg_ℤ, ◌≤ℤ◌, int_le, int_lt, All}
+use Rattle.std.specs.List.{slice_get, list_any, flat_map, list_all}
 use Rattle.std.proofs.lemmas.Int.{ints, clamps}
 use Rattle.std.proofs.lemmas.Float.{T_from_true}
 use Rattle.std.proofs.Math.Nat.{one-le-pow, le-mul_of_pos_right, mul_comm}
 use Rattle.std.proofs.Math.Pow.{pow_mono}
 use Rattle.std.specs.Int.{int_max, int_min}
-use Rattle.std.specs.List.{list_all}
 use Rattle.hid_descriptor.specs.Usages.{Entry, entry_count, rising, usage_list, are_ranges}
 use Rattle.hid_layout.specs.Reports.{HasElements, IsLayout, first_bit, report_bytes, bits_of as bits_of_report}
 use Rattle.hid_descriptor.proofs.Taking.{reverse_more}
@@ -29,7 +28,6 @@ use Rattle.hid_descriptor.proofs.FieldFacts.{AreListed, AreSpelled}
 use Rattle.hid_descriptor.proofs.ListedLemmas.{id_of, listed}
 use Rattle.hid_descriptor.proofs.ReportIdLemmas.{one_place, byte_id, fields_unnumbered}
 use Rattle.hid_descriptor.specs.Items.{Item, is, REPORT_ID}
-use Rattle.std.specs.Prelude.{All}
 use Rattle.std.proofs.lemmas.List.Elements.{All-nil, All-cons, All-head, All-tail}
 use Rattle.hid_items.specs.Spelling.{IsSpelling}
 

@@ -70,7 +70,8 @@ spread (suc n) [] = []
 spread (suc n) (u ∷ []) = u ∷ spread n (u ∷ [])
 spread (suc n) (u ∷ v ∷ us) = u ∷ spread n (v ∷ us)
 
--- a place of an array's usage list is a key where an element can carry its number and its usage is neither 0 nor an error
+-- a place of an array's usage list is a key where an element can carry its number and its usage is neither 0
+-- nor an error
 abbrev pub is_key : MainItem → ℕ → Usage → Bool
 is_key item i u =
     is_encodable item (item.min +ℤ pos i) && (nat_lt i MAX_KEYS && (not (u.id == 0) && not (tells_error u)))

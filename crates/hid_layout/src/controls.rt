@@ -1,10 +1,8 @@
 //! The controls that a layout gives.
 
-ghost use Rattle.std.specs.Prelude.{◌≡◌, false, ◌<◌, ◌≤◌, ◌*◌, ◌^◌, ◌+◌, ◌+ℤ◌, pos, ℕ, List, [], ◌∷◌, length, slice_get, Option, Some, None};
+ghost use Rattle.std.specs.Prelude.{◌≡◌, false, ◌<◌, ◌≤◌, ◌*◌, ◌^◌, length, slice_get};
 ghost use Rattle.hid_descriptor.specs.Usages.{usage_list};
-ghost use Rattle.hid_descriptor.specs.Flags.{has_flag};
-ghost use Rattle.hid_descriptor.specs.Faults.{least_value, greatest_value};
-ghost use Rattle.hid_layout.specs.Controls.{least_of, greatest_of, is_encodable, has_outside, element_kind, is_key};
+ghost use Rattle.hid_layout.specs.Controls.{least_of, greatest_of, has_outside, element_kind, is_key};
 
 use crate::control::{Control, ControlKind, Controls};
 use crate::main_item::MainItem;

@@ -1,7 +1,7 @@
 //! What a layout keeps beside its items, so that they are read without a search: which items each report has, and the
 //! codes of each item.
 
-ghost use Rattle.std.specs.Prelude.{◌≡◌, ◌<◌, ◌≤◌, ℕ, List, false, length, map, slice_get, IfOk, OnOk, Some};
+ghost use Rattle.std.specs.Prelude.{◌≡◌, ◌≤◌, ℕ, List, false, length, map, slice_get, IfOk, Some};
 ghost use Rattle.hid_descriptor.specs.Usages.{Entry, usage_list};
 ghost use Rattle.hid_descriptor.specs.Fields.{is_padding};
 ghost use Rattle.hid_descriptor.specs.Faults.{upward};

@@ -1,6 +1,6 @@
 //! Layouts, and how they are read.
 
-ghost use Rattle.std.specs.Prelude.{◌≡◌, ◌^◌, false, ◌<◌, ◌≤◌, ℕ, List, ◌++◌, length, map, slice_get, IfOk, IfErr, Some};
+ghost use Rattle.std.specs.Prelude.{◌≡◌, ◌^◌, false, ◌<◌, ◌≤◌, ℕ, List, length, map, slice_get, IfOk, IfErr, Some};
 ghost use Rattle.hid_descriptor.specs.Items.{Item as Spelled};
 ghost use Rattle.hid_descriptor.specs.Listing.{ListsFields};
 ghost use Rattle.hid_layout.specs.Reports.{report_bytes, usage_of, element_of, IsLayout};

@@ -1,16 +1,17 @@
 //! The codes of an item: the numbers by which its elements tell null, that they are empty, and that the array rolled
 //! over (HID 1.11, 5.10 and 6.2.2.5). They are worked out over whole ranges of usages, never place by place.
 
-ghost use Rattle.std.specs.Prelude.{◌≡◌, ◌<◌, ◌≤◌, ◌+◌, ◌-◌, ◌*◌, ◌^◌, ◌+ℤ◌, ◌-ℤ◌, ◌≤ℤ◌, ◌<ℤ◌, pos, neg_ℤ, ℕ, ℤ, List, true, false, length, IfSome, IfNone, Some, None};
+ghost use Rattle.std.specs.Prelude.{◌≡◌, ◌<◌, ◌≤◌, ◌+◌, ◌-◌, ◌*◌, ◌^◌, ◌+ℤ◌, ◌≤ℤ◌, ◌<ℤ◌, pos, ℤ, List, true, false, length, IfSome, IfNone};
+ghost use Rattle.hid_descriptor.specs.Usages.{usage_list};
+ghost use Rattle.std.specs.Bool.{OnTrue};
 ghost use Rattle.std.specs.Int.{int_min};
-ghost use Rattle.hid_descriptor.specs.Usages.{entry_count, usage_list};
-ghost use Rattle.hid_layout.specs.Controls.{rollover_from, least_of, greatest_of, is_encodable};
+ghost use Rattle.hid_layout.specs.Controls.{rollover_from, greatest_of, is_encodable};
 ghost use Rattle.hid_descriptor.specs.Faults.{least_value, greatest_value};
 ghost use Rattle.hid_layout.specs.Reports.{HasElements};
 ghost use Rattle.hid_fields.specs.Value.{is_negative};
 ghost use Rattle.hid_descriptor.specs.declared.usage.Usage.{Usage as Named};
 ghost use Rattle.hid_layout.specs.Stretches.{RollsOverAt, RollsOverIn, IsFirst, IsLeastNothing, NamesAll};
-ghost use Rattle.hid_layout.specs.Sent.{AreCodes, names_nothing as names_nothing_at, number_of, empty_number, null_number, rollover_number};
+ghost use Rattle.hid_layout.specs.Sent.{is_in, AreCodes, names_nothing as names_nothing_at, number_of, empty_number, null_number, rollover_number};
 
 use crate::main_item::MainItem;
 use hid_descriptor::{
@@ -130,6 +131,22 @@ fn number_at(item: &MainItem, place: usize) -> i64
     item.min + place as i64
 }
 
+/// Whether a number is in the item's logical range.
+fn has_in_range(item: &MainItem, number: i64) -> bool
+    ensures value { result ≡ is_in item.now.min item.now.max number }
+    ensures inside { OnTrue result ((item.now.min ≤ℤ number) × (number ≤ℤ item.now.max)) }
+{
+    item.min <= number && number <= item.max
+}
+
+/// A number, or the first one over those that an element can carry, where that is less.
+fn up_to_over(item: &MainItem, number: i64) -> i64
+    requires { HasElements item.now }
+    ensures { result ≡ int_min number (greatest_of item.now +ℤ pos 1) }
+{
+    number.min(item.greatest() + 1)
+}
+
 /// The least number from the first on by which an element names neither a key nor an error: it may be over the end.
 fn unnamed_number(item: &MainItem, entries: &[(Usage, Usage)], numbers: &Numbers) -> i64
     requires elements { HasElements item.now }
@@ -143,15 +160,11 @@ fn unnamed_number(item: &MainItem, entries: &[(Usage, Usage)], numbers: &Numbers
     ensures named { (v : ℤ) → numbers.now.first ≤ℤ v → v <ℤ numbers.now.end → v <ℤ result
         → names_nothing_at item.now (usage_list entries.now) v ≡ false }
 {
-    if numbers.first < item.min || item.max < numbers.first {
+    if !has_in_range(item, numbers.first) {
         return numbers.first;
     }
-    let number = number_at(item, first_nothing(entries, place_of(item, numbers)));
-    let over = item.greatest() + 1;
-    if over < number {
-        return over;
-    }
-    number
+    let place = first_nothing(entries, place_of(item, numbers));
+    up_to_over(item, number_at(item, place))
 }
 
 /// The least of some numbers that an element of an array can carry and by which it names neither a key nor an error.

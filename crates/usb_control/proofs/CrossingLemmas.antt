@@ -16,6 +16,7 @@ use Rattle.usb_transact.specs.declared.bus.Phase.TheVariants.{Token, HostData, A
 use Rattle.usb_transact.specs.Bus.{Arrivals, Carries, Replies}
 use Rattle.usb_transact.specs.Fate.{arrives_under}
 use Rattle.usb_transact.proofs.TableLemmas.{read_whole, read_lost}
+use Rattle.usb_control.specs.Requests.{PrepareGives, ApplyGives, AnswerOf}
 use Rattle.usb_control.specs.Device.{DevControlState, Does, effect, ack_heard}
 use Rattle.usb_control.specs.Host.{HostTransferState, IsRunning, asks_at, kind_of, payload_at, took_at, acknowledges_at}
 use Rattle.usb_control.specs.Transaction.{AckComes, Transacts, reached, heard_of}
@@ -28,22 +29,22 @@ IsWhole arrivals phase = (bytes : List ℕ) → arrivals phase bytes ≡ Some by
 abbrev IsLost : Arrivals → Phase → Type 0
 IsLost arrivals phase = (bytes : List ℕ) → arrivals phase bytes ≡ None
 
-hears_whole : {R : Type 0} (prepare_gives : R → Request → Bool → R → Type 0) (apply_gives : R → List ℕ → R → Type 0) (answer_of : R → Option (List ℕ)) (arrivals : Arrivals) (phase : Phase) (sent : Packet) (came : Option Packet) (old new : DevControlState R) (answer : Option Packet) → IsWhole arrivals phase → Carries arrivals phase sent came → Hears prepare_gives apply_gives answer_of came old new answer → Does prepare_gives apply_gives (effect (answer_of old.requests) old.stage old.heard sent) old.requests new answer
+hears_whole : {R : Type 0} (prepare_gives : PrepareGives R) (apply_gives : ApplyGives R) (answer_of : AnswerOf R) (arrivals : Arrivals) (phase : Phase) (sent : Packet) (came : Option Packet) (old new : DevControlState R) (answer : Option Packet) → IsWhole arrivals phase → Carries arrivals phase sent came → Hears prepare_gives apply_gives answer_of came old new answer → Does prepare_gives apply_gives (effect (answer_of old.requests) old.stage old.heard sent) old.requests new answer
 hears_whole prepare_gives apply_gives answer_of arrivals phase sent came old new answer whole c h =
     subst (λ (x : Option Packet). Hears prepare_gives apply_gives answer_of x old new answer) (read_whole arrivals phase sent came (whole (spelling sent)) c) h
 
-hears_lost : {R : Type 0} (prepare_gives : R → Request → Bool → R → Type 0) (apply_gives : R → List ℕ → R → Type 0) (answer_of : R → Option (List ℕ)) (arrivals : Arrivals) (phase : Phase) (sent : Packet) (came : Option Packet) (old new : DevControlState R) (answer : Option Packet) → IsLost arrivals phase → Carries arrivals phase sent came → Hears prepare_gives apply_gives answer_of came old new answer → (new ≡ old) × (answer ≡ None)
+hears_lost : {R : Type 0} (prepare_gives : PrepareGives R) (apply_gives : ApplyGives R) (answer_of : AnswerOf R) (arrivals : Arrivals) (phase : Phase) (sent : Packet) (came : Option Packet) (old new : DevControlState R) (answer : Option Packet) → IsLost arrivals phase → Carries arrivals phase sent came → Hears prepare_gives apply_gives answer_of came old new answer → (new ≡ old) × (answer ≡ None)
 hears_lost prepare_gives apply_gives answer_of arrivals phase sent came old new answer lost c h =
     subst (λ (x : Option Packet). Hears prepare_gives apply_gives answer_of x old new answer) (read_lost arrivals phase sent came (lost (spelling sent)) c) h
 
 -- the data packet behind a token that was heard
-data_heard_whole : {R : Type 0} (prepare_gives : R → Request → Bool → R → Type 0) (apply_gives : R → List ℕ → R → Type 0) (answer_of : R → Option (List ℕ)) (arrivals : Arrivals) (sent : Packet) (requests : R) (stage : Stage) (heard : Heard) (mid : DevControlState R) (before : Option Packet) (new : DevControlState R) (answer : Option Packet) → IsWhole arrivals HostData → mid ≡ record { requests = requests; stage = stage; heard = heard } → HearsData prepare_gives apply_gives answer_of arrivals (Some sent) mid before new answer → Does prepare_gives apply_gives (effect (answer_of requests) stage heard sent) requests new answer
+data_heard_whole : {R : Type 0} (prepare_gives : PrepareGives R) (apply_gives : ApplyGives R) (answer_of : AnswerOf R) (arrivals : Arrivals) (sent : Packet) (requests : R) (stage : Stage) (heard : Heard) (mid : DevControlState R) (before : Option Packet) (new : DevControlState R) (answer : Option Packet) → IsWhole arrivals HostData → mid ≡ record { requests = requests; stage = stage; heard = heard } → HearsData prepare_gives apply_gives answer_of arrivals (Some sent) mid before new answer → Does prepare_gives apply_gives (effect (answer_of requests) stage heard sent) requests new answer
 data_heard_whole prepare_gives apply_gives answer_of arrivals sent requests stage heard mid before new answer whole is (came, c, h) =
     subst (λ (m : DevControlState _). Does prepare_gives apply_gives (effect (answer_of m.requests) m.stage m.heard sent) m.requests new answer) is
     (hears_whole prepare_gives apply_gives answer_of arrivals HostData sent came mid new answer whole c h)
 
 -- what the host sends first reaches the device
-reach_at : {R : Type 0} (prepare_gives : R → Request → Bool → R → Type 0) (apply_gives : R → List ℕ → R → Type 0) (answer_of : R → Option (List ℕ)) (arrivals : Arrivals) (stage : HostStage) (addr : ℕ) (request : Request) (bytes : List ℕ) (old mid : DevControlState R) (before : Option Packet) (new : DevControlState R) (answer : Option Packet) → IsRunning stage → IsWhole arrivals HostData → Does prepare_gives apply_gives (effect (answer_of old.requests) old.stage old.heard (packets.Token (kind_of stage) addr 0)) old.requests mid before → HearsData prepare_gives apply_gives answer_of arrivals (payload_at stage request bytes) mid before new answer → Does prepare_gives apply_gives (reached stage request bytes old.stage (answer_of old.requests)) old.requests new answer
+reach_at : {R : Type 0} (prepare_gives : PrepareGives R) (apply_gives : ApplyGives R) (answer_of : AnswerOf R) (arrivals : Arrivals) (stage : HostStage) (addr : ℕ) (request : Request) (bytes : List ℕ) (old mid : DevControlState R) (before : Option Packet) (new : DevControlState R) (answer : Option Packet) → IsRunning stage → IsWhole arrivals HostData → Does prepare_gives apply_gives (effect (answer_of old.requests) old.stage old.heard (packets.Token (kind_of stage) addr 0)) old.requests mid before → HearsData prepare_gives apply_gives answer_of arrivals (payload_at stage request bytes) mid before new answer → Does prepare_gives apply_gives (reached stage request bytes old.stage (answer_of old.requests)) old.requests new answer
 reach_at prepare_gives apply_gives answer_of arrivals tries.Setup addr request bytes old mid before new answer going whole token h = data_heard_whole prepare_gives apply_gives answer_of arrivals _ old.requests old.stage hears.Setup mid before new answer whole token.0 h
 reach_at prepare_gives apply_gives answer_of arrivals (tries.DataOut sent one) addr request bytes old mid before new answer going whole token h = data_heard_whole prepare_gives apply_gives answer_of arrivals _ old.requests old.stage hears.Out mid before new answer whole token.0 h
 reach_at prepare_gives apply_gives answer_of arrivals tries.StatusOut addr request bytes old mid before new answer going whole token h = data_heard_whole prepare_gives apply_gives answer_of arrivals _ old.requests old.stage hears.Out mid before new answer whole token.0 h
@@ -52,16 +53,16 @@ reach_at prepare_gives apply_gives answer_of arrivals tries.StatusIn addr reques
 reach_at prepare_gives apply_gives answer_of arrivals tries.Done addr request bytes old mid before new answer going whole token h = cc
 reach_at prepare_gives apply_gives answer_of arrivals (tries.Failed fault) addr request bytes old mid before new answer going whole token h = cc
 
-reach_whole : {R : Type 0} (prepare_gives : R → Request → Bool → R → Type 0) (apply_gives : R → List ℕ → R → Type 0) (answer_of : R → Option (List ℕ)) (arrivals : Arrivals) (stage : HostStage) (addr : ℕ) (request : Request) (bytes : List ℕ) (old new : DevControlState R) (answer : Option Packet) → IsRunning stage → IsWhole arrivals Token → IsWhole arrivals HostData → Reaches prepare_gives apply_gives answer_of arrivals (packets.Token (kind_of stage) addr 0) (payload_at stage request bytes) old new answer → Does prepare_gives apply_gives (reached stage request bytes old.stage (answer_of old.requests)) old.requests new answer
+reach_whole : {R : Type 0} (prepare_gives : PrepareGives R) (apply_gives : ApplyGives R) (answer_of : AnswerOf R) (arrivals : Arrivals) (stage : HostStage) (addr : ℕ) (request : Request) (bytes : List ℕ) (old new : DevControlState R) (answer : Option Packet) → IsRunning stage → IsWhole arrivals Token → IsWhole arrivals HostData → Reaches prepare_gives apply_gives answer_of arrivals (packets.Token (kind_of stage) addr 0) (payload_at stage request bytes) old new answer → Does prepare_gives apply_gives (reached stage request bytes old.stage (answer_of old.requests)) old.requests new answer
 reach_whole prepare_gives apply_gives answer_of arrivals stage addr request bytes old new answer going whole whole_data (came, mid, before, c, token, h) =
     reach_at prepare_gives apply_gives answer_of arrivals stage addr request bytes old mid before new answer going whole_data
     (hears_whole prepare_gives apply_gives answer_of arrivals Token (packets.Token (kind_of stage) addr 0) came old mid before whole c token) h
 
-data_lost : {R : Type 0} (prepare_gives : R → Request → Bool → R → Type 0) (apply_gives : R → List ℕ → R → Type 0) (answer_of : R → Option (List ℕ)) (arrivals : Arrivals) (payload : Option Packet) (old : DevControlState R) (before : Option Packet) (new : DevControlState R) (answer : Option Packet) → IsLost arrivals HostData → before ≡ None → HearsData prepare_gives apply_gives answer_of arrivals payload old before new answer → (new ≡ old) × (answer ≡ None)
+data_lost : {R : Type 0} (prepare_gives : PrepareGives R) (apply_gives : ApplyGives R) (answer_of : AnswerOf R) (arrivals : Arrivals) (payload : Option Packet) (old : DevControlState R) (before : Option Packet) (new : DevControlState R) (answer : Option Packet) → IsLost arrivals HostData → before ≡ None → HearsData prepare_gives apply_gives answer_of arrivals payload old before new answer → (new ≡ old) × (answer ≡ None)
 data_lost prepare_gives apply_gives answer_of arrivals None old before new answer lost none h = (h.0, h.1 ∙ none)
 data_lost prepare_gives apply_gives answer_of arrivals (Some sent) old before new answer lost none (came, c, h) = hears_lost prepare_gives apply_gives answer_of arrivals HostData sent came old new answer lost c h
 
-reach_lost : {R : Type 0} (prepare_gives : R → Request → Bool → R → Type 0) (apply_gives : R → List ℕ → R → Type 0) (answer_of : R → Option (List ℕ)) (arrivals : Arrivals) (token : Packet) (payload : Option Packet) (old new : DevControlState R) (answer : Option Packet) → IsLost arrivals Token → IsLost arrivals HostData → Reaches prepare_gives apply_gives answer_of arrivals token payload old new answer → (new ≡ old) × (answer ≡ None)
+reach_lost : {R : Type 0} (prepare_gives : PrepareGives R) (apply_gives : ApplyGives R) (answer_of : AnswerOf R) (arrivals : Arrivals) (token : Packet) (payload : Option Packet) (old new : DevControlState R) (answer : Option Packet) → IsLost arrivals Token → IsLost arrivals HostData → Reaches prepare_gives apply_gives answer_of arrivals token payload old new answer → (new ≡ old) × (answer ≡ None)
 reach_lost prepare_gives apply_gives answer_of arrivals token payload old new answer lost lost_data (came, mid, before, c, first, h) =
     let none = hears_lost prepare_gives apply_gives answer_of arrivals Token token came old mid before lost c first in
     let then = data_lost prepare_gives apply_gives answer_of arrivals payload mid before new answer lost_data none.1 h in
@@ -99,29 +100,29 @@ nothing_acknowledged tries.Done after = refl
 nothing_acknowledged (tries.Failed fault) after = refl
 
 -- an ACK has no answer
-ack_is_silent : {R : Type 0} (prepare_gives : R → Request → Bool → R → Type 0) (apply_gives : R → List ℕ → R → Type 0) (heard : Heard) (answer : Option (List ℕ)) (stage : Stage) (old : R) (new : DevControlState R) (said : Option Packet) → Does prepare_gives apply_gives (ack_heard answer stage heard) old new said → Does prepare_gives apply_gives (ack_heard answer stage heard) old new None
+ack_is_silent : {R : Type 0} (prepare_gives : PrepareGives R) (apply_gives : ApplyGives R) (heard : Heard) (answer : Option (List ℕ)) (stage : Stage) (old : R) (new : DevControlState R) (said : Option Packet) → Does prepare_gives apply_gives (ack_heard answer stage heard) old new said → Does prepare_gives apply_gives (ack_heard answer stage heard) old new None
 ack_is_silent prepare_gives apply_gives hears.Nothing answer stage old new said h = (h.0, refl)
 ack_is_silent prepare_gives apply_gives hears.Setup answer stage old new said h = (h.0, refl)
 ack_is_silent prepare_gives apply_gives hears.Out answer stage old new said h = (h.0, refl)
 ack_is_silent prepare_gives apply_gives hears.Answered answer stage old new said h = (h.0, refl)
 
-ack_clean : {R : Type 0} (prepare_gives : R → Request → Bool → R → Type 0) (apply_gives : R → List ℕ → R → Type 0) (answer_of : R → Option (List ℕ)) (says : Bool) (old new : DevControlState R) → Acknowledges prepare_gives apply_gives answer_of (arrives_under Clean) says old new → AckComes prepare_gives apply_gives answer_of says old new
+ack_clean : {R : Type 0} (prepare_gives : PrepareGives R) (apply_gives : ApplyGives R) (answer_of : AnswerOf R) (says : Bool) (old new : DevControlState R) → Acknowledges prepare_gives apply_gives answer_of (arrives_under Clean) says old new → AckComes prepare_gives apply_gives answer_of says old new
 ack_clean prepare_gives apply_gives answer_of false old new h = h
 ack_clean prepare_gives apply_gives answer_of true old new (came, answer, c, h) =
     ack_is_silent prepare_gives apply_gives old.heard (answer_of old.requests) old.stage old.requests new answer
     (hears_whole prepare_gives apply_gives answer_of (arrives_under Clean) Acknowledgement packets.Ack came old new answer (λ bytes. refl) c h)
 
-ack_lost : {R : Type 0} (prepare_gives : R → Request → Bool → R → Type 0) (apply_gives : R → List ℕ → R → Type 0) (answer_of : R → Option (List ℕ)) (says : Bool) (old new : DevControlState R) → Acknowledges prepare_gives apply_gives answer_of (arrives_under AckLost) says old new → new ≡ old
+ack_lost : {R : Type 0} (prepare_gives : PrepareGives R) (apply_gives : ApplyGives R) (answer_of : AnswerOf R) (says : Bool) (old new : DevControlState R) → Acknowledges prepare_gives apply_gives answer_of (arrives_under AckLost) says old new → new ≡ old
 ack_lost prepare_gives apply_gives answer_of false old new h = h
 ack_lost prepare_gives apply_gives answer_of true old new (came, answer, c, h) =
     (hears_lost prepare_gives apply_gives answer_of (arrives_under AckLost) Acknowledgement packets.Ack came old new answer (λ bytes. refl) c h).0
 
-ack_unsent : {R : Type 0} (prepare_gives : R → Request → Bool → R → Type 0) (apply_gives : R → List ℕ → R → Type 0) (answer_of : R → Option (List ℕ)) (arrivals : Arrivals) (stage : HostStage) (reply : Option Packet) (after : HostStage) (old new : DevControlState R) → reply ≡ None → Acknowledges prepare_gives apply_gives answer_of arrivals (acknowledges_at stage reply after) old new → new ≡ old
+ack_unsent : {R : Type 0} (prepare_gives : PrepareGives R) (apply_gives : ApplyGives R) (answer_of : AnswerOf R) (arrivals : Arrivals) (stage : HostStage) (reply : Option Packet) (after : HostStage) (old new : DevControlState R) → reply ≡ None → Acknowledges prepare_gives apply_gives answer_of arrivals (acknowledges_at stage reply after) old new → new ≡ old
 ack_unsent prepare_gives apply_gives answer_of arrivals stage reply after old new none h =
     let silent : acknowledges_at stage reply after ≡ false = ap (λ (x : Option Packet). acknowledges_at stage x after) none ∙ nothing_acknowledged stage after in
     subst (λ (b : Bool). Acknowledges prepare_gives apply_gives answer_of arrivals b old new) silent h
 
-pub crosses_transacts : {R : Type 0} (prepare_gives : R → Request → Bool → R → Type 0) (apply_gives : R → List ℕ → R → Type 0) (answer_of : R → Option (List ℕ)) (fate : Fate) (host : HostTransferState) (old : DevControlState R) (after : HostTransferState) (new : DevControlState R) → IsRunning host.stage → Crosses prepare_gives apply_gives answer_of (arrives_under fate) host old after new → Transacts prepare_gives apply_gives answer_of fate host old after new
+pub crosses_transacts : {R : Type 0} (prepare_gives : PrepareGives R) (apply_gives : ApplyGives R) (answer_of : AnswerOf R) (fate : Fate) (host : HostTransferState) (old : DevControlState R) (after : HostTransferState) (new : DevControlState R) → IsRunning host.stage → Crosses prepare_gives apply_gives answer_of (arrives_under fate) host old after new → Transacts prepare_gives apply_gives answer_of fate host old after new
 crosses_transacts prepare_gives apply_gives answer_of TokenLost host old after new going x =
     let lost = reach_lost prepare_gives apply_gives answer_of (arrives_under TokenLost) _ _ old x.mid x.answer (λ bytes. refl) (λ bytes. refl) x.reached in
     let none = subst (λ (a : Option Packet). Replies (arrives_under TokenLost) (phase_of (asks_at host.stage)) a x.reply) lost.1 x.replied in

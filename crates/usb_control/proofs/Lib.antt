@@ -8,10 +8,12 @@ pub mod StatusLemmas
 pub mod TryLemmas
 pub mod ReadingLemmas
 pub mod WritingLemmas
+pub mod ActLemmas
 pub mod RunLemmas
 pub mod StepsLemmas
 pub mod LawLemmas
 pub mod CrossingLemmas
+pub mod ComputedLemmas
 pub mod WalkLemmas
 pub mod SearchLemmas
 mod Vectors

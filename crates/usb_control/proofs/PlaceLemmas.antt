@@ -4,11 +4,11 @@ use Rattle.usb_packet.specs.declared.packet.Packet.{Packet}
 use Rattle.usb_packet.specs.declared.packet.Packet.TheVariants as packets
 use Rattle.usb_transact.specs.declared.transaction.Fate.{Fate}
 use Rattle.usb_transact.specs.declared.transaction.Fate.TheVariants.{Clean, TokenLost, ReplyLost, AckLost}
-use Rattle.usb_control.specs.declared.setup.Setup.{Setup as Request}
 use Rattle.usb_control.specs.declared.device.Stage.{Stage}
 use Rattle.usb_control.specs.declared.device.Heard.TheVariants as hears
 use Rattle.usb_control.specs.declared.host.HostStage.{HostStage}
 use Rattle.usb_control.specs.declared.host.HostStage.TheVariants as tries
+use Rattle.usb_control.specs.Requests.{PrepareGives, ApplyGives, AnswerOf}
 use Rattle.usb_control.specs.Packets.{data_packet}
 use Rattle.usb_control.specs.Device.{DevControlState, Effect, Answers, Does, acknowledged, ack_heard}
 use Rattle.usb_control.specs.Host.{HostTransferState, asks_at, took_at, acknowledges_at, answered}
@@ -34,11 +34,11 @@ out_place ReplyLost p d n q a t = silent (at p n q a t)
 out_place AckLost p d n q a t = silent (at p n q a t)
 out_place Clean p d n q a t = at n n q a 0
 
-out_lost : {R : Type 0} (answer_of : R → Option (List ℕ)) (shape : Shape) (sends : List ℕ) (p n : Position) (q : Decision) (a : Bool) (t : ℕ) (host : HostTransferState) (stage : HostStage) (old mid : DevControlState R) (after : HostTransferState) (new : DevControlState R) → IsPiece stage → BothStand answer_of shape sends (at p n q a t) host mid → mid.requests ≡ old.requests → after ≡ took_at stage None host → new ≡ mid → (new.requests ≡ old.requests) × Stands answer_of shape sends (silent (at p n q a t)) after new
+out_lost : {R : Type 0} (answer_of : AnswerOf R) (shape : Shape) (sends : List ℕ) (p n : Position) (q : Decision) (a : Bool) (t : ℕ) (host : HostTransferState) (stage : HostStage) (old mid : DevControlState R) (after : HostTransferState) (new : DevControlState R) → IsPiece stage → BothStand answer_of shape sends (at p n q a t) host mid → mid.requests ≡ old.requests → after ≡ took_at stage None host → new ≡ mid → (new.requests ≡ old.requests) × Stands answer_of shape sends (silent (at p n q a t)) after new
 out_lost answer_of shape sends p n q a t host stage old mid after new piece u same e f =
     (ap (λ c. c.requests) f ∙ same, moved answer_of shape sends _ _ after _ new (e ∙ none_taken stage host piece) f (silent_stands answer_of shape sends p n q a t host mid u))
 
-pub out_shown : {R : Type 0} (prepare_gives : R → Request → Bool → R → Type 0) (apply_gives : R → List ℕ → R → Type 0) (answer_of : R → Option (List ℕ)) (shape : Shape) (sends : List ℕ) (fate : Fate) (p d n : Position) (q : Decision) (a : Bool) (t : ℕ) (host : HostTransferState) (stage after_stage : HostStage) (device_stage device_after : Stage) (bytes : List ℕ) (old : DevControlState R) (after : HostTransferState) (new : DevControlState R) → IsPiece stage → asks_at stage ≡ false → took_at stage (Some packets.Ack) host ≡ answered after_stage host → reached stage host.setup bytes device_stage (answer_of old.requests) ≡ Answers (Some packets.Ack) device_after hears.Nothing → BothStand answer_of shape sends (at p d q a t) host old → ((m : DevControlState R) → m.stage ≡ device_after → m.requests ≡ old.requests → BothStand answer_of shape sends (at p n q a t) host m) → ((m : DevControlState R) → m.stage ≡ device_after → m.requests ≡ old.requests → BothStand answer_of shape sends (at n n q a 0) (answered after_stage host) m) → TransactsAt prepare_gives apply_gives answer_of fate stage device_stage bytes host old after new → (new.requests ≡ old.requests) × Stands answer_of shape sends (out_place fate p d n q a t) after new
+pub out_shown : {R : Type 0} (prepare_gives : PrepareGives R) (apply_gives : ApplyGives R) (answer_of : AnswerOf R) (shape : Shape) (sends : List ℕ) (fate : Fate) (p d n : Position) (q : Decision) (a : Bool) (t : ℕ) (host : HostTransferState) (stage after_stage : HostStage) (device_stage device_after : Stage) (bytes : List ℕ) (old : DevControlState R) (after : HostTransferState) (new : DevControlState R) → IsPiece stage → asks_at stage ≡ false → took_at stage (Some packets.Ack) host ≡ answered after_stage host → reached stage host.setup bytes device_stage (answer_of old.requests) ≡ Answers (Some packets.Ack) device_after hears.Nothing → BothStand answer_of shape sends (at p d q a t) host old → ((m : DevControlState R) → m.stage ≡ device_after → m.requests ≡ old.requests → BothStand answer_of shape sends (at p n q a t) host m) → ((m : DevControlState R) → m.stage ≡ device_after → m.requests ≡ old.requests → BothStand answer_of shape sends (at n n q a 0) (answered after_stage host) m) → TransactsAt prepare_gives apply_gives answer_of fate stage device_stage bytes host old after new → (new.requests ≡ old.requests) × Stands answer_of shape sends (out_place fate p d n q a t) after new
 out_shown prepare_gives apply_gives answer_of shape sends TokenLost p d n q a t host stage after_stage device_stage device_after bytes old after new piece asks took effect u has goes (e, f) =
     out_lost answer_of shape sends p d q a t host stage old old after new piece u refl e f
 out_shown prepare_gives apply_gives answer_of shape sends ReplyLost p d n q a t host stage after_stage device_stage device_after bytes old after new piece asks took effect u has goes (mid, answer, does, e, f) =
@@ -71,14 +71,14 @@ pub record Takes (host host_after : HostTransferState) (stage : HostStage) (one 
   pub takes : took_at stage (Some (data_packet one payload)) host ≡ host_after
   pub says : acknowledges_at stage (Some (data_packet one payload)) host_after.stage ≡ true
 
-in_ack : {R : Type 0} (prepare_gives : R → Request → Bool → R → Type 0) (apply_gives : R → List ℕ → R → Type 0) (answer_of : R → Option (List ℕ)) (b : Bool) (stage : Stage) (mid new : DevControlState R) → b ≡ true → mid.stage ≡ stage → mid.heard ≡ hears.Answered → AckComes prepare_gives apply_gives answer_of b mid new → (new.stage ≡ acknowledged (answer_of mid.requests) stage) × (new.requests ≡ mid.requests)
+in_ack : {R : Type 0} (prepare_gives : PrepareGives R) (apply_gives : ApplyGives R) (answer_of : AnswerOf R) (b : Bool) (stage : Stage) (mid new : DevControlState R) → b ≡ true → mid.stage ≡ stage → mid.heard ≡ hears.Answered → AckComes prepare_gives apply_gives answer_of b mid new → (new.stage ≡ acknowledged (answer_of mid.requests) stage) × (new.requests ≡ mid.requests)
 in_ack prepare_gives apply_gives answer_of b stage mid new e m h f =
     let f1 = subst (λ (x : Bool). AckComes prepare_gives apply_gives answer_of x mid new) e f in
     let effect : ack_heard (answer_of mid.requests) mid.stage mid.heard ≡ Answers None (acknowledged (answer_of mid.requests) stage) hears.Nothing = rw (m, h) refl in
     let f2 = subst (λ (x : Effect). Does prepare_gives apply_gives x mid.requests new None) effect f1 in
     (ap (λ c. c.stage) f2.0, ap (λ c. c.requests) f2.0)
 
-pub in_shown : {R : Type 0} (prepare_gives : R → Request → Bool → R → Type 0) (apply_gives : R → List ℕ → R → Type 0) (answer_of : R → Option (List ℕ)) (shape : Shape) (sends : List ℕ) (fate : Fate) (p d p_after d_after : Position) (q : Decision) (a : Bool) (t : ℕ) (host host_after : HostTransferState) (stage : HostStage) (device_stage : Stage) (one : Bool) (payload : List ℕ) (mid : DevControlState R) (answer : Option Packet) (after : HostTransferState) (new : DevControlState R) → ¬ (fate ≡ TokenLost) → IsPiece stage → Takes host host_after stage one payload → mid.stage ≡ device_stage → mid.heard ≡ hears.Answered → answer ≡ Some (data_packet one payload) → BothStand answer_of shape sends (at p d q a t) host mid → BothStand answer_of shape sends (at p_after d q a 0) host_after mid → ((m : DevControlState R) → m.stage ≡ acknowledged (answer_of mid.requests) device_stage → m.requests ≡ mid.requests → BothStand answer_of shape sends (at p_after d_after q a 0) host_after m) → after ≡ took_at stage (heard_of fate (asks_at stage) answer) host → AckComes prepare_gives apply_gives answer_of (is_clean fate && acknowledges_at stage (heard_of fate (asks_at stage) answer) after.stage) mid new → (new.requests ≡ mid.requests) × Stands answer_of shape sends (in_place fate p d p_after d_after q a t) after new
+pub in_shown : {R : Type 0} (prepare_gives : PrepareGives R) (apply_gives : ApplyGives R) (answer_of : AnswerOf R) (shape : Shape) (sends : List ℕ) (fate : Fate) (p d p_after d_after : Position) (q : Decision) (a : Bool) (t : ℕ) (host host_after : HostTransferState) (stage : HostStage) (device_stage : Stage) (one : Bool) (payload : List ℕ) (mid : DevControlState R) (answer : Option Packet) (after : HostTransferState) (new : DevControlState R) → ¬ (fate ≡ TokenLost) → IsPiece stage → Takes host host_after stage one payload → mid.stage ≡ device_stage → mid.heard ≡ hears.Answered → answer ≡ Some (data_packet one payload) → BothStand answer_of shape sends (at p d q a t) host mid → BothStand answer_of shape sends (at p_after d q a 0) host_after mid → ((m : DevControlState R) → m.stage ≡ acknowledged (answer_of mid.requests) device_stage → m.requests ≡ mid.requests → BothStand answer_of shape sends (at p_after d_after q a 0) host_after m) → after ≡ took_at stage (heard_of fate (asks_at stage) answer) host → AckComes prepare_gives apply_gives answer_of (is_clean fate && acknowledges_at stage (heard_of fate (asks_at stage) answer) after.stage) mid new → (new.requests ≡ mid.requests) × Stands answer_of shape sends (in_place fate p d p_after d_after q a t) after new
 in_shown prepare_gives apply_gives answer_of shape sends TokenLost p d p_after d_after q a t host host_after stage device_stage one payload mid answer after new arrives piece takes m h s lost late goes e f = absurd (arrives refl)
 in_shown prepare_gives apply_gives answer_of shape sends ReplyLost p d p_after d_after q a t host host_after stage device_stage one payload mid answer after new arrives piece takes m h s lost late goes e f =
     out_lost answer_of shape sends p d q a t host stage mid mid after new piece lost refl e f

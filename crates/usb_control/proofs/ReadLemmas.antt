@@ -6,11 +6,11 @@ use Rattle.std.proofs.lemmas.List.{length-take, take_all}
 use Rattle.std.proofs.lemmas.Bool.Decides.{nat_tests}
 use Rattle.usb_transact.specs.declared.transaction.Fate.{Fate}
 use Rattle.usb_transact.specs.declared.transaction.Fate.TheVariants.{Clean, TokenLost, ReplyLost, AckLost}
-use Rattle.usb_control.specs.declared.setup.Setup.{Setup as Request}
 use Rattle.usb_control.specs.declared.device.Stage.{Stage}
 use Rattle.usb_control.specs.declared.device.Stage.TheVariants as stages
 use Rattle.usb_control.specs.declared.host.HostStage.{HostStage}
 use Rattle.usb_control.specs.declared.host.HostStage.TheVariants as tries
+use Rattle.usb_control.specs.Requests.{PrepareGives, ApplyGives, AnswerOf}
 use Rattle.usb_control.specs.Pieces.{piece_from}
 use Rattle.usb_control.specs.Packets.{data_packet}
 use Rattle.usb_control.specs.Device.{DevControlState, read_piece, read_goes_on, acknowledged}
@@ -134,13 +134,13 @@ behind_takes len sends x j d a t host payload u = record {
 }
 
 -- the device goes on after the ACK
-device_next : {R : Type 0} (answer_of : R → Option (List ℕ)) (len : ℕ) (sends : List ℕ) (x : Option (List ℕ)) (j : ℕ) (a : Bool) (requests : R) → PieceFacts len x j → answer_of requests ≡ x → acknowledged (answer_of requests) (stages.ReadData len (8 * j) (toggle j)) ≡ accepted_stage (shaped true len) sends (read_pieces len (length (cut_of len x))) a (next (read_pieces len (length (cut_of len x))) (Piece j))
+device_next : {R : Type 0} (answer_of : AnswerOf R) (len : ℕ) (sends : List ℕ) (x : Option (List ℕ)) (j : ℕ) (a : Bool) (requests : R) → PieceFacts len x j → answer_of requests ≡ x → acknowledged (answer_of requests) (stages.ReadData len (8 * j) (toggle j)) ≡ accepted_stage (shaped true len) sends (read_pieces len (length (cut_of len x))) a (next (read_pieces len (length (cut_of len x))) (Piece j))
 device_next answer_of len sends x j a requests f same =
     ap (λ (y : Option (List ℕ)). read_goes_on len (8 * j) (toggle j) (length (read_piece y len (8 * j)))) same
     ∙ rw f.test (read_next len sends j (read_pieces len (length (cut_of len x))) a _ f.some (8 * j + length (piece_from (cut_of len x) (8 * j))) f.full)
 
 -- a try that arrives, where the device sends piece j
-read_arrives : {R : Type 0} (prepare_gives : R → Request → Bool → R → Type 0) (apply_gives : R → List ℕ → R → Type 0) (answer_of : R → Option (List ℕ)) (len : ℕ) (sends : List ℕ) (fate : Fate) (k j : ℕ) (p_after : Position) (x : Option (List ℕ)) (a : Bool) (t : ℕ) (host host_after : HostTransferState) (old : DevControlState R) (after : HostTransferState) (new : DevControlState R) → let shape = shaped true len in let count = read_pieces len (length (cut_of len x)) in ¬ (fate ≡ TokenLost) → PieceFacts len x j → answer_of old.requests ≡ x → BothStand answer_of shape sends (at (Piece k) (Piece j) (Accepted x) a t) host old → Takes host host_after (tries.DataIn (toggle k)) (toggle j) (piece_from (cut_of len x) (8 * j)) → HostStands shape sends (at p_after (Piece j) (Accepted x) a 0) host_after → Near shape (Accepted x) a p_after (Piece j) → Near shape (Accepted x) a p_after (next count (Piece j)) → Arrives prepare_gives apply_gives answer_of fate (tries.DataIn (toggle k)) (stages.ReadData len (8 * j) (toggle j)) host.bytes host old after new → (new.requests ≡ old.requests) × Stands answer_of shape sends (in_place fate (Piece k) (Piece j) p_after (next count (Piece j)) (Accepted x) a t) after new
+read_arrives : {R : Type 0} (prepare_gives : PrepareGives R) (apply_gives : ApplyGives R) (answer_of : AnswerOf R) (len : ℕ) (sends : List ℕ) (fate : Fate) (k j : ℕ) (p_after : Position) (x : Option (List ℕ)) (a : Bool) (t : ℕ) (host host_after : HostTransferState) (old : DevControlState R) (after : HostTransferState) (new : DevControlState R) → let shape = shaped true len in let count = read_pieces len (length (cut_of len x)) in ¬ (fate ≡ TokenLost) → PieceFacts len x j → answer_of old.requests ≡ x → BothStand answer_of shape sends (at (Piece k) (Piece j) (Accepted x) a t) host old → Takes host host_after (tries.DataIn (toggle k)) (toggle j) (piece_from (cut_of len x) (8 * j)) → HostStands shape sends (at p_after (Piece j) (Accepted x) a 0) host_after → Near shape (Accepted x) a p_after (Piece j) → Near shape (Accepted x) a p_after (next count (Piece j)) → Arrives prepare_gives apply_gives answer_of fate (tries.DataIn (toggle k)) (stages.ReadData len (8 * j) (toggle j)) host.bytes host old after new → (new.requests ≡ old.requests) × Stands answer_of shape sends (in_place fate (Piece k) (Piece j) p_after (next count (Piece j)) (Accepted x) a t) after new
 read_arrives prepare_gives apply_gives answer_of len sends fate k j p_after x a t host host_after old after new arrives f same u takes sender late goes (mid, answer, does, e, h) =
     let shape = shaped true len in
     let count = read_pieces len (length (cut_of len x)) in
@@ -172,14 +172,14 @@ in_place_is ReplyLost count p d p_after d_after q a t e f = refl
 in_place_is AckLost count p d p_after d_after q a t e f = ap (λ (x : Position). at x d q a 0) (sym e)
 in_place_is Clean count p d p_after d_after q a t e f = ap (λ (x : Position). at x d_after q a 0) (sym e) ∙ ap (λ (x : Position). at (got count p d) x q a 0) (sym f)
 
-pub arrives : {R : Type 0} (prepare_gives : R → Request → Bool → R → Type 0) (apply_gives : R → List ℕ → R → Type 0) (answer_of : R → Option (List ℕ)) (fate : Fate) (stage : HostStage) (device_stage : Stage) (bytes : List ℕ) (host : HostTransferState) (old : DevControlState R) (after : HostTransferState) (new : DevControlState R) → TransactsAt prepare_gives apply_gives answer_of fate stage device_stage bytes host old after new → ((fate ≡ TokenLost) × (after ≡ took_at stage None host) × (new ≡ old)) ⊎ (¬ (fate ≡ TokenLost) × Arrives prepare_gives apply_gives answer_of fate stage device_stage bytes host old after new)
+pub arrives : {R : Type 0} (prepare_gives : PrepareGives R) (apply_gives : ApplyGives R) (answer_of : AnswerOf R) (fate : Fate) (stage : HostStage) (device_stage : Stage) (bytes : List ℕ) (host : HostTransferState) (old : DevControlState R) (after : HostTransferState) (new : DevControlState R) → TransactsAt prepare_gives apply_gives answer_of fate stage device_stage bytes host old after new → ((fate ≡ TokenLost) × (after ≡ took_at stage None host) × (new ≡ old)) ⊎ (¬ (fate ≡ TokenLost) × Arrives prepare_gives apply_gives answer_of fate stage device_stage bytes host old after new)
 arrives prepare_gives apply_gives answer_of TokenLost stage device_stage bytes host old after new (e, f) = inl (refl, e, f)
 arrives prepare_gives apply_gives answer_of Clean stage device_stage bytes host old after new h = inr ((λ e. cc), h)
 arrives prepare_gives apply_gives answer_of ReplyLost stage device_stage bytes host old after new h = inr ((λ e. cc), h)
 arrives prepare_gives apply_gives answer_of AckLost stage device_stage bytes host old after new h = inr ((λ e. cc), h)
 
 -- a try that arrives, of the piece that the host waits for
-read_level : {R : Type 0} (prepare_gives : R → Request → Bool → R → Type 0) (apply_gives : R → List ℕ → R → Type 0) (answer_of : R → Option (List ℕ)) (len : ℕ) (sends : List ℕ) (fate : Fate) (k : ℕ) (x : Option (List ℕ)) (a : Bool) (t : ℕ) (host : HostTransferState) (old : DevControlState R) (after : HostTransferState) (new : DevControlState R) → let shape = shaped true len in let count = read_pieces len (length (cut_of len x)) in ¬ (fate ≡ TokenLost) → BothStand answer_of shape sends (at (Piece k) (Piece k) (Accepted x) a t) host old → Arrives prepare_gives apply_gives answer_of fate (tries.DataIn (toggle k)) old.stage host.bytes host old after new → (new.requests ≡ old.requests) × Stands answer_of shape sends (in_tried fate count (at (Piece k) (Piece k) (Accepted x) a t)) after new
+read_level : {R : Type 0} (prepare_gives : PrepareGives R) (apply_gives : ApplyGives R) (answer_of : AnswerOf R) (len : ℕ) (sends : List ℕ) (fate : Fate) (k : ℕ) (x : Option (List ℕ)) (a : Bool) (t : ℕ) (host : HostTransferState) (old : DevControlState R) (after : HostTransferState) (new : DevControlState R) → let shape = shaped true len in let count = read_pieces len (length (cut_of len x)) in ¬ (fate ≡ TokenLost) → BothStand answer_of shape sends (at (Piece k) (Piece k) (Accepted x) a t) host old → Arrives prepare_gives apply_gives answer_of fate (tries.DataIn (toggle k)) old.stage host.bytes host old after new → (new.requests ≡ old.requests) × Stands answer_of shape sends (in_tried fate count (at (Piece k) (Piece k) (Accepted x) a t)) after new
 read_level prepare_gives apply_gives answer_of len sends fate k x a t host old after new lost u h =
     let shape = shaped true len in
     let count = read_pieces len (length (cut_of len x)) in
@@ -196,7 +196,7 @@ read_level prepare_gives apply_gives answer_of len sends fate k x a t host old a
     (shown.0, subst (λ (p : Place). Stands answer_of shape sends p after new) (in_place_is fate count (Piece k) (Piece k) n n (Accepted x) a t (rw (same_number k) refl) refl) shown.1)
 
 -- a try that arrives, of the piece that the host has already
-read_behind : {R : Type 0} (prepare_gives : R → Request → Bool → R → Type 0) (apply_gives : R → List ℕ → R → Type 0) (answer_of : R → Option (List ℕ)) (len : ℕ) (sends : List ℕ) (fate : Fate) (j : ℕ) (x : Option (List ℕ)) (a : Bool) (t : ℕ) (host : HostTransferState) (old : DevControlState R) (after : HostTransferState) (new : DevControlState R) → let shape = shaped true len in let count = read_pieces len (length (cut_of len x)) in ¬ (fate ≡ TokenLost) → BothStand answer_of shape sends (at (Piece (suc j)) (Piece j) (Accepted x) a t) host old → Arrives prepare_gives apply_gives answer_of fate (tries.DataIn (toggle (suc j))) old.stage host.bytes host old after new → (new.requests ≡ old.requests) × Stands answer_of shape sends (in_tried fate count (at (Piece (suc j)) (Piece j) (Accepted x) a t)) after new
+read_behind : {R : Type 0} (prepare_gives : PrepareGives R) (apply_gives : ApplyGives R) (answer_of : AnswerOf R) (len : ℕ) (sends : List ℕ) (fate : Fate) (j : ℕ) (x : Option (List ℕ)) (a : Bool) (t : ℕ) (host : HostTransferState) (old : DevControlState R) (after : HostTransferState) (new : DevControlState R) → let shape = shaped true len in let count = read_pieces len (length (cut_of len x)) in ¬ (fate ≡ TokenLost) → BothStand answer_of shape sends (at (Piece (suc j)) (Piece j) (Accepted x) a t) host old → Arrives prepare_gives apply_gives answer_of fate (tries.DataIn (toggle (suc j))) old.stage host.bytes host old after new → (new.requests ≡ old.requests) × Stands answer_of shape sends (in_tried fate count (at (Piece (suc j)) (Piece j) (Accepted x) a t)) after new
 read_behind prepare_gives apply_gives answer_of len sends fate j x a t host old after new lost u h =
     let shape = shaped true len in
     let count = read_pieces len (length (cut_of len x)) in
@@ -212,7 +212,7 @@ read_behind prepare_gives apply_gives answer_of len sends fate j x a t host old 
     in
     (shown.0, subst (λ (p : Place). Stands answer_of shape sends p after new) (in_place_is fate count (Piece (suc j)) (Piece j) (Piece (suc j)) (next count (Piece j)) (Accepted x) a t (rw (other_number j) refl) refl) shown.1)
 
-pub read_shown : {R : Type 0} (prepare_gives : R → Request → Bool → R → Type 0) (apply_gives : R → List ℕ → R → Type 0) (answer_of : R → Option (List ℕ)) (len : ℕ) (sends : List ℕ) (fate : Fate) (k : ℕ) (d : Position) (x : Option (List ℕ)) (a : Bool) (t : ℕ) (host : HostTransferState) (old : DevControlState R) (after : HostTransferState) (new : DevControlState R) → let shape = shaped true len in let count = read_pieces len (length (cut_of len x)) in BothStand answer_of shape sends (at (Piece k) d (Accepted x) a t) host old → TransactsAt prepare_gives apply_gives answer_of fate (tries.DataIn (toggle k)) old.stage host.bytes host old after new → (new.requests ≡ old.requests) × Stands answer_of shape sends (in_tried fate count (at (Piece k) d (Accepted x) a t)) after new
+pub read_shown : {R : Type 0} (prepare_gives : PrepareGives R) (apply_gives : ApplyGives R) (answer_of : AnswerOf R) (len : ℕ) (sends : List ℕ) (fate : Fate) (k : ℕ) (d : Position) (x : Option (List ℕ)) (a : Bool) (t : ℕ) (host : HostTransferState) (old : DevControlState R) (after : HostTransferState) (new : DevControlState R) → let shape = shaped true len in let count = read_pieces len (length (cut_of len x)) in BothStand answer_of shape sends (at (Piece k) d (Accepted x) a t) host old → TransactsAt prepare_gives apply_gives answer_of fate (tries.DataIn (toggle k)) old.stage host.bytes host old after new → (new.requests ≡ old.requests) × Stands answer_of shape sends (in_tried fate count (at (Piece k) d (Accepted x) a t)) after new
 read_shown prepare_gives apply_gives answer_of len sends fate k d x a t host old after new u tr =
     let shape = shaped true len in
     let count = read_pieces len (length (cut_of len x)) in

@@ -1,8 +1,9 @@
 -- apply_gives read gets the payloads of its data stage joined.
-use Rattle.std.proofs.Common.{◌≡◌, ℕ, ◌+◌, ◌-◌, ◌<◌, ◌≤◌, ◌⊎◌, refl, sym, ◌∙◌, ap, subst, Bool, true, false, not, nat_lt, nat_le, ◌==◌, ◌&&◌, List, [], ◌∷◌, ◌++◌, length, Option, Some, None, arith, append_assoc, length-append}
+use Rattle.std.proofs.Common.{◌≡◌, ℕ, ◌+◌, ◌-◌, ◌<◌, ◌≤◌, ◌⊎◌, refl, sym, ◌∙◌, ap, subst, Bool, true, false, not, nat_lt, nat_le, ◌==◌, ◌&&◌, List, [], ◌∷◌, ◌++◌, length, Contains, Option, Some, None, arith, append_assoc, length-append}
 use Rattle.std.specs.Prelude.{if◌then◌else◌}
 use Rattle.std.specs.List.{concat}
 use Rattle.std.proofs.lemmas.List.{append-nil}
+use Rattle.std.proofs.lemmas.Map.Made.{Contains-tail}
 use Rattle.std.proofs.lemmas.Bool.Decides.{nat_tests}
 use Rattle.usb_packet.specs.declared.packet.Packet.{Packet}
 use Rattle.usb_packet.specs.declared.packet.Packet.TheVariants as packets
@@ -182,28 +183,32 @@ ack_reads true came addr request is done = read_begins (request.length == 0) cam
 ack_reads false came addr request is done = cc
 
 -- one packet more before the ACK
-before_ack : (asked : ℕ) (x : Option Packet) (came : List (Option Packet)) (final : List ℕ) → IsReadOf asked came final → IsReadOf asked (x ∷ came) final
-before_ack asked x came final g = record {
+before_ack : (asked : ℕ) (x : Option Packet) (came : List (Option Packet)) (final : List ℕ) → ¬ (x ≡ Some packets.Ack) → IsReadOf asked came final → IsReadOf asked (x ∷ came) final
+before_ack asked x came final other g = record {
   before = x ∷ g.before;
   stage = g.stage;
   behind = g.behind;
   order = ap (λ (l : List (Option Packet)). x ∷ l) g.order;
+  first = λ h. g.first (Contains-tail x g.before (Some packets.Ack) other h);
   data_stage = g.data_stage;
   bytes_are = g.bytes_are;
 }
 
+none_before : (x : Option Packet) → ¬ Contains [] x
+none_before x (k, below, e) = absurd (omega (arith, below))
+
 abbrev SetupReads : List (Option Packet) → ℕ → Request → Type 0
 SetupReads came addr request = (t : ℕ) → (took_all came (at addr request [] tries.Setup t)).stage ≡ tries.Done → IsReadOf request.length came (took_all came (at addr request [] tries.Setup t)).bytes
 
-silent_reads : (x : Option Packet) (came : List (Option Packet)) (addr : ℕ) (request : Request) (tried : ℕ) → let after = if nat_lt tried 2 then at addr request [] tries.Setup (tried + 1) else at addr request [] (tries.Failed faults.BusFault) tried in SetupReads came addr request → (took_all came after).stage ≡ tries.Done → IsReadOf request.length (x ∷ came) (took_all came after).bytes
-silent_reads x came addr request tried more done =
+silent_reads : (x : Option Packet) (came : List (Option Packet)) (addr : ℕ) (request : Request) (tried : ℕ) → let after = if nat_lt tried 2 then at addr request [] tries.Setup (tried + 1) else at addr request [] (tries.Failed faults.BusFault) tried in ¬ (x ≡ Some packets.Ack) → SetupReads came addr request → (took_all came after).stage ≡ tries.Done → IsReadOf request.length (x ∷ came) (took_all came after).bytes
+silent_reads x came addr request tried other more done =
     let s = silent_if (nat_lt tried 2) came addr request [] tries.Setup tried done in
     let g = more s.tried (sym (ap (λ (t : HostTransferState). t.stage) s.same) ∙ done) in
-    before_ack request.length x came _ (subst (λ (l : List ℕ). IsReadOf request.length came l) (sym (ap (λ (t : HostTransferState). t.bytes) s.same)) g)
+    before_ack request.length x came _ other (subst (λ (l : List ℕ). IsReadOf request.length came l) (sym (ap (λ (t : HostTransferState). t.bytes) s.same)) g)
 
 pub setup_reads : (came : List (Option Packet)) (addr : ℕ) (request : Request) → reads request ≡ true → SetupReads came addr request
 setup_reads [] addr request is tried done = cc
-setup_reads (None ∷ came) addr request is tried done = silent_reads None came addr request tried (setup_reads came addr request is) done
+setup_reads (None ∷ came) addr request is tried done = silent_reads None came addr request tried (λ e. cc) (setup_reads came addr request is) done
 setup_reads (Some packets.Ack ∷ came) addr request is tried done =
     let g = ack_reads (reads request) came addr request is done in
     let from_start : request.length - 0 ≡ request.length = omega arith in
@@ -212,10 +217,11 @@ setup_reads (Some packets.Ack ∷ came) addr request is tried done =
       stage = g.stage;
       behind = g.behind;
       order = ap (λ (l : List (Option Packet)). Some packets.Ack ∷ l) g.order;
+      first = none_before (Some packets.Ack);
       data_stage = subst (λ (n : ℕ). IsDataStage n (accepted true g.stage)) from_start g.data_stage;
       bytes_are = g.bytes_are;
     }
-setup_reads (Some packets.Nak ∷ came) addr request is tried done = silent_reads (Some packets.Nak) came addr request tried (setup_reads came addr request is) done
-setup_reads (Some packets.Stall ∷ came) addr request is tried done = silent_reads (Some packets.Stall) came addr request tried (setup_reads came addr request is) done
-setup_reads (Some (packets.Token k a e) ∷ came) addr request is tried done = silent_reads (Some (packets.Token k a e)) came addr request tried (setup_reads came addr request is) done
-setup_reads (Some (packets.Data one p) ∷ came) addr request is tried done = silent_reads (Some (packets.Data one p)) came addr request tried (setup_reads came addr request is) done
+setup_reads (Some packets.Nak ∷ came) addr request is tried done = silent_reads (Some packets.Nak) came addr request tried (λ e. cc) (setup_reads came addr request is) done
+setup_reads (Some packets.Stall ∷ came) addr request is tried done = silent_reads (Some packets.Stall) came addr request tried (λ e. cc) (setup_reads came addr request is) done
+setup_reads (Some (packets.Token k a e) ∷ came) addr request is tried done = silent_reads (Some (packets.Token k a e)) came addr request tried (λ e. cc) (setup_reads came addr request is) done
+setup_reads (Some (packets.Data one p) ∷ came) addr request is tried done = silent_reads (Some (packets.Data one p)) came addr request tried (λ e. cc) (setup_reads came addr request is) done

@@ -9,6 +9,7 @@ use Rattle.usb_control.specs.declared.device.Stage.TheVariants as stages
 use Rattle.usb_control.specs.declared.fault.ControlFault.TheVariants as faults
 use Rattle.usb_control.specs.declared.host.HostStage.{HostStage}
 use Rattle.usb_control.specs.declared.host.HostStage.TheVariants as tries
+use Rattle.usb_control.specs.Requests.{PrepareGives, ApplyGives, AnswerOf}
 use Rattle.usb_control.specs.Device.{DevControlState, Effect, stalled, Does}
 use Rattle.usb_control.specs.Host.{HostTransferState, asks_at, took_at, acknowledges_at, unanswered, failed}
 use Rattle.usb_control.specs.Transaction.{TransactsAt, AckComes, reached, heard_of}
@@ -70,11 +71,11 @@ stall_reached tries.Done request bytes answer h = absurd h
 stall_reached (tries.Failed fault) request bytes answer h = absurd h
 
 -- an ACK that wasn't sent
-pub unacknowledged : {R : Type 0} (prepare_gives : R → Request → Bool → R → Type 0) (apply_gives : R → List ℕ → R → Type 0) (answer_of : R → Option (List ℕ)) (clean b : Bool) (old new : DevControlState R) → b ≡ false → AckComes prepare_gives apply_gives answer_of (clean && b) old new → new ≡ old
+pub unacknowledged : {R : Type 0} (prepare_gives : PrepareGives R) (apply_gives : ApplyGives R) (answer_of : AnswerOf R) (clean b : Bool) (old new : DevControlState R) → b ≡ false → AckComes prepare_gives apply_gives answer_of (clean && b) old new → new ≡ old
 unacknowledged prepare_gives apply_gives answer_of true b old new e h = subst (λ (x : Bool). AckComes prepare_gives apply_gives answer_of x old new) e h
 unacknowledged prepare_gives apply_gives answer_of false b old new e h = h
 
-refused_device : {R : Type 0} (answer_of : R → Option (List ℕ)) (shape : Shape) (sends : List ℕ) (p d : Position) (a : Bool) (t : ℕ) (host : HostTransferState) (old new : DevControlState R) → BothStand answer_of shape sends (at p d Refused a t) host old → new.stage ≡ stages.Idle → BothStand answer_of shape sends (at p d Refused a t) host new
+refused_device : {R : Type 0} (answer_of : AnswerOf R) (shape : Shape) (sends : List ℕ) (p d : Position) (a : Bool) (t : ℕ) (host : HostTransferState) (old new : DevControlState R) → BothStand answer_of shape sends (at p d Refused a t) host old → new.stage ≡ stages.Idle → BothStand answer_of shape sends (at p d Refused a t) host new
 refused_device answer_of shape sends p d a t host old new u h = record {
   whole = u.whole;
   sender = u.sender;
@@ -83,17 +84,17 @@ refused_device answer_of shape sends p d a t host old new u h = record {
 }
 
 -- a try of a piece of a refused request
-refused_heard : {R : Type 0} (prepare_gives : R → Request → Bool → R → Type 0) (apply_gives : R → List ℕ → R → Type 0) (answer_of : R → Option (List ℕ)) (shape : Shape) (sends : List ℕ) (clean : Bool) (p d : Position) (a : Bool) (t : ℕ) (host : HostTransferState) (stage : HostStage) (piece : IsPiece stage) (old after : DevControlState R) (host_after : HostTransferState) (mid : DevControlState R) (answer : Option Packet) → Does prepare_gives apply_gives stalled old.requests mid answer → host_after ≡ took_at stage answer host → AckComes prepare_gives apply_gives answer_of (clean && acknowledges_at stage answer host_after.stage) mid after → (after.requests ≡ old.requests) × (host_after.stage ≡ tries.Failed faults.Stalled)
+refused_heard : {R : Type 0} (prepare_gives : PrepareGives R) (apply_gives : ApplyGives R) (answer_of : AnswerOf R) (shape : Shape) (sends : List ℕ) (clean : Bool) (p d : Position) (a : Bool) (t : ℕ) (host : HostTransferState) (stage : HostStage) (piece : IsPiece stage) (old after : DevControlState R) (host_after : HostTransferState) (mid : DevControlState R) (answer : Option Packet) → Does prepare_gives apply_gives stalled old.requests mid answer → host_after ≡ took_at stage answer host → AckComes prepare_gives apply_gives answer_of (clean && acknowledges_at stage answer host_after.stage) mid after → (after.requests ≡ old.requests) × (host_after.stage ≡ tries.Failed faults.Stalled)
 refused_heard prepare_gives apply_gives answer_of shape sends clean p d a t host stage piece old after host_after mid answer (m, s) e f =
     let e' = rw s at e in
     let f' = rw s at f in
     (ap (λ c. c.requests) (unacknowledged prepare_gives apply_gives answer_of clean _ mid after (stall_unacknowledged stage host_after.stage) f') ∙ ap (λ c. c.requests) m, ap (λ h. h.stage) (e' ∙ stall_taken stage host piece))
 
-refused_lost : {R : Type 0} (prepare_gives : R → Request → Bool → R → Type 0) (apply_gives : R → List ℕ → R → Type 0) (answer_of : R → Option (List ℕ)) (shape : Shape) (sends : List ℕ) (p d : Position) (a : Bool) (t : ℕ) (host : HostTransferState) (stage : HostStage) (piece : IsPiece stage) (old after : DevControlState R) (host_after : HostTransferState) (mid : DevControlState R) (answer : Option Packet) → BothStand answer_of shape sends (at p d Refused a t) host old → Does prepare_gives apply_gives stalled old.requests mid answer → host_after ≡ took_at stage None host → after ≡ mid → (after.requests ≡ old.requests) × Stands answer_of shape sends (refused_tried TokenLost false (at p d Refused a t)) host_after after
+refused_lost : {R : Type 0} (prepare_gives : PrepareGives R) (apply_gives : ApplyGives R) (answer_of : AnswerOf R) (shape : Shape) (sends : List ℕ) (p d : Position) (a : Bool) (t : ℕ) (host : HostTransferState) (stage : HostStage) (piece : IsPiece stage) (old after : DevControlState R) (host_after : HostTransferState) (mid : DevControlState R) (answer : Option Packet) → BothStand answer_of shape sends (at p d Refused a t) host old → Does prepare_gives apply_gives stalled old.requests mid answer → host_after ≡ took_at stage None host → after ≡ mid → (after.requests ≡ old.requests) × Stands answer_of shape sends (refused_tried TokenLost false (at p d Refused a t)) host_after after
 refused_lost prepare_gives apply_gives answer_of shape sends p d a t host stage piece old after host_after mid answer u (m, s) e f =
     (ap (λ c. c.requests) (f ∙ m), moved answer_of shape sends _ _ host_after _ after (e ∙ none_taken stage host piece) f (silent_stands answer_of shape sends p d Refused a t host mid (refused_device answer_of shape sends p d a t host old mid u (ap (λ c. c.stage) m))))
 
-pub refused_place : {R : Type 0} (prepare_gives : R → Request → Bool → R → Type 0) (apply_gives : R → List ℕ → R → Type 0) (answer_of : R → Option (List ℕ)) (shape : Shape) (sends : List ℕ) (fate : Fate) (c : Bool) (p d : Position) (a : Bool) (t : ℕ) (host : HostTransferState) (stage : HostStage) (old : DevControlState R) (after : HostTransferState) (new : DevControlState R) → IsPiece stage → asks_at stage ≡ c → BothStand answer_of shape sends (at p d Refused a t) host old → TransactsAt prepare_gives apply_gives answer_of fate stage stages.Idle host.bytes host old after new → (new.requests ≡ old.requests) × Stands answer_of shape sends (refused_tried fate c (at p d Refused a t)) after new
+pub refused_place : {R : Type 0} (prepare_gives : PrepareGives R) (apply_gives : ApplyGives R) (answer_of : AnswerOf R) (shape : Shape) (sends : List ℕ) (fate : Fate) (c : Bool) (p d : Position) (a : Bool) (t : ℕ) (host : HostTransferState) (stage : HostStage) (old : DevControlState R) (after : HostTransferState) (new : DevControlState R) → IsPiece stage → asks_at stage ≡ c → BothStand answer_of shape sends (at p d Refused a t) host old → TransactsAt prepare_gives apply_gives answer_of fate stage stages.Idle host.bytes host old after new → (new.requests ≡ old.requests) × Stands answer_of shape sends (refused_tried fate c (at p d Refused a t)) after new
 refused_place prepare_gives apply_gives answer_of shape sends TokenLost c p d a t host stage old after new piece asks u (e, f) =
     (ap (λ c. c.requests) f, moved answer_of shape sends _ _ after _ new (e ∙ none_taken stage host piece) f (silent_stands answer_of shape sends p d Refused a t host old u))
 refused_place prepare_gives apply_gives answer_of shape sends ReplyLost c p d a t host stage old after new piece asks u (mid, answer, does, e, f) =

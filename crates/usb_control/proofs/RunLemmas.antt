@@ -6,7 +6,8 @@ use Rattle.usb_transact.specs.declared.transaction.Fate.TheVariants.{Clean, Toke
 use Rattle.usb_control.specs.declared.fault.ControlFault.{ControlFault}
 use Rattle.usb_control.specs.declared.fault.ControlFault.TheVariants as faults
 use Rattle.usb_control.specs.Transfer.{Shape, Decision, Refused, Accepted, Position, Setup, Piece, Status, Past, Place, start, Act, Nothing, Decides, TakesEffect, act_of, comes, data_pieces, first, next, got, in_tried, is_same, out_tried, silent, piece_tried, refused_tried, tried}
-use Rattle.usb_control.specs.Runs.{is_open, run, acts, last_decision, effects, IsAccepted, IsOnce}
+use Rattle.usb_control.specs.Runs.{is_open, run, acts, last_decision, effects, effects_since, IsAccepted, IsOnce}
+use Rattle.usb_control.proofs.ActLemmas.{effect_needs}
 use Rattle.usb_control.proofs.StepLemmas.{at, shaped}
 use Rattle.usb_control.proofs.TryLemmas.{act_piece, act_refused, act_read, applies_piece, applies_read}
 
@@ -14,13 +15,15 @@ abbrev pub count_of : Bool → ℕ
 count_of true = 1
 count_of false = 0
 
--- a position short of the end
-abbrev pub NotPast : Position → Type 0
-NotPast Past = ⊥
-NotPast _ = Unit {0}
+-- a position behind SETUP and short of the end
+abbrev pub IsBetween : Position → Type 0
+IsBetween Setup = ⊥
+IsBetween Past = ⊥
+IsBetween _ = Unit {0}
 
--- at the end the request was accepted, and a write took effect
+-- until SETUP is over nothing took effect, and at the end the request was accepted, and a write took effect
 abbrev pub SoundAt : Bool → Position → Decision → Bool → Type 0
+SoundAt reads Setup decision applied = applied ≡ false
 SoundAt reads Past decision applied = IsAccepted decision × (reads ≡ false → applied ≡ true)
 SoundAt reads p decision applied = Unit {0}
 
@@ -46,21 +49,21 @@ silent_sound_if r p d q a t false h = record { ended = h.ended; refused = h.refu
 silent_sound : (r : Bool) (p d : Position) (q : Decision) (a : Bool) (t : ℕ) → IsSound r (at p d q a t) → IsSound r (silent (at p d q a t))
 silent_sound r p d q a t h = silent_sound_if r p d q a t (nat_lt t 2) h
 
-sound_short : (r : Bool) (p : Position) (q : Decision) (a : Bool) → NotPast p → SoundAt r p q a
-sound_short r Setup q a h = tt
+sound_short : (r : Bool) (p : Position) (q : Decision) (a : Bool) → IsBetween p → SoundAt r p q a
+sound_short r Setup q a h = absurd h
 sound_short r (Piece k) q a h = tt
 sound_short r Status q a h = tt
 sound_short r Past q a h = absurd h
 
-short_first_if : (b : Bool) → NotPast (if b then Status else Piece 0)
+short_first_if : (b : Bool) → IsBetween (if b then Status else Piece 0)
 short_first_if true = tt
 short_first_if false = tt
 
-short_next_if : (k : ℕ) (b : Bool) → NotPast (if b then Piece (suc k) else Status)
+short_next_if : (k : ℕ) (b : Bool) → IsBetween (if b then Piece (suc k) else Status)
 short_next_if k true = tt
 short_next_if k false = tt
 
-short_got_if : (k : ℕ) (b c : Bool) → NotPast (if b then (if c then Piece (suc k) else Status) else Piece k)
+short_got_if : (k : ℕ) (b c : Bool) → IsBetween (if b then (if c then Piece (suc k) else Status) else Piece k)
 short_got_if k true c = short_next_if k c
 short_got_if k false c = tt
 
@@ -71,8 +74,8 @@ refused_after (Accepted x) = tt
 -- a try of SETUP
 setup_sound : (shape : Shape) (fate : Fate) (d : Position) (q0 q : Decision) (a : Bool) (t : ℕ) → IsSound shape.reads (at Setup d q a t) → IsSound shape.reads (tried shape fate q0 (at Setup d q a t))
 setup_sound shape TokenLost d q0 q a t h = silent_sound shape.reads Setup d q a t h
-setup_sound shape ReplyLost d q0 q a t h = silent_sound shape.reads Setup _ q0 false t (record { ended = tt; refused = refused_after q0; fault = tt })
-setup_sound shape AckLost d q0 q a t h = silent_sound shape.reads Setup _ q0 false t (record { ended = tt; refused = refused_after q0; fault = tt })
+setup_sound shape ReplyLost d q0 q a t h = silent_sound shape.reads Setup _ q0 false t (record { ended = refl; refused = refused_after q0; fault = tt })
+setup_sound shape AckLost d q0 q a t h = silent_sound shape.reads Setup _ q0 false t (record { ended = refl; refused = refused_after q0; fault = tt })
 setup_sound shape Clean d q0 q a t h = record { ended = sound_short shape.reads (first (data_pieces shape q0)) q0 false (short_first_if (data_pieces shape q0 == 0)); refused = refused_after q0; fault = tt }
 
 -- a piece of a refused request
@@ -132,21 +135,22 @@ pub record Moves (reads : Bool) (before after : Place) (act : Act) : Type 0 wher
   pub sound : IsSound reads after
   pub decision : after.decision ≡ last_decision before.decision (act ∷ [])
   pub applied : count_of after.applied ≡ effects (count_of before.applied) (act ∷ [])
+  pub since : count_of after.applied ≡ effects_since (count_of before.applied) (act ∷ [])
 
 same_moves : (r : Bool) (p d : Position) (q : Decision) (a : Bool) (t : ℕ) (after : Place) → IsSound r after → Leaves after q a → Moves r (at p d q a t) after Nothing
-same_moves r p d q a t after h l = record { sound = h; decision = l.decision; applied = ap count_of l.applied }
+same_moves r p d q a t after h l = record { sound = h; decision = l.decision; applied = ap count_of l.applied; since = ap count_of l.applied }
 
-decide_moves : (r : Bool) (p d : Position) (q0 q : Decision) (a : Bool) (t : ℕ) (after : Place) → IsSound r after → Leaves after q0 false → Moves r (at p d q a t) after (Decides q0)
-decide_moves r p d q0 q a t after h l = record { sound = h; decision = l.decision; applied = ap count_of l.applied }
+decide_moves : (r : Bool) (p d : Position) (q0 q : Decision) (a : Bool) (t : ℕ) (after : Place) → a ≡ false → IsSound r after → Leaves after q0 false → Moves r (at p d q a t) after (Decides q0)
+decide_moves r p d q0 q a t after none h l = record { sound = h; decision = l.decision; applied = ap count_of (l.applied ∙ sym none); since = ap count_of l.applied }
 
 effect_moves : (r : Bool) (p d : Position) (q : Decision) (t : ℕ) (after : Place) → IsSound r after → Leaves after q true → Moves r (at p d q false t) after TakesEffect
-effect_moves r p d q t after h l = record { sound = h; decision = l.decision; applied = ap count_of l.applied }
+effect_moves r p d q t after h l = record { sound = h; decision = l.decision; applied = ap count_of l.applied; since = ap count_of l.applied }
 
 setup_moves : (shape : Shape) (fate : Fate) (d : Position) (q0 q : Decision) (a : Bool) (t : ℕ) → IsSound shape.reads (at Setup d q a t) → Moves shape.reads (at Setup d q a t) (tried shape fate q0 (at Setup d q a t)) (act_of shape fate q0 (at Setup d q a t))
 setup_moves shape TokenLost d q0 q a t h = same_moves shape.reads Setup d q a t _ (setup_sound shape TokenLost d q0 q a t h) (silent_leaves Setup d q a t)
-setup_moves shape ReplyLost d q0 q a t h = decide_moves shape.reads Setup d q0 q a t _ (setup_sound shape ReplyLost d q0 q a t h) (silent_leaves Setup _ q0 false t)
-setup_moves shape AckLost d q0 q a t h = decide_moves shape.reads Setup d q0 q a t _ (setup_sound shape AckLost d q0 q a t h) (silent_leaves Setup _ q0 false t)
-setup_moves shape Clean d q0 q a t h = decide_moves shape.reads Setup d q0 q a t _ (setup_sound shape Clean d q0 q a t h) (record { decision = refl; applied = refl })
+setup_moves shape ReplyLost d q0 q a t h = decide_moves shape.reads Setup d q0 q a t _ h.ended (setup_sound shape ReplyLost d q0 q a t h) (silent_leaves Setup _ q0 false t)
+setup_moves shape AckLost d q0 q a t h = decide_moves shape.reads Setup d q0 q a t _ h.ended (setup_sound shape AckLost d q0 q a t h) (silent_leaves Setup _ q0 false t)
+setup_moves shape Clean d q0 q a t h = decide_moves shape.reads Setup d q0 q a t _ h.ended (setup_sound shape Clean d q0 q a t h) (record { decision = refl; applied = refl })
 
 -- a data piece of an accepted request
 piece_moves : (r : Bool) (len : ℕ) (fate : Fate) (k : ℕ) (d : Position) (x : Option (List ℕ)) (a : Bool) (t : ℕ) → Moves r (at (Piece k) d (Accepted x) a t) (piece_tried (shaped r len) fate (Accepted x) (at (Piece k) d (Accepted x) a t)) Nothing
@@ -200,10 +204,11 @@ moves_at true len fate Status d q0 (Accepted x) a t None going h = rw (act_read 
 moves_at false len fate Status d q0 (Accepted x) a t None going h = write_status_moves len fate d q0 x a t
 
 -- what holds after a list of tries, by what held before it
-record Holds (reads : Bool) (place : Place) (decision : Decision) (count : ℕ) : Type 0 where
+record Holds (reads : Bool) (place : Place) (decision : Decision) (count since : ℕ) : Type 0 where
   pub sound : IsSound reads place
   decision_is : place.decision ≡ decision
   count_is : count_of place.applied ≡ count
+  since_is : count_of place.applied ≡ since
 
 last_more : (d : Decision) (act : Act) (rest : List Act) → last_decision d (act ∷ rest) ≡ last_decision (last_decision d (act ∷ [])) rest
 last_more d Nothing rest = refl
@@ -215,21 +220,43 @@ effects_more n Nothing rest = refl
 effects_more n (Decides e) rest = refl
 effects_more n TakesEffect rest = refl
 
-run_holds : (shape : Shape) (list : List (Fate × Decision)) (place : Place) → IsSound shape.reads place → Holds shape.reads (run shape list place) (last_decision place.decision (acts shape list place)) (effects (count_of place.applied) (acts shape list place))
-run_holds shape [] place h = record { sound = h; decision_is = refl; count_is = refl }
+since_more : (n : ℕ) (act : Act) (rest : List Act) → effects_since n (act ∷ rest) ≡ effects_since (effects_since n (act ∷ [])) rest
+since_more n Nothing rest = refl
+since_more n (Decides e) rest = refl
+since_more n TakesEffect rest = refl
+
+-- one try before the others, where the transfer runs
+one_more : (reads : Bool) (before after last : Place) (act : Act) (rest : List Act) → Moves reads before after act → Holds reads last (last_decision after.decision rest) (effects (count_of after.applied) rest) (effects_since (count_of after.applied) rest) → Holds reads last (last_decision before.decision (act ∷ rest)) (effects (count_of before.applied) (act ∷ rest)) (effects_since (count_of before.applied) (act ∷ rest))
+one_more reads before after last act rest m g = record {
+  sound = g.sound;
+  decision_is = g.decision_is ∙ ap (λ (d : Decision). last_decision d rest) m.decision ∙ sym (last_more before.decision act rest);
+  count_is = g.count_is ∙ ap (λ (n : ℕ). effects n rest) m.applied ∙ sym (effects_more (count_of before.applied) act rest);
+  since_is = g.since_is ∙ ap (λ (n : ℕ). effects_since n rest) m.since ∙ sym (since_more (count_of before.applied) act rest);
+}
+
+run_holds : (shape : Shape) (list : List (Fate × Decision)) (place : Place) → IsSound shape.reads place → Holds shape.reads (run shape list place) (last_decision place.decision (acts shape list place)) (effects (count_of place.applied) (acts shape list place)) (effects_since (count_of place.applied) (acts shape list place))
+run_holds shape [] place h = record { sound = h; decision_is = refl; count_is = refl; since_is = refl }
 run_holds shape (try ∷ list) place h = by (is_open place) refl (λ sound. run_holds shape list (tried shape try.0 try.1 place) sound)
   where
-    by : (b : Bool) → is_open place ≡ b → (IsSound shape.reads (tried shape try.0 try.1 place) → Holds shape.reads (run shape list (tried shape try.0 try.1 place)) (last_decision (tried shape try.0 try.1 place).decision (acts shape list (tried shape try.0 try.1 place))) (effects (count_of (tried shape try.0 try.1 place).applied) (acts shape list (tried shape try.0 try.1 place)))) → Holds shape.reads (if b then run shape list (tried shape try.0 try.1 place) else place) (last_decision place.decision (if b then act_of shape try.0 try.1 place ∷ acts shape list (tried shape try.0 try.1 place) else [])) (effects (count_of place.applied) (if b then act_of shape try.0 try.1 place ∷ acts shape list (tried shape try.0 try.1 place) else []))
-    by false e rests = record { sound = h; decision_is = refl; count_is = refl }
+    by : (b : Bool) → is_open place ≡ b → (IsSound shape.reads (tried shape try.0 try.1 place) → Holds shape.reads (run shape list (tried shape try.0 try.1 place)) (last_decision (tried shape try.0 try.1 place).decision (acts shape list (tried shape try.0 try.1 place))) (effects (count_of (tried shape try.0 try.1 place).applied) (acts shape list (tried shape try.0 try.1 place))) (effects_since (count_of (tried shape try.0 try.1 place).applied) (acts shape list (tried shape try.0 try.1 place)))) → Holds shape.reads (if b then run shape list (tried shape try.0 try.1 place) else place) (last_decision place.decision (if b then act_of shape try.0 try.1 place ∷ acts shape list (tried shape try.0 try.1 place) else [])) (effects (count_of place.applied) (if b then act_of shape try.0 try.1 place ∷ acts shape list (tried shape try.0 try.1 place) else [])) (effects_since (count_of place.applied) (if b then act_of shape try.0 try.1 place ∷ acts shape list (tried shape try.0 try.1 place) else []))
+    by false e rests = record { sound = h; decision_is = refl; count_is = refl; since_is = refl }
     by true e rests =
         let m = moves_at shape.reads shape.length try.0 place.host place.device try.1 place.decision place.applied place.tries place.fault e h in
-        let rest = acts shape list (tried shape try.0 try.1 place) in
-        let g = rests m.sound in
-        record {
-          sound = g.sound;
-          decision_is = g.decision_is ∙ ap (λ (d : Decision). last_decision d rest) m.decision ∙ sym (last_more place.decision (act_of shape try.0 try.1 place) rest);
-          count_is = g.count_is ∙ ap (λ (n : ℕ). effects n rest) m.applied ∙ sym (effects_more (count_of place.applied) (act_of shape try.0 try.1 place) rest);
-        }
+        one_more shape.reads place (tried shape try.0 try.1 place) _ (act_of shape try.0 try.1 place) _ m (rests m.sound)
+
+-- a try in a read takes no effect
+skips : (n : ℕ) (act : Act) (rest : List Act) → ¬ (act ≡ TakesEffect) → effects n (act ∷ rest) ≡ effects n rest
+skips n Nothing rest h = refl
+skips n (Decides e) rest h = refl
+skips n TakesEffect rest h = absurd (h refl)
+
+read_effects : (shape : Shape) (list : List (Fate × Decision)) (place : Place) → shape.reads ≡ true → effects 0 (acts shape list place) ≡ 0
+read_effects shape [] place is = refl
+read_effects shape (try ∷ list) place is = by (is_open place) (read_effects shape list (tried shape try.0 try.1 place) is)
+  where
+    by : (b : Bool) → effects 0 (acts shape list (tried shape try.0 try.1 place)) ≡ 0 → effects 0 (if b then act_of shape try.0 try.1 place ∷ acts shape list (tried shape try.0 try.1 place) else []) ≡ 0
+    by false rests = refl
+    by true rests = skips 0 (act_of shape try.0 try.1 place) _ (λ e. let w = (effect_needs place.host shape try.0 try.1 place.decision place.applied e).writes in cc) ∙ rests
 
 count_small : (b : Bool) → count_of b ≤ 1
 count_small true = omega arith
@@ -246,7 +273,7 @@ refused_is f q a e h g =
 
 pub is_once : (shape : Shape) (list : List (Fate × Decision)) → IsOnce shape list
 is_once shape list =
-    let h = run_holds shape list start (record { ended = tt; refused = refl; fault = tt }) in
+    let h = run_holds shape list start (record { ended = refl; refused = refl; fault = tt }) in
     let last = run shape list start in
     record {
       decided = h.decision_is;
@@ -254,4 +281,6 @@ is_once shape list =
       once = λ done write. sym h.count_is ∙ ap count_of ((ended_is shape.reads last.host last.decision last.applied done.1 h.sound.ended).1 write);
       at_most_once = rw (sym h.count_is) (count_small last.applied);
       refused = λ stalled. sym h.count_is ∙ ap count_of (refused_is last.fault last.decision last.applied stalled h.sound.fault h.sound.refused);
+      reads = λ is. read_effects shape list start is;
+      since = sym h.since_is ∙ h.count_is;
     }

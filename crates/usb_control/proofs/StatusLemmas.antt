@@ -5,11 +5,11 @@ use Rattle.usb_packet.specs.declared.packet.Packet.{Packet}
 use Rattle.usb_packet.specs.declared.packet.Packet.TheVariants as packets
 use Rattle.usb_transact.specs.declared.transaction.Fate.{Fate}
 use Rattle.usb_transact.specs.declared.transaction.Fate.TheVariants.{TokenLost}
-use Rattle.usb_control.specs.declared.setup.Setup.{Setup as Request}
 use Rattle.usb_control.specs.declared.device.Stage.{Stage}
 use Rattle.usb_control.specs.declared.device.Stage.TheVariants as stages
 use Rattle.usb_control.specs.declared.device.Heard.TheVariants as hears
 use Rattle.usb_control.specs.declared.host.HostStage.TheVariants as tries
+use Rattle.usb_control.specs.Requests.{PrepareGives, ApplyGives, AnswerOf}
 use Rattle.usb_control.specs.Packets.{data_packet}
 use Rattle.usb_control.specs.Device.{DevControlState, Effect, Answers, Applies, Does, given, asked}
 use Rattle.usb_control.specs.Host.{HostTransferState, answered, took_at, acknowledges_at}
@@ -28,14 +28,14 @@ status_given len (Piece k) = refl
 status_given len Status = refl
 status_given len Past = refl
 
-status_device : (len : ℕ) (x : Option (List ℕ)) (d : Position) → (len == 0) ≡ false → Near (shaped true len) (Accepted x) false Status d → {R : Type 0} (answer_of : R → Option (List ℕ)) (sends : List ℕ) (a : Bool) (old : DevControlState R) → DeviceStands answer_of (shaped true len) sends (Accepted x) a d old → (old.stage ≡ read_stage len d) × (answer_of old.requests ≡ x)
+status_device : (len : ℕ) (x : Option (List ℕ)) (d : Position) → (len == 0) ≡ false → Near (shaped true len) (Accepted x) false Status d → {R : Type 0} (answer_of : AnswerOf R) (sends : List ℕ) (a : Bool) (old : DevControlState R) → DeviceStands answer_of (shaped true len) sends (Accepted x) a d old → (old.stage ≡ read_stage len d) × (answer_of old.requests ≡ x)
 status_device len x Setup some near answer_of sends a old h =
     elim (rw some at near) as (λ _. (old.stage ≡ read_stage len Setup) × (answer_of old.requests ≡ x)) [ inl e ↦ cc | inr others ↦ elim others [ inl e ↦ cc | inr behind ↦ let e = behind.2 in cc ] ]
 status_device len x (Piece k) some near answer_of sends a old h = (rw some at h.0, h.1 refl)
 status_device len x Status some near answer_of sends a old h = (rw some at h.0, h.1 refl)
 status_device len x Past some near answer_of sends a old h = (rw some at h.0, h.1 refl)
 
-pub status_out_shown : {R : Type 0} (prepare_gives : R → Request → Bool → R → Type 0) (apply_gives : R → List ℕ → R → Type 0) (answer_of : R → Option (List ℕ)) (len : ℕ) (sends : List ℕ) (fate : Fate) (d : Position) (x : Option (List ℕ)) (a : Bool) (t : ℕ) (host : HostTransferState) (old : DevControlState R) (after : HostTransferState) (new : DevControlState R) → let shape = shaped true len in (len == 0) ≡ false → BothStand answer_of shape sends (at Status d (Accepted x) a t) host old → TransactsAt prepare_gives apply_gives answer_of fate tries.StatusOut old.stage host.bytes host old after new → (new.requests ≡ old.requests) × Stands answer_of shape sends (out_place fate Status d Past (Accepted x) a t) after new
+pub status_out_shown : {R : Type 0} (prepare_gives : PrepareGives R) (apply_gives : ApplyGives R) (answer_of : AnswerOf R) (len : ℕ) (sends : List ℕ) (fate : Fate) (d : Position) (x : Option (List ℕ)) (a : Bool) (t : ℕ) (host : HostTransferState) (old : DevControlState R) (after : HostTransferState) (new : DevControlState R) → let shape = shaped true len in (len == 0) ≡ false → BothStand answer_of shape sends (at Status d (Accepted x) a t) host old → TransactsAt prepare_gives apply_gives answer_of fate tries.StatusOut old.stage host.bytes host old after new → (new.requests ≡ old.requests) × Stands answer_of shape sends (out_place fate Status d Past (Accepted x) a t) after new
 status_out_shown prepare_gives apply_gives answer_of len sends fate d x a t host old after new some u tr =
     let shape = shaped true len in
     let stands = status_device len x d some u.near answer_of sends a old u.device in
@@ -56,7 +56,7 @@ status_out_shown prepare_gives apply_gives answer_of len sends fate d x a t host
 
 -- a status that comes: of a write, or of a read of no bytes
 
-status_comes : {R : Type 0} (prepare_gives : R → Request → Bool → R → Type 0) (apply_gives : R → List ℕ → R → Type 0) (answer_of : R → Option (List ℕ)) (shape : Shape) (sends : List ℕ) (fate : Fate) (x : Option (List ℕ)) (a : Bool) (t : ℕ) (host : HostTransferState) (mid : DevControlState R) (answer : Option Packet) (after : HostTransferState) (new : DevControlState R) → ¬ (fate ≡ TokenLost) → mid.stage ≡ stages.StatusIn → mid.heard ≡ hears.Answered → answer ≡ Some (data_packet true []) → BothStand answer_of shape sends (at Status Status (Accepted x) a t) host mid → ((m : DevControlState R) → m.stage ≡ stages.Idle → m.requests ≡ mid.requests → DeviceHas answer_of shape sends (Accepted x) a Past m) → after ≡ took_at tries.StatusIn (heard_of fate true answer) host → AckComes prepare_gives apply_gives answer_of (is_clean fate && acknowledges_at tries.StatusIn (heard_of fate true answer) after.stage) mid new → (new.requests ≡ mid.requests) × Stands answer_of shape sends (in_tried fate (data_pieces shape (Accepted x)) (at Status Status (Accepted x) a t)) after new
+status_comes : {R : Type 0} (prepare_gives : PrepareGives R) (apply_gives : ApplyGives R) (answer_of : AnswerOf R) (shape : Shape) (sends : List ℕ) (fate : Fate) (x : Option (List ℕ)) (a : Bool) (t : ℕ) (host : HostTransferState) (mid : DevControlState R) (answer : Option Packet) (after : HostTransferState) (new : DevControlState R) → ¬ (fate ≡ TokenLost) → mid.stage ≡ stages.StatusIn → mid.heard ≡ hears.Answered → answer ≡ Some (data_packet true []) → BothStand answer_of shape sends (at Status Status (Accepted x) a t) host mid → ((m : DevControlState R) → m.stage ≡ stages.Idle → m.requests ≡ mid.requests → DeviceHas answer_of shape sends (Accepted x) a Past m) → after ≡ took_at tries.StatusIn (heard_of fate true answer) host → AckComes prepare_gives apply_gives answer_of (is_clean fate && acknowledges_at tries.StatusIn (heard_of fate true answer) after.stage) mid new → (new.requests ≡ mid.requests) × Stands answer_of shape sends (in_tried fate (data_pieces shape (Accepted x)) (at Status Status (Accepted x) a t)) after new
 status_comes prepare_gives apply_gives answer_of shape sends fate x a t host mid answer after new lost stage heard said u idle e f =
     let shown = in_shown prepare_gives apply_gives answer_of shape sends fate Status Status Past Past (Accepted x) a t host (answered tries.Done host) tries.StatusIn stages.StatusIn true [] mid answer after new lost tt (record { asks = refl; takes = refl; says = refl }) stage heard said u
     (record {
@@ -76,7 +76,7 @@ status_comes prepare_gives apply_gives answer_of shape sends fate x a t host mid
     (shown.0, subst (λ (p : Place). Stands answer_of shape sends p after new) (in_place_is fate (data_pieces shape (Accepted x)) Status Status Past Past (Accepted x) a t refl refl) shown.1)
 
 -- a write that took effect
-pub again_arrives : {R : Type 0} (prepare_gives : R → Request → Bool → R → Type 0) (apply_gives : R → List ℕ → R → Type 0) (answer_of : R → Option (List ℕ)) (sends : List ℕ) (fate : Fate) (x : Option (List ℕ)) (t : ℕ) (host : HostTransferState) (old : DevControlState R) (after : HostTransferState) (new : DevControlState R) → let shape = shaped false (length sends) in ¬ (fate ≡ TokenLost) → BothStand answer_of shape sends (at Status Status (Accepted x) true t) host old → Arrives prepare_gives apply_gives answer_of fate tries.StatusIn old.stage host.bytes host old after new → (new.requests ≡ old.requests) × Stands answer_of shape sends (in_tried fate (data_pieces shape (Accepted x)) (at Status Status (Accepted x) true t)) after new
+pub again_arrives : {R : Type 0} (prepare_gives : PrepareGives R) (apply_gives : ApplyGives R) (answer_of : AnswerOf R) (sends : List ℕ) (fate : Fate) (x : Option (List ℕ)) (t : ℕ) (host : HostTransferState) (old : DevControlState R) (after : HostTransferState) (new : DevControlState R) → let shape = shaped false (length sends) in ¬ (fate ≡ TokenLost) → BothStand answer_of shape sends (at Status Status (Accepted x) true t) host old → Arrives prepare_gives apply_gives answer_of fate tries.StatusIn old.stage host.bytes host old after new → (new.requests ≡ old.requests) × Stands answer_of shape sends (in_tried fate (data_pieces shape (Accepted x)) (at Status Status (Accepted x) true t)) after new
 again_arrives prepare_gives apply_gives answer_of sends fate x t host old after new lost u (mid, answer, does, e, f) =
     let shape = shaped false (length sends) in
     let d = subst (λ (s : Stage). Does prepare_gives apply_gives (asked (answer_of old.requests) s) old.requests mid answer) u.device.0 does in
@@ -88,7 +88,7 @@ again_arrives prepare_gives apply_gives answer_of sends fate x t host old after 
     (shown.0 ∙ same, shown.1)
 
 -- a write that takes effect now
-pub effect_arrives : {R : Type 0} (prepare_gives : R → Request → Bool → R → Type 0) (apply_gives : R → List ℕ → R → Type 0) (answer_of : R → Option (List ℕ)) (sends : List ℕ) (fate : Fate) (x : Option (List ℕ)) (t : ℕ) (host : HostTransferState) (old : DevControlState R) (after : HostTransferState) (new : DevControlState R) → let shape = shaped false (length sends) in ¬ (fate ≡ TokenLost) → BothStand answer_of shape sends (at Status Status (Accepted x) false t) host old → Arrives prepare_gives apply_gives answer_of fate tries.StatusIn old.stage host.bytes host old after new → apply_gives old.requests sends new.requests × Stands answer_of shape sends (in_tried fate (data_pieces shape (Accepted x)) (at Status Status (Accepted x) true t)) after new
+pub effect_arrives : {R : Type 0} (prepare_gives : PrepareGives R) (apply_gives : ApplyGives R) (answer_of : AnswerOf R) (sends : List ℕ) (fate : Fate) (x : Option (List ℕ)) (t : ℕ) (host : HostTransferState) (old : DevControlState R) (after : HostTransferState) (new : DevControlState R) → let shape = shaped false (length sends) in ¬ (fate ≡ TokenLost) → BothStand answer_of shape sends (at Status Status (Accepted x) false t) host old → Arrives prepare_gives apply_gives answer_of fate tries.StatusIn old.stage host.bytes host old after new → apply_gives old.requests sends new.requests × Stands answer_of shape sends (in_tried fate (data_pieces shape (Accepted x)) (at Status Status (Accepted x) true t)) after new
 effect_arrives prepare_gives apply_gives answer_of sends fate x t host old after new lost u (mid, answer, does, e, f) =
     let shape = shaped false (length sends) in
     let same_length : (length sends == length sends) ≡ true = grind (arith, nat_tests) in
@@ -101,7 +101,7 @@ effect_arrives prepare_gives apply_gives answer_of sends fate x t host old after
     (subst (λ (r : _). apply_gives old.requests sends r) (sym shown.0) d.0, shown.1)
 
 -- a read of no bytes
-pub empty_arrives : {R : Type 0} (prepare_gives : R → Request → Bool → R → Type 0) (apply_gives : R → List ℕ → R → Type 0) (answer_of : R → Option (List ℕ)) (sends : List ℕ) (fate : Fate) (x : Option (List ℕ)) (a : Bool) (t : ℕ) (host : HostTransferState) (old : DevControlState R) (after : HostTransferState) (new : DevControlState R) → let shape = shaped true 0 in ¬ (fate ≡ TokenLost) → BothStand answer_of shape sends (at Status Status (Accepted x) a t) host old → Arrives prepare_gives apply_gives answer_of fate tries.StatusIn old.stage host.bytes host old after new → (new.requests ≡ old.requests) × Stands answer_of shape sends (in_tried fate (data_pieces shape (Accepted x)) (at Status Status (Accepted x) a t)) after new
+pub empty_arrives : {R : Type 0} (prepare_gives : PrepareGives R) (apply_gives : ApplyGives R) (answer_of : AnswerOf R) (sends : List ℕ) (fate : Fate) (x : Option (List ℕ)) (a : Bool) (t : ℕ) (host : HostTransferState) (old : DevControlState R) (after : HostTransferState) (new : DevControlState R) → let shape = shaped true 0 in ¬ (fate ≡ TokenLost) → BothStand answer_of shape sends (at Status Status (Accepted x) a t) host old → Arrives prepare_gives apply_gives answer_of fate tries.StatusIn old.stage host.bytes host old after new → (new.requests ≡ old.requests) × Stands answer_of shape sends (in_tried fate (data_pieces shape (Accepted x)) (at Status Status (Accepted x) a t)) after new
 empty_arrives prepare_gives apply_gives answer_of sends fate x a t host old after new lost u (mid, answer, does, e, f) =
     let shape = shaped true 0 in
     let d = subst (λ (s : Stage). Does prepare_gives apply_gives (asked (answer_of old.requests) s) old.requests mid answer) u.device.0 does in

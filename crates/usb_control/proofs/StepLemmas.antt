@@ -10,6 +10,7 @@ use Rattle.usb_control.specs.declared.setup.Setup.{Setup as Request}
 use Rattle.usb_control.specs.declared.fault.ControlFault.TheVariants as faults
 use Rattle.usb_control.specs.declared.host.HostStage.TheVariants as tries
 use Rattle.usb_control.specs.SetupBytes.{setup_bytes, setup_of, reads}
+use Rattle.usb_control.specs.Requests.{PrepareGives, ApplyGives, AnswerOf}
 use Rattle.usb_control.specs.Device.{DevControlState, begun}
 use Rattle.usb_control.specs.Host.{HostTransferState, unanswered, answered, failed, after_setup}
 use Rattle.usb_control.specs.Transaction.{TransactsAt}
@@ -18,7 +19,7 @@ use Rattle.usb_control.specs.Standing.{host_stage, host_bytes, accepted_stage, D
 use Rattle.usb_control.proofs.PieceLemmas.{count_bounds}
 
 -- what a try is to show
-abbrev pub Shown : {R : Type 0} → (R → Request → Bool → R → Type 0) → (R → List ℕ → R → Type 0) → (R → Option (List ℕ)) → Shape → List ℕ → Fate → Place → HostTransferState → DevControlState R → HostTransferState → DevControlState R → Type 0
+abbrev pub Shown : {R : Type 0} → PrepareGives R → ApplyGives R → AnswerOf R → Shape → List ℕ → Fate → Place → HostTransferState → DevControlState R → HostTransferState → DevControlState R → Type 0
 Shown prepare_gives apply_gives answer_of shape sends fate place host old after new =
     (decision : Decision) × Acts prepare_gives apply_gives answer_of host.setup sends (act_of shape fate decision place) old.requests new.requests
     × Stands answer_of shape sends (tried shape fate decision place) after new
@@ -28,7 +29,7 @@ abbrev pub at : Position → Position → Decision → Bool → ℕ → Place
 at host device decision applied tries = record { host = host; device = device; decision = decision; applied = applied; tries = tries; fault = None }
 
 -- a try without an answer
-silent_if : {R : Type 0} (answer_of : R → Option (List ℕ)) (shape : Shape) (sends : List ℕ) (p d : Position) (q : Decision) (a : Bool) (t : ℕ) (host : HostTransferState) (control : DevControlState R) (b : Bool) → BothStand answer_of shape sends (at p d q a t) host control → Stands answer_of shape sends (if b then at p d q a (t + 1) else record (at p d q a t) { fault = Some faults.BusFault }) (if b then record host { tries = host.tries + 1 } else failed faults.BusFault host) control
+silent_if : {R : Type 0} (answer_of : AnswerOf R) (shape : Shape) (sends : List ℕ) (p d : Position) (q : Decision) (a : Bool) (t : ℕ) (host : HostTransferState) (control : DevControlState R) (b : Bool) → BothStand answer_of shape sends (at p d q a t) host control → Stands answer_of shape sends (if b then at p d q a (t + 1) else record (at p d q a t) { fault = Some faults.BusFault }) (if b then record host { tries = host.tries + 1 } else failed faults.BusFault host) control
 silent_if answer_of shape sends p d q a t host control true u = record {
   whole = u.whole;
   sender = record { asked = u.sender.asked; stage = u.sender.stage; bytes = u.sender.bytes; tries = ap (λ n. n + 1) u.sender.tries };
@@ -37,18 +38,18 @@ silent_if answer_of shape sends p d q a t host control true u = record {
 }
 silent_if answer_of shape sends p d q a t host control false u = refl
 
-pub silent_stands : {R : Type 0} (answer_of : R → Option (List ℕ)) (shape : Shape) (sends : List ℕ) (p d : Position) (q : Decision) (a : Bool) (t : ℕ) (host : HostTransferState) (control : DevControlState R) → BothStand answer_of shape sends (at p d q a t) host control → Stands answer_of shape sends (silent (at p d q a t)) (unanswered host) control
+pub silent_stands : {R : Type 0} (answer_of : AnswerOf R) (shape : Shape) (sends : List ℕ) (p d : Position) (q : Decision) (a : Bool) (t : ℕ) (host : HostTransferState) (control : DevControlState R) → BothStand answer_of shape sends (at p d q a t) host control → Stands answer_of shape sends (silent (at p d q a t)) (unanswered host) control
 silent_stands answer_of shape sends p d q a t host control u =
     subst (λ (b : Bool). Stands answer_of shape sends (if b then at p d q a (t + 1) else record (at p d q a t) { fault = Some faults.BusFault }) (unanswered host) control)
     (ap (λ n. nat_lt n 2) u.sender.tries)
     (silent_if answer_of shape sends p d q a t host control (nat_lt host.tries 2) u)
 
 -- the ends, where they are what they are said to be
-pub moved : {R : Type 0} (answer_of : R → Option (List ℕ)) (shape : Shape) (sends : List ℕ) (place : Place) (host after : HostTransferState) (control new : DevControlState R) → after ≡ host → new ≡ control → Stands answer_of shape sends place host control → Stands answer_of shape sends place after new
+pub moved : {R : Type 0} (answer_of : AnswerOf R) (shape : Shape) (sends : List ℕ) (place : Place) (host after : HostTransferState) (control new : DevControlState R) → after ≡ host → new ≡ control → Stands answer_of shape sends place host control → Stands answer_of shape sends place after new
 moved answer_of shape sends place host after control new e f h = rw (e, f) h
 
 -- the device at a position after SETUP
-pub has_stands : {R : Type 0} (answer_of : R → Option (List ℕ)) (shape : Shape) (sends : List ℕ) (q : Decision) (a : Bool) (p : Position) (control : DevControlState R) → DeviceHas answer_of shape sends q a p control → DeviceStands answer_of shape sends q a p control
+pub has_stands : {R : Type 0} (answer_of : AnswerOf R) (shape : Shape) (sends : List ℕ) (q : Decision) (a : Bool) (p : Position) (control : DevControlState R) → DeviceHas answer_of shape sends q a p control → DeviceStands answer_of shape sends q a p control
 has_stands answer_of shape sends q a Setup control h = tt
 has_stands answer_of shape sends q a (Piece k) control h = h
 has_stands answer_of shape sends q a Status control h = h
@@ -59,7 +60,7 @@ abbrev pub IsAfter : Position → Type 0
 IsAfter Setup = ⊥
 IsAfter _ = Unit {0}
 
-pub stands_has : {R : Type 0} (answer_of : R → Option (List ℕ)) (shape : Shape) (sends : List ℕ) (q : Decision) (a : Bool) (p : Position) (control : DevControlState R) → IsAfter p → DeviceStands answer_of shape sends q a p control → DeviceHas answer_of shape sends q a p control
+pub stands_has : {R : Type 0} (answer_of : AnswerOf R) (shape : Shape) (sends : List ℕ) (q : Decision) (a : Bool) (p : Position) (control : DevControlState R) → IsAfter p → DeviceStands answer_of shape sends q a p control → DeviceHas answer_of shape sends q a p control
 stands_has answer_of shape sends q a Setup control after h = absurd after
 stands_has answer_of shape sends q a (Piece k) control after h = h
 stands_has answer_of shape sends q a Status control after h = h
@@ -110,7 +111,7 @@ pieces-none true Refused = refl
 pieces-none true (Accepted answer) = refl
 pieces-none false q = refl
 
-setup_has : {R : Type 0} (answer_of : R → Option (List ℕ)) (r : Bool) (len : ℕ) (sends : List ℕ) (mid : DevControlState R) (said : Bool) → (r ≡ false → length sends ≡ len) → mid.stage ≡ begun said r len → DeviceHas answer_of (shaped r len) sends (decision_of said (answer_of mid.requests)) false (first (data_pieces (shaped r len) (decision_of said (answer_of mid.requests)))) mid
+setup_has : {R : Type 0} (answer_of : AnswerOf R) (r : Bool) (len : ℕ) (sends : List ℕ) (mid : DevControlState R) (said : Bool) → (r ≡ false → length sends ≡ len) → mid.stage ≡ begun said r len → DeviceHas answer_of (shaped r len) sends (decision_of said (answer_of mid.requests)) false (first (data_pieces (shaped r len) (decision_of said (answer_of mid.requests)))) mid
 setup_has answer_of r len sends mid false whole h = h
 setup_has answer_of true len sends mid true whole h = (h ∙ read_begun len (answer_of mid.requests) sends, λ _. refl)
 setup_has answer_of false len sends mid true whole h = (h ∙ write_begun len sends (whole refl), λ _. refl)
@@ -138,7 +139,7 @@ setup_near true (suc n) (Accepted answer) = rw (first-piece _ (pieces-some true 
 setup_near false (suc n) (Accepted answer) = rw (first-piece _ (pieces-some false n (Accepted answer))) (pieces-some false n (Accepted answer), refl, inl refl)
 
 -- a try of SETUP
-setup_arrived : {R : Type 0} (answer_of : R → Option (List ℕ)) (shape : Shape) (sends : List ℕ) (d : Position) (q : Decision) (a : Bool) (t : ℕ) (host : HostTransferState) (old mid : DevControlState R) (said : Bool) → BothStand answer_of shape sends (at Setup d q a t) host old → mid.stage ≡ begun said shape.reads shape.length → let decision = decision_of said (answer_of mid.requests) in BothStand answer_of shape sends (at Setup (first (data_pieces shape decision)) decision false t) host mid
+setup_arrived : {R : Type 0} (answer_of : AnswerOf R) (shape : Shape) (sends : List ℕ) (d : Position) (q : Decision) (a : Bool) (t : ℕ) (host : HostTransferState) (old mid : DevControlState R) (said : Bool) → BothStand answer_of shape sends (at Setup d q a t) host old → mid.stage ≡ begun said shape.reads shape.length → let decision = decision_of said (answer_of mid.requests) in BothStand answer_of shape sends (at Setup (first (data_pieces shape decision)) decision false t) host mid
 setup_arrived answer_of shape sends d q a t host old mid said u h = record {
   whole = u.whole;
   sender = record { asked = u.sender.asked; stage = u.sender.stage; bytes = u.sender.bytes; tries = u.sender.tries };
@@ -146,7 +147,7 @@ setup_arrived answer_of shape sends d q a t host old mid said u h = record {
   device = has_stands answer_of shape sends _ false _ mid (setup_has answer_of shape.reads shape.length sends mid said u.whole h);
 }
 
-setup_clean : {R : Type 0} (answer_of : R → Option (List ℕ)) (shape : Shape) (sends : List ℕ) (d : Position) (q : Decision) (a : Bool) (t : ℕ) (host : HostTransferState) (old mid : DevControlState R) (said : Bool) → BothStand answer_of shape sends (at Setup d q a t) host old → mid.stage ≡ begun said shape.reads shape.length → let decision = decision_of said (answer_of mid.requests) in let p = first (data_pieces shape decision) in BothStand answer_of shape sends (at p p decision false 0) (answered (after_setup shape.reads shape.length) host) mid
+setup_clean : {R : Type 0} (answer_of : AnswerOf R) (shape : Shape) (sends : List ℕ) (d : Position) (q : Decision) (a : Bool) (t : ℕ) (host : HostTransferState) (old mid : DevControlState R) (said : Bool) → BothStand answer_of shape sends (at Setup d q a t) host old → mid.stage ≡ begun said shape.reads shape.length → let decision = decision_of said (answer_of mid.requests) in let p = first (data_pieces shape decision) in BothStand answer_of shape sends (at p p decision false 0) (answered (after_setup shape.reads shape.length) host) mid
 setup_clean answer_of shape sends d q a t host old mid said u h = record {
   whole = u.whole;
   sender = record {
@@ -159,7 +160,7 @@ setup_clean answer_of shape sends d q a t host old mid said u h = record {
   device = has_stands answer_of shape sends _ false _ mid (setup_has answer_of shape.reads shape.length sends mid said u.whole h);
 }
 
-pub setup_shown : {R : Type 0} (prepare_gives : R → Request → Bool → R → Type 0) (apply_gives : R → List ℕ → R → Type 0) (answer_of : R → Option (List ℕ)) (shape : Shape) (sends : List ℕ) (fate : Fate) (d : Position) (q : Decision) (a : Bool) (t : ℕ) (host : HostTransferState) (old : DevControlState R) (after : HostTransferState) (new : DevControlState R) → setup_of (setup_bytes host.setup) ≡ host.setup → BothStand answer_of shape sends (at Setup d q a t) host old → TransactsAt prepare_gives apply_gives answer_of fate tries.Setup old.stage host.bytes host old after new → Shown prepare_gives apply_gives answer_of shape sends fate (at Setup d q a t) host old after new
+pub setup_shown : {R : Type 0} (prepare_gives : PrepareGives R) (apply_gives : ApplyGives R) (answer_of : AnswerOf R) (shape : Shape) (sends : List ℕ) (fate : Fate) (d : Position) (q : Decision) (a : Bool) (t : ℕ) (host : HostTransferState) (old : DevControlState R) (after : HostTransferState) (new : DevControlState R) → setup_of (setup_bytes host.setup) ≡ host.setup → BothStand answer_of shape sends (at Setup d q a t) host old → TransactsAt prepare_gives apply_gives answer_of fate tries.Setup old.stage host.bytes host old after new → Shown prepare_gives apply_gives answer_of shape sends fate (at Setup d q a t) host old after new
 setup_shown prepare_gives apply_gives answer_of shape sends TokenLost d q a t host old after new back u (e, f) =
     (q, ap (λ c. c.requests) f, moved answer_of shape sends _ _ after _ new e f (silent_stands answer_of shape sends Setup d q a t host old u))
 setup_shown prepare_gives apply_gives answer_of shape sends Clean d q a t host old after new back u (mid, answer, (said, p, stage, heard, ack), e, f) =

@@ -9,51 +9,18 @@ use Rattle.usb_control.specs.declared.fault.ControlFault.TheVariants as faults
 use Rattle.usb_control.specs.declared.host.HostStage.{HostStage}
 use Rattle.usb_control.specs.declared.host.HostStage.TheVariants as tries
 use Rattle.usb_control.specs.SetupBytes.{setup_bytes, setup_of, reads}
+use Rattle.usb_control.specs.Requests.{PrepareGives, ApplyGives, AnswerOf}
 use Rattle.usb_control.specs.Device.{DevControlState}
 use Rattle.usb_control.specs.Host.{HostTransferState, IsRunning, at_start, progress_of}
 use Rattle.usb_control.specs.Transfer.{Shape, shape_of, Decision, Refused, Accepted, decision_of, Position, Setup, Piece, Status, Past, Place, start, answered_bytes, comes, Act, Nothing, Decides, TakesEffect, Acts, act_at, act_of, tried}
 use Rattle.usb_control.specs.Standing.{host_stage, Stands}
 use Rattle.usb_control.specs.Runs.{is_open, IsAccepted}
-use Rattle.usb_control.specs.Steps.{IsStep, Steps, IsDecided, IsAppliedOnce}
+use Rattle.usb_control.specs.Steps.{IsStep, Steps, IsAppliedOnce, IsOnceAtMost}
+use Rattle.usb_control.proofs.ActLemmas.{NeedsEffect, effect_needs, decision_needs}
 use Rattle.usb_control.proofs.StepLemmas.{at}
 use Rattle.usb_control.proofs.TryLemmas.{try_shown}
-use Rattle.usb_control.proofs.RunLemmas.{count_of, IsSound, Moves, moves_at, ended_is, SoundFault, SoundRefused}
+use Rattle.usb_control.proofs.RunLemmas.{count_of, IsSound, Moves, moves_at, ended_is, SoundAt, SoundFault, SoundRefused}
 use Rattle.usb_control.proofs.LawLemmas.{begins, done_is, read_is}
-
--- what a write that takes effect needs
-record NeedsEffect (host : Position) (shape : Shape) (held : Decision) (applied : Bool) : Type 0 where
-  status : host ≡ Status
-  accepted : IsAccepted held
-  first : applied ≡ false
-  writes : shape.reads ≡ false
-
-way_needs : (r : Bool) → (if r then Nothing else TakesEffect) ≡ TakesEffect → r ≡ false
-way_needs true e = cc
-way_needs false e = refl
-
-arrived_needs : (host : Position) (shape : Shape) (fate : Fate) (decision held : Decision) (applied : Bool) → act_at host shape fate decision held applied ≡ TakesEffect → NeedsEffect host shape held applied
-arrived_needs Setup shape TokenLost decision held applied e = cc
-arrived_needs Setup shape Clean decision held applied e = cc
-arrived_needs Setup shape ReplyLost decision held applied e = cc
-arrived_needs Setup shape AckLost decision held applied e = cc
-arrived_needs (Piece k) shape TokenLost decision held applied e = cc
-arrived_needs (Piece k) shape Clean decision held applied e = cc
-arrived_needs (Piece k) shape ReplyLost decision held applied e = cc
-arrived_needs (Piece k) shape AckLost decision held applied e = cc
-arrived_needs Past shape TokenLost decision held applied e = cc
-arrived_needs Past shape Clean decision held applied e = cc
-arrived_needs Past shape ReplyLost decision held applied e = cc
-arrived_needs Past shape AckLost decision held applied e = cc
-arrived_needs Status shape TokenLost decision held applied e = cc
-arrived_needs Status shape Clean decision Refused applied e = cc
-arrived_needs Status shape ReplyLost decision Refused applied e = cc
-arrived_needs Status shape AckLost decision Refused applied e = cc
-arrived_needs Status shape Clean decision (Accepted x) true e = cc
-arrived_needs Status shape ReplyLost decision (Accepted x) true e = cc
-arrived_needs Status shape AckLost decision (Accepted x) true e = cc
-arrived_needs Status shape Clean decision (Accepted x) false e = record { status = refl; accepted = tt; first = refl; writes = way_needs shape.reads e }
-arrived_needs Status shape ReplyLost decision (Accepted x) false e = record { status = refl; accepted = tt; first = refl; writes = way_needs shape.reads e }
-arrived_needs Status shape AckLost decision (Accepted x) false e = record { status = refl; accepted = tt; first = refl; writes = way_needs shape.reads e }
 
 -- before the first SETUP that arrives
 abbrev pub NotStalled : Option ControlFault → Type 0
@@ -79,13 +46,13 @@ still_untouched shape fate decision p d q a t e =
     let Stays : Position → Type 0 = λ x. act_at x shape fate decision q a ≡ Nothing → Untouched (tried shape fate decision (at x d q a t)).host (tried shape fate decision (at x d q a t)).fault in
     subst Stays (sym e) (λ h. setup_untouched shape fate decision d q a t h)
 
--- what happened since the last SETUP that arrived
-abbrev pub Since : {R : Type 0} → (R → Request → Bool → R → Type 0) → (R → List ℕ → R → Type 0) → (R → Option (List ℕ)) → Request → List ℕ → R → Position → Option ControlFault → Decision → Bool → R → Type 0
-Since prepare_gives apply_gives answer_of request sends begun host fault decision true now = IsAppliedOnce prepare_gives apply_gives request sends now
+-- what happened since the transfer began
+abbrev pub Since : {R : Type 0} → PrepareGives R → ApplyGives R → AnswerOf R → Request → List ℕ → R → Position → Option ControlFault → Decision → Bool → R → Type 0
+Since prepare_gives apply_gives answer_of request sends begun host fault decision true now = IsAppliedOnce prepare_gives apply_gives request sends begun now
 Since prepare_gives apply_gives answer_of request sends begun host fault decision false now =
-    (Untouched host fault × (now ≡ begun)) ⊎ ((said : Bool) × IsDecided prepare_gives request said now × (decision ≡ decision_of said (answer_of now)))
+    (Untouched host fault × (now ≡ begun)) ⊎ ((said : Bool) × prepare_gives begun request said now × (decision ≡ decision_of said (answer_of now)))
 
-pub record Told {R : Type 0} (prepare_gives : R → Request → Bool → R → Type 0) (apply_gives : R → List ℕ → R → Type 0) (answer_of : R → Option (List ℕ)) (request : Request) (sends : List ℕ) (begun : R) (place : Place) (now : R) : Type 0 where
+pub record Told {R : Type 0} (prepare_gives : PrepareGives R) (apply_gives : ApplyGives R) (answer_of : AnswerOf R) (request : Request) (sends : List ℕ) (begun : R) (place : Place) (now : R) : Type 0 where
   pub sound : IsSound (reads request) place
   pub since : Since prepare_gives apply_gives answer_of request sends begun place.host place.fault place.decision place.applied now
   pub unapplied : reads request ≡ true → place.applied ≡ false
@@ -108,24 +75,32 @@ accepted_said answer_of true decision e h = refl
 accepted_said answer_of false decision e h = absurd (subst IsAccepted e h)
 
 -- one try
-since_nothing : {R : Type 0} (prepare_gives : R → Request → Bool → R → Type 0) (apply_gives : R → List ℕ → R → Type 0) (answer_of : R → Option (List ℕ)) (request : Request) (sends : List ℕ) (begun : R) (p : Position) (q : Decision) (a : Bool) (now : R) (after : Place) → (p ≡ Setup → Untouched after.host after.fault) → Since prepare_gives apply_gives answer_of request sends begun p None q a now → Since prepare_gives apply_gives answer_of request sends begun after.host after.fault q a now
+since_nothing : {R : Type 0} (prepare_gives : PrepareGives R) (apply_gives : ApplyGives R) (answer_of : AnswerOf R) (request : Request) (sends : List ℕ) (begun : R) (p : Position) (q : Decision) (a : Bool) (now : R) (after : Place) → (p ≡ Setup → Untouched after.host after.fault) → Since prepare_gives apply_gives answer_of request sends begun p None q a now → Since prepare_gives apply_gives answer_of request sends begun after.host after.fault q a now
 since_nothing prepare_gives apply_gives answer_of request sends begun p q true now after stays h = h
 since_nothing prepare_gives apply_gives answer_of request sends begun p q false now after stays (inl h) = inl (stays h.0.waits, h.1)
 since_nothing prepare_gives apply_gives answer_of request sends begun p q false now after stays (inr h) = inr h
 
-since_effect : {R : Type 0} (prepare_gives : R → Request → Bool → R → Type 0) (apply_gives : R → List ℕ → R → Type 0) (answer_of : R → Option (List ℕ)) (request : Request) (sends : List ℕ) (begun : R) (p : Position) (q : Decision) (old new : R) → p ≡ Status → IsAccepted q → apply_gives old sends new → Since prepare_gives apply_gives answer_of request sends begun p None q false old → IsAppliedOnce prepare_gives apply_gives request sends new
+since_effect : {R : Type 0} (prepare_gives : PrepareGives R) (apply_gives : ApplyGives R) (answer_of : AnswerOf R) (request : Request) (sends : List ℕ) (begun : R) (p : Position) (q : Decision) (old new : R) → p ≡ Status → IsAccepted q → apply_gives old sends new → Since prepare_gives apply_gives answer_of request sends begun p None q false old → IsAppliedOnce prepare_gives apply_gives request sends begun new
 since_effect prepare_gives apply_gives answer_of request sends begun p q old new e accepted h (inl g) = let f = g.0.waits in cc
-since_effect prepare_gives apply_gives answer_of request sends begun p q old new e accepted h (inr (said, (before, decided), f)) =
-    (before, old, subst (λ (b : Bool). prepare_gives before request b old) (accepted_said (answer_of old) said q f accepted) decided, h)
+since_effect prepare_gives apply_gives answer_of request sends begun p q old new e accepted h (inr (said, decided, f)) =
+    (old, subst (λ (b : Bool). prepare_gives begun request b old) (accepted_said (answer_of old) said q f accepted) decided, h)
+
+-- deciding again is deciding once
+abbrev pub DecidesAgain : {R : Type 0} → PrepareGives R → Request → Type 0
+DecidesAgain {R} prepare_gives request = (s t u : R) (b said : Bool) → prepare_gives s request b t → prepare_gives t request said u → prepare_gives s request said u
+
+since_decision : {R : Type 0} (prepare_gives : PrepareGives R) (apply_gives : ApplyGives R) (answer_of : AnswerOf R) (request : Request) (sends : List ℕ) (begun : R) (p : Position) (q : Decision) (said : Bool) (old new : R) → DecidesAgain prepare_gives request → prepare_gives old request said new → Since prepare_gives apply_gives answer_of request sends begun p None q false old → prepare_gives begun request said new
+since_decision prepare_gives apply_gives answer_of request sends begun p q said old new again decided (inl h) = subst (λ (r : _). prepare_gives r request said new) h.1 decided
+since_decision prepare_gives apply_gives answer_of request sends begun p q said old new again decided (inr (b, first, f)) = again begun old new b said first decided
 
 -- the fields of a place may be replaced by equal ones
-since_at : {R : Type 0} (prepare_gives : R → Request → Bool → R → Type 0) (apply_gives : R → List ℕ → R → Type 0) (answer_of : R → Option (List ℕ)) (request : Request) (sends : List ℕ) (begun : R) (p : Position) (fault : Option ControlFault) (q q2 : Decision) (a a2 : Bool) (now : R) → q2 ≡ q → a2 ≡ a → Since prepare_gives apply_gives answer_of request sends begun p fault q a now → Since prepare_gives apply_gives answer_of request sends begun p fault q2 a2 now
+since_at : {R : Type 0} (prepare_gives : PrepareGives R) (apply_gives : ApplyGives R) (answer_of : AnswerOf R) (request : Request) (sends : List ℕ) (begun : R) (p : Position) (fault : Option ControlFault) (q q2 : Decision) (a a2 : Bool) (now : R) → q2 ≡ q → a2 ≡ a → Since prepare_gives apply_gives answer_of request sends begun p fault q a now → Since prepare_gives apply_gives answer_of request sends begun p fault q2 a2 now
 since_at prepare_gives apply_gives answer_of request sends begun p fault q q2 a a2 now e f h =
     subst (λ (x : Decision). Since prepare_gives apply_gives answer_of request sends begun p fault x a2 now) (sym e)
     (subst (λ (b : Bool). Since prepare_gives apply_gives answer_of request sends begun p fault q b now) (sym f) h)
 
-told_by : {R : Type 0} (prepare_gives : R → Request → Bool → R → Type 0) (apply_gives : R → List ℕ → R → Type 0) (answer_of : R → Option (List ℕ)) (request : Request) (sends : List ℕ) (begun : R) (p d : Position) (q : Decision) (a : Bool) (t : ℕ) (act : Act) (old new : R) (after : Place) → Moves (reads request) (at p d q a t) after act → (act ≡ Nothing → p ≡ Setup → Untouched after.host after.fault) → (act ≡ TakesEffect → NeedsEffect p (shape_of request) q a) → Acts prepare_gives apply_gives answer_of request sends act old new → Told prepare_gives apply_gives answer_of request sends begun (at p d q a t) old → Told prepare_gives apply_gives answer_of request sends begun after new
-told_by prepare_gives apply_gives answer_of request sends begun p d q a t Nothing old new after m stays needs acts h =
+told_by : {R : Type 0} (prepare_gives : PrepareGives R) (apply_gives : ApplyGives R) (answer_of : AnswerOf R) (request : Request) (sends : List ℕ) (begun : R) (p d : Position) (q : Decision) (a : Bool) (t : ℕ) (act : Act) (old new : R) (after : Place) → Moves (reads request) (at p d q a t) after act → (act ≡ Nothing → p ≡ Setup → Untouched after.host after.fault) → (act ≡ TakesEffect → NeedsEffect p (shape_of request) q a) → ((d : Decision) → act ≡ Decides d → p ≡ Setup) → DecidesAgain prepare_gives request → Acts prepare_gives apply_gives answer_of request sends act old new → Told prepare_gives apply_gives answer_of request sends begun (at p d q a t) old → Told prepare_gives apply_gives answer_of request sends begun after new
+told_by prepare_gives apply_gives answer_of request sends begun p d q a t Nothing old new after m stays needs sets again acts h =
     let applied = same_count after.applied a m.applied in
     record {
       sound = m.sound;
@@ -133,14 +108,17 @@ told_by prepare_gives apply_gives answer_of request sends begun p d q a t Nothin
           (since_nothing prepare_gives apply_gives answer_of request sends begun p q a new after (stays refl) (subst (λ (r : _). Since prepare_gives apply_gives answer_of request sends begun p None q a r) (sym acts) h.since));
       unapplied = λ e. applied ∙ h.unapplied e;
     }
-told_by prepare_gives apply_gives answer_of request sends begun p d q a t (Decides decision) old new after m stays needs (said, decided, e) h =
-    let applied = no_count after.applied m.applied in
+told_by prepare_gives apply_gives answer_of request sends begun p d q a t (Decides decision) old new after m stays needs sets again (said, decided, e) h =
+    let applied = no_count after.applied m.since in
+    let none : a ≡ false = subst (λ (x : Position). SoundAt (reads request) x q a) (sets decision refl) h.sound.ended in
+    let since = subst (λ (b : Bool). Since prepare_gives apply_gives answer_of request sends begun p None q b old) none h.since in
+    let once = since_decision prepare_gives apply_gives answer_of request sends begun p q said old new again decided since in
     record {
       sound = m.sound;
-      since = since_at prepare_gives apply_gives answer_of request sends begun after.host after.fault decision after.decision false after.applied new m.decision applied (inr (said, (old, decided), e));
+      since = since_at prepare_gives apply_gives answer_of request sends begun after.host after.fault decision after.decision false after.applied new m.decision applied (inr (said, once, e));
       unapplied = λ f. applied;
     }
-told_by prepare_gives apply_gives answer_of request sends begun p d q a t TakesEffect old new after m stays needs acts h =
+told_by prepare_gives apply_gives answer_of request sends begun p d q a t TakesEffect old new after m stays needs sets again acts h =
     let need = needs refl in
     let applied = one_count after.applied a need.first m.applied in
     let since = subst (λ (b : Bool). Since prepare_gives apply_gives answer_of request sends begun p None q b old) need.first h.since in
@@ -158,16 +136,16 @@ open_at shape Status stage e running d q a t = refl
 open_at shape Past stage e running d q a t = let g = ap progress_of e in cc
 
 -- where the ends stand after some steps, and what happened meanwhile
-pub record Reached {R : Type 0} (prepare_gives : R → Request → Bool → R → Type 0) (apply_gives : R → List ℕ → R → Type 0) (answer_of : R → Option (List ℕ)) (request : Request) (sends : List ℕ) (begun : R) (host : HostTransferState) (control : DevControlState R) : Type 0 where
+pub record Reached {R : Type 0} (prepare_gives : PrepareGives R) (apply_gives : ApplyGives R) (answer_of : AnswerOf R) (request : Request) (sends : List ℕ) (begun : R) (host : HostTransferState) (control : DevControlState R) : Type 0 where
   pub place : Place
   pub stands : Stands answer_of (shape_of request) sends place host control
   pub told : Told prepare_gives apply_gives answer_of request sends begun place control.requests
   pub asked : host.setup ≡ request
 
-told_step : {R : Type 0} (prepare_gives : R → Request → Bool → R → Type 0) (apply_gives : R → List ℕ → R → Type 0) (answer_of : R → Option (List ℕ)) (request : Request) (sends : List ℕ) (begun : R) (fate : Fate) (p d : Position) (q : Decision) (a : Bool) (t : ℕ) (fault : Option ControlFault) (host : HostTransferState) (old : DevControlState R) (after : HostTransferState) (new : DevControlState R) → let place : Place = record { host = p; device = d; decision = q; applied = a; tries = t; fault = fault } in setup_of (setup_bytes request) ≡ request → host.setup ≡ request → Stands answer_of (shape_of request) sends place host old → Told prepare_gives apply_gives answer_of request sends begun place old.requests → IsStep prepare_gives apply_gives answer_of fate host old after new → Reached prepare_gives apply_gives answer_of request sends begun after new
-told_step prepare_gives apply_gives answer_of request sends begun fate p d q a t (Some f) host old after new back e stands told step =
+told_step : {R : Type 0} (prepare_gives : PrepareGives R) (apply_gives : ApplyGives R) (answer_of : AnswerOf R) (request : Request) (sends : List ℕ) (begun : R) (fate : Fate) (p d : Position) (q : Decision) (a : Bool) (t : ℕ) (fault : Option ControlFault) (host : HostTransferState) (old : DevControlState R) (after : HostTransferState) (new : DevControlState R) → let place : Place = record { host = p; device = d; decision = q; applied = a; tries = t; fault = fault } in setup_of (setup_bytes request) ≡ request → DecidesAgain prepare_gives request → host.setup ≡ request → Stands answer_of (shape_of request) sends place host old → Told prepare_gives apply_gives answer_of request sends begun place old.requests → IsStep prepare_gives apply_gives answer_of fate host old after new → Reached prepare_gives apply_gives answer_of request sends begun after new
+told_step prepare_gives apply_gives answer_of request sends begun fate p d q a t (Some f) host old after new back again e stands told step =
     let g = ap progress_of stands in let running = step.running in cc
-told_step prepare_gives apply_gives answer_of request sends begun fate p d q a t None host old after new back e stands told step =
+told_step prepare_gives apply_gives answer_of request sends begun fate p d q a t None host old after new back again e stands told step =
     let shape = shape_of request in
     let spelled = subst (λ (x : Request). setup_of (setup_bytes x) ≡ x) (sym e) back in
     let shown = try_shown prepare_gives apply_gives answer_of shape sends fate (at p d q a t) host old after new spelled step.running stands step.transacts in
@@ -176,38 +154,38 @@ told_step prepare_gives apply_gives answer_of request sends begun fate p d q a t
       place = tried shape fate shown.0 (at p d q a t);
       stands = shown.2;
       told = told_by prepare_gives apply_gives answer_of request sends begun p d q a t (act_of shape fate shown.0 (at p d q a t)) old.requests new.requests _ moves
-          (λ f g. still_untouched shape fate shown.0 p d q a t g f) (λ f. arrived_needs p shape fate shown.0 q a f)
+          (λ f g. still_untouched shape fate shown.0 p d q a t g f) (λ f. effect_needs p shape fate shown.0 q a f) (λ x f. decision_needs p shape fate shown.0 q a x f) again
           (subst (λ (x : Request). Acts prepare_gives apply_gives answer_of x sends (act_of shape fate shown.0 (at p d q a t)) old.requests new.requests) e shown.1) told;
       asked = step.same ∙ e;
     }
 
-pub steps_told : {R : Type 0} (prepare_gives : R → Request → Bool → R → Type 0) (apply_gives : R → List ℕ → R → Type 0) (answer_of : R → Option (List ℕ)) (request : Request) (sends : List ℕ) (begun : R) (fates : List Fate) (host : HostTransferState) (old : DevControlState R) (after : HostTransferState) (new : DevControlState R) → setup_of (setup_bytes request) ≡ request → Reached prepare_gives apply_gives answer_of request sends begun host old → Steps prepare_gives apply_gives answer_of fates host old after new → Reached prepare_gives apply_gives answer_of request sends begun after new
-steps_told prepare_gives apply_gives answer_of request sends begun [] host old after new back r (e, f) =
+pub steps_told : {R : Type 0} (prepare_gives : PrepareGives R) (apply_gives : ApplyGives R) (answer_of : AnswerOf R) (request : Request) (sends : List ℕ) (begun : R) (fates : List Fate) (host : HostTransferState) (old : DevControlState R) (after : HostTransferState) (new : DevControlState R) → setup_of (setup_bytes request) ≡ request → DecidesAgain prepare_gives request → Reached prepare_gives apply_gives answer_of request sends begun host old → Steps prepare_gives apply_gives answer_of fates host old after new → Reached prepare_gives apply_gives answer_of request sends begun after new
+steps_told prepare_gives apply_gives answer_of request sends begun [] host old after new back again r (e, f) =
     subst (λ (c : DevControlState _). Reached prepare_gives apply_gives answer_of request sends begun after c) (sym f) (subst (λ (h : HostTransferState). Reached prepare_gives apply_gives answer_of request sends begun h old) (sym e) r)
-steps_told prepare_gives apply_gives answer_of request sends begun (fate ∷ fates) host old after new back r (host_mid, mid, step, more) =
-    let next = told_step prepare_gives apply_gives answer_of request sends begun fate r.place.host r.place.device r.place.decision r.place.applied r.place.tries r.place.fault host old host_mid mid back r.asked r.stands r.told step in
-    steps_told prepare_gives apply_gives answer_of request sends begun fates host_mid mid after new back next more
+steps_told prepare_gives apply_gives answer_of request sends begun (fate ∷ fates) host old after new back again r (host_mid, mid, step, more) =
+    let next = told_step prepare_gives apply_gives answer_of request sends begun fate r.place.host r.place.device r.place.decision r.place.applied r.place.tries r.place.fault host old host_mid mid back again r.asked r.stands r.told step in
+    steps_told prepare_gives apply_gives answer_of request sends begun fates host_mid mid after new back again next more
 
-pub told_from_start : {R : Type 0} (prepare_gives : R → Request → Bool → R → Type 0) (apply_gives : R → List ℕ → R → Type 0) (answer_of : R → Option (List ℕ)) (addr : ℕ) (request : Request) (sends : List ℕ) (fates : List Fate) (old : DevControlState R) (after : HostTransferState) (new : DevControlState R) → setup_of (setup_bytes request) ≡ request → length sends ≡ (if reads request then 0 else request.length) → Steps prepare_gives apply_gives answer_of fates (at_start addr request sends) old after new → Reached prepare_gives apply_gives answer_of request sends old.requests after new
-told_from_start prepare_gives apply_gives answer_of addr request sends fates old after new back whole steps =
-    steps_told prepare_gives apply_gives answer_of request sends old.requests fates (at_start addr request sends) old after new back (record {
+pub told_from_start : {R : Type 0} (prepare_gives : PrepareGives R) (apply_gives : ApplyGives R) (answer_of : AnswerOf R) (addr : ℕ) (request : Request) (sends : List ℕ) (fates : List Fate) (old : DevControlState R) (after : HostTransferState) (new : DevControlState R) → setup_of (setup_bytes request) ≡ request → DecidesAgain prepare_gives request → length sends ≡ (if reads request then 0 else request.length) → Steps prepare_gives apply_gives answer_of fates (at_start addr request sends) old after new → Reached prepare_gives apply_gives answer_of request sends old.requests after new
+told_from_start prepare_gives apply_gives answer_of addr request sends fates old after new back again whole steps =
+    steps_told prepare_gives apply_gives answer_of request sends old.requests fates (at_start addr request sends) old after new back again (record {
       place = start;
       stands = begins answer_of addr request sends old whole;
-      told = record { sound = record { ended = tt; refused = refl; fault = tt }; since = inl (record { waits = refl; going = tt }, refl); unapplied = λ e. refl };
+      told = record { sound = record { ended = refl; refused = refl; fault = tt }; since = inl (record { waits = refl; going = tt }, refl); unapplied = λ e. refl };
       asked = refl;
     }) steps
 
 -- a read that is done
-accepted_now : {R : Type 0} (prepare_gives : R → Request → Bool → R → Type 0) (apply_gives : R → List ℕ → R → Type 0) (answer_of : R → Option (List ℕ)) (request : Request) (sends : List ℕ) (begun : R) (p : Position) (fault : Option ControlFault) (q : Decision) (a : Bool) (now : R) → p ≡ Past → IsAccepted q → a ≡ false → Since prepare_gives apply_gives answer_of request sends begun p fault q a now → IsDecided prepare_gives request true now × (q ≡ Accepted (answer_of now))
+accepted_now : {R : Type 0} (prepare_gives : PrepareGives R) (apply_gives : ApplyGives R) (answer_of : AnswerOf R) (request : Request) (sends : List ℕ) (begun : R) (p : Position) (fault : Option ControlFault) (q : Decision) (a : Bool) (now : R) → p ≡ Past → IsAccepted q → a ≡ false → Since prepare_gives apply_gives answer_of request sends begun p fault q a now → prepare_gives begun request true now × (q ≡ Accepted (answer_of now))
 accepted_now prepare_gives apply_gives answer_of request sends begun p fault q true now e accepted none h = cc
 accepted_now prepare_gives apply_gives answer_of request sends begun p fault q false now e accepted none (inl h) = let f = h.0.waits in cc
 accepted_now prepare_gives apply_gives answer_of request sends begun p fault q false now e accepted none (inr (said, decided, f)) =
     let yes_said = accepted_said (answer_of now) said q f accepted in (
-      subst (λ (b : Bool). IsDecided prepare_gives request b now) yes_said decided,
+      subst (λ (b : Bool). prepare_gives begun request b now) yes_said decided,
       f ∙ ap (λ (b : Bool). decision_of b (answer_of now)) yes_said,
     )
 
-pub read_told : {R : Type 0} (prepare_gives : R → Request → Bool → R → Type 0) (apply_gives : R → List ℕ → R → Type 0) (answer_of : R → Option (List ℕ)) (request : Request) (sends : List ℕ) (begun : R) (host : HostTransferState) (control : DevControlState R) → reads request ≡ true → host.stage ≡ tries.Done → Reached prepare_gives apply_gives answer_of request sends begun host control → IsDecided prepare_gives request true control.requests × (host.bytes ≡ take request.length (unwrap_or (answer_of control.requests) []))
+pub read_told : {R : Type 0} (prepare_gives : PrepareGives R) (apply_gives : ApplyGives R) (answer_of : AnswerOf R) (request : Request) (sends : List ℕ) (begun : R) (host : HostTransferState) (control : DevControlState R) → reads request ≡ true → host.stage ≡ tries.Done → Reached prepare_gives apply_gives answer_of request sends begun host control → prepare_gives begun request true control.requests × (host.bytes ≡ take request.length (unwrap_or (answer_of control.requests) []))
 read_told prepare_gives apply_gives answer_of request sends begun host control is done r =
     let ended = (done_is answer_of (shape_of request) sends r.place host control r.stands).0 done in
     let sound = ended_is (reads request) r.place.host r.place.decision r.place.applied ended.1 r.told.sound.ended in
@@ -215,7 +193,7 @@ read_told prepare_gives apply_gives answer_of request sends begun host control i
     (now.0, read_is answer_of (shape_of request) sends r.place host control r.stands ended is ∙ ap (answered_bytes (shape_of request)) now.1)
 
 -- a write that is done
-pub write_told : {R : Type 0} (prepare_gives : R → Request → Bool → R → Type 0) (apply_gives : R → List ℕ → R → Type 0) (answer_of : R → Option (List ℕ)) (request : Request) (sends : List ℕ) (begun : R) (host : HostTransferState) (control : DevControlState R) → reads request ≡ false → host.stage ≡ tries.Done → Reached prepare_gives apply_gives answer_of request sends begun host control → IsAppliedOnce prepare_gives apply_gives request sends control.requests
+pub write_told : {R : Type 0} (prepare_gives : PrepareGives R) (apply_gives : ApplyGives R) (answer_of : AnswerOf R) (request : Request) (sends : List ℕ) (begun : R) (host : HostTransferState) (control : DevControlState R) → reads request ≡ false → host.stage ≡ tries.Done → Reached prepare_gives apply_gives answer_of request sends begun host control → IsAppliedOnce prepare_gives apply_gives request sends begun control.requests
 write_told prepare_gives apply_gives answer_of request sends begun host control is done r =
     let ended = (done_is answer_of (shape_of request) sends r.place host control r.stands).0 done in
     let sound = ended_is (reads request) r.place.host r.place.decision r.place.applied ended.1 r.told.sound.ended in
@@ -232,17 +210,17 @@ no_fault shape (Piece k) f e = way_no_fault shape.reads _ _ f (λ h. cc) (λ h. 
 no_fault shape Status f e = way_no_fault (comes shape Status) _ _ f (λ h. cc) (λ h. cc) e
 no_fault shape Past f e = cc
 
-fault_is : {R : Type 0} (answer_of : R → Option (List ℕ)) (shape : Shape) (sends : List ℕ) (p d : Position) (q : Decision) (a : Bool) (t : ℕ) (fault : Option ControlFault) (f : ControlFault) (host : HostTransferState) (control : DevControlState R) → let place : Place = record { host = p; device = d; decision = q; applied = a; tries = t; fault = fault } in Stands answer_of shape sends place host control → host.stage ≡ tries.Failed f → fault ≡ Some f
+fault_is : {R : Type 0} (answer_of : AnswerOf R) (shape : Shape) (sends : List ℕ) (p d : Position) (q : Decision) (a : Bool) (t : ℕ) (fault : Option ControlFault) (f : ControlFault) (host : HostTransferState) (control : DevControlState R) → let place : Place = record { host = p; device = d; decision = q; applied = a; tries = t; fault = fault } in Stands answer_of shape sends place host control → host.stage ≡ tries.Failed f → fault ≡ Some f
 fault_is answer_of shape sends p d q a t None f host control u e = absurd (no_fault shape p f (sym u.sender.stage ∙ e))
 fault_is answer_of shape sends p d q a t (Some g) f host control u e = let same = sym u ∙ e in cc
 
-refused_now : {R : Type 0} (prepare_gives : R → Request → Bool → R → Type 0) (apply_gives : R → List ℕ → R → Type 0) (answer_of : R → Option (List ℕ)) (request : Request) (sends : List ℕ) (begun : R) (p : Position) (fault : Option ControlFault) (q : Decision) (a : Bool) (now : R) → fault ≡ Some faults.Stalled → q ≡ Refused → a ≡ false → Since prepare_gives apply_gives answer_of request sends begun p fault q a now → IsDecided prepare_gives request false now
+refused_now : {R : Type 0} (prepare_gives : PrepareGives R) (apply_gives : ApplyGives R) (answer_of : AnswerOf R) (request : Request) (sends : List ℕ) (begun : R) (p : Position) (fault : Option ControlFault) (q : Decision) (a : Bool) (now : R) → fault ≡ Some faults.Stalled → q ≡ Refused → a ≡ false → Since prepare_gives apply_gives answer_of request sends begun p fault q a now → prepare_gives begun request false now
 refused_now prepare_gives apply_gives answer_of request sends begun p fault q true now e f none h = cc
 refused_now prepare_gives apply_gives answer_of request sends begun p fault q false now e f none (inl h) = absurd (subst NotStalled e h.0.going)
 refused_now prepare_gives apply_gives answer_of request sends begun p fault q false now e f none (inr (true, decided, g)) = cc
 refused_now prepare_gives apply_gives answer_of request sends begun p fault q false now e f none (inr (false, decided, g)) = decided
 
-pub stall_told : {R : Type 0} (prepare_gives : R → Request → Bool → R → Type 0) (apply_gives : R → List ℕ → R → Type 0) (answer_of : R → Option (List ℕ)) (request : Request) (sends : List ℕ) (begun : R) (host : HostTransferState) (control : DevControlState R) → host.stage ≡ tries.Failed faults.Stalled → Reached prepare_gives apply_gives answer_of request sends begun host control → IsDecided prepare_gives request false control.requests
+pub stall_told : {R : Type 0} (prepare_gives : PrepareGives R) (apply_gives : ApplyGives R) (answer_of : AnswerOf R) (request : Request) (sends : List ℕ) (begun : R) (host : HostTransferState) (control : DevControlState R) → host.stage ≡ tries.Failed faults.Stalled → Reached prepare_gives apply_gives answer_of request sends begun host control → prepare_gives begun request false control.requests
 stall_told prepare_gives apply_gives answer_of request sends begun host control e r =
     let fault = fault_is answer_of (shape_of request) sends r.place.host r.place.device r.place.decision r.place.applied r.place.tries r.place.fault faults.Stalled host control r.stands e in
     let refused : r.place.decision ≡ Refused = subst (λ (f : Option ControlFault). SoundFault f r.place.decision) fault r.told.sound.fault in
@@ -250,10 +228,14 @@ stall_told prepare_gives apply_gives answer_of request sends begun host control 
     refused_now prepare_gives apply_gives answer_of request sends begun r.place.host r.place.fault r.place.decision r.place.applied control.requests fault refused unapplied r.told.since
 
 -- wherever a transfer stands
-any_now : {R : Type 0} (prepare_gives : R → Request → Bool → R → Type 0) (apply_gives : R → List ℕ → R → Type 0) (answer_of : R → Option (List ℕ)) (request : Request) (sends : List ℕ) (begun : R) (p : Position) (fault : Option ControlFault) (q : Decision) (a : Bool) (now : R) → Since prepare_gives apply_gives answer_of request sends begun p fault q a now → (now ≡ begun) ⊎ (((said : Bool) × IsDecided prepare_gives request said now) ⊎ IsAppliedOnce prepare_gives apply_gives request sends now)
-any_now prepare_gives apply_gives answer_of request sends begun p fault q true now h = inr (inr h)
-any_now prepare_gives apply_gives answer_of request sends begun p fault q false now (inl h) = inl h.1
-any_now prepare_gives apply_gives answer_of request sends begun p fault q false now (inr (said, decided, e)) = inr (inl (said, decided))
+no_read : (r a : Bool) → a ≡ true → (r ≡ true → a ≡ false) → r ≡ false
+no_read false a e h = refl
+no_read true a e h = let f = h refl in cc
 
-pub any_told : {R : Type 0} (prepare_gives : R → Request → Bool → R → Type 0) (apply_gives : R → List ℕ → R → Type 0) (answer_of : R → Option (List ℕ)) (request : Request) (sends : List ℕ) (begun : R) (host : HostTransferState) (control : DevControlState R) → Reached prepare_gives apply_gives answer_of request sends begun host control → (control.requests ≡ begun) ⊎ (((said : Bool) × IsDecided prepare_gives request said control.requests) ⊎ IsAppliedOnce prepare_gives apply_gives request sends control.requests)
-any_told prepare_gives apply_gives answer_of request sends begun host control r = any_now prepare_gives apply_gives answer_of request sends begun r.place.host r.place.fault r.place.decision r.place.applied control.requests r.told.since
+once_now : {R : Type 0} (prepare_gives : PrepareGives R) (apply_gives : ApplyGives R) (answer_of : AnswerOf R) (request : Request) (sends : List ℕ) (begun : R) (p : Position) (fault : Option ControlFault) (q : Decision) (a : Bool) (now : R) → (reads request ≡ true → a ≡ false) → Since prepare_gives apply_gives answer_of request sends begun p fault q a now → IsOnceAtMost prepare_gives apply_gives request sends begun now
+once_now prepare_gives apply_gives answer_of request sends begun p fault q true now unapplied h = inr (inr (no_read (reads request) true refl unapplied, h))
+once_now prepare_gives apply_gives answer_of request sends begun p fault q false now unapplied (inl h) = inl h.1
+once_now prepare_gives apply_gives answer_of request sends begun p fault q false now unapplied (inr (said, decided, e)) = inr (inl (said, decided))
+
+pub once_told : {R : Type 0} (prepare_gives : PrepareGives R) (apply_gives : ApplyGives R) (answer_of : AnswerOf R) (request : Request) (sends : List ℕ) (begun : R) (host : HostTransferState) (control : DevControlState R) → Reached prepare_gives apply_gives answer_of request sends begun host control → IsOnceAtMost prepare_gives apply_gives request sends begun control.requests
+once_told prepare_gives apply_gives answer_of request sends begun host control r = once_now prepare_gives apply_gives answer_of request sends begun r.place.host r.place.fault r.place.decision r.place.applied control.requests r.told.unapplied r.told.since

@@ -4,18 +4,18 @@ use Rattle.std.specs.Prelude.{if◌then◌else◌}
 use Rattle.std.proofs.lemmas.Bool.Decides.{nat_tests}
 use Rattle.usb_transact.specs.declared.transaction.Fate.{Fate}
 use Rattle.usb_transact.specs.declared.transaction.Fate.TheVariants.{Clean, TokenLost, ReplyLost, AckLost}
-use Rattle.usb_control.specs.declared.setup.Setup.{Setup as Request}
 use Rattle.usb_control.specs.declared.device.Stage.{Stage}
 use Rattle.usb_control.specs.declared.device.Stage.TheVariants as stages
 use Rattle.usb_control.specs.declared.fault.ControlFault.{ControlFault}
 use Rattle.usb_control.specs.declared.host.HostStage.{HostStage}
 use Rattle.usb_control.specs.declared.host.HostStage.TheVariants as tries
 use Rattle.usb_control.specs.SetupBytes.{setup_bytes, setup_of}
+use Rattle.usb_control.specs.Requests.{PrepareGives, ApplyGives, AnswerOf}
 use Rattle.usb_control.specs.Device.{DevControlState}
 use Rattle.usb_control.specs.Host.{HostTransferState, IsRunning, asks_at, progress_of}
 use Rattle.usb_control.specs.Transaction.{TransactsAt, Transacts}
-use Rattle.usb_control.specs.Transfer.{Shape, Decision, Refused, Accepted, Position, Setup, Piece, Status, Past, Place, Act, Nothing, Acts, act_at, act_of, applies, comes, data_pieces, eights, first, next, in_tried, out_tried, piece_tried, silent, tried}
-use Rattle.usb_control.specs.Standing.{toggle, host_stage, DeviceStands, BothStand, Stands}
+use Rattle.usb_control.specs.Transfer.{Shape, Decision, Refused, Accepted, Position, Setup, Piece, Status, Past, Place, Act, Nothing, Acts, act_at, act_of, applies, comes, data_pieces, eights, first, next, in_tried, out_tried, piece_tried, silent, shape_of, tried}
+use Rattle.usb_control.specs.Standing.{toggle, host_stage, DeviceStands, BothStand, Stands, GoesOn}
 use Rattle.usb_control.proofs.StepLemmas.{at, IsAfter, Shown, setup_shown, silent_stands, moved, shaped, stands_has, first-piece}
 use Rattle.usb_control.proofs.RefusedLemmas.{IsPiece, none_taken, refused_place}
 use Rattle.usb_control.proofs.PlaceLemmas.{out_place}
@@ -24,7 +24,7 @@ use Rattle.usb_control.proofs.ReadLemmas.{read_shown, arrives}
 use Rattle.usb_control.proofs.StatusLemmas.{status_out_shown, again_arrives, effect_arrives, empty_arrives}
 
 -- the shape of what is shown, where nothing is done but a try
-abbrev pub Kept : {R : Type 0} → (R → Option (List ℕ)) → Shape → List ℕ → Place → DevControlState R → HostTransferState → DevControlState R → Type 0
+abbrev pub Kept : {R : Type 0} → AnswerOf R → Shape → List ℕ → Place → DevControlState R → HostTransferState → DevControlState R → Type 0
 Kept answer_of shape sends place old after new = (new.requests ≡ old.requests) × Stands answer_of shape sends place after new
 
 pub act_piece : (k : ℕ) (shape : Shape) (fate : Fate) (q held : Decision) (a : Bool) → act_at (Piece k) shape fate q held a ≡ Nothing
@@ -62,7 +62,7 @@ applies_read len ReplyLost = refl
 applies_read len AckLost = refl
 
 -- nothing is done
-nothing_shown : {R : Type 0} (prepare_gives : R → Request → Bool → R → Type 0) (apply_gives : R → List ℕ → R → Type 0) (answer_of : R → Option (List ℕ)) (shape : Shape) (sends : List ℕ) (fate : Fate) (place : Place) (host : HostTransferState) (old : DevControlState R) (after : HostTransferState) (new : DevControlState R) → act_of shape fate place.decision place ≡ Nothing → Kept answer_of shape sends (tried shape fate place.decision place) old after new → Shown prepare_gives apply_gives answer_of shape sends fate place host old after new
+nothing_shown : {R : Type 0} (prepare_gives : PrepareGives R) (apply_gives : ApplyGives R) (answer_of : AnswerOf R) (shape : Shape) (sends : List ℕ) (fate : Fate) (place : Place) (host : HostTransferState) (old : DevControlState R) (after : HostTransferState) (new : DevControlState R) → act_of shape fate place.decision place ≡ Nothing → Kept answer_of shape sends (tried shape fate place.decision place) old after new → Shown prepare_gives apply_gives answer_of shape sends fate place host old after new
 nothing_shown prepare_gives apply_gives answer_of shape sends fate place host old after new e h =
     (place.decision, subst (λ (x : Act). Acts prepare_gives apply_gives answer_of host.setup sends x old.requests new.requests) (sym e) h.0, h.1)
 
@@ -86,7 +86,7 @@ after_first : (count : ℕ) → IsAfter (first count)
 after_first zero = tt
 after_first (suc n) = rw (first-piece (suc n) (omega arith)) tt
 
-refused_idle : {R : Type 0} (answer_of : R → Option (List ℕ)) (shape : Shape) (sends : List ℕ) (d : Position) (a : Bool) (old : DevControlState R) → d ≡ first (data_pieces shape Refused) → DeviceStands answer_of shape sends Refused a d old → old.stage ≡ stages.Idle
+refused_idle : {R : Type 0} (answer_of : AnswerOf R) (shape : Shape) (sends : List ℕ) (d : Position) (a : Bool) (old : DevControlState R) → d ≡ first (data_pieces shape Refused) → DeviceStands answer_of shape sends Refused a d old → old.stage ≡ stages.Idle
 refused_idle answer_of shape sends d a old e h =
     let stands = subst (λ (p : Position). DeviceStands answer_of shape sends Refused a p old) e h in
     stands_has answer_of shape sends Refused a (first (data_pieces shape Refused)) old (after_first _) stands
@@ -98,7 +98,7 @@ out_place_is ReplyLost count p d q a t = refl
 out_place_is AckLost count p d q a t = refl
 
 -- a data piece of an accepted request
-piece_shown : {R : Type 0} (prepare_gives : R → Request → Bool → R → Type 0) (apply_gives : R → List ℕ → R → Type 0) (answer_of : R → Option (List ℕ)) (r : Bool) (len : ℕ) (sends : List ℕ) (fate : Fate) (k : ℕ) (d : Position) (x : Option (List ℕ)) (a : Bool) (t : ℕ) (host : HostTransferState) (old : DevControlState R) (after : HostTransferState) (new : DevControlState R) → let shape = shaped r len in BothStand answer_of shape sends (at (Piece k) d (Accepted x) a t) host old → TransactsAt prepare_gives apply_gives answer_of fate (host_stage shape (Piece k)) old.stage host.bytes host old after new → Kept answer_of shape sends (piece_tried shape fate (Accepted x) (at (Piece k) d (Accepted x) a t)) old after new
+piece_shown : {R : Type 0} (prepare_gives : PrepareGives R) (apply_gives : ApplyGives R) (answer_of : AnswerOf R) (r : Bool) (len : ℕ) (sends : List ℕ) (fate : Fate) (k : ℕ) (d : Position) (x : Option (List ℕ)) (a : Bool) (t : ℕ) (host : HostTransferState) (old : DevControlState R) (after : HostTransferState) (new : DevControlState R) → let shape = shaped r len in BothStand answer_of shape sends (at (Piece k) d (Accepted x) a t) host old → TransactsAt prepare_gives apply_gives answer_of fate (host_stage shape (Piece k)) old.stage host.bytes host old after new → Kept answer_of shape sends (piece_tried shape fate (Accepted x) (at (Piece k) d (Accepted x) a t)) old after new
 piece_shown prepare_gives apply_gives answer_of true len sends fate k d x a t host old after new u tr =
     let shape = shaped true len in
     let h = read_shown prepare_gives apply_gives answer_of len sends fate k d x a t host old after new u tr in
@@ -113,7 +113,7 @@ piece_shown prepare_gives apply_gives answer_of false len sends fate k d x a t h
     (h.0, subst (λ (b : Bool). Stands answer_of (shaped false len) sends (out_tried fate (eights len) (at (Piece k) d (Accepted x) (b || a) t)) after new) (sym (applies_piece (shaped false len) fate k)) h.1)
 
 -- a status of an accepted request that goes out, of a read
-read_status_shown : {R : Type 0} (prepare_gives : R → Request → Bool → R → Type 0) (apply_gives : R → List ℕ → R → Type 0) (answer_of : R → Option (List ℕ)) (len : ℕ) (sends : List ℕ) (fate : Fate) (d : Position) (x : Option (List ℕ)) (a : Bool) (t : ℕ) (host : HostTransferState) (old : DevControlState R) (after : HostTransferState) (new : DevControlState R) → let shape = shaped true len in BothStand answer_of shape sends (at Status d (Accepted x) a t) host old → TransactsAt prepare_gives apply_gives answer_of fate (host_stage shape Status) old.stage host.bytes host old after new → Kept answer_of shape sends (piece_tried shape fate (Accepted x) (at Status d (Accepted x) a t)) old after new
+read_status_shown : {R : Type 0} (prepare_gives : PrepareGives R) (apply_gives : ApplyGives R) (answer_of : AnswerOf R) (len : ℕ) (sends : List ℕ) (fate : Fate) (d : Position) (x : Option (List ℕ)) (a : Bool) (t : ℕ) (host : HostTransferState) (old : DevControlState R) (after : HostTransferState) (new : DevControlState R) → let shape = shaped true len in BothStand answer_of shape sends (at Status d (Accepted x) a t) host old → TransactsAt prepare_gives apply_gives answer_of fate (host_stage shape Status) old.stage host.bytes host old after new → Kept answer_of shape sends (piece_tried shape fate (Accepted x) (at Status d (Accepted x) a t)) old after new
 read_status_shown prepare_gives apply_gives answer_of zero sends fate d x a t host old after new u tr =
     let shape = shaped true 0 in
     let h : Kept answer_of shape sends (in_tried fate (data_pieces shape (Accepted x)) (at Status d (Accepted x) a t)) old after new = elim (arrives prepare_gives apply_gives answer_of fate tries.StatusIn old.stage host.bytes host old after new tr) [
@@ -140,7 +140,7 @@ read_status_shown prepare_gives apply_gives answer_of (suc n) sends fate d x a t
     (g.0, subst (λ (c : Bool). Stands answer_of shape sends (if c then in_tried fate (data_pieces shape (Accepted x)) (at Status d (Accepted x) (applies shape fate Status || a) t) else out_tried fate (data_pieces shape (Accepted x)) (at Status d (Accepted x) (applies shape fate Status || a) t)) after new) (sym some) h1)
 
 -- a status of an accepted write
-write_status : {R : Type 0} (prepare_gives : R → Request → Bool → R → Type 0) (apply_gives : R → List ℕ → R → Type 0) (answer_of : R → Option (List ℕ)) (sends : List ℕ) (fate : Fate) (x : Option (List ℕ)) (a : Bool) (t : ℕ) (host : HostTransferState) (old : DevControlState R) (after : HostTransferState) (new : DevControlState R) → let shape = shaped false (length sends) in let place = at Status Status (Accepted x) a t in BothStand answer_of shape sends place host old → TransactsAt prepare_gives apply_gives answer_of fate tries.StatusIn old.stage host.bytes host old after new → Acts prepare_gives apply_gives answer_of host.setup sends (act_of shape fate (Accepted x) place) old.requests new.requests × Stands answer_of shape sends (tried shape fate (Accepted x) place) after new
+write_status : {R : Type 0} (prepare_gives : PrepareGives R) (apply_gives : ApplyGives R) (answer_of : AnswerOf R) (sends : List ℕ) (fate : Fate) (x : Option (List ℕ)) (a : Bool) (t : ℕ) (host : HostTransferState) (old : DevControlState R) (after : HostTransferState) (new : DevControlState R) → let shape = shaped false (length sends) in let place = at Status Status (Accepted x) a t in BothStand answer_of shape sends place host old → TransactsAt prepare_gives apply_gives answer_of fate tries.StatusIn old.stage host.bytes host old after new → Acts prepare_gives apply_gives answer_of host.setup sends (act_of shape fate (Accepted x) place) old.requests new.requests × Stands answer_of shape sends (tried shape fate (Accepted x) place) after new
 write_status prepare_gives apply_gives answer_of sends TokenLost x a t host old after new u (e, f) =
     let shape = shaped false (length sends) in
     (ap (λ (c : DevControlState _). c.requests) f, moved answer_of shape sends (silent (at Status Status (Accepted x) a t)) _ after _ new (e ∙ none_taken tries.StatusIn host tt) f (silent_stands answer_of shape sends Status Status (Accepted x) a t host old u))
@@ -151,14 +151,14 @@ write_status prepare_gives apply_gives answer_of sends Clean x false t host old 
 write_status prepare_gives apply_gives answer_of sends ReplyLost x false t host old after new u h = effect_arrives prepare_gives apply_gives answer_of sends ReplyLost x t host old after new (λ e. cc) u h
 write_status prepare_gives apply_gives answer_of sends AckLost x false t host old after new u h = effect_arrives prepare_gives apply_gives answer_of sends AckLost x t host old after new (λ e. cc) u h
 
-write_status_shown : {R : Type 0} (prepare_gives : R → Request → Bool → R → Type 0) (apply_gives : R → List ℕ → R → Type 0) (answer_of : R → Option (List ℕ)) (len : ℕ) (sends : List ℕ) (fate : Fate) (d : Position) (x : Option (List ℕ)) (a : Bool) (t : ℕ) (host : HostTransferState) (old : DevControlState R) (after : HostTransferState) (new : DevControlState R) → let shape = shaped false len in let place = at Status d (Accepted x) a t in BothStand answer_of shape sends place host old → TransactsAt prepare_gives apply_gives answer_of fate tries.StatusIn old.stage host.bytes host old after new → Acts prepare_gives apply_gives answer_of host.setup sends (act_of shape fate (Accepted x) place) old.requests new.requests × Stands answer_of shape sends (tried shape fate (Accepted x) place) after new
+write_status_shown : {R : Type 0} (prepare_gives : PrepareGives R) (apply_gives : ApplyGives R) (answer_of : AnswerOf R) (len : ℕ) (sends : List ℕ) (fate : Fate) (d : Position) (x : Option (List ℕ)) (a : Bool) (t : ℕ) (host : HostTransferState) (old : DevControlState R) (after : HostTransferState) (new : DevControlState R) → let shape = shaped false len in let place = at Status d (Accepted x) a t in BothStand answer_of shape sends place host old → TransactsAt prepare_gives apply_gives answer_of fate tries.StatusIn old.stage host.bytes host old after new → Acts prepare_gives apply_gives answer_of host.setup sends (act_of shape fate (Accepted x) place) old.requests new.requests × Stands answer_of shape sends (tried shape fate (Accepted x) place) after new
 write_status_shown prepare_gives apply_gives answer_of len sends fate d x a t host old after new u tr =
     subst (λ (n : ℕ). BothStand answer_of (shaped false n) sends (at Status d (Accepted x) a t) host old → Acts prepare_gives apply_gives answer_of host.setup sends (act_of (shaped false n) fate (Accepted x) (at Status d (Accepted x) a t)) old.requests new.requests × Stands answer_of (shaped false n) sends (tried (shaped false n) fate (Accepted x) (at Status d (Accepted x) a t)) after new) (u.whole refl)
     (λ v. subst (λ (p : Position). BothStand answer_of (shaped false (length sends)) sends (at Status p (Accepted x) a t) host old → Acts prepare_gives apply_gives answer_of host.setup sends (act_of (shaped false (length sends)) fate (Accepted x) (at Status p (Accepted x) a t)) old.requests new.requests × Stands answer_of (shaped false (length sends)) sends (tried (shaped false (length sends)) fate (Accepted x) (at Status p (Accepted x) a t)) after new) (sym v.near)
     (λ w. write_status prepare_gives apply_gives answer_of sends fate x a t host old after new w tr) v) u
 
 -- a try from any place
-shown_at : {R : Type 0} (prepare_gives : R → Request → Bool → R → Type 0) (apply_gives : R → List ℕ → R → Type 0) (answer_of : R → Option (List ℕ)) (r : Bool) (len : ℕ) (sends : List ℕ) (fate : Fate) (p d : Position) (q : Decision) (a : Bool) (t : ℕ) (host : HostTransferState) (old : DevControlState R) (after : HostTransferState) (new : DevControlState R) → let shape = shaped r len in let place = at p d q a t in setup_of (setup_bytes host.setup) ≡ host.setup → IsRunning host.stage → BothStand answer_of shape sends place host old → TransactsAt prepare_gives apply_gives answer_of fate (host_stage shape p) old.stage host.bytes host old after new → Shown prepare_gives apply_gives answer_of shape sends fate place host old after new
+shown_at : {R : Type 0} (prepare_gives : PrepareGives R) (apply_gives : ApplyGives R) (answer_of : AnswerOf R) (r : Bool) (len : ℕ) (sends : List ℕ) (fate : Fate) (p d : Position) (q : Decision) (a : Bool) (t : ℕ) (host : HostTransferState) (old : DevControlState R) (after : HostTransferState) (new : DevControlState R) → let shape = shaped r len in let place = at p d q a t in setup_of (setup_bytes host.setup) ≡ host.setup → IsRunning host.stage → BothStand answer_of shape sends place host old → TransactsAt prepare_gives apply_gives answer_of fate (host_stage shape p) old.stage host.bytes host old after new → Shown prepare_gives apply_gives answer_of shape sends fate place host old after new
 shown_at prepare_gives apply_gives answer_of r len sends fate Setup d q a t host old after new back running u tr = setup_shown prepare_gives apply_gives answer_of (shaped r len) sends fate d q a t host old after new back u tr
 shown_at prepare_gives apply_gives answer_of r len sends fate Past d q a t host old after new back running u tr = let e = ap progress_of u.sender.stage in cc
 shown_at prepare_gives apply_gives answer_of r len sends fate (Piece k) d Refused a t host old after new back running u tr =
@@ -183,12 +183,25 @@ shown_at prepare_gives apply_gives answer_of false len sends fate Status d (Acce
     let h = write_status_shown prepare_gives apply_gives answer_of len sends fate d x a t host old after new u tr in
     (Accepted x, h.0, h.1)
 
-shown_unless : {R : Type 0} (prepare_gives : R → Request → Bool → R → Type 0) (apply_gives : R → List ℕ → R → Type 0) (answer_of : R → Option (List ℕ)) (shape : Shape) (sends : List ℕ) (fate : Fate) (p d : Position) (q : Decision) (a : Bool) (t : ℕ) (fault : Option ControlFault) (host : HostTransferState) (old : DevControlState R) (after : HostTransferState) (new : DevControlState R) → let place : Place = record { host = p; device = d; decision = q; applied = a; tries = t; fault = fault } in setup_of (setup_bytes host.setup) ≡ host.setup → IsRunning host.stage → Stands answer_of shape sends place host old → Transacts prepare_gives apply_gives answer_of fate host old after new → Shown prepare_gives apply_gives answer_of shape sends fate place host old after new
+shown_unless : {R : Type 0} (prepare_gives : PrepareGives R) (apply_gives : ApplyGives R) (answer_of : AnswerOf R) (shape : Shape) (sends : List ℕ) (fate : Fate) (p d : Position) (q : Decision) (a : Bool) (t : ℕ) (fault : Option ControlFault) (host : HostTransferState) (old : DevControlState R) (after : HostTransferState) (new : DevControlState R) → let place : Place = record { host = p; device = d; decision = q; applied = a; tries = t; fault = fault } in setup_of (setup_bytes host.setup) ≡ host.setup → IsRunning host.stage → Stands answer_of shape sends place host old → Transacts prepare_gives apply_gives answer_of fate host old after new → Shown prepare_gives apply_gives answer_of shape sends fate place host old after new
 shown_unless prepare_gives apply_gives answer_of shape sends fate p d q a t None host old after new back running u tr =
     shown_at prepare_gives apply_gives answer_of shape.reads shape.length sends fate p d q a t host old after new back running u
     (subst (λ (s : HostStage). TransactsAt prepare_gives apply_gives answer_of fate s old.stage host.bytes host old after new) u.sender.stage tr)
 shown_unless prepare_gives apply_gives answer_of shape sends fate p d q a t (Some fault) host old after new back running u tr = let e = ap progress_of u in cc
 
-pub try_shown : {R : Type 0} (prepare_gives : R → Request → Bool → R → Type 0) (apply_gives : R → List ℕ → R → Type 0) (answer_of : R → Option (List ℕ)) (shape : Shape) (sends : List ℕ) (fate : Fate) (place : Place) (host : HostTransferState) (old : DevControlState R) (after : HostTransferState) (new : DevControlState R) → setup_of (setup_bytes host.setup) ≡ host.setup → IsRunning host.stage → Stands answer_of shape sends place host old → Transacts prepare_gives apply_gives answer_of fate host old after new → Shown prepare_gives apply_gives answer_of shape sends fate place host old after new
+pub try_shown : {R : Type 0} (prepare_gives : PrepareGives R) (apply_gives : ApplyGives R) (answer_of : AnswerOf R) (shape : Shape) (sends : List ℕ) (fate : Fate) (place : Place) (host : HostTransferState) (old : DevControlState R) (after : HostTransferState) (new : DevControlState R) → setup_of (setup_bytes host.setup) ≡ host.setup → IsRunning host.stage → Stands answer_of shape sends place host old → Transacts prepare_gives apply_gives answer_of fate host old after new → Shown prepare_gives apply_gives answer_of shape sends fate place host old after new
 try_shown prepare_gives apply_gives answer_of shape sends fate place host old after new back running u tr =
     shown_unless prepare_gives apply_gives answer_of shape sends fate place.host place.device place.decision place.applied place.tries place.fault host old after new back running u tr
+
+pub goes_on :
+    {R : Type 0} (prepare_gives : PrepareGives R) (apply_gives : ApplyGives R) (answer_of : AnswerOf R)
+    (sends : List ℕ) (fate : Fate) (place : Place) (host : HostTransferState) (old : DevControlState R)
+    (after : HostTransferState) (new : DevControlState R)
+    → setup_of (setup_bytes host.setup) ≡ host.setup → IsRunning host.stage
+    → Stands answer_of (shape_of host.setup) sends place host old
+    → Transacts prepare_gives apply_gives answer_of fate host old after new
+    → GoesOn prepare_gives apply_gives answer_of host.setup sends fate place old.requests after new
+goes_on prepare_gives apply_gives answer_of sends fate place host old after new spelled running stands transacts =
+    let shape = shape_of host.setup in
+    let shown = try_shown prepare_gives apply_gives answer_of shape sends fate place host old after new spelled running stands transacts in
+    (tried shape fate shown.0 place, (shown.0, shown.1, refl), shown.2)

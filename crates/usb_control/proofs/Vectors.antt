@@ -3,6 +3,9 @@
 use Rattle.std.proofs.Common.{◌≡◌, ℕ, true, false, List, [], ◌∷◌, Some, None, Ok, Err, refl}
 use Rattle.usb_transact.specs.declared.transaction.Fate.TheVariants.{Clean, ReplyLost, AckLost}
 use Rattle.usb_control.specs.declared.setup.Setup.{Setup as Request}
+use Rattle.usb_control.specs.declared.device.TheConstants.{MAX_WRITE}
+use Rattle.usb_control.specs.declared.host.TheConstants.{MAX_TRIES}
+use Rattle.usb_control.specs.declared.pieces.TheConstants.{MAX_PACKET}
 use Rattle.usb_control.specs.declared.fault.ControlFault.TheVariants.{Stalled, BusFault}
 use Rattle.usb_control.specs.declared.fault.InfoFault.TheVariants as infos
 use Rattle.usb_control.specs.SetupBytes.{setup_bytes, setup_of}
@@ -14,6 +17,16 @@ use Rattle.usb_control.specs.Packets.{data_packet}
 use Rattle.usb_control.specs.Reading.{accepted}
 use Rattle.usb_control.specs.Writing.{given_data}
 use Rattle.usb_control.specs.Descriptors.{config_of, report_length}
+
+-- the limits, in numbers: bytes of a write that is kept, tries in a row without an answer, bytes of a packet
+writes_to : MAX_WRITE ≡ 64
+writes_to = refl
+
+tries_to : MAX_TRIES ≡ 3
+tries_to = refl
+
+packets_to : MAX_PACKET ≡ 8
+packets_to = refl
 
 -- GET_DESCRIPTOR for a device, of 18 bytes
 abbrev get_device : Request

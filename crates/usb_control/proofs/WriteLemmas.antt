@@ -7,12 +7,12 @@ use Rattle.std.proofs.lemmas.List.{length-take, take_all}
 use Rattle.std.proofs.lemmas.Bool.Decides.{nat_tests}
 use Rattle.usb_packet.specs.declared.packet.Packet.TheVariants as packets
 use Rattle.usb_transact.specs.declared.transaction.Fate.{Fate}
-use Rattle.usb_control.specs.declared.setup.Setup.{Setup as Request}
 use Rattle.usb_control.specs.declared.device.Stage.{Stage}
 use Rattle.usb_control.specs.declared.device.Stage.TheVariants as stages
 use Rattle.usb_control.specs.declared.device.Heard.TheVariants as hears
 use Rattle.usb_control.specs.declared.host.HostStage.{HostStage}
 use Rattle.usb_control.specs.declared.host.HostStage.TheVariants as tries
+use Rattle.usb_control.specs.Requests.{PrepareGives, ApplyGives, AnswerOf}
 use Rattle.usb_control.specs.Pieces.{piece_from}
 use Rattle.usb_control.specs.Device.{DevControlState, Answers, given, data_given}
 use Rattle.usb_control.specs.Host.{HostTransferState, answered, after_write_piece}
@@ -86,7 +86,7 @@ next_near sends x k true e = (ltb-true _ _ e, refl, inl refl)
 next_near sends x k false e = refl
 
 -- a try of a data piece, where the device waits for it or has it already
-piece_tried : {R : Type 0} (prepare_gives : R → Request → Bool → R → Type 0) (apply_gives : R → List ℕ → R → Type 0) (answer_of : R → Option (List ℕ)) (sends : List ℕ) (fate : Fate) (k : ℕ) (d : Position) (x : Option (List ℕ)) (t : ℕ) (host : HostTransferState) (old : DevControlState R) (after : HostTransferState) (new : DevControlState R) (device_stage : Stage) → let shape = shaped false (length sends) in let n = next (eights (length sends)) (Piece k) in k < eights (length sends) → given device_stage (toggle k) (piece_from sends (8 * k)) ≡ Answers (Some packets.Ack) (write_stage (length sends) sends (eights (length sends)) false n) hears.Nothing → BothStand answer_of shape sends (at (Piece k) d (Accepted x) false t) host old → TransactsAt prepare_gives apply_gives answer_of fate (tries.DataOut (8 * k) (toggle k)) device_stage sends host old after new → (new.requests ≡ old.requests) × Stands answer_of shape sends (out_place fate (Piece k) d n (Accepted x) false t) after new
+piece_tried : {R : Type 0} (prepare_gives : PrepareGives R) (apply_gives : ApplyGives R) (answer_of : AnswerOf R) (sends : List ℕ) (fate : Fate) (k : ℕ) (d : Position) (x : Option (List ℕ)) (t : ℕ) (host : HostTransferState) (old : DevControlState R) (after : HostTransferState) (new : DevControlState R) (device_stage : Stage) → let shape = shaped false (length sends) in let n = next (eights (length sends)) (Piece k) in k < eights (length sends) → given device_stage (toggle k) (piece_from sends (8 * k)) ≡ Answers (Some packets.Ack) (write_stage (length sends) sends (eights (length sends)) false n) hears.Nothing → BothStand answer_of shape sends (at (Piece k) d (Accepted x) false t) host old → TransactsAt prepare_gives apply_gives answer_of fate (tries.DataOut (8 * k) (toggle k)) device_stage sends host old after new → (new.requests ≡ old.requests) × Stands answer_of shape sends (out_place fate (Piece k) d n (Accepted x) false t) after new
 piece_tried prepare_gives apply_gives answer_of sends fate k d x t host old after new device_stage here effect u tr =
     let shape = shaped false (length sends) in
     let n = next (eights (length sends)) (Piece k) in
@@ -108,7 +108,7 @@ piece_tried prepare_gives apply_gives answer_of sends fate k d x t host old afte
     })
     tr
 
-pub write_shown : {R : Type 0} (prepare_gives : R → Request → Bool → R → Type 0) (apply_gives : R → List ℕ → R → Type 0) (answer_of : R → Option (List ℕ)) (sends : List ℕ) (fate : Fate) (k : ℕ) (d : Position) (x : Option (List ℕ)) (t : ℕ) (host : HostTransferState) (old : DevControlState R) (after : HostTransferState) (new : DevControlState R) → let shape = shaped false (length sends) in let n = next (eights (length sends)) (Piece k) in BothStand answer_of shape sends (at (Piece k) d (Accepted x) false t) host old → TransactsAt prepare_gives apply_gives answer_of fate (tries.DataOut (8 * k) (toggle k)) old.stage sends host old after new → (new.requests ≡ old.requests) × Stands answer_of shape sends (out_place fate (Piece k) d n (Accepted x) false t) after new
+pub write_shown : {R : Type 0} (prepare_gives : PrepareGives R) (apply_gives : ApplyGives R) (answer_of : AnswerOf R) (sends : List ℕ) (fate : Fate) (k : ℕ) (d : Position) (x : Option (List ℕ)) (t : ℕ) (host : HostTransferState) (old : DevControlState R) (after : HostTransferState) (new : DevControlState R) → let shape = shaped false (length sends) in let n = next (eights (length sends)) (Piece k) in BothStand answer_of shape sends (at (Piece k) d (Accepted x) false t) host old → TransactsAt prepare_gives apply_gives answer_of fate (tries.DataOut (8 * k) (toggle k)) old.stage sends host old after new → (new.requests ≡ old.requests) × Stands answer_of shape sends (out_place fate (Piece k) d n (Accepted x) false t) after new
 write_shown prepare_gives apply_gives answer_of sends fate k d x t host old after new u tr =
     let shape = shaped false (length sends) in
     let n = next (eights (length sends)) (Piece k) in

@@ -1,32 +1,42 @@
 -- One transaction of endpoint 0 over any bus (USB 2.0, 8.5.3): each end acts on what it reads of the bytes that arrive,
 -- and on nothing else.
-use Rattle.std.specs.Prelude.{◌≡◌, ℕ, Bool, true, false, List, Option, Some, None}
+use Rattle.std.specs.Prelude.{◌≡◌, Bool, true, false, Option, Some, None}
 use Rattle.usb_packet.specs.declared.packet.Packet.{Packet}
 use Rattle.usb_packet.specs.declared.packet.Packet.TheVariants.{Ack}
-use Rattle.usb_control.specs.declared.setup.Setup.{Setup as Request}
 use Rattle.usb_transact.specs.declared.bus.Phase.{Phase}
 use Rattle.usb_transact.specs.declared.bus.Phase.TheVariants.{Token, HostData, Reply, Handshake, Acknowledgement}
 use Rattle.usb_transact.specs.Bus.{Arrivals, Carries, Replies}
+use Rattle.usb_control.specs.Requests.{PrepareGives, ApplyGives, AnswerOf}
 use Rattle.usb_control.specs.Device.{DevControlState, Does, effect}
 use Rattle.usb_control.specs.Host.{HostTransferState, asks_at, token_of, payload_of, took, acknowledges}
 
 -- the device hears a packet, where one came
-abbrev pub Hears : {R : Type 0} → (R → Request → Bool → R → Type 0) → (R → List ℕ → R → Type 0) → (R → Option (List ℕ)) → Option Packet → DevControlState R → DevControlState R → Option Packet → Type 0
+abbrev pub Hears :
+    {R : Type 0} → PrepareGives R → ApplyGives R → AnswerOf R → Option Packet → DevControlState R
+    → DevControlState R → Option Packet → Type 0
 Hears prepare_gives apply_gives answer_of None old new answer = (new ≡ old) × (answer ≡ None)
 Hears prepare_gives apply_gives answer_of (Some packet) old new answer =
-    Does prepare_gives apply_gives (effect (answer_of old.requests) old.stage old.heard packet) old.requests new answer
+    Does prepare_gives apply_gives (effect (answer_of old.requests) old.stage old.heard packet)
+    old.requests new answer
 
 -- then it hears the data packet that goes with a token, where one does, and answers that
-abbrev pub HearsData : {R : Type 0} → (R → Request → Bool → R → Type 0) → (R → List ℕ → R → Type 0) → (R → Option (List ℕ)) → Arrivals → Option Packet → DevControlState R → Option Packet → DevControlState R → Option Packet → Type 0
-HearsData prepare_gives apply_gives answer_of arrivals None old before new answer = (new ≡ old) × (answer ≡ before)
+abbrev pub HearsData :
+    {R : Type 0} → PrepareGives R → ApplyGives R → AnswerOf R → Arrivals → Option Packet
+    → DevControlState R → Option Packet → DevControlState R → Option Packet → Type 0
+HearsData prepare_gives apply_gives answer_of arrivals None old before new answer =
+    (new ≡ old) × (answer ≡ before)
 HearsData prepare_gives apply_gives answer_of arrivals (Some sent) old before new answer =
-    (came : Option Packet) × Carries arrivals HostData sent came × Hears prepare_gives apply_gives answer_of came old new answer
+    (came : Option Packet) × Carries arrivals HostData sent came
+    × Hears prepare_gives apply_gives answer_of came old new answer
 
 -- what the host sends first, and the device's answer to what comes of it
-abbrev pub Reaches : {R : Type 0} → (R → Request → Bool → R → Type 0) → (R → List ℕ → R → Type 0) → (R → Option (List ℕ)) → Arrivals → Packet → Option Packet → DevControlState R → DevControlState R → Option Packet → Type 0
+abbrev pub Reaches :
+    {R : Type 0} → PrepareGives R → ApplyGives R → AnswerOf R → Arrivals → Packet → Option Packet
+    → DevControlState R → DevControlState R → Option Packet → Type 0
 Reaches {R} prepare_gives apply_gives answer_of arrivals token payload old new answer =
     (came : Option Packet) × (mid : DevControlState R) × (before : Option Packet)
-    × Carries arrivals Token token came × Hears prepare_gives apply_gives answer_of came old mid before
+    × Carries arrivals Token token came
+    × Hears prepare_gives apply_gives answer_of came old mid before
     × HearsData prepare_gives apply_gives answer_of arrivals payload mid before new answer
 
 -- what the device sends answers an IN token, or is its handshake for data
@@ -35,18 +45,26 @@ phase_of true = Reply
 phase_of false = Handshake
 
 -- the host's ACK, where it sends one
-abbrev pub Acknowledges : {R : Type 0} → (R → Request → Bool → R → Type 0) → (R → List ℕ → R → Type 0) → (R → Option (List ℕ)) → Arrivals → Bool → DevControlState R → DevControlState R → Type 0
+abbrev pub Acknowledges :
+    {R : Type 0} → PrepareGives R → ApplyGives R → AnswerOf R → Arrivals → Bool → DevControlState R
+    → DevControlState R → Type 0
 Acknowledges prepare_gives apply_gives answer_of arrivals false old new = new ≡ old
 Acknowledges prepare_gives apply_gives answer_of arrivals true old new =
     (came : Option Packet) × (answer : Option Packet) × Carries arrivals Acknowledgement Ack came
     × Hears prepare_gives apply_gives answer_of came old new answer
 
 -- the transaction by its packets, as each end reads them
-pub record Crosses {R : Type 0} (prepare_gives : R → Request → Bool → R → Type 0) (apply_gives : R → List ℕ → R → Type 0) (answer_of : R → Option (List ℕ)) (arrivals : Arrivals) (host : HostTransferState) (old : DevControlState R) (host_then : HostTransferState) (new : DevControlState R) : Type 0 where
+pub record Crosses {R : Type 0} (prepare_gives : PrepareGives R) (apply_gives : ApplyGives R)
+    (answer_of : AnswerOf R) (arrivals : Arrivals) (host : HostTransferState)
+    (old : DevControlState R) (host_then : HostTransferState)
+    (new : DevControlState R) : Type 0 where
   pub mid : DevControlState R
   pub answer : Option Packet
   pub reply : Option Packet
-  pub reached : Reaches prepare_gives apply_gives answer_of arrivals (token_of host) (payload_of host) old mid answer
+  pub reached :
+      Reaches prepare_gives apply_gives answer_of arrivals (token_of host) (payload_of host) old mid
+      answer
   pub replied : Replies arrivals (phase_of (asks_at host.stage)) answer reply
   pub took_reply : host_then ≡ took reply host
-  pub acknowledged : Acknowledges prepare_gives apply_gives answer_of arrivals (acknowledges reply host) mid new
+  pub acknowledged :
+      Acknowledges prepare_gives apply_gives answer_of arrivals (acknowledges reply host) mid new

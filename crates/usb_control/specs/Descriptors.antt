@@ -20,6 +20,7 @@ abbrev pub IsDescriptor : List ℕ → Type 0
 IsDescriptor [] = ⊥
 IsDescriptor (first ∷ body) = (2 ≤ first) × (length (first ∷ body) ≡ first)
 
+-- each of these is a descriptor
 abbrev pub AreDescriptors : List (List ℕ) → Type 0
 AreDescriptors [] = Unit {0}
 AreDescriptors (descriptor ∷ rest) = IsDescriptor descriptor × AreDescriptors rest
@@ -29,6 +30,7 @@ pub record IsWalk (bytes : List ℕ) (descriptors : List (List ℕ)) : Type 0 wh
   pub each : AreDescriptors descriptors
   pub whole : concat descriptors ≡ bytes
 
+-- the bytes are descriptors, one after another
 abbrev pub HasWalk : List ℕ → Type 0
 HasWalk bytes = (descriptors : List (List ℕ)) × IsWalk bytes descriptors
 
@@ -42,7 +44,8 @@ is_interface descriptor = type_of descriptor == 4
 
 -- a whole interface of the class of human interface devices (table 9-12; HID 1.11, 4.1)
 abbrev pub is_hid_interface : List ℕ → Bool
-is_hid_interface descriptor = (nat_le 9 (length descriptor) && is_interface descriptor) && (slice_index descriptor 5 == 3)
+is_hid_interface descriptor =
+    (nat_le 9 (length descriptor) && is_interface descriptor) && (slice_index descriptor 5 == 3)
 
 -- a HID descriptor, with one entry at least (HID 1.11, 6.2.1 and 7.1)
 abbrev pub is_hid : List ℕ → Bool
@@ -57,7 +60,8 @@ is_interrupt_in descriptor =
 
 -- entries of three bytes, a type and a word: the word of the first report descriptor (HID 1.11, 6.2.1 and 7.1)
 abbrev pub report_entry : List ℕ → Option ℕ
-report_entry (kind ∷ low ∷ high ∷ rest) = if kind == 0x22 then Some (low + 256 * high) else report_entry rest
+report_entry (kind ∷ low ∷ high ∷ rest) =
+    if kind == 0x22 then Some (low + 256 * high) else report_entry rest
 report_entry _ = None
 
 -- the entries of a HID descriptor stand from byte 6 on
@@ -80,6 +84,7 @@ info_of interface (Some len) (Some endpoint) =
       protocol = slice_index interface 7;
     })
 
+-- what is read of the first HID interface, where there is one, and of the descriptors that belong to it
 abbrev pub interface_info : Option (List ℕ) → List (List ℕ) → Result ConfigInfo InfoFault
 interface_info None part = Err NoHidInterface
 interface_info (Some interface) part =

@@ -4,12 +4,12 @@ use Rattle.std.specs.Bool.{beq}
 use Rattle.usb_packet.specs.declared.packet.TokenKind.TheVariants as tokens
 use Rattle.usb_packet.specs.declared.packet.Packet.{Packet}
 use Rattle.usb_packet.specs.declared.packet.Packet.TheVariants.{Token, Data, Ack, Nak, Stall}
-use Rattle.usb_control.specs.declared.setup.Setup.{Setup}
 use Rattle.usb_control.specs.declared.device.Stage.{Stage}
 use Rattle.usb_control.specs.declared.device.Stage.TheVariants.{Idle, ReadData, StatusOut, WriteData, StatusIn}
 use Rattle.usb_control.specs.declared.device.Heard.{Heard}
 use Rattle.usb_control.specs.declared.device.Heard.TheVariants as hears
 use Rattle.usb_control.specs.SetupBytes.{setup_of, reads}
+use Rattle.usb_control.specs.Requests.{PrepareGives, ApplyGives}
 use Rattle.usb_control.specs.Pieces.{piece_from}
 use Rattle.usb_control.specs.Packets.{data_packet}
 
@@ -32,9 +32,11 @@ pub data Effect : Type 0 where
   -- the write of these bytes takes effect
   Applies : (bytes : List ℕ) → Effect
 
+-- STALL, and no request is open any more
 abbrev pub stalled : Effect
 stalled = Answers (Some Stall) Idle hears.Nothing
 
+-- no answer: the stage stays
 abbrev pub ignored : Stage → Effect
 ignored stage = Answers None stage hears.Nothing
 
@@ -45,9 +47,12 @@ read_piece answer len sent = piece_from (take len (unwrap_or answer [])) sent
 -- an IN token
 abbrev pub asked : Option (List ℕ) → Stage → Effect
 asked answer Idle = stalled
-asked answer (ReadData len sent one) = Answers (Some (data_packet one (read_piece answer len sent))) (ReadData len sent one) hears.Answered
+asked answer (ReadData len sent one) =
+    Answers (Some (data_packet one (read_piece answer len sent))) (ReadData len sent one)
+    hears.Answered
 asked answer StatusOut = stalled
-asked answer (WriteData len one bytes more) = if length bytes.items == len then Applies bytes.items else stalled
+asked answer (WriteData len one bytes more) =
+    if length bytes.items == len then Applies bytes.items else stalled
 asked answer StatusIn = Answers (Some (data_packet true [])) StatusIn hears.Answered
 
 -- the status of a read is DATA1 and empty
@@ -55,11 +60,17 @@ abbrev pub status_given : Bool → List ℕ → Effect
 status_given true [] = Answers (Some Ack) StatusOut hears.Nothing
 status_given one payload = stalled
 
+-- a data stage of a write after a piece: it lasts while its packets are full and bytes are missing
+abbrev pub write_goes_on : ℕ → Bool → List ℕ → List ℕ → Stage
+write_goes_on len one bytes payload =
+    WriteData len (not one) (record { items = bytes ++ payload })
+    ((length payload == 8) && nat_lt (length bytes + length payload) len)
+
 -- data of a write: more bytes, where the data stage lasts and no more come than were announced
 abbrev pub data_given : ℕ → Bool → List ℕ → Bool → List ℕ → Effect
 data_given len one bytes more payload =
     if (more && nat_le (length payload) 8) && nat_le (length bytes + length payload) len
-    then Answers (Some Ack) (WriteData len (not one) (record { items = bytes ++ payload }) ((length payload == 8) && nat_lt (length bytes + length payload) len)) hears.Nothing
+    then Answers (Some Ack) (write_goes_on len one bytes payload) hears.Nothing
     else stalled
 
 -- data after an OUT token
@@ -75,24 +86,30 @@ given StatusIn one payload = stalled
 -- a data stage of a read after a piece of this length
 abbrev pub read_goes_on : ℕ → ℕ → Bool → ℕ → Stage
 read_goes_on len sent one count =
-    if (count == 8) && nat_lt (sent + count) len then ReadData len (sent + count) (not one) else StatusOut
+    if (count == 8) && nat_lt (sent + count) len
+    then ReadData len (sent + count) (not one)
+    else StatusOut
 
 -- an ACK directly after data
 abbrev pub acknowledged : Option (List ℕ) → Stage → Stage
-acknowledged answer (ReadData len sent one) = read_goes_on len sent one (length (read_piece answer len sent))
+acknowledged answer (ReadData len sent one) =
+    read_goes_on len sent one (length (read_piece answer len sent))
 acknowledged answer StatusIn = Idle
 acknowledged answer stage = stage
 
 -- a data packet, by what was heard before it
 abbrev pub data_heard : Stage → Heard → Bool → List ℕ → Effect
-data_heard stage hears.Setup one payload = if not one && (length payload == 8) then Decides payload else ignored stage
+data_heard stage hears.Setup one payload =
+    if not one && (length payload == 8) then Decides payload else ignored stage
 data_heard stage hears.Out one payload = given stage one payload
 data_heard stage _ one payload = ignored stage
 
+-- an ACK counts only directly after data
 abbrev pub ack_heard : Option (List ℕ) → Stage → Heard → Effect
 ack_heard answer stage hears.Answered = Answers None (acknowledged answer stage) hears.Nothing
 ack_heard answer stage _ = ignored stage
 
+-- what any packet brings about, by the answer that is fixed, the stage, and what was heard last
 abbrev pub effect : Option (List ℕ) → Stage → Heard → Packet → Effect
 effect answer stage heard (Token tokens.Setup addr endp) = Answers None stage hears.Setup
 effect answer stage heard (Token tokens.Out addr endp) = Answers None stage hears.Out
@@ -109,14 +126,18 @@ begun true true len = if len == 0 then StatusIn else ReadData len 0 true
 begun true false len = WriteData len true (record { items = [] }) (nat_lt 0 len)
 
 -- what may come of a packet with this effect
-abbrev pub Does : {R : Type 0} → (R → Setup → Bool → R → Type 0) → (R → List ℕ → R → Type 0) → Effect → R → DevControlState R → Option Packet → Type 0
+abbrev pub Does :
+    {R : Type 0} → PrepareGives R → ApplyGives R → Effect → R → DevControlState R → Option Packet
+    → Type 0
 Does prepare_gives apply_gives (Answers answer stage heard) old new result =
     (new ≡ record { requests = old; stage = stage; heard = heard }) × (result ≡ answer)
 Does prepare_gives apply_gives (Decides bytes) old new result =
     (said : Bool) × prepare_gives old (setup_of bytes) said new.requests
-    × (new.stage ≡ begun said (reads (setup_of bytes)) (setup_of bytes).length) × (new.heard ≡ hears.Nothing) × (result ≡ Some Ack)
+    × (new.stage ≡ begun said (reads (setup_of bytes)) (setup_of bytes).length)
+    × (new.heard ≡ hears.Nothing) × (result ≡ Some Ack)
 Does prepare_gives apply_gives (Applies bytes) old new result =
-    apply_gives old bytes new.requests × (new.stage ≡ StatusIn) × (new.heard ≡ hears.Answered) × (result ≡ Some (data_packet true []))
+    apply_gives old bytes new.requests × (new.stage ≡ StatusIn) × (new.heard ≡ hears.Answered)
+    × (result ≡ Some (data_packet true []))
 
 -- the length of a write under way
 abbrev pub write_length : Stage → ℕ

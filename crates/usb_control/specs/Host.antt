@@ -33,16 +33,20 @@ sent_length setup = if reads setup then 0 else setup.length
 
 -- a transfer that has yet to begin
 abbrev pub at_start : ℕ → Request → List ℕ → HostTransferState
-at_start addr setup sends = record { addr = addr; setup = setup; bytes = sends; stage = Setup; tries = 0 }
+at_start addr setup sends =
+    record { addr = addr; setup = setup; bytes = sends; stage = Setup; tries = 0 }
 
+-- how far a transfer at this stage has come
 abbrev pub progress_of : HostStage → Progress
 progress_of Done = progresses.Done
 progress_of (Failed fault) = progresses.Failed fault
 progress_of _ = progresses.Running
 
+-- there is another try to make
 abbrev pub IsRunning : HostStage → Type 0
 IsRunning stage = progress_of stage ≡ progresses.Running
 
+-- the token of a stage: SETUP, IN where data or a status come, OUT where they go
 abbrev pub kind_of : HostStage → TokenKind
 kind_of Setup = tokens.Setup
 kind_of (DataIn one) = tokens.In
@@ -55,6 +59,7 @@ asks_at (DataIn one) = true
 asks_at StatusIn = true
 asks_at _ = false
 
+-- the token of the next try, to endpoint 0
 abbrev pub token_of : HostTransferState → Packet
 token_of host = Token (kind_of host.stage) host.addr 0
 
@@ -65,6 +70,7 @@ payload_at (DataOut sent one) setup bytes = Some (data_packet one (piece_from by
 payload_at StatusOut setup bytes = Some (data_packet true [])
 payload_at _ setup bytes = None
 
+-- the data that go with the token of the next try
 abbrev pub payload_of : HostTransferState → Option Packet
 payload_of host = payload_at host.stage host.setup host.bytes
 
@@ -72,16 +78,19 @@ payload_of host = payload_at host.stage host.setup host.bytes
 abbrev pub answered : HostStage → HostTransferState → HostTransferState
 answered stage host = record host { stage = stage; tries = 0 }
 
+-- the transfer fails
 abbrev pub failed : ControlFault → HostTransferState → HostTransferState
 failed fault host = record host { stage = Failed fault }
 
 -- the third try in a row without an answer is the last
 abbrev pub unanswered : HostTransferState → HostTransferState
-unanswered host = if nat_lt host.tries 2 then record host { tries = host.tries + 1 } else failed BusFault host
+unanswered host =
+    if nat_lt host.tries 2 then record host { tries = host.tries + 1 } else failed BusFault host
 
 -- what follows SETUP, in a read or a write of this length
 abbrev pub after_setup : Bool → ℕ → HostStage
-after_setup is_read len = if len == 0 then StatusIn else if is_read then DataIn true else DataOut 0 true
+after_setup is_read len =
+    if len == 0 then StatusIn else if is_read then DataIn true else DataOut 0 true
 
 -- what follows a piece of a write, where so many bytes were sent of so many
 abbrev pub after_write_piece : ℕ → ℕ → Bool → HostStage
@@ -103,6 +112,7 @@ joined one payload host =
     }
     else failed Overrun host
 
+-- data in the status stage: DATA0 is a repeat, DATA1 without a byte the status, and DATA1 with a byte too much
 abbrev pub status_in : Bool → List ℕ → HostTransferState → HostTransferState
 status_in false payload host = answered StatusIn host
 status_in true [] host = answered Done host
@@ -125,20 +135,26 @@ handshake (Some Ack) next host = answered next host
 handshake packet next host = not_taken packet host
 
 -- an answer to IN, where data have this meaning
-abbrev pub in_answered : Option Packet → (Bool → List ℕ → HostTransferState → HostTransferState) → HostTransferState → HostTransferState
+abbrev pub in_answered :
+    Option Packet → (Bool → List ℕ → HostTransferState → HostTransferState) → HostTransferState
+    → HostTransferState
 in_answered (Some (Data one payload)) taken host = taken one payload.items host
 in_answered packet taken host = not_taken packet host
 
 -- data in the data stage
 abbrev pub data_in : Bool → Bool → List ℕ → HostTransferState → HostTransferState
-data_in expected one payload host = if beq one expected then joined one payload host else answered host.stage host
+data_in expected one payload host =
+    if beq one expected then joined one payload host else answered host.stage host
 
 -- what the host makes of what came
+-- what the host makes of what came, at its stage
 abbrev pub took_at : HostStage → Option Packet → HostTransferState → HostTransferState
 took_at Setup packet host = setup_answered packet host
 took_at (DataIn one) packet host = in_answered packet (data_in one) host
 took_at (DataOut sent one) packet host =
-    handshake packet (after_write_piece (sent + length (piece_from host.bytes sent)) (length host.bytes) one) host
+    handshake packet
+    (after_write_piece (sent + length (piece_from host.bytes sent)) (length host.bytes) one)
+    host
 took_at StatusIn packet host = in_answered packet status_in host
 took_at StatusOut packet host = handshake packet Done host
 took_at _ packet host = host
@@ -146,11 +162,13 @@ took_at _ packet host = host
 abbrev pub took : Option Packet → HostTransferState → HostTransferState
 took packet host = took_at host.stage packet host
 
+-- too much came
 abbrev pub is_overrun : HostStage → Bool
 is_overrun (Failed Overrun) = true
 is_overrun _ = false
 
 -- data in answer to IN are acknowledged, but for those that are too much
+-- whether the host acknowledges what came, at its stage
 abbrev pub acknowledges_at : HostStage → Option Packet → HostStage → Bool
 acknowledges_at (DataIn one) (Some (Data toggle payload)) after = not (is_overrun after)
 acknowledges_at StatusIn (Some (Data toggle payload)) after = not (is_overrun after)

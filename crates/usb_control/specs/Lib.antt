@@ -1,4 +1,5 @@
 pub mod SetupBytes
+pub mod Requests
 pub mod Pieces
 pub mod Packets
 pub mod Device
@@ -11,6 +12,7 @@ pub mod Reading
 pub mod Writing
 pub mod Runs
 pub mod Steps
+pub mod Computed
 pub mod Lending
 pub mod Descriptors
 pub mod Search

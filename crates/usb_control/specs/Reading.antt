@@ -1,5 +1,5 @@
 -- The bytes of a read, by the packets that the host took (USB 2.0, 8.5.3 and 8.6.2).
-use Rattle.std.specs.Prelude.{◌≡◌, ℕ, ◌-◌, ◌<◌, ◌≤◌, ◌⊎◌, Bool, true, not, if◌then◌else◌, List, [], ◌∷◌, ◌++◌, length, Option, Some}
+use Rattle.std.specs.Prelude.{◌≡◌, ℕ, ◌-◌, ◌<◌, ◌≤◌, ◌⊎◌, Bool, true, not, if◌then◌else◌, List, [], ◌∷◌, ◌++◌, length, Contains, Option, Some}
 use Rattle.std.specs.Bool.{beq}
 use Rattle.std.specs.List.{concat}
 use Rattle.usb_packet.specs.declared.packet.Packet.{Packet}
@@ -22,14 +22,19 @@ accepted one (_ ∷ rest) = accepted one rest
 -- the payloads of a data stage for so many bytes: of 8, up to one that is shorter or brings the last byte (8.5.3.2)
 abbrev pub IsDataStage : ℕ → List (List ℕ) → Type 0
 IsDataStage left [] = left ≡ 0
-IsDataStage left (payload ∷ []) = (length payload ≤ 8) × (length payload ≤ left) × ((length payload < 8) ⊎ (length payload ≡ left))
-IsDataStage left (payload ∷ next ∷ rest) = (length payload ≡ 8) × (8 < left) × IsDataStage (left - 8) (next ∷ rest)
+IsDataStage left (payload ∷ []) =
+    (length payload ≤ 8) × (length payload ≤ left)
+    × ((length payload < 8) ⊎ (length payload ≡ left))
+IsDataStage left (payload ∷ next ∷ rest) =
+    (length payload ≡ 8) × (8 < left) × IsDataStage (left - 8) (next ∷ rest)
 
--- a read for so many bytes got these: behind the ACK to SETUP came a data stage, whose payloads they are joined
+-- a read for so many bytes got these: behind the first ACK, which answers SETUP, came a data stage, whose payloads they
+-- are joined
 pub record IsReadOf (asked : ℕ) (packets : List (Option Packet)) (bytes : List ℕ) : Type 0 where
   pub before : List (Option Packet)
   pub stage : List (Option Packet)
   pub behind : List (Option Packet)
   pub order : packets ≡ before ++ (Some Ack ∷ (stage ++ behind))
+  pub first : ¬ Contains before (Some Ack)
   pub data_stage : IsDataStage asked (accepted true stage)
   pub bytes_are : bytes ≡ concat (accepted true stage)

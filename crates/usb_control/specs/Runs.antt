@@ -5,6 +5,7 @@ use Rattle.usb_control.specs.declared.fault.ControlFault.{ControlFault}
 use Rattle.usb_control.specs.declared.fault.ControlFault.TheVariants.{Stalled}
 use Rattle.usb_control.specs.Transfer.{Shape, Decision, Refused, Accepted, Position, Past, Place, start, Act, Nothing, Decides, TakesEffect, act_of, tried}
 
+-- a transfer runs until it fails, or the host is past its last piece
 abbrev pub is_open_at : Option ControlFault → Position → Bool
 is_open_at (Some fault) host = false
 is_open_at None Past = false
@@ -17,13 +18,16 @@ is_open place = is_open_at place.fault place.host
 -- the place after tries with these fates, each with what a SETUP that arrives in it is decided
 abbrev pub run : Shape → List (Fate × Decision) → Place → Place
 run shape [] place = place
-run shape (try ∷ tries) place = if is_open place then run shape tries (tried shape try.0 try.1 place) else place
+run shape (try ∷ tries) place =
+    if is_open place then run shape tries (tried shape try.0 try.1 place) else place
 
 -- what these tries do at the device
 abbrev pub acts : Shape → List (Fate × Decision) → Place → List Act
 acts shape [] place = []
 acts shape (try ∷ tries) place =
-    if is_open place then act_of shape try.0 try.1 place ∷ acts shape tries (tried shape try.0 try.1 place) else []
+    if is_open place
+    then act_of shape try.0 try.1 place ∷ acts shape tries (tried shape try.0 try.1 place)
+    else []
 
 -- the decision at the last SETUP that arrived, where it was this one before
 abbrev pub last_decision : Decision → List Act → Decision
@@ -32,28 +36,43 @@ last_decision before (Decides decision ∷ rest) = last_decision decision rest
 last_decision before (Nothing ∷ rest) = last_decision before rest
 last_decision before (TakesEffect ∷ rest) = last_decision before rest
 
--- how often a write took effect since the last SETUP that arrived, where it was so often before
+-- how often a write took effect in the whole list, where it was so often before
 abbrev pub effects : ℕ → List Act → ℕ
 effects before [] = before
-effects before (Decides decision ∷ rest) = effects 0 rest
+effects before (Decides decision ∷ rest) = effects before rest
 effects before (Nothing ∷ rest) = effects before rest
 effects before (TakesEffect ∷ rest) = effects (before + 1) rest
 
+-- how often since the last SETUP that arrived, where it was so often before
+abbrev pub effects_since : ℕ → List Act → ℕ
+effects_since before [] = before
+effects_since before (Decides decision ∷ rest) = effects_since 0 rest
+effects_since before (Nothing ∷ rest) = effects_since before rest
+effects_since before (TakesEffect ∷ rest) = effects_since (before + 1) rest
+
+-- the request was accepted
 abbrev pub IsAccepted : Decision → Type 0
 IsAccepted Refused = ⊥
 IsAccepted (Accepted answer) = Unit {0}
 
+-- the host is past the last piece, and nothing failed
 abbrev pub IsDone : Place → Type 0
 IsDone place = (place.fault ≡ None) × (place.host ≡ Past)
 
--- what is to be said of a list of tries
+-- what is said of a transfer by the whole list of its tries: which decision counts, and how often it took effect
 pub record IsOnce (shape : Shape) (tries : List (Fate × Decision)) : Type 0 where
   -- the decision that counts is that of the last SETUP that arrived
   pub decided : (run shape tries start).decision ≡ last_decision Refused (acts shape tries start)
   -- what is done was accepted
   pub accepted : IsDone (run shape tries start) → IsAccepted (run shape tries start).decision
-  -- a write that is done took effect exactly once since then
-  pub once : IsDone (run shape tries start) → shape.reads ≡ false → effects 0 (acts shape tries start) ≡ 1
-  -- nothing took effect twice, and nothing that was refused did
+  -- a write that is done took effect exactly once
+  pub once :
+      IsDone (run shape tries start) → shape.reads ≡ false → effects 0 (acts shape tries start) ≡ 1
+  -- wherever a transfer stands, also where it failed, it took effect once at most
   pub at_most_once : effects 0 (acts shape tries start) ≤ 1
-  pub refused : (run shape tries start).fault ≡ Some Stalled → effects 0 (acts shape tries start) ≡ 0
+  -- what a STALL ended took no effect, and no read takes one
+  pub refused :
+      (run shape tries start).fault ≡ Some Stalled → effects 0 (acts shape tries start) ≡ 0
+  pub reads : shape.reads ≡ true → effects 0 (acts shape tries start) ≡ 0
+  -- and each effect came behind the last SETUP that arrived
+  pub since : effects_since 0 (acts shape tries start) ≡ effects 0 (acts shape tries start)

@@ -1,4 +1,4 @@
--- The first descriptor of a kind, and the bytes on both sides of it.
+-- The first descriptor of a kind, and the bytes on both sides of it (USB 2.0, 9.5).
 use Rattle.std.specs.Prelude.{◌≡◌, ℕ, Bool, List, find, Option, Some, None}
 use Rattle.std.specs.List.{before_first, after_first}
 use Rattle.usb_control.specs.declared.walk.Wanted.{Wanted}
@@ -6,6 +6,7 @@ use Rattle.usb_control.specs.declared.walk.Wanted.TheVariants.{Interface, HidInt
 use Rattle.usb_control.specs.declared.walk.Split.{Split}
 use Rattle.usb_control.specs.Descriptors.{IsWalk, is_interface, is_hid_interface, is_hid, is_interrupt_in}
 
+-- whether a descriptor is one that is looked for
 abbrev pub is_wanted : Wanted → List ℕ → Bool
 is_wanted Interface descriptor = is_interface descriptor
 is_wanted HidInterface descriptor = is_hid_interface descriptor

@@ -3,9 +3,11 @@ use Rattle.std.specs.Prelude.{◌≡◌, ℕ, Bool, nat_le, ◌++◌, List, ◌�
 use Rattle.std.specs.Int.{w16, to_le_bytes}
 use Rattle.usb_control.specs.declared.setup.Setup.{Setup}
 
+-- the eight bytes of a request: its fields in order, words with their low byte first (table 9-2; 8.1)
 abbrev pub setup_bytes : Setup → List ℕ
 setup_bytes s =
-    s.request_type ∷ s.request ∷ (to_le_bytes w16 s.value ++ to_le_bytes w16 s.index ++ to_le_bytes w16 s.length)
+    s.request_type ∷ s.request ∷
+    (to_le_bytes w16 s.value ++ to_le_bytes w16 s.index ++ to_le_bytes w16 s.length)
 
 -- the word at a place, its low byte first
 abbrev pub word_at : List ℕ → ℕ → ℕ

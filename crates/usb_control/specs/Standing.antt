@@ -1,13 +1,16 @@
 -- Where both ends of a transfer stand, by their positions (USB 2.0, 8.5.3 and 8.6).
 use Rattle.std.specs.Prelude.{◌≡◌, ℕ, zero, suc, ◌*◌, ◌<◌, ◌⊎◌, Bool, true, false, not, ◌==◌, if◌then◌else◌, List, [], length, take, Option, Some, None}
+use Rattle.usb_transact.specs.declared.transaction.Fate.{Fate}
+use Rattle.usb_control.specs.declared.setup.Setup.{Setup as Request}
 use Rattle.usb_control.specs.declared.device.Stage.{Stage}
 use Rattle.usb_control.specs.declared.device.Stage.TheVariants as stages
 use Rattle.usb_control.specs.declared.fault.ControlFault.{ControlFault}
 use Rattle.usb_control.specs.declared.host.HostStage.{HostStage}
 use Rattle.usb_control.specs.declared.host.HostStage.TheVariants as tries
+use Rattle.usb_control.specs.Requests.{PrepareGives, ApplyGives, AnswerOf}
 use Rattle.usb_control.specs.Device.{DevControlState}
 use Rattle.usb_control.specs.Host.{HostTransferState}
-use Rattle.usb_control.specs.Transfer.{Shape, shape_of, Decision, Refused, Accepted, Position, Setup, Piece, Status, Past, Place, answered_bytes, comes, data_pieces, first, next}
+use Rattle.usb_control.specs.Transfer.{Shape, shape_of, Decision, Refused, Accepted, Position, Setup, Piece, Status, Past, Place, answered_bytes, comes, data_pieces, first, next, Tries}
 
 -- whether a data piece goes out as DATA1: the first one does
 abbrev pub toggle : ℕ → Bool
@@ -17,7 +20,8 @@ toggle (suc k) = not (toggle k)
 -- the host's stage, in a read or a write
 abbrev pub host_stage : Shape → Position → HostStage
 host_stage shape Setup = tries.Setup
-host_stage shape (Piece k) = if shape.reads then tries.DataIn (toggle k) else tries.DataOut (8 * k) (toggle k)
+host_stage shape (Piece k) =
+    if shape.reads then tries.DataIn (toggle k) else tries.DataOut (8 * k) (toggle k)
 host_stage shape Status = if comes shape Status then tries.StatusIn else tries.StatusOut
 host_stage shape Past = tries.Done
 
@@ -38,16 +42,21 @@ abbrev pub read_stage : ℕ → Position → Stage
 read_stage len (Piece k) = stages.ReadData len (8 * k) (toggle k)
 read_stage len _ = stages.StatusOut
 
+-- in a write: its bytes so far, then the status, before and after it took effect
 abbrev pub write_stage : ℕ → List ℕ → ℕ → Bool → Position → Stage
-write_stage len bytes count applied (Piece k) = stages.WriteData len (toggle k) (record { items = take (8 * k) bytes }) true
+write_stage len bytes count applied (Piece k) =
+    stages.WriteData len (toggle k) (record { items = take (8 * k) bytes }) true
 write_stage len bytes count true Status = stages.StatusIn
-write_stage len bytes count false Status = stages.WriteData len (toggle count) (record { items = bytes }) false
+write_stage len bytes count false Status =
+    stages.WriteData len (toggle count) (record { items = bytes }) false
 write_stage len bytes count applied _ = stages.Idle
 
+-- in a read of no bytes, which has a status alone
 abbrev pub empty_read_stage : Position → Stage
 empty_read_stage Status = stages.StatusIn
 empty_read_stage _ = stages.Idle
 
+-- the stage of the device in an accepted request
 abbrev pub accepted_stage : Shape → List ℕ → ℕ → Bool → Position → Stage
 accepted_stage shape bytes count applied position =
     if shape.reads
@@ -55,54 +64,86 @@ accepted_stage shape bytes count applied position =
     else write_stage shape.length bytes count applied position
 
 -- the device stands at its position, once it has the SETUP
-abbrev pub DeviceHas : {R : Type 0} → (R → Option (List ℕ)) → Shape → List ℕ → Decision → Bool → Position → DevControlState R → Type 0
+abbrev pub DeviceHas :
+    {R : Type 0} → AnswerOf R → Shape → List ℕ → Decision → Bool → Position → DevControlState R
+    → Type 0
 DeviceHas answer_of shape bytes Refused applied position control = control.stage ≡ stages.Idle
 DeviceHas answer_of shape bytes (Accepted answer) applied position control =
-    (control.stage ≡ accepted_stage shape bytes (data_pieces shape (Accepted answer)) applied position) × (shape.reads ≡ true → answer_of control.requests ≡ answer)
+    (control.stage
+    ≡ accepted_stage shape bytes (data_pieces shape (Accepted answer)) applied position)
+    × (shape.reads ≡ true → answer_of control.requests ≡ answer)
 
-abbrev pub DeviceStands : {R : Type 0} → (R → Option (List ℕ)) → Shape → List ℕ → Decision → Bool → Position → DevControlState R → Type 0
+-- the device stands at its position: before it has the SETUP, anywhere
+abbrev pub DeviceStands :
+    {R : Type 0} → AnswerOf R → Shape → List ℕ → Decision → Bool → Position → DevControlState R
+    → Type 0
 DeviceStands answer_of shape bytes decision applied Setup control = Unit {0}
-DeviceStands answer_of shape bytes decision applied position control = DeviceHas answer_of shape bytes decision applied position control
+DeviceStands answer_of shape bytes decision applied position control =
+    DeviceHas answer_of shape bytes decision applied position control
 
 -- the device is at the piece before
 abbrev pub IsBehind : ℕ → Position → Type 0
 IsBehind k device = (j : ℕ) × (suc j ≡ k) × (device ≡ Piece j)
 
 -- how far apart the two ends may be: the receiver of a piece may have it before the sender knows
+-- how far apart the two ends of a transfer may be
 abbrev pub NearPiece : Bool → ℕ → ℕ → Bool → Position → Type 0
 NearPiece true count k applied device = (k < count) × ((device ≡ Piece k) ⊎ IsBehind k device)
-NearPiece false count k applied device = (k < count) × (applied ≡ false) × ((device ≡ Piece k) ⊎ (device ≡ next count (Piece k)))
+NearPiece false count k applied device =
+    (k < count) × (applied ≡ false) × ((device ≡ Piece k) ⊎ (device ≡ next count (Piece k)))
 
+-- at the status: the two ends are at one place where it comes, and else the device may be a piece behind or ahead
 abbrev pub NearStatus : Bool → ℕ → Position → Type 0
 NearStatus true count device = device ≡ Status
 NearStatus false count device = (device ≡ Status) ⊎ (device ≡ Past) ⊎ IsBehind count device
 
 abbrev pub Near : Shape → Decision → Bool → Position → Position → Type 0
-Near shape decision applied Setup device = (device ≡ Setup) ⊎ (device ≡ first (data_pieces shape decision))
+Near shape decision applied Setup device =
+    (device ≡ Setup) ⊎ (device ≡ first (data_pieces shape decision))
 Near shape Refused applied host device = device ≡ first (data_pieces shape Refused)
-Near shape (Accepted answer) applied (Piece k) device = NearPiece (shape.reads) (data_pieces shape (Accepted answer)) k applied device
-Near shape (Accepted answer) applied Status device = NearStatus (comes shape Status) (data_pieces shape (Accepted answer)) device
+Near shape (Accepted answer) applied (Piece k) device =
+    NearPiece (shape.reads) (data_pieces shape (Accepted answer)) k applied device
+Near shape (Accepted answer) applied Status device =
+    NearStatus (comes shape Status) (data_pieces shape (Accepted answer)) device
 Near shape (Accepted answer) applied Past device = Unit {0}
 
 -- the host stands at its position
-pub record HostStands (shape : Shape) (sends : List ℕ) (place : Place) (host : HostTransferState) : Type 0 where
+pub record HostStands (shape : Shape) (sends : List ℕ) (place : Place)
+    (host : HostTransferState) : Type 0 where
   pub asked : shape_of host.setup ≡ shape
   pub stage : host.stage ≡ host_stage shape place.host
   pub bytes : host.bytes ≡ host_bytes shape sends place.decision place.host
   pub tries : host.tries ≡ place.tries
 
 -- both ends of a transfer that hasn't failed stand at their positions
-pub record BothStand {R : Type 0} (answer_of : R → Option (List ℕ)) (shape : Shape) (sends : List ℕ) (place : Place) (host : HostTransferState) (control : DevControlState R) : Type 0 where
+pub record BothStand {R : Type 0} (answer_of : AnswerOf R) (shape : Shape) (sends : List ℕ)
+    (place : Place) (host : HostTransferState) (control : DevControlState R) : Type 0 where
   pub whole : shape.reads ≡ false → length sends ≡ shape.length
   pub sender : HostStands shape sends place host
   pub near : Near shape place.decision place.applied place.host place.device
   pub device : DeviceStands answer_of shape sends place.decision place.applied place.device control
 
-abbrev pub StandsWith : {R : Type 0} → (R → Option (List ℕ)) → Shape → List ℕ → Place → Option ControlFault → HostTransferState → DevControlState R → Type 0
-StandsWith answer_of shape sends place None host control = BothStand answer_of shape sends place host control
+-- both ends stand at a place with or without a fault: a transfer that failed is at its host alone
+abbrev pub StandsWith :
+    {R : Type 0} → AnswerOf R → Shape → List ℕ → Place → Option ControlFault → HostTransferState
+    → DevControlState R → Type 0
+StandsWith answer_of shape sends place None host control =
+    BothStand answer_of shape sends place host control
 StandsWith answer_of shape sends place (Some fault) host control = host.stage ≡ tries.Failed fault
 
 -- a transfer of this shape, which sends these bytes if it is a write, and the device's endpoint 0 stand at the
 -- place
-abbrev pub Stands : {R : Type 0} → (R → Option (List ℕ)) → Shape → List ℕ → Place → HostTransferState → DevControlState R → Type 0
-Stands answer_of shape sends place host control = StandsWith answer_of shape sends place place.fault host control
+abbrev pub Stands :
+    {R : Type 0} → AnswerOf R → Shape → List ℕ → Place → HostTransferState → DevControlState R
+    → Type 0
+Stands answer_of shape sends place host control =
+    StandsWith answer_of shape sends place place.fault host control
+
+-- from a place, a try with this fate leads to one at which both ends then stand
+abbrev pub GoesOn :
+    {R : Type 0} → PrepareGives R → ApplyGives R → AnswerOf R → Request → List ℕ → Fate → Place → R
+    → HostTransferState → DevControlState R → Type 0
+GoesOn prepare_gives apply_gives answer_of request sends fate place before host control =
+    (after : Place)
+    × Tries prepare_gives apply_gives answer_of request sends fate place before after control.requests
+    × Stands answer_of (shape_of request) sends after host control

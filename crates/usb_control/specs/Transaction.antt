@@ -9,6 +9,7 @@ use Rattle.usb_control.specs.declared.device.Heard.TheVariants.{Nothing}
 use Rattle.usb_control.specs.declared.host.HostStage.{HostStage}
 use Rattle.usb_control.specs.declared.host.HostStage.TheVariants.{Setup, DataIn, DataOut, StatusIn, StatusOut}
 use Rattle.usb_control.specs.SetupBytes.{setup_bytes}
+use Rattle.usb_control.specs.Requests.{PrepareGives, ApplyGives, AnswerOf}
 use Rattle.usb_control.specs.Pieces.{piece_from}
 use Rattle.usb_control.specs.Device.{DevControlState, Effect, Answers, Decides, Does, asked, given, ack_heard}
 use Rattle.usb_control.specs.Host.{HostTransferState, asks_at, took_at, acknowledges_at}
@@ -29,30 +30,47 @@ heard_of AckLost true answer = answer
 heard_of fate asks answer = None
 
 -- the ACK of a clean transaction, where the host sent one
-abbrev pub AckComes : {R : Type 0} → (R → Request → Bool → R → Type 0) → (R → List ℕ → R → Type 0) → (R → Option (List ℕ)) → Bool → DevControlState R → DevControlState R → Type 0
+abbrev pub AckComes :
+    {R : Type 0} → PrepareGives R → ApplyGives R → AnswerOf R → Bool → DevControlState R
+    → DevControlState R → Type 0
 AckComes prepare_gives apply_gives answer_of true old new =
-    Does prepare_gives apply_gives (ack_heard (answer_of old.requests) old.stage old.heard) old.requests new None
+    Does prepare_gives apply_gives (ack_heard (answer_of old.requests) old.stage old.heard)
+    old.requests new None
 AckComes prepare_gives apply_gives answer_of false old new = new ≡ old
 
+-- nothing is lost
 abbrev pub is_clean : Fate → Bool
 is_clean Clean = true
 is_clean _ = false
 
 -- a transaction whose first packets arrive, where the host and the device are at these stages
-abbrev pub Arrives : {R : Type 0} → (R → Request → Bool → R → Type 0) → (R → List ℕ → R → Type 0) → (R → Option (List ℕ)) → Fate → HostStage → Stage → List ℕ → HostTransferState → DevControlState R → HostTransferState → DevControlState R → Type 0
-Arrives {R} prepare_gives apply_gives answer_of fate stage device_stage bytes host old host_after new =
+abbrev pub Arrives :
+    {R : Type 0} → PrepareGives R → ApplyGives R → AnswerOf R → Fate → HostStage → Stage → List ℕ
+    → HostTransferState → DevControlState R → HostTransferState → DevControlState R → Type 0
+Arrives {R} prepare_gives apply_gives answer_of fate stage device bytes host old after new =
     (mid : DevControlState R) × (answer : Option Packet)
-    × Does prepare_gives apply_gives (reached stage host.setup bytes device_stage (answer_of old.requests)) old.requests mid answer
-    × (host_after ≡ took_at stage (heard_of fate (asks_at stage) answer) host)
-    × AckComes prepare_gives apply_gives answer_of (is_clean fate && acknowledges_at stage (heard_of fate (asks_at stage) answer) host_after.stage) mid new
+    × Does prepare_gives apply_gives
+    (reached stage host.setup bytes device (answer_of old.requests)) old.requests mid
+    answer
+    × (after ≡ took_at stage (heard_of fate (asks_at stage) answer) host)
+    × AckComes prepare_gives apply_gives answer_of
+    (is_clean fate && acknowledges_at stage (heard_of fate (asks_at stage) answer) after.stage)
+    mid new
 
-abbrev pub TransactsAt : {R : Type 0} → (R → Request → Bool → R → Type 0) → (R → List ℕ → R → Type 0) → (R → Option (List ℕ)) → Fate → HostStage → Stage → List ℕ → HostTransferState → DevControlState R → HostTransferState → DevControlState R → Type 0
-TransactsAt prepare_gives apply_gives answer_of TokenLost stage device_stage bytes host old host_after new =
-    (host_after ≡ took_at stage None host) × (new ≡ old)
-TransactsAt prepare_gives apply_gives answer_of fate stage device_stage bytes host old host_after new =
-    Arrives prepare_gives apply_gives answer_of fate stage device_stage bytes host old host_after new
+-- a transaction of which the fate may lose the first packets, where host and device are at these stages
+abbrev pub TransactsAt :
+    {R : Type 0} → PrepareGives R → ApplyGives R → AnswerOf R → Fate → HostStage → Stage → List ℕ
+    → HostTransferState → DevControlState R → HostTransferState → DevControlState R → Type 0
+TransactsAt prepare_gives apply_gives answer_of TokenLost stage device bytes host old after new =
+    (after ≡ took_at stage None host) × (new ≡ old)
+TransactsAt prepare_gives apply_gives answer_of fate stage device bytes host old after new =
+    Arrives prepare_gives apply_gives answer_of fate stage device bytes host old after
+    new
 
 -- one transaction
-abbrev pub Transacts : {R : Type 0} → (R → Request → Bool → R → Type 0) → (R → List ℕ → R → Type 0) → (R → Option (List ℕ)) → Fate → HostTransferState → DevControlState R → HostTransferState → DevControlState R → Type 0
-Transacts prepare_gives apply_gives answer_of fate host old host_after new =
-    TransactsAt prepare_gives apply_gives answer_of fate host.stage old.stage host.bytes host old host_after new
+abbrev pub Transacts :
+    {R : Type 0} → PrepareGives R → ApplyGives R → AnswerOf R → Fate → HostTransferState
+    → DevControlState R → HostTransferState → DevControlState R → Type 0
+Transacts prepare_gives apply_gives answer_of fate host old after new =
+    TransactsAt prepare_gives apply_gives answer_of fate host.stage old.stage host.bytes host old
+    after new

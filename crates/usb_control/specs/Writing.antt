@@ -11,14 +11,16 @@ use Rattle.usb_control.specs.Device.{Effect, Answers, Applies, effect}
 
 -- a packet is only answered: it brings no decision and no effect, but this stage and this heard last
 abbrev pub IsAnswered : Effect → Stage → Heard → Type 0
-IsAnswered (Answers answer stage heard) stage_then heard_then = (stage_then ≡ stage) × (heard_then ≡ heard)
+IsAnswered (Answers answer stage heard) stage_then heard_then =
+    (stage_then ≡ stage) × (heard_then ≡ heard)
 IsAnswered _ stage_then heard_then = ⊥
 
 -- packets one after another are only answered, from a stage and what was heard last to others
 abbrev pub AnswersAll : Option (List ℕ) → Stage → Heard → List Packet → Stage → Heard → Type 0
 AnswersAll answer stage heard [] stage_then heard_then = (stage_then ≡ stage) × (heard_then ≡ heard)
 AnswersAll answer stage heard (packet ∷ rest) stage_then heard_then =
-    (stage_mid : Stage) × (heard_mid : Heard) × IsAnswered (effect answer stage heard packet) stage_mid heard_mid
+    (stage_mid : Stage) × (heard_mid : Heard)
+    × IsAnswered (effect answer stage heard packet) stage_mid heard_mid
     × AnswersAll answer stage_mid heard_mid rest stage_then heard_then
 
 -- a write of these bytes takes effect
@@ -31,7 +33,9 @@ IsApplied _ bytes = ⊥
 abbrev pub given_data : Bool → Bool → List Packet → List (List ℕ)
 given_data behind_out one [] = []
 given_data true one (Data toggle payload ∷ rest) =
-    if beq toggle one then payload.items ∷ given_data false (not one) rest else given_data false one rest
+    if beq toggle one
+    then payload.items ∷ given_data false (not one) rest
+    else given_data false one rest
 given_data behind_out one (Token Out addr endp ∷ rest) = given_data true one rest
 given_data behind_out one (_ ∷ rest) = given_data false one rest
 

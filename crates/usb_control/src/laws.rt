@@ -1,5 +1,5 @@
 //! What follows for whole transfers, and for lists of packets, from what single calls say.
-ghost use Rattle.std.specs.Prelude.{◌≡◌, ◌↔◌, ◌⊎◌, ℕ, Bool, List, [], Option, length, take, unwrap_or, if◌then◌else◌, true, false};
+ghost use Rattle.std.specs.Prelude.{◌≡◌, ◌↔◌, ℕ, Bool, List, [], Option, length, take, unwrap_or, if◌then◌else◌, true, false};
 ghost use Rattle.std.specs.List.{concat};
 ghost use Rattle.usb_packet.specs.declared.packet.Packet.{Packet};
 ghost use Rattle.usb_transact.specs.declared.transaction.Fate.{Fate};
@@ -10,35 +10,38 @@ ghost use Rattle.usb_control.specs.declared.device.Heard.{Heard};
 ghost use Rattle.usb_control.specs.declared.host.HostStage.{HostStage};
 ghost use Rattle.usb_control.specs.SetupBytes.{IsSpelled, reads};
 ghost use Rattle.usb_control.specs.Device.{DevControlState, begun, effect};
-ghost use Rattle.usb_control.specs.Host.{HostTransferState, at_start, sent_length};
+ghost use Rattle.usb_control.specs.Host.{HostTransferState, IsRunning, at_start, sent_length};
 ghost use Rattle.usb_control.specs.Reading.{IsReadOf, took_all};
 ghost use Rattle.usb_control.specs.Writing.{AnswersAll, IsApplied, IsNoWrite, given_data};
 ghost use Rattle.usb_control.specs.Transfer.{Shape, Decision, Place, answered_bytes, shape_of, start};
-ghost use Rattle.usb_control.specs.Standing.{Stands};
+ghost use Rattle.usb_control.specs.Standing.{GoesOn, Stands};
+ghost use Rattle.usb_control.specs.Transaction.{Transacts};
+ghost use Rattle.usb_control.specs.Computed.{AppliesBy, PreparesBy, Table, control_tried, host_tried};
 ghost use Rattle.usb_control.specs.Runs.{IsDone, IsOnce};
-ghost use Rattle.usb_control.specs.Steps.{IsAppliedOnce, IsDecided, Steps};
+ghost use Rattle.usb_control.specs.Steps.{IsAppliedOnce, IsOnceAtMost, Steps};
 
 use crate::requests::Requests;
 
-/// What answers requests after the steps of a transfer, whatever was lost in them, and wherever endpoint 0 of the device
-/// stood before. `fates` are those of the steps, with nothing done at the device between them.
+/// What answers requests after the steps of a transfer, by what it was before the first of them: whatever was lost, and
+/// wherever endpoint 0 of the device stood. `fates` are those of the steps, with nothing done at the device between them.
+/// A request that is decided on again, since the handshake was lost, counts as decided on once.
 pub fn transfers_are_told<R: Requests>()
-    // A read that is done gave the answer as fixed at the last SETUP that arrived, cut to what was asked for.
+    // A read that is done was accepted, and gave the answer that was fixed then, cut to what was asked for.
     ensures read { (addr : ℕ) (request : Request) (fates : List Fate)
         (old new : DevControlState R) (host : HostTransferState)
         → IsSpelled request → reads request ≡ true
         → Steps R.prepare_gives R.apply_gives R.answer_of fates (at_start addr request []) old host new
         → host.stage ≡ HostStage.Done
-        → IsDecided R.prepare_gives request true new.requests
+        → R.prepare_gives old.requests request true new.requests
         × (host.bytes ≡ take request.length (unwrap_or (R.answer_of new.requests) [])) }
 
-    // A write that is done took effect exactly once since the last SETUP that arrived.
+    // A write that is done took effect exactly once.
     ensures write { (addr : ℕ) (request : Request) (sends : List ℕ) (fates : List Fate)
         (old new : DevControlState R) (host : HostTransferState)
         → IsSpelled request → reads request ≡ false → length sends ≡ request.length
         → Steps R.prepare_gives R.apply_gives R.answer_of fates (at_start addr request sends) old host new
         → host.stage ≡ HostStage.Done
-        → IsAppliedOnce R.prepare_gives R.apply_gives request sends new.requests }
+        → IsAppliedOnce R.prepare_gives R.apply_gives request sends old.requests new.requests }
 
     // What a STALL ended was refused, and never took effect.
     ensures stalled { (addr : ℕ) (request : Request) (sends : List ℕ) (fates : List Fate)
@@ -46,21 +49,19 @@ pub fn transfers_are_told<R: Requests>()
         → IsSpelled request → length sends ≡ sent_length request
         → Steps R.prepare_gives R.apply_gives R.answer_of fates (at_start addr request sends) old host new
         → host.stage ≡ HostStage.Failed ControlFault.Stalled
-        → IsDecided R.prepare_gives request false new.requests }
+        → R.prepare_gives old.requests request false new.requests }
 
-    // However a transfer ends, and while it runs: no SETUP arrived, or the request was decided on and
-    // nothing was done since, or it took effect once.
+    // However a transfer ends, with C2 too, and while it runs: no SETUP arrived, or the request was
+    // decided on and nothing else was done, or a write took effect once.
     ensures any { (addr : ℕ) (request : Request) (sends : List ℕ) (fates : List Fate)
         (old new : DevControlState R) (host : HostTransferState)
         → IsSpelled request → length sends ≡ sent_length request
         → Steps R.prepare_gives R.apply_gives R.answer_of fates (at_start addr request sends) old host new
-        → (new.requests ≡ old.requests)
-        ⊎ (((said : Bool) × IsDecided R.prepare_gives request said new.requests)
-        ⊎ IsAppliedOnce R.prepare_gives R.apply_gives request sends new.requests) }
+        → IsOnceAtMost R.prepare_gives R.apply_gives request sends old.requests new.requests }
 {}
 
 /// Whatever packets come to the host in a read: the bytes of a read that is done are the payloads of its data stage
-/// joined. The stage is what came behind the ACK to SETUP. It accepts data under DATA1 first, then in turn, and all
+/// joined. The stage is what came behind the first ACK, which answers SETUP. It accepts data under DATA1 first, then in turn, and all
 /// else is thrown away.
 pub fn reads_are_joined()
     ensures { (came : List (Option Packet)) (addr : ℕ) (request : Request) → reads request ≡ true
@@ -86,9 +87,10 @@ pub fn writes_are_joined()
         → ¬ IsApplied (effect answer stage last packet) bytes }
 {}
 
-/// Whatever is lost in a transfer: what counts is the decision at the last SETUP that arrived, a write that is done took
-/// effect exactly once since then, and one that was refused never did. This is said of lists of tries, each with what a
-/// SETUP that arrives in it is decided.
+/// Whatever is lost in a transfer: what counts is the decision at the last SETUP that arrived; over all its tries a write
+/// that is done took effect exactly once, one that failed or still runs once or not at all, and one that was refused
+/// never; and it did so behind that SETUP. This is said of lists of tries, each with what a SETUP that arrives in it is
+/// decided.
 pub fn effects_are_once()
     ensures { (shape : Shape) (tries : List (Fate × Decision)) → IsOnce shape tries }
 {}
@@ -119,4 +121,22 @@ pub fn places_are_met<R: Requests>()
         → Stands R.answer_of shape sends place host old
         → R.answer_of new.requests ≡ R.answer_of old.requests → new.stage ≡ old.stage
         → Stands R.answer_of shape sends place host new }
+
+    // A try leads from a place to another, whatever code makes it.
+    ensures tried { (sends : List ℕ) (place : Place) (fate : Fate)
+        (host after : HostTransferState) (old new : DevControlState R)
+        → IsSpelled host.setup → IsRunning host.stage
+        → Stands R.answer_of (shape_of host.setup) sends place host old
+        → Transacts R.prepare_gives R.apply_gives R.answer_of fate host old after new
+        → GoesOn R.prepare_gives R.apply_gives R.answer_of host.setup sends fate
+        place old.requests after new }
+{}
+
+/// Where what answers requests does so by functions, a try is a function of both ends: it may leave what the functions
+/// give, and nothing else.
+pub fn tries_are_computed<R>()
+    ensures { (table : Table R) (fate : Fate)
+        (host after : HostTransferState) (old new : DevControlState R)
+        → Transacts (PreparesBy table) (AppliesBy table) table.answer_of fate host old after new
+        ↔ ((after ≡ host_tried table fate host old) × (new ≡ control_tried table fate host old)) }
 {}

@@ -31,7 +31,7 @@
 //! write out when it is told to. All else here is the same for every device.
 //!
 //! The promise, whatever is lost: a read that is done gave the answer as fixed at the last SETUP that arrived, cut to
-//! what was asked for; a write that is done took effect exactly once since then, one that failed once or not at all, and
+//! what was asked for; a write that is done took effect exactly once, one that failed once or not at all, and
 //! one that was refused never: `tried` on [`HostTransfer::step`], with [`laws::transfers_are_told`] for whole
 //! transfers. Over any packets: `took` on [`HostTransfer::take`] and `does` on [`DevControl::on_packet`], with
 //! [`laws::reads_are_joined`] and [`laws::writes_are_joined`]. Of descriptors `value` on [`ConfigInfo::read`] and

@@ -49,6 +49,11 @@ pub trait Requests {
     ghost prepare_keeps: { (s t : Self) (setup : Request) (said : Bool) → prepare_gives s setup said t
         → same_but_request s t };
 
+    /// What is decided doesn't depend on the answer, nor on the request that `apply` would carry out: so to decide again
+    /// is to decide once.
+    ghost prepare_forgets: { (s t u : Self) (setup : Request) (said : Bool) → same_but_request s t
+        → prepare_gives t setup said u → prepare_gives s setup said u };
+
     /// After a read there is nothing to carry out.
     ghost read_has_no_effect: { (s t u : Self) (setup : Request) (bytes : List ℕ) → prepare_gives s setup true t
         → reads setup ≡ true → apply_gives t bytes u → u ≡ t };

@@ -6,8 +6,8 @@ ghost use Rattle.usb_control.specs.Host.{IsRunning, asks_at, payload_of, progres
 ghost use Rattle.usb_transact.specs.Fate.{arrives_under};
 ghost use Rattle.usb_control.specs.Crossing.{Acknowledges, Crosses, Hears, Reaches, phase_of};
 ghost use Rattle.usb_control.specs.Transaction.{Transacts};
-ghost use Rattle.usb_control.specs.Transfer.{Place, Tries, shape_of};
-ghost use Rattle.usb_control.specs.Standing.{Stands};
+ghost use Rattle.usb_control.specs.Transfer.{Place, shape_of};
+ghost use Rattle.usb_control.specs.Standing.{GoesOn, Stands};
 ghost use Rattle.usb_control.specs.SetupBytes.{IsSpelled};
 
 use crate::device::DevControl;
@@ -118,10 +118,8 @@ impl HostTransfer {
         // From any place at which both ends stand, the try goes on as two positions in one list of pieces do.
         ensures tried { (sends : List ℕ) (place : Place)
             → Stands R.answer_of (shape_of self.old.setup) sends place self.old control.old
-            → (after : Place)
-            × Tries R.prepare_gives R.apply_gives R.answer_of self.old.setup sends fate
-            place control.old.requests after control.new.requests
-            × Stands R.answer_of (shape_of self.old.setup) sends after self.new control.new }
+            → GoesOn R.prepare_gives R.apply_gives R.answer_of self.old.setup sends fate
+            place control.old.requests self.new control.new }
     {
         self.transact(&fate, control);
         self.progress()

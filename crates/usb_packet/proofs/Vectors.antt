@@ -1,10 +1,21 @@
 -- Worked spellings (USB 2.0, 8.3 and 8.4): each is computed by hand from the tables, and a wrong one fails the check.
 use Rattle.std.proofs.Common.{◌≡◌, true, false, [], ◌∷◌, refl}
+use Rattle.usb_packet.specs.declared.packet.TheConstants.{MAX_ADDRESS, MAX_ENDPOINT, MAX_PAYLOAD}
 use Rattle.usb_packet.specs.declared.packet.TokenKind.TheVariants.{Out, In, Setup}
 use Rattle.usb_packet.specs.declared.packet.Packet.TheVariants.{Token, Data, Ack, Nak, Stall}
 use Rattle.usb_packet.specs.declared.fault.PacketFault.TheVariants.{BadReserved}
 use Rattle.usb_packet.specs.Spelling.{spelling}
 use Rattle.usb_packet.specs.Fault.{code_of}
+
+-- the limits, in numbers: addresses of seven bits, endpoints of four, payloads of 64 bytes
+addresses_to : MAX_ADDRESS ≡ 127
+addresses_to = refl
+
+endpoints_to : MAX_ENDPOINT ≡ 15
+endpoints_to = refl
+
+payloads_to : MAX_PAYLOAD ≡ 64
+payloads_to = refl
 
 -- SETUP to address 1, endpoint 0
 first_setup : spelling (Token Setup 1 0) ≡ 0x2D ∷ 0x01 ∷ 0x00 ∷ []

@@ -27,7 +27,8 @@ IsKnown first = (packet : Packet) × (pid_of packet ≡ first)
 -- some packet with this PID has a body of this length
 abbrev pub HasLength : ℕ → ℕ → Type 0
 HasLength first len =
-    (packet : Packet) × (length (body_of packet) ≤ MAX_PAYLOAD) × (pid_of packet ≡ first) × (length (body_of packet) ≡ len)
+    (packet : Packet) × (length (body_of packet) ≤ MAX_PAYLOAD) × (pid_of packet ≡ first)
+    × (length (body_of packet) ≡ len)
 
 -- this PID is a token's
 abbrev pub IsToken : ℕ → Type 0
@@ -39,7 +40,8 @@ IsFaultAt Empty first body = ⊥
 IsFaultAt BadCheck first body = ¬ IsChecked first
 IsFaultAt UnknownPid first body = IsChecked first × ¬ IsKnown first
 IsFaultAt BadLength first body = IsKnown first × ¬ HasLength first (length body)
-IsFaultAt BadReserved first body = IsToken first × (length body ≡ 2) × (2 ^ 11 ≤ from_le_bytes w16 body)
+IsFaultAt BadReserved first body =
+    IsToken first × (length body ≡ 2) × (2 ^ 11 ≤ from_le_bytes w16 body)
 
 -- the first fault of the bytes
 abbrev pub IsFault : PacketFault → List ℕ → Type 0
@@ -48,4 +50,5 @@ IsFault fault (first ∷ body) = IsFaultAt fault first body
 
 -- the packet that the bytes spell, or their first fault
 abbrev pub Reads : Result Packet PacketFault → List ℕ → Type 0
-Reads result bytes = MatchResult result (λ packet. Spells packet bytes) (λ fault. IsFault fault bytes)
+Reads result bytes =
+    MatchResult result (λ packet. Spells packet bytes) (λ fault. IsFault fault bytes)

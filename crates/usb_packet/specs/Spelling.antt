@@ -17,9 +17,11 @@ token_pid Out = pid 0x1  -- 0001B
 token_pid In = pid 0x9  -- 1001B
 token_pid Setup = pid 0xD  -- 1101B
 
+-- DATA1 or DATA0, by the toggle (table 8-1)
 abbrev pub data_pid : Bool → ℕ
 data_pid one = pid (if one then 0xB else 0x3)  -- DATA1 1011B, DATA0 0011B
 
+-- the PID of a packet (table 8-1)
 abbrev pub pid_of : Packet → ℕ
 pid_of (Token kind addr endp) = token_pid kind
 pid_of (Data one payload) = data_pid one
@@ -36,6 +38,7 @@ body_of Ack = []
 body_of Nak = []
 body_of Stall = []
 
+-- a packet is spelled by its PID and what follows that (8.3.1)
 abbrev pub spelling : Packet → List ℕ
 spelling packet = pid_of packet ∷ body_of packet
 

@@ -12,10 +12,12 @@ Arrivals = Phase → List ℕ → Option (List ℕ)
 abbrev pub IsRead : Option (List ℕ) → Option Packet → Type 0
 IsRead None came = came ≡ None
 IsRead (Some bytes) came =
-    IfSome came (λ packet. Spells packet bytes) × ((packet : Packet) → Spells packet bytes → came ≡ Some packet)
+    IfSome came (λ packet. Spells packet bytes)
+    × ((packet : Packet) → Spells packet bytes → came ≡ Some packet)
 
 -- the packet has a spelling, and this is what the other end reads of what arrives of that
-pub record Carries (arrivals : Arrivals) (phase : Phase) (packet : Packet) (came : Option Packet) : Type 0 where
+pub record Carries (arrivals : Arrivals) (phase : Phase) (packet : Packet)
+    (came : Option Packet) : Type 0 where
   pub sent : Spells packet (spelling packet)
   pub read : IsRead (arrivals phase (spelling packet)) came
 

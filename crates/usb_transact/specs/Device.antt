@@ -17,6 +17,7 @@ abbrev pub answer_with : Bool → Option (List ℕ) → Packet
 answer_with toggle (Some bytes) = Data toggle (record { items = bytes })
 answer_with toggle None = Nak
 
+-- the answer of a pipe to a token
 abbrev pub answer_of : DevPipeState → Packet
 answer_of device = answer_with device.toggle device.armed
 

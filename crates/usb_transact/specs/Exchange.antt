@@ -11,8 +11,10 @@ use Rattle.usb_transact.specs.Device.{DevPipeState, closed}
 -- what the host takes where the reply reaches it: by what it expects, the device's toggle and what is armed
 abbrev pub took_where : Bool → Bool → Option (List ℕ) → Took
 took_where expects toggle None = Nak
-took_where expects toggle (Some bytes) = if beq toggle expects then Fresh (record { items = bytes }) else Again
+took_where expects toggle (Some bytes) =
+    if beq toggle expects then Fresh (record { items = bytes }) else Again
 
+-- what the host takes, by the fate: only a clean transaction, and one that loses the ACK alone, bring it the reply
 abbrev pub took_of : Fate → HostPipeState → DevPipeState → Took
 took_of TokenLost host device = Silent
 took_of ReplyLost host device = Silent

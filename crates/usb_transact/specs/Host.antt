@@ -14,5 +14,6 @@ pub record HostPipeState : Type 0 where
 abbrev pub host_at_start : ℕ → ℕ → HostPipeState
 host_at_start addr endp = record { addr = addr; endp = endp; expects = false }
 
+-- the IN token to the endpoint of a pipe (8.4.1)
 abbrev pub token_to : HostPipeState → Packet
 token_to host = Token In host.addr host.endp

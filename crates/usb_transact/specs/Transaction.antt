@@ -25,7 +25,8 @@ device_behind _ device = device
 -- the device after an ACK is sent to it
 abbrev pub HearsAck : Arrivals → DevPipeState → DevPipeState → Type 0
 HearsAck arrivals device after =
-    (came : Option Packet) × Carries arrivals Acknowledgement packets.Ack came × (after ≡ device_behind came device)
+    (came : Option Packet) × Carries arrivals Acknowledgement packets.Ack came
+    × (after ≡ device_behind came device)
 
 -- data are acknowledged, fresh or not, and nothing else is
 abbrev pub Acknowledges : Arrivals → Took → DevPipeState → DevPipeState → Type 0

@@ -89,9 +89,10 @@ impl Keyboard {
 
 impl Requests for Keyboard {
     ghost use Rattle.std.specs.Prelude.{◌≡◌, ◌≤◌, Some, true, false};
-    ghost use Rattle.std.proofs.Common.{rules};
+    ghost use Rattle.std.proofs.Common.{rules, ap, ◌∙◌};
     ghost use Rattle.usb_control.specs.SetupBytes.{reads};
     ghost use Rattle.usb_control.specs.declared.tests.keyboard.Prepared.TheVariants as prepared_for;
+    ghost use Rattle.usb_control.specs.declared.tests.keyboard.Keyboard.{Keyboard};
 
     ghost answer_of = { λ k. Some k.answer.items };
 
@@ -107,6 +108,8 @@ impl Requests for Keyboard {
     ghost write_is_short = { Prim.search rules };
 
     ghost prepare_keeps = { Prim.search rules };
+
+    ghost prepare_forgets = { λ s t u setup said same gives. (gives.0 ∙ ap (λ (k : Keyboard). record k { answer = u.answer; prepared = u.prepared; decisions = u.decisions }) same, gives.1, gives.2) };
 
     ghost read_has_no_effect = { Prim.search rules };
 

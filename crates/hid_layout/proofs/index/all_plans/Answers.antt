@@ -1,7 +1,6 @@
-use Rattle.std.proofs.Common.{map, sym, ap, ◌∙◌}
+use Rattle.std.proofs.Common.{map, sym, ap, ◌∙◌, refl}
 use Rattle.hid_layout.specs.Index.{places_from}
 use Rattle.hid_layout.proofs.IndexLemmas.{plans_more, upward_none}
-use Rattle.std.proofs.Common.{refl}
 use Rattle.hid_layout.proofs.index.all_plans.Goals as goal
 
 pub loop-r-init : goal.loop-r-init

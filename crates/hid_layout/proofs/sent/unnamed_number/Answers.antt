@@ -1,72 +1,55 @@
-use Rattle.std.proofs.Common.{◌≡◌, ◌<◌, ◌^◌, ◌-◌, true, arith, subst, sym, to_z, of_z, w64}
-use Rattle.std.specs.Prelude.{ℤ, pos, ◌+ℤ◌, ◌≤ℤ◌, ◌<ℤ◌}
+use Rattle.std.proofs.Common.{◌≡◌, ℕ, ◌<◌, ◌≤◌, ◌^◌, ◌∙◌, true, ap, arith, subst, sym, to_z, of_z, w64}
+use Rattle.std.specs.Prelude.{ℤ, pos, neg_ℤ, ◌+ℤ◌, ◌≤ℤ◌, ◌<ℤ◌}
+use Rattle.std.specs.Int.{int_min}
 use lib.Signed.{mag}
 use Rattle.std.proofs.lemmas.Int.{ints}
 use Rattle.hid_descriptor.specs.Usages.{usage_list}
+use Rattle.hid_layout.specs.declared.main_item.MainItem.{MainItem}
 use Rattle.hid_layout.specs.Controls.{greatest_of}
 use Rattle.hid_layout.specs.Sent.{names_nothing}
-use Rattle.hid_layout.proofs.CodeLemmas.{IsPlaced, by_range, all_named, by_greatest, first_within, greatest_of_small, first_small}
+use Rattle.hid_layout.proofs.CodeLemmas.{IsPlaced, first_small, unnamed_low, unnamed_nothing, unnamed_named}
 use Rattle.hid_layout.proofs.sent.unnamed_number.Goals as goal
 
-one_over : (r g : ℤ) → r ≡ g → mag r < 2 ^ 63 → g ≤ℤ pos (2 ^ 32 - 1) → to_z w64 (of_z w64 (to_z w64 (of_z w64 r) +ℤ pos 1)) ≡ (g +ℤ pos 1)
-one_over r g e m h = omega (arith, ints, e, m, h)
+as_it_is : (r : ℤ) → mag r < 2 ^ 63 → to_z w64 (of_z w64 r) ≡ r
+as_it_is r m = omega (arith, ints, m)
 
-as_it_is : (r n : ℤ) → r ≡ n → mag r < 2 ^ 63 → to_z w64 (of_z w64 r) ≡ n
-as_it_is r n e m = omega (arith, ints, e, m)
+-- the number that is given back
+given : (item : MainItem) (r n : ℤ) (place : ℕ) → r ≡ int_min (to_z w64 (of_z w64 n)) (greatest_of item +ℤ pos 1) → n ≡ (item.min +ℤ pos place) → mag r < 2 ^ 63 → mag n < 2 ^ 63
+    → to_z w64 (of_z w64 r) ≡ int_min (item.min +ℤ pos place) (greatest_of item +ℤ pos 1)
+given item r n place e f m k = as_it_is r m ∙ e ∙ ap (λ (v : ℤ). int_min v (greatest_of item +ℤ pos 1)) (as_it_is n k ∙ f)
+
+within_of : (min max first : ℤ) (place : ℕ) → (min +ℤ pos place) ≡ first → place ≤ 2 ^ 34 → neg_ℤ (pos (2 ^ 32)) ≤ℤ min → min ≤ℤ pos (2 ^ 32) → to_z w64 (of_z w64 first) ≤ℤ max → first ≤ℤ max
+within_of min max first place e p a b h = omega (arith, ints, e, p, a, b, h)
 
 pub place_of-requires-clause-small : goal.place_of-requires-clause-small
 place_of-requires-clause-small c = first_small c.args.item.now _ _ c.requires.elements.narrow c.requires.high c.requires.some
 
-pub returns-then-over-number-clause-low : goal.returns-then-over-number-clause-low
-returns-then-over-number-clause-low c =
+pub returns-clause-low : goal.returns-clause-low
+returns-clause-low c =
     let item = c.args.item.now in
     let us = usage_list c.args.entries.now in
-    let p : IsPlaced item us c.args.numbers.now.first c.args.numbers.now.end c.place_of.result c.first_nothing.result =
-    record { low = c.requires.low; high = c.requires.high; some = c.requires.some; within = grind (arith, ints, c.if-item-numbers.false); from_is = c.place_of.ensures.place; is = c.first_nothing.ensures.first } in
-    let o = one_over c.greatest-over.result (greatest_of item) c.greatest-over.ensures c.greatest-over.type_inv (greatest_of_small item c.requires.elements.narrow) in
-    let n = as_it_is c.number_at-number.result (item.min +ℤ pos c.first_nothing.result) c.number_at-number.ensures c.number_at-number.type_inv in
-    let within = first_within item _ _ _ _ _ p in
-    omega (arith, ints, o, within)
-
-pub returns-then-over-number-clause-nothing : goal.returns-then-over-number-clause-nothing
-returns-then-over-number-clause-nothing c below =
-    let item = c.args.item.now in
-    let us = usage_list c.args.entries.now in
-    let p : IsPlaced item us c.args.numbers.now.first c.args.numbers.now.end c.place_of.result c.first_nothing.result =
-    record { low = c.requires.low; high = c.requires.high; some = c.requires.some; within = grind (arith, ints, c.if-item-numbers.false); from_is = c.place_of.ensures.place; is = c.first_nothing.ensures.first } in
-    let o = one_over c.greatest-over.result (greatest_of item) c.greatest-over.ensures c.greatest-over.type_inv (greatest_of_small item c.requires.elements.narrow) in
-    let n = as_it_is c.number_at-number.result (item.min +ℤ pos c.first_nothing.result) c.number_at-number.ensures c.number_at-number.type_inv in
-    by_range item us _ _ _ _ p _ (omega (arith, ints, o)) below
-
-pub returns-then-over-number-clause-named : goal.returns-then-over-number-clause-named
-returns-then-over-number-clause-named c v low high less_v =
-    let item = c.args.item.now in
-    let us = usage_list c.args.entries.now in
-    let p : IsPlaced item us c.args.numbers.now.first c.args.numbers.now.end c.place_of.result c.first_nothing.result =
-    record { low = c.requires.low; high = c.requires.high; some = c.requires.some; within = grind (arith, ints, c.if-item-numbers.false); from_is = c.place_of.ensures.place; is = c.first_nothing.ensures.first } in
-    let o = one_over c.greatest-over.result (greatest_of item) c.greatest-over.ensures c.greatest-over.type_inv (greatest_of_small item c.requires.elements.narrow) in
-    let n = as_it_is c.number_at-number.result (item.min +ℤ pos c.first_nothing.result) c.number_at-number.ensures c.number_at-number.type_inv in
-    let beyond : (greatest_of item +ℤ pos 1) <ℤ (item.min +ℤ pos c.first_nothing.result) = grind (arith, ints, o, n, c.if-over-number.true) in
-    all_named item us _ _ _ _ p v low (omega (arith, ints, o, less_v)) (omega (arith, ints, o, n, less_v, beyond))
+    let within = within_of item.min item.max c.args.numbers.now.first c.place_of.result c.place_of.ensures.place c.place_of.ensures.small c.requires.elements.not_low c.requires.elements.not_high c.if-not-has_in_range.ensures.inside.1 in
+    let p : IsPlaced item us c.args.numbers.now.first c.args.numbers.now.end c.place_of.result c.first_nothing-place.result =
+    record { low = c.requires.low; high = c.requires.high; some = c.requires.some; within = within; from_is = c.place_of.ensures.place; is = c.first_nothing-place.ensures.first } in
+    let same = given item c.up_to_over.result c.number_at.result c.first_nothing-place.result c.up_to_over.ensures c.number_at.ensures c.up_to_over.type_inv c.number_at.type_inv in
+    subst (λ (v : ℤ). c.args.numbers.now.first ≤ℤ v) (sym same) (unnamed_low item us _ _ _ _ p)
 
 pub returns-clause-nothing : goal.returns-clause-nothing
 returns-clause-nothing c below =
     let item = c.args.item.now in
     let us = usage_list c.args.entries.now in
-    let p : IsPlaced item us c.args.numbers.now.first c.args.numbers.now.end c.place_of.result c.first_nothing.result =
-    record { low = c.requires.low; high = c.requires.high; some = c.requires.some; within = grind (arith, ints, c.if-item-numbers.false); from_is = c.place_of.ensures.place; is = c.first_nothing.ensures.first } in
-    let o = one_over c.greatest-over.result (greatest_of item) c.greatest-over.ensures c.greatest-over.type_inv (greatest_of_small item c.requires.elements.narrow) in
-    let n = as_it_is c.number_at-number.result (item.min +ℤ pos c.first_nothing.result) c.number_at-number.ensures c.number_at-number.type_inv in
-    let near : (item.min +ℤ pos c.first_nothing.result) ≤ℤ (greatest_of item +ℤ pos 1) = grind (arith, ints, o, n, c.if-over-number.false) in
-    subst (λ (v : ℤ). names_nothing item us v ≡ true) (sym n) (by_greatest item us _ _ _ _ p near (omega (arith, ints, n, below)))
+    let within = within_of item.min item.max c.args.numbers.now.first c.place_of.result c.place_of.ensures.place c.place_of.ensures.small c.requires.elements.not_low c.requires.elements.not_high c.if-not-has_in_range.ensures.inside.1 in
+    let p : IsPlaced item us c.args.numbers.now.first c.args.numbers.now.end c.place_of.result c.first_nothing-place.result =
+    record { low = c.requires.low; high = c.requires.high; some = c.requires.some; within = within; from_is = c.place_of.ensures.place; is = c.first_nothing-place.ensures.first } in
+    let same = given item c.up_to_over.result c.number_at.result c.first_nothing-place.result c.up_to_over.ensures c.number_at.ensures c.up_to_over.type_inv c.number_at.type_inv in
+    subst (λ (v : ℤ). names_nothing item us v ≡ true) (sym same) (unnamed_nothing item us _ _ _ _ p (subst (λ (v : ℤ). v <ℤ c.args.numbers.now.end) same below))
 
 pub returns-clause-named : goal.returns-clause-named
-returns-clause-named c v low high less_v =
+returns-clause-named c v low high less =
     let item = c.args.item.now in
     let us = usage_list c.args.entries.now in
-    let p : IsPlaced item us c.args.numbers.now.first c.args.numbers.now.end c.place_of.result c.first_nothing.result =
-    record { low = c.requires.low; high = c.requires.high; some = c.requires.some; within = grind (arith, ints, c.if-item-numbers.false); from_is = c.place_of.ensures.place; is = c.first_nothing.ensures.first } in
-    let o = one_over c.greatest-over.result (greatest_of item) c.greatest-over.ensures c.greatest-over.type_inv (greatest_of_small item c.requires.elements.narrow) in
-    let n = as_it_is c.number_at-number.result (item.min +ℤ pos c.first_nothing.result) c.number_at-number.ensures c.number_at-number.type_inv in
-    let near : (item.min +ℤ pos c.first_nothing.result) ≤ℤ (greatest_of item +ℤ pos 1) = grind (arith, ints, o, n, c.if-over-number.false) in
-    all_named item us _ _ _ _ p v low (omega (arith, ints, o, n, near, less_v)) (omega (arith, ints, n, less_v))
+    let within = within_of item.min item.max c.args.numbers.now.first c.place_of.result c.place_of.ensures.place c.place_of.ensures.small c.requires.elements.not_low c.requires.elements.not_high c.if-not-has_in_range.ensures.inside.1 in
+    let p : IsPlaced item us c.args.numbers.now.first c.args.numbers.now.end c.place_of.result c.first_nothing-place.result =
+    record { low = c.requires.low; high = c.requires.high; some = c.requires.some; within = within; from_is = c.place_of.ensures.place; is = c.first_nothing-place.ensures.first } in
+    let same = given item c.up_to_over.result c.number_at.result c.first_nothing-place.result c.up_to_over.ensures c.number_at.ensures c.up_to_over.type_inv c.number_at.type_inv in
+    unnamed_named item us _ _ _ _ p v low (subst (λ (n : ℤ). v <ℤ n) same less)
