@@ -1,9 +1,11 @@
--- What is known of a device that was attached first of all, behind some steps: its events, and its host's view (USB 2.0,
--- 8.5.4 and 8.6).
+-- What is known of a device that was attached to an empty bus, behind some steps: its events, and its
+-- host's view (USB 2.0, 8.5.4 and 8.6).
 use Rattle.std.specs.Prelude.{◌≡◌, ℕ, Bool, List, replicate}
 use Rattle.hid_layout.specs.declared.control.ControlId.{ControlId}
 use Rattle.hid_layout.specs.Controls.{items_of}
 use Rattle.hid_layout.specs.Layout.{Contents}
+use Rattle.hid_cells.specs.declared.cell.Cell.{Cell}
+use Rattle.hid_cells.specs.declared.event.Event.{Event}
 use Rattle.hid_usages.specs.Cells.{blank}
 use Rattle.hid_usages.specs.Snapshots.{is_pressed, cell_at}
 use Rattle.hid_device.specs.declared.config.Config.{Config}
@@ -14,17 +16,28 @@ use Rattle.hid_stack.specs.declared.step.Delivered.{Delivered}
 use Rattle.hid_stack.specs.Attaching.{Suits}
 use Rattle.hid_stack.specs.Rig.{own, from_device}
 
--- The rounds of device 1 that crossed: at first nothing is pressed, nothing has moved, and no idle time is set.
+-- The rounds of device 1 that crossed: at first nothing is pressed, nothing has moved, and no idle time
+-- is set.
 abbrev pub rounds_played : Contents → List Step → List Round
 rounds_played layout steps =
-    crossed_rounds (items_of layout) (blank (items_of layout)) (replicate (input_count layout.reports) 0) (own 1 steps)
+    crossed_rounds (items_of layout)
+    (blank (items_of layout)) (replicate (input_count layout.reports) 0) (own 1 steps)
 
--- The device has a layout that suits it; its events are the changes between the parts that crossed, from the initial view
--- on; and a control is held exactly where the view that took those parts holds it.
+-- What they tell: the changes between their parts, from the initial view on.
+abbrev pub events_played : Contents → List Step → List Event
+events_played layout steps =
+    events_of (items_of layout) (blank (items_of layout)) (rounds_played layout steps)
+
+-- The view that took their parts.
+abbrev pub view_played : Contents → List Step → List Cell
+view_played layout steps =
+    view_of (items_of layout) (blank (items_of layout)) (rounds_played layout steps)
+
+-- The device has a layout that suits it, its events are what the rounds that crossed tell, and a control
+-- is held exactly where the view that took their parts holds it.
 pub record IsPlayed (config : Config) (descriptor : List ℕ) (steps : List Step) (control : ControlId)
     (given : List Delivered) (is_held : Bool) : Type 0 where
   pub layout : Contents
   pub suits : Suits 1 config descriptor layout
-  pub events : from_device 1 given ≡ events_of (items_of layout) (blank (items_of layout)) (rounds_played layout steps)
-  pub held : is_held
-      ≡ is_pressed (cell_at (view_of (items_of layout) (blank (items_of layout)) (rounds_played layout steps)) control.item) control.index
+  pub events : from_device 1 given ≡ events_played layout steps
+  pub held : is_held ≡ is_pressed (cell_at (view_played layout steps) control.item) control.index

@@ -33,7 +33,8 @@ wants_memory causes.Memory = true
 
 -- why there is no device, and no host for it: the device is refused, or memory was wanting
 abbrev pub IsNoPair : ℕ → Config → List ℕ → StackFault → Type 0
-IsNoPair addr config descriptor (BadDescriptor (Device fault)) = making.Refuses addr config descriptor fault.cause fault.at × (wants_memory fault.cause ≡ false)
+IsNoPair addr config descriptor (BadDescriptor (Device fault)) =
+    making.Refuses addr config descriptor fault.cause fault.at × (wants_memory fault.cause ≡ false)
 IsNoPair addr config descriptor Memory = Unit {0}
 IsNoPair addr config descriptor _ = ⊥
 
@@ -41,13 +42,16 @@ IsNoPair addr config descriptor _ = ⊥
 abbrev pub Attaches : ℕ → Config → List ℕ → List Member → Result ℕ StackFault → List Member → Type 0
 Attaches room config descriptor old (Ok dev) new =
     (length old < room) × (dev ≡ length old + 1)
-    × ((layout : Contents) × Suits dev config descriptor layout × (new ≡ old ++ fresh_member dev config descriptor layout ∷ []))
+    × ((layout : Contents) × Suits dev config descriptor layout
+    × (new ≡ old ++ fresh_member dev config descriptor layout ∷ []))
 Attaches room config descriptor old (Err TooManyDevices) new = (room ≤ length old) × (new ≡ old)
-Attaches room config descriptor old (Err fault) new = (length old < room) × IsNoPair (length old + 1) config descriptor fault × (new ≡ old)
+Attaches room config descriptor old (Err fault) new =
+    (length old < room) × IsNoPair (length old + 1) config descriptor fault × (new ≡ old)
 
--- A device that was attached has the next number, is freshly configured under it with a layout that suits it, and the
--- others stand as they did.
-pub record IsAttached (config : Config) (descriptor : List ℕ) (old : List Member) (dev : ℕ) (new : List Member) : Type 0 where
+-- A device that was attached has the next number, is freshly configured under it with a layout that
+-- suits it, and the others stand as they did.
+pub record IsAttached (config : Config) (descriptor : List ℕ) (old : List Member) (dev : ℕ)
+    (new : List Member) : Type 0 where
   pub number : dev ≡ length old + 1
   pub layout : Contents
   pub suits : Suits dev config descriptor layout
@@ -68,5 +72,6 @@ abbrev pub Finds : List Member → ℕ → Usage → Result ControlId StackFault
 Finds members dev usage (Ok c) = (m : Member) × (member_at members dev ≡ Some m) × IsLeast m.layout usage c
 Finds members dev usage (Err NoDevice) = member_at members dev ≡ None
 Finds members dev usage (Err (Refused NoSuchControl)) =
-    (m : Member) × (member_at members dev ≡ Some m) × ((d : ControlId) → shown_at (items_of m.layout) d ≡ Some usage → ⊥)
+    (m : Member) × (member_at members dev ≡ Some m)
+    × ((d : ControlId) → shown_at (items_of m.layout) d ≡ Some usage → ⊥)
 Finds members dev usage (Err fault) = ⊥

@@ -1,5 +1,4 @@
--- What is promised of a device over its own steps, by the rounds of those steps: what its host delivers, and how the two
--- stand behind them (USB 2.0, 8.5.4 and 8.6).
+-- What is promised of a device over its own steps, by the rounds of those steps (USB 2.0, 8.5.4 and 8.6).
 use Rattle.std.specs.Prelude.{◌≡◌, ℕ, zero, suc, Bool, not, List, ◌++◌, length, Some, None, IfSome}
 use Rattle.std.specs.List.{filter}
 use Rattle.std.specs.Option.{option_map}
@@ -11,8 +10,8 @@ use Rattle.hid_stack.specs.declared.step.Delivered.{Delivered}
 use Rattle.hid_stack.specs.Stations.{Station, Open, fresh, expected}
 use Rattle.hid_stack.specs.Rig.{Member, member_at, own, from_device}
 
--- The headline: of each device that was just configured the events delivered are exactly the changes between the successive
--- parts that crossed, in order, none twice.
+-- The headline: of each device that was just configured the events delivered are exactly the changes
+-- between the successive parts that crossed, in order, none twice.
 abbrev pub DeliversChanges : List Member → List Step → List Delivered → List Delivered → Type 0
 DeliversChanges before steps old new =
     (device : ℕ) (m : Member) (snapshot : List Cell) (idle : List ℕ)
@@ -29,10 +28,12 @@ flips (suc n) odd = not (flips n odd)
 abbrev pub open_of : Round → Open
 open_of round = record { report = round.report; crossed = has_crossed round }
 
--- How a station stands behind rounds, from this view and this toggle on: as the schedule's bus does, with the round that is
--- open there, whose part is the one that was fixed last; the view took the parts of the rounds that crossed; the device's
--- toggle was changed once for each round closed, and the one that the host expects once for each round crossed.
-pub record FollowsRounds (items : List Item) (before : List Cell) (odd : Bool) (gone : List Round) (bus : Bus) (s : Station) : Type 0 where
+-- How a station stands behind rounds, from this view and this toggle on: as the schedule's bus does, with
+-- the round that is open there, whose part is the one that was fixed last; the view took the parts of the
+-- rounds that crossed; the device's toggle was changed once for each round closed, and the one that the
+-- host expects once for each round crossed.
+pub record FollowsRounds (items : List Item) (before : List Cell) (odd : Bool)
+    (gone : List Round) (bus : Bus) (s : Station) : Type 0 where
   pub standing : s.standing ≡ bus.standing
   pub open_round : s.current ≡ option_map open_of bus.current
   pub part : IfSome bus.current (λ round. round.parts ≡ s.standing.fixed)
@@ -47,9 +48,11 @@ bus_from from = record { standing = from.standing; current = None }
 -- a station stands as the rounds of these steps say
 abbrev pub StandsByRounds : List Item → Station → List OwnStep → Station → Type 0
 StandsByRounds items from steps s =
-    FollowsRounds items from.view from.odd (rounds items steps (bus_from from)) (after_steps items steps (bus_from from)) s
+    FollowsRounds items from.view from.odd
+    (rounds items steps (bus_from from)) (after_steps items steps (bus_from from)) s
 
--- Each device without an open round stands, behind its own steps, as the rounds of those steps say; nothing else of it changes.
+-- Each device without an open round stands, behind its own steps, as the rounds of those steps say;
+-- nothing else of it changes.
 abbrev pub KeepsToRounds : List Member → List Step → List Member → Type 0
 KeepsToRounds before steps after =
     (device : ℕ) (m : Member) → member_at before device ≡ Some m → m.station.current ≡ None

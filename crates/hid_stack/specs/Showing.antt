@@ -8,8 +8,8 @@ use Rattle.hid_stack.specs.Ready.{Known}
 use Rattle.hid_stack.specs.Stations.{expected}
 use Rattle.hid_stack.specs.Rig.{Member, member_at}
 
--- The device of a member: it was made as the member says, is configured and stands as its station does, the round that is
--- open there is open here, and its toggle is set where the rounds closed are odd in number.
+-- The device of a member: it was made as the member says, is configured and stands as its station does,
+-- the round that is open there is open here, and its toggle is set where the rounds closed are odd in number.
 pub record ShowsDevice (m : Member) (d : DeviceState) : Type 0 where
   pub home : d.addr ≡ m.addr
   pub config : d.core.config ≡ m.config
@@ -26,6 +26,7 @@ pub record ShowsKnown (m : Member) (known : Known) : Type 0 where
   pub polls : known.pipe ≡ record { addr = m.addr; endp = ENDPOINT; expects = expected m.station }
   pub view : known.view ≡ m.station.view
 
+-- Its host: it is ready for the device at the member's address, and keeps what a ready host keeps.
 pub record ShowsHost (m : Member) (h : HostEnd) : Type 0 where
   pub home : h.addr ≡ m.addr
   pub is_ready : IsReady h.phase

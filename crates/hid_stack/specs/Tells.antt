@@ -19,25 +19,39 @@ use Rattle.hid_stack.specs.Rig.{Member, member_at}
 
 -- the bytes that show the part of the open round
 abbrev pub ShowsRound : Contents → Station → List ℕ → Type 0
-ShowsRound layout s report = elim s.current [ None ↦ report ≡ [] | Some round ↦ AreBytesOf layout s.standing.fixed round.report report ]
+ShowsRound layout s report = elim s.current [
+  | None ↦ report ≡ []
+  | Some round ↦ AreBytesOf layout s.standing.fixed round.report report
+]
 
 -- the device sends the data of the open round, DATA1 where the rounds closed are odd in number, else NAK
 abbrev pub sent : Station → List ℕ → Packet
-sent s report = elim s.current [ None ↦ packets.Nak | Some round ↦ packets.Data s.odd (record { items = report }) ]
+sent s report = elim s.current [
+  | None ↦ packets.Nak
+  | Some round ↦ packets.Data s.odd (record { items = report })
+]
 
 -- the host takes them as fresh at the poll at which the round crosses
 abbrev pub took_from : Station → List ℕ → Took
-took_from s report = elim s.current [ None ↦ Nak | Some round ↦ (if round.crossed then Again else Fresh (record { items = report })) ]
+took_from s report = elim s.current [
+  | None ↦ Nak
+  | Some round ↦ (if round.crossed then Again else Fresh (record { items = report }))
+]
 
 -- What a poll tells whose token arrives, once a round was opened for it.
 abbrev pub told_by : Station → Fate → List ℕ → Told
 told_by s TokenLost report = Polled None Silent
-told_by s ReplyLost report = Polled (Some (record { items = spelling (sent s report) })) Silent
-told_by s Clean report = Polled (Some (record { items = spelling (sent s report) })) (took_from s report)
-told_by s AckLost report = Polled (Some (record { items = spelling (sent s report) })) (took_from s report)
+told_by s ReplyLost report =
+    Polled (Some (record { items = spelling (sent s report) })) Silent
+told_by s Clean report =
+    Polled (Some (record { items = spelling (sent s report) })) (took_from s report)
+told_by s AckLost report =
+    Polled (Some (record { items = spelling (sent s report) })) (took_from s report)
 
+-- what a poll tells whose token arrives, by the bytes that show the open round
 abbrev pub TellsOpened : Contents → Station → Fate → Told → Type 0
-TellsOpened layout s fate told = (report : List ℕ) × ShowsRound layout s report × (told ≡ told_by s fate report)
+TellsOpened layout s fate told =
+    (report : List ℕ) × ShowsRound layout s report × (told ≡ told_by s fate report)
 
 -- What a poll tells: of a token that is lost nothing is sent.
 abbrev pub TellsPoll : Contents → Station → Fate → Told → Type 0
@@ -50,4 +64,7 @@ TellsPoll layout s AckLost told = TellsOpened layout (opened (items_of layout) s
 abbrev pub Tells : List Member → Step → Told → Type 0
 Tells members (Change dev change) told = told ≡ Quiet
 Tells members Frame told = told ≡ Quiet
-Tells members (Poll dev fate) told = elim (member_at members dev) [ None ↦ ⊥ | Some m ↦ TellsPoll m.layout m.station fate told ]
+Tells members (Poll dev fate) told = elim (member_at members dev) [
+  | None ↦ ⊥
+  | Some m ↦ TellsPoll m.layout m.station fate told
+]

@@ -67,6 +67,7 @@ impl Rig {
     }
 
     /// Attaches a device and gives its number: from 1, and its address too. A call that is refused changes nothing.
+    #[tactic(auto, using(crate::proofs::AttachLemmas::is_attached))]
     pub fn attach(
         &mut self,
         config: &Config,
@@ -74,7 +75,8 @@ impl Rig {
         start: Start,
     ) -> Result<u8, StackFault>
         ensures attaches { Attaches MAX_DEVICES config.now descriptor.now self.old result self.new }
-        ensures attached { IfOk result (λ dev. IsAttached config.now descriptor.now self.old dev self.new) }
+        ensures attached { IfOk result
+            (λ dev. IsAttached config.now descriptor.now self.old dev self.new) }
     {
         if self.slots.len() >= MAX_DEVICES {
             return Err(StackFault::TooManyDevices);

@@ -368,8 +368,7 @@ fn refusals_are_printed_as_their_codes(rt: HostRuntime) -> Result<(), Fail> {
     }
     for n in 1..=MAX_DEVICES {
         assert!(rt;
-            rig.attach(&config(Boot::Mouse), &MOUSE, Start::Ready)
-                .is_ok(),
+            rig.attach(&config(Boot::Mouse), &MOUSE, Start::Ready) == Ok(n as u8),
             "{n}"
         );
     }
