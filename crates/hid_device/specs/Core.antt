@@ -85,7 +85,7 @@ IsArmed layout parts _ _ = ⊥
 abbrev pub Answers : CoreState → Packet → Type 0
 Answers core packet =
     (armed : Option (List ℕ)) × IsArmed core.layout core.standing.fixed core.current armed
-        × (packet ≡ answer_with core.toggle armed)
+    × (packet ≡ answer_with core.toggle armed)
 
 -- the report of the open round is an Input report
 abbrev pub IsBelow : ℕ → Option ℕ → Type 0

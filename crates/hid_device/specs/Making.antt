@@ -58,7 +58,7 @@ RefusesDescriptor descriptor NoEmptyCode at =
     (layout : Contents) × Lays descriptor layout × (has_empty_codes layout ≡ false) × (at ≡ 0)
 RefusesDescriptor descriptor RelativeWithoutZero at =
     (layout : Contents) × Lays descriptor layout × (has_empty_codes layout ≡ true)
-        × (has_zeros (items_of layout) ≡ false) × (at ≡ 0)
+    × (has_zeros (items_of layout) ≡ false) × (at ≡ 0)
 RefusesDescriptor descriptor Memory at = (layout : Contents) × CanServe descriptor layout × (at ≡ 0)
 
 -- What is looked at first is the address and the configuration.
@@ -87,5 +87,5 @@ MakesCore config descriptor (Err fault) = RefusesDescriptor descriptor fault.cau
 abbrev pub MakesDevice : ℕ → Config → List ℕ → Result DeviceState DeviceFault → Type 0
 MakesDevice addr config descriptor (Ok device) =
     (is_config addr config descriptor ≡ true) × ((layout : Contents) × CanServe descriptor layout
-        × (device ≡ new_device addr config descriptor layout))
+    × (device ≡ new_device addr config descriptor layout))
 MakesDevice addr config descriptor (Err fault) = Refuses addr config descriptor fault.cause fault.at
