@@ -12,6 +12,8 @@ mod send;
 mod shown;
 mod snapshot;
 #[cfg(test)]
+mod snapshot_tests;
+#[cfg(test)]
 mod tests;
 
 pub use encode::{encode_report, first_bit, is_data};

@@ -30,8 +30,4 @@ pub use hid_views::{View, changes, element_value, input_report, laws};
 #[cfg(test)]
 mod boot_tests;
 #[cfg(test)]
-mod reset_tests;
-#[cfg(test)]
-mod tests;
-#[cfg(test)]
 mod view_tests;

@@ -1,0 +1,410 @@
+//! Changes of snapshots, what reports show of them, and when these are due: rows worked out by hand from the
+//! descriptors (HID 1.11, 5.10, 6.2.2.5, 8 and appendix C).
+
+ghost use Rattle.hid_layout.specs.Controls.{items_of};
+ghost use Rattle.hid_cells.specs.Cells.{FitsSnapshot, FitsShown};
+
+use crate::{Shown, Snapshot, encode_report};
+use hid_cells::{Change, ChangeFault, has_empty_codes, has_keys, has_zeros, is_input};
+use hid_fields::{BitCodec, FieldCodec, WordCodec};
+use hid_layout::{ControlId, Layout};
+use std::alloc::Global;
+use std::test::Fail;
+
+/// Eight modifiers, and an array of two elements for the keys 07:00 to 07:65.
+#[rattlefmt::skip]
+const KEYS: [u8; 32] = [
+    0x05, 0x07, 0x19, 0xE0, 0x29, 0xE7, 0x15, 0x00, 0x25, 0x01, 0x75, 0x01, 0x95, 0x08, 0x81, 0x02,
+    0x95, 0x02, 0x75, 0x08, 0x15, 0x00, 0x25, 0x65, 0x05, 0x07, 0x19, 0x00, 0x29, 0x65, 0x81, 0x00,
+];
+
+/// A hat switch with null, a slider from 3 on, and an axis beside a wheel.
+#[rattlefmt::skip]
+const VALUES: [u8; 40] = [
+    0x05, 0x01, 0x09, 0x39, 0x15, 0x00, 0x25, 0x07, 0x75, 0x08, 0x95, 0x01, 0x81, 0x42,
+    0x09, 0x36, 0x15, 0x03, 0x25, 0x7F, 0x75, 0x08, 0x95, 0x01, 0x81, 0x02,
+    0x09, 0x30, 0x09, 0x38, 0x15, 0x81, 0x25, 0x7F, 0x75, 0x08, 0x95, 0x02, 0x81, 0x06,
+];
+
+/// A wheel that can carry 0 alone.
+#[rattlefmt::skip]
+const STILL_WHEEL: [u8; 14] = [
+    0x05, 0x01, 0x09, 0x38, 0x15, 0x00, 0x25, 0x00, 0x75, 0x08, 0x95, 0x01, 0x81, 0x06,
+];
+
+/// An array of one element, of three buttons from 1 on, without a rollover code.
+#[rattlefmt::skip]
+const BUTTONS: [u8; 16] = [
+    0x05, 0x09, 0x19, 0x01, 0x29, 0x03, 0x15, 0x01, 0x25, 0x03, 0x75, 0x08, 0x95, 0x01, 0x81, 0x00,
+];
+
+/// An array of two elements of 16 bits, of the buttons 1 to FFFF.
+#[rattlefmt::skip]
+const BUTTONS_TO_FFFF: [u8; 20] = [
+    0x05, 0x09, 0x19, 0x01, 0x2A, 0xFF, 0xFF, 0x15, 0x00, 0x27, 0xFF, 0xFF, 0x00, 0x00, 0x75, 0x10,
+    0x95, 0x02, 0x81, 0x00,
+];
+
+/// An array whose 256 patterns name 256 buttons.
+#[rattlefmt::skip]
+const ALL_NAMED: [u8; 18] = [
+    0x05, 0x09, 0x19, 0x01, 0x2A, 0x00, 0x01, 0x15, 0x00, 0x26, 0xFF, 0x00, 0x75, 0x08, 0x95, 0x01,
+    0x81, 0x00,
+];
+
+/// A byte of padding.
+const PADDING: [u8; 6] = [0x75, 0x08, 0x95, 0x01, 0x81, 0x01];
+
+/// The first control of item 0: a modifier, a button, the hat switch or the still wheel.
+const FIRST: ControlId = ControlId { item: 0, index: 0 };
+
+/// The second one: the left Shift, or another button.
+const SECOND: ControlId = ControlId { item: 0, index: 1 };
+
+const LAST_BUTTON: ControlId = ControlId {
+    item: 0,
+    index: 65_534,
+};
+
+const SLIDER: ControlId = ControlId { item: 1, index: 0 };
+
+const WHEEL: ControlId = ControlId { item: 2, index: 1 };
+
+const NO_ITEM: ControlId = ControlId { item: 9, index: 0 };
+
+const NO_KEY: ControlId = ControlId { item: 1, index: 1 };
+
+const A: ControlId = ControlId { item: 1, index: 4 };
+
+const B: ControlId = ControlId { item: 1, index: 5 };
+
+const C: ControlId = ControlId { item: 1, index: 6 };
+
+const D: ControlId = ControlId { item: 1, index: 7 };
+
+const KEY_45: ControlId = ControlId {
+    item: 1,
+    index: 0x45,
+};
+
+/// Makes these changes, up to the first that is refused.
+fn change_all(
+    snapshot: &mut Snapshot,
+    layout: &Layout,
+    changes: &[Change],
+) -> Result<(), ChangeFault>
+    requires { FitsSnapshot (items_of layout.now) snapshot.old }
+    ensures { FitsSnapshot (items_of layout.now) snapshot.new }
+{
+    for change in changes {
+        make(snapshot, layout, change)?;
+    }
+    Ok(())
+}
+
+fn make(snapshot: &mut Snapshot, layout: &Layout, change: &Change) -> Result<(), ChangeFault>
+    requires { FitsSnapshot (items_of layout.now) snapshot.old }
+    ensures { FitsSnapshot (items_of layout.now) snapshot.new }
+{
+    match change {
+        Change::Press(control) => snapshot.press(layout, *control),
+        Change::Release(control) => snapshot.release(layout, *control),
+        Change::Set(control, value) => snapshot.set(layout, *control, *value),
+        Change::Null(control) => snapshot.set_null(layout, *control),
+        Change::Move(control, by) => snapshot.shift(layout, *control, *by),
+    }
+}
+
+/// A name, a descriptor, changes of a blank snapshot, and the first fault.
+type Changed = (
+    &'static str,
+    &'static [u8],
+    &'static [Change],
+    Result<(), ChangeFault>,
+);
+
+#[rattlefmt::skip]
+const CHANGED: [Changed; 19] = [
+    ("no such item",             &KEYS,        &[Change::Press(NO_ITEM)],                     Err(ChangeFault::NoSuchControl)),
+    ("an error is no key",       &KEYS,        &[Change::Press(NO_KEY)],                                      Err(ChangeFault::NoSuchControl)),
+    ("a key",                    &KEYS,        &[Change::Press(A)],                                      Ok(())),
+    ("a key that is up",         &KEYS,        &[Change::Release(B)],                   Ok(())),
+    ("a key has no value",       &KEYS,        &[Change::Press(A), Change::Set(A, 1)],            Err(ChangeFault::WrongKind)),
+    ("the greatest",             &VALUES,      &[Change::Set(FIRST, 7)],                    Ok(())),
+    ("over the greatest",        &VALUES,      &[Change::Set(FIRST, 8)],                    Err(ChangeFault::OutOfRange)),
+    ("null",                     &VALUES,      &[Change::Null(FIRST)],                      Ok(())),
+    ("the slider has no null",   &VALUES,      &[Change::Null(SLIDER)],                      Err(ChangeFault::NoNull)),
+    ("nor has the wheel",        &VALUES,      &[Change::Null(WHEEL)],                      Err(ChangeFault::WrongKind)),
+    ("as far as it goes",        &VALUES,      &[Change::Move(WHEEL, i32::MAX)],            Ok(())),
+    ("and further",              &VALUES,      &[Change::Move(WHEEL, i32::MAX), Change::Move(WHEEL, 1)], Err(ChangeFault::MotionFull)),
+    ("forwards",                 &STILL_WHEEL, &[Change::Move(FIRST, 1)],                   Err(ChangeFault::NoDirection)),
+    ("backwards",                &STILL_WHEEL, &[Change::Move(FIRST, -1)],                  Err(ChangeFault::NoDirection)),
+    ("nowhere",                  &STILL_WHEEL, &[Change::Move(FIRST, 0)],                   Ok(())),
+    ("the only element",         &BUTTONS,     &[Change::Press(FIRST)],                     Ok(())),
+    ("the same button",          &BUTTONS,     &[Change::Press(FIRST), Change::Press(FIRST)], Ok(())),
+    ("another button",           &BUTTONS,     &[Change::Press(FIRST), Change::Press(SECOND)], Err(ChangeFault::ArrayFull)),
+    ("in its place",             &BUTTONS,     &[Change::Press(FIRST), Change::Release(FIRST), Change::Press(SECOND)], Ok(())),
+];
+
+/// The first row that isn't so.
+fn first_unchanged(alloc: Global, rows: &[Changed]) -> Result<Option<&'static str>, Fail> {
+    for (name, descriptor, changes, result) in rows {
+        let layout = Layout::parse(alloc, descriptor)?;
+        let mut snapshot = Snapshot::blank(alloc, &layout)?;
+        if change_all(&mut snapshot, &layout, changes) != *result {
+            return Ok(Some(*name));
+        }
+    }
+    Ok(None)
+}
+
+#[test]
+fn changes_are_made_or_refused(rt: HostRuntime) -> Result<(), Fail> {
+    assert_eq!(rt; first_unchanged(rt.alloc(), &CHANGED)?, None);
+    Ok(())
+}
+
+/// Whether report 0 shows these bytes of the snapshot.
+fn shows<F: FieldCodec>(
+    layout: &Layout,
+    snapshot: &Snapshot,
+    parts: &mut Shown,
+    bytes: &[u8],
+) -> bool
+    requires snapshot { FitsSnapshot (items_of layout.now) snapshot.now }
+    requires parts { FitsShown (items_of layout.now) parts.old }
+    ensures { FitsShown (items_of layout.now) parts.new }
+{
+    if !is_input(layout, 0) || !has_zeros(layout) || !has_empty_codes(layout) {
+        return false;
+    }
+    snapshot.shown(layout, 0, parts);
+    encode_report::<F>(layout, 0, parts).as_slice() == bytes
+}
+
+/// A name, a descriptor, changes of a blank snapshot, and the bytes that its report shows.
+type ShownRow = (
+    &'static str,
+    &'static [u8],
+    &'static [Change],
+    &'static [u8],
+);
+
+#[rattlefmt::skip]
+const SHOWN: [ShownRow; 10] = [
+    ("nothing is pressed",       &KEYS,            &[],                                               &[0, 0, 0]),
+    ("the left Shift and a",     &KEYS,            &[Change::Press(SECOND), Change::Press(A)],                &[0x02, 0x04, 0]),
+    ("keys by rising place",     &KEYS,            &[Change::Press(B), Change::Press(A)],                                 &[0, 0x04, 0x05]),
+    ("more keys than elements",  &KEYS,            &[Change::Press(SECOND), Change::Press(A), Change::Press(B), Change::Press(C)], &[0x02, 1, 1]),
+    ("null, the least, nowhere", &VALUES,          &[],                                               &[8, 3, 0, 0]),
+    ("values and a motion",      &VALUES,          &[Change::Set(FIRST, 5), Change::Set(SLIDER, 9), Change::Move(WHEEL, -4)], &[5, 9, 0, 0xFC]),
+    ("as far as a field goes",   &VALUES,          &[Change::Move(WHEEL, 200)],                    &[8, 3, 0, 0x7F]),
+    ("the first of three buttons", &BUTTONS,       &[Change::Press(FIRST)],                           &[1]),
+    ("the last of 65535 keys",   &BUTTONS_TO_FFFF, &[Change::Press(LAST_BUTTON)],                   &[0xFE, 0xFF, 0xFF, 0xFF]),
+    ("padding",                  &PADDING,         &[],                                               &[0]),
+];
+
+/// Whether the report shows these bytes by both codecs.
+fn is_shown_so(
+    alloc: Global,
+    descriptor: &[u8],
+    changes: &[Change],
+    bytes: &[u8],
+) -> Result<bool, Fail> {
+    let layout = Layout::parse(alloc, descriptor)?;
+    let mut snapshot = Snapshot::blank(alloc, &layout)?;
+    let mut parts = Shown::blank(alloc, &layout)?;
+    let changed = change_all(&mut snapshot, &layout, changes).is_ok();
+    let by_words = shows::<WordCodec>(&layout, &snapshot, &mut parts, bytes);
+    let by_bits = shows::<BitCodec>(&layout, &snapshot, &mut parts, bytes);
+    Ok(changed && by_words && by_bits)
+}
+
+/// The first row that isn't so.
+fn first_unshown(alloc: Global, rows: &[ShownRow]) -> Result<Option<&'static str>, Fail> {
+    for (name, descriptor, changes, bytes) in rows {
+        if !is_shown_so(alloc, descriptor, changes, bytes)? {
+            return Ok(Some(*name));
+        }
+    }
+    Ok(None)
+}
+
+#[test]
+fn reports_show_their_parts(rt: HostRuntime) -> Result<(), Fail> {
+    assert_eq!(rt; first_unshown(rt.alloc(), &SHOWN)?, None);
+    Ok(())
+}
+
+/// Whether report 0 is due once these changes are fixed as its part and later ones are made.
+fn is_due(
+    layout: &Layout,
+    snapshot: &mut Snapshot,
+    parts: &mut Shown,
+    fixed: &[Change],
+    later: &[Change],
+) -> bool
+    requires snapshot { FitsSnapshot (items_of layout.now) snapshot.old }
+    requires parts { FitsShown (items_of layout.now) parts.old }
+    ensures snapshot { FitsSnapshot (items_of layout.now) snapshot.new }
+    ensures parts { FitsShown (items_of layout.now) parts.new }
+{
+    let made = change_all(snapshot, layout, fixed).is_ok();
+    if !made || !is_input(layout, 0) {
+        return false;
+    }
+    snapshot.shown(layout, 0, parts);
+    let made = change_all(snapshot, layout, later).is_ok();
+    made && snapshot.due(layout, 0, parts)
+}
+
+/// A name, a descriptor, changes that were fixed, later ones, and whether the report is due.
+type Due = (
+    &'static str,
+    &'static [u8],
+    &'static [Change],
+    &'static [Change],
+    bool,
+);
+
+#[rattlefmt::skip]
+const DUE: [Due; 10] = [
+    ("blank",                       &KEYS,   &[],                       &[],                                  false),
+    ("a key is pressed",            &KEYS,   &[],                       &[Change::Press(A)],                            true),
+    ("and released again",          &KEYS,   &[],                       &[Change::Press(A), Change::Release(A)], false),
+    ("a key that was fixed",        &KEYS,   &[Change::Press(A)],                 &[],                                  false),
+    ("another set that rolls over", &KEYS,   &[Change::Press(A), Change::Press(B), Change::Press(C)], &[Change::Press(D)],                            false),
+    ("another key",                 &KEYS,   &[Change::Press(A)],                 &[Change::Release(A), Change::Press(B)], true),
+    ("as many keys as elements",    &KEYS,   &[Change::Press(A), Change::Press(B), Change::Press(C)], &[Change::Release(B)],         true),
+    ("a value",                     &VALUES, &[],                       &[Change::Set(FIRST, 0)],          true),
+    ("null as before",              &VALUES, &[],                       &[Change::Null(FIRST)],            false),
+    ("a motion",                    &VALUES, &[],                       &[Change::Move(WHEEL, -1)],        true),
+];
+
+/// Whether a report is due, of a blank snapshot that is changed so.
+fn is_due_so(
+    alloc: Global,
+    descriptor: &[u8],
+    fixed: &[Change],
+    later: &[Change],
+) -> Result<bool, Fail> {
+    let layout = Layout::parse(alloc, descriptor)?;
+    let mut snapshot = Snapshot::blank(alloc, &layout)?;
+    let mut parts = Shown::blank(alloc, &layout)?;
+    Ok(is_due(&layout, &mut snapshot, &mut parts, fixed, later))
+}
+
+/// The first row that isn't so.
+fn first_not_due(alloc: Global, rows: &[Due]) -> Result<Option<&'static str>, Fail> {
+    for (name, descriptor, fixed, later, wanted) in rows {
+        if is_due_so(alloc, descriptor, fixed, later)? != *wanted {
+            return Ok(Some(*name));
+        }
+    }
+    Ok(None)
+}
+
+#[test]
+fn a_report_is_due_where_its_part_differs(rt: HostRuntime) -> Result<(), Fail> {
+    assert_eq!(rt; first_not_due(rt.alloc(), &DUE)?, None);
+    Ok(())
+}
+
+/// Whether parts that show these changes are made blank again, so that the report is due.
+fn is_reset(alloc: Global, descriptor: &[u8], changes: &[Change]) -> Result<bool, Fail> {
+    let layout = Layout::parse(alloc, descriptor)?;
+    let mut snapshot = Snapshot::blank(alloc, &layout)?;
+    let mut parts = Shown::blank(alloc, &layout)?;
+    let shown = !is_due(&layout, &mut snapshot, &mut parts, changes, &[]);
+    parts.reset(&layout);
+    Ok(shown && is_input(&layout, 0) && snapshot.due(&layout, 0, &parts))
+}
+
+#[test]
+fn parts_are_made_blank_again(rt: HostRuntime) -> Result<(), Fail> {
+    let keys = [Change::Press(A), Change::Press(B), Change::Press(C)];
+    let values = [Change::Set(FIRST, 5), Change::Set(SLIDER, 9)];
+    assert!(rt; is_reset(rt.alloc(), &KEYS, &keys)?);
+    assert!(rt; is_reset(rt.alloc(), &VALUES, &values)?);
+    Ok(())
+}
+
+/// The motion of the wheel that the next report carries, which is taken out.
+fn carry(layout: &Layout, snapshot: &mut Snapshot, parts: &mut Shown) -> i64
+    requires snapshot { FitsSnapshot (items_of layout.now) snapshot.old }
+    requires parts { FitsShown (items_of layout.now) parts.old }
+    ensures snapshot { FitsSnapshot (items_of layout.now) snapshot.new }
+    ensures parts { FitsShown (items_of layout.now) parts.new }
+{
+    if !is_input(layout, 0) || !has_zeros(layout) {
+        return 0;
+    }
+    snapshot.shown(layout, 0, parts);
+    snapshot.take_motion(layout, 0, parts);
+    parts.motion(WHEEL)
+}
+
+#[test]
+fn motion_that_a_field_cannot_carry_stays(rt: HostRuntime) -> Result<(), Fail> {
+    let layout = Layout::parse(rt.alloc(), &VALUES)?;
+    let mut snapshot = Snapshot::blank(rt.alloc(), &layout)?;
+    let mut parts = Shown::blank(rt.alloc(), &layout)?;
+    let moved = snapshot.shift(&layout, WHEEL, 200);
+    assert_eq!(rt; moved, Ok(()));
+    let carried = carry(&layout, &mut snapshot, &mut parts);
+    let rest = carry(&layout, &mut snapshot, &mut parts);
+    let nothing = carry(&layout, &mut snapshot, &mut parts);
+    assert_eq!(rt; [carried, rest, nothing], [127, 73, 0]);
+    Ok(())
+}
+
+#[test]
+fn keys_are_kept_as_words(rt: HostRuntime) -> Result<(), Fail> {
+    let layout = Layout::parse(rt.alloc(), &KEYS)?;
+    let mut keys = Snapshot::blank(rt.alloc(), &layout)?;
+    let pressed = change_all(
+        &mut keys,
+        &layout,
+        &[Change::Press(A), Change::Press(KEY_45)],
+    );
+    assert_eq!(rt; pressed, Ok(()));
+    assert!(rt; has_keys(&layout, 1));
+    assert_eq!(rt; keys.key_words(&layout, 1), [0x10, 0x20].as_slice());
+    Ok(())
+}
+
+#[test]
+fn arrays_without_an_empty_code_are_told(rt: HostRuntime) -> Result<(), Fail> {
+    for (name, descriptor, empty) in [
+        (
+            "all 256 patterns name a button",
+            ALL_NAMED.as_slice(),
+            false,
+        ),
+        (
+            "three of 256 patterns name a button",
+            BUTTONS.as_slice(),
+            true,
+        ),
+        ("no array", VALUES.as_slice(), true),
+    ] {
+        let layout = Layout::parse(rt.alloc(), descriptor)?;
+        assert_eq!(rt; has_empty_codes(&layout), empty, "{name}");
+    }
+    Ok(())
+}
+
+/// A byte of padding in an Input report, and one in an Output report.
+const BOTH_WAYS: [u8; 8] = [0x75, 0x08, 0x95, 0x01, 0x81, 0x01, 0x91, 0x01];
+
+#[test]
+fn output_reports_are_no_input_reports(rt: HostRuntime) -> Result<(), Fail> {
+    let layout = Layout::parse(rt.alloc(), &BOTH_WAYS)?;
+    let inputs = [
+        is_input(&layout, 0),
+        is_input(&layout, 1),
+        is_input(&layout, 2),
+    ];
+    assert_eq!(rt; inputs, [true, false, false]);
+    Ok(())
+}
