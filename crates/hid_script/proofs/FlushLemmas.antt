@@ -18,16 +18,17 @@ use Rattle.hid_script.specs.declared.fault.Cause.TheVariants as causes
 use Rattle.hid_script.specs.declared.fault.Options.{Options}
 use Rattle.hid_script.specs.declared.fault.ScriptFault.{ScriptFault}
 use Rattle.hid_script.specs.declared.fault.Summary.{Summary}
-use Rattle.hid_script.specs.declared.line.Line.{Line}
-use Rattle.hid_script.specs.declared.line.Line.TheVariants as line
+use Rattle.hid_lines.specs.declared.fault.LineFault.{LineFault}
+use Rattle.hid_lines.specs.declared.line.Line.{Line}
+use Rattle.hid_lines.specs.declared.line.Line.TheVariants as line
 use Rattle.hid_script.specs.declared.wanted.Wanted.{Wanted}
 use Rattle.hid_script.specs.declared.wanted.Wanted.TheVariants as wanted
-use Rattle.hid_script.specs.Meaning.{meaning_of}
+use Rattle.hid_lines.specs.Line.{meaning_of}
 use Rattle.hid_script.specs.Output.{IsFront}
 use Rattle.hid_script.specs.Session.{Session, Outcome, accepted, refused, at_first, Repeats}
 use Rattle.hid_script.specs.Steps.{TellsLayout, TellsValues, TellsDevice, TellsStep, TellsFound, TellsChange, valued, read_report, change_of}
 use Rattle.hid_script.specs.Telling.{Once, times, Means, LineTells, LineBegins, Begins, BeginsMeant}
-use Rattle.hid_script.specs.Run.{Ending, Refusal, Want, Cut, Silence, ending_of, EndsAs, FirstTells, FirstBegins, RunsTo, Stops, line_of, AppendsScript}
+use Rattle.hid_script.specs.Runs.{Ending, Refusal, Want, Cut, Silence, ending_of, EndsAs, FirstTells, FirstBegins, RunsTo, Stops, line_of, AppendsScript}
 use Rattle.hid_script.specs.Place.{Place, Advances, RunsFrom, lines_at}
 use Rattle.hid_script.proofs.PlaceLemmas.{start, first_begins, broken_run}
 
@@ -105,9 +106,9 @@ repeats_begin Part nothing (suc n) session text cause (inl h) =
     let more = repeats_begin Part nothing n h.1 h.2.text cause rest in
     (suc more.0, more.1, omega (arith, more.2), inl (h.0, h.1, accepted h.2.text more.1, h.3, more.3, ap (λ t. accepted t more.1) whole))
 
-meant_begins : (session : Session) (meaning : Result Line Cause) (text : List ℕ) (cause : Cause) → Means session meaning (refused_with text cause) → BeginsMeant session meaning text
+meant_begins : (session : Session) (meaning : Result Line LineFault) (text : List ℕ) (cause : Cause) → Means session meaning (refused_with text cause) → BeginsMeant session meaning text
 meant_begins session (Ok said) text cause h = repeats_begin (Once said) (once_prints_nothing said) (times said) session text cause h
-meant_begins session (Err why) text cause h = no_text text cause why h
+meant_begins session (Err why) text cause h = no_text text cause _ h
 
 line_begins : (session : Session) (bytes text : List ℕ) (cause : Cause) → LineTells session bytes (refused_with text cause) → LineBegins session bytes text
 unfolding LineTells LineBegins

@@ -1,9 +1,4 @@
 pub mod OutputLemmas
-pub mod TextLemmas
-pub mod WordLemmas
-pub mod NumberLemmas
-pub mod ValueLemmas
-pub mod PollLemmas
 pub mod PlaceLemmas
 pub mod SessionLemmas
 pub mod RepeatLemmas

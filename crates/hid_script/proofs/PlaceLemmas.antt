@@ -12,14 +12,16 @@ use Rattle.hid_script.specs.declared.fault.Cause.{Cause}
 use Rattle.hid_script.specs.declared.fault.Cause.TheVariants as causes
 use Rattle.hid_script.specs.declared.fault.ScriptFault.{ScriptFault}
 use Rattle.hid_script.specs.declared.fault.Summary.{Summary}
-use Rattle.hid_script.specs.Words.{words_of}
-use Rattle.hid_script.specs.Meaning.{meaning_of, words_said}
+use Rattle.hid_lines.specs.Words.{words_of}
+use Rattle.hid_lines.specs.Line.{meaning_of, words_said}
 use Rattle.hid_script.specs.declared.fault.Options.{Options}
 use Rattle.hid_script.specs.Session.{Session, accepted, refused, at_first}
-use Rattle.hid_script.specs.declared.line.Line.{Line}
+use Rattle.hid_lines.specs.declared.fault.LineFault.{LineFault}
+use Rattle.hid_lines.specs.declared.fault.LineFault.TheVariants as line_faults
+use Rattle.hid_lines.specs.declared.line.Line.{Line}
 use Rattle.hid_script.specs.Session.{Repeats}
 use Rattle.hid_script.specs.Telling.{LineTells, LineBegins, BeginsMeant, Means}
-use Rattle.hid_script.specs.Run.{Silence, ending_of, EndsAs, Ends, FirstTells, FirstBegins, AllTell, RunsTo, AppendsScript}
+use Rattle.hid_script.specs.Runs.{Silence, ending_of, EndsAs, Ends, FirstTells, FirstBegins, AllTell, RunsTo, AppendsScript}
 use Rattle.hid_script.specs.Place.{Place, IsUnbroken, lines_at, Writes, Advances, RunsFrom, Takes}
 
 -- ---- lines
@@ -162,7 +164,7 @@ pub long_stops : (place : Place) (b : ℕ) (more : List ℕ) (fault : ScriptFaul
 unfolding LineTells meaning_of ending_of
 long_stops place b more fault whole apart long at is =
     let first = long_first (place.begun ++ b ∷ []) more (All-push (λ x. nat_eq x 10 ≡ false) place.begun b whole apart) (omega (arith, length-append place.begun (b ∷ []))) in
-    let meant : meaning_of first.0 ≡ Err causes.LineTooLong = cond-true (nat_lt 1024 (length first.0)) (Err causes.LineTooLong) (words_said (words_of first.0)) (lt-ltb 1024 (length first.0) first.3) in
+    let meant : meaning_of first.0 ≡ Err line_faults.LineTooLong = cond-true (nat_lt 1024 (length first.0)) (Err line_faults.LineTooLong) (words_said (words_of first.0)) (lt-ltb 1024 (length first.0) first.3) in
     line_stops place.session (lines_at place (b ∷ more)) first.1 place.lines first.0 [] causes.LineTooLong fault (ap lines (sym (append_assoc place.begun (b ∷ []) more)) ∙ first.2) at is
     (subst (λ m. Means place.session m (refused causes.LineTooLong)) (sym meant) refl)
 
@@ -270,7 +272,7 @@ piece_stops options a b e c d f read written text piece now fault (Err x) from g
 
 -- ---- a run that doesn't begin
 
-begins_meant : (session : Session) (meaning : Result Line Cause) → BeginsMeant session meaning []
+begins_meant : (session : Session) (meaning : Result Line LineFault) → BeginsMeant session meaning []
 unfolding Repeats
 begins_meant session (Ok said) = (0, session, omega arith, refl)
 begins_meant session (Err cause) = refl

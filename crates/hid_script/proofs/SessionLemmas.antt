@@ -30,17 +30,19 @@ use Rattle.hid_stack.specs.Attaching.{Attaches, Finds}
 use Rattle.hid_script.specs.declared.fault.Cause.{Cause}
 use Rattle.hid_script.specs.declared.fault.Cause.TheVariants as causes
 use Rattle.hid_script.specs.declared.fault.StepFault.TheVariants as faults
-use Rattle.hid_script.specs.declared.line.Line.{Line}
+use Rattle.hid_lines.specs.declared.fault.LineFault.{LineFault}
+use Rattle.hid_lines.specs.declared.fault.LineFault.TheVariants as line_faults
+use Rattle.hid_lines.specs.declared.line.Line.{Line}
 use Rattle.hid_script.specs.declared.wanted.Wanted.{Wanted}
-use Rattle.hid_script.specs.Meaning.{meaning_of}
-use Rattle.hid_script.specs.LayoutText.{layout_text}
-use Rattle.hid_script.specs.ValuesText.{values_text}
-use Rattle.hid_script.specs.StepText.{step_text}
+use Rattle.hid_lines.specs.Line.{meaning_of}
+use Rattle.hid_text.specs.LayoutText.{layout_text}
+use Rattle.hid_text.specs.ValuesText.{values_text}
+use Rattle.hid_text.specs.StepText.{step_text}
 use Rattle.hid_script.specs.Session.{Session, Outcome, accepted, refused}
 use Rattle.hid_script.specs.Steps.{TellsLayout, TellsValues, TellsDevice, TellsStep, TellsChange, lays_out, valued, read_report, refuses_step, config_of, attaches, counted, stepped, change_of}
-use Rattle.hid_script.specs.Telling.{BeginsMeant, LineTells, LineBegins, Means, CarriesOut, cause_from, cause_of, stack_cause}
+use Rattle.hid_script.specs.Telling.{BeginsMeant, LineTells, LineBegins, Means, CarriesOut, line_cause, cause_from, cause_of, stack_cause}
 use Rattle.hid_script.specs.Output.{AppendsFront}
-use Rattle.hid_script.specs.Run.{Ending, Refusal, Want, Cut, Silence, ending_of, EndsAs, Ends}
+use Rattle.hid_script.specs.Runs.{Ending, Refusal, Want, Cut, Silence, ending_of, EndsAs, Ends}
 use Rattle.hid_script.specs.Place.{AppendsTold, AppendsOnce, OnceEndsAs, IsBegun}
 use Rattle.hid_script.proofs.PlaceLemmas.{begins_nothing}
 
@@ -81,16 +83,16 @@ refusal_left Cut Tells Begun cause begun h = ([], begun, ([], refl))
 refusal_left Silence Tells Begun cause begun h = refl
 
 -- a line that isn't understood
-pub line_refused : (old : Option (List ℕ)) (session : Session) (bytes : List ℕ) (cause : Cause) (r : Result (Unit {0}) Cause) (next : Session) → (cause ≡ causes.Memory) ⊎ (meaning_of bytes ≡ Err cause) → IsErrAnd r (λ e. e ≡ cause)
+pub line_refused : (old : Option (List ℕ)) (session : Session) (bytes : List ℕ) (fault : LineFault) (r : Result (Unit {0}) Cause) (next : Session) → (fault ≡ line_faults.Memory) ⊎ (meaning_of bytes ≡ Err fault) → IsErrAnd r (λ e. e ≡ line_cause fault)
     → AppendsTold old old (LineTells session bytes) (LineBegins session bytes) r next
 unfolding LineTells ending_of
-line_refused old session bytes cause (Ok u) next why is = absurd is
-line_refused old session bytes cause (Err e) next (inl memory) is = ([], Appends-nil old, subst (λ c. Ends (LineTells session bytes) (LineBegins session bytes) [] c) (sym (is ∙ memory)) (begins_nothing session bytes))
-line_refused old session bytes cause (Err e) next (inr meant) is = (
+line_refused old session bytes fault (Ok u) next why is = absurd is
+line_refused old session bytes fault (Err e) next (inl memory) is = ([], Appends-nil old, subst (λ c. Ends (LineTells session bytes) (LineBegins session bytes) [] c) (sym (is ∙ ap line_cause memory)) (begins_nothing session bytes))
+line_refused old session bytes fault (Err e) next (inr meant) is = (
   [],
   Appends-nil old,
   subst (λ c. Ends (LineTells session bytes) (LineBegins session bytes) [] c) (sym is)
-      (refusal_left (ending_of cause) (LineTells session bytes) (LineBegins session bytes) cause (begins_nothing session bytes) (subst (λ m. Means session m (refused cause)) (sym meant) refl)),
+      (refusal_left (ending_of (line_cause fault)) (LineTells session bytes) (LineBegins session bytes) (line_cause fault) (begins_nothing session bytes) (subst (λ m. Means session m (refused (line_cause fault))) (sym meant) refl)),
 )
 
 -- ---- layouts

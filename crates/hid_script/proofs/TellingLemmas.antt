@@ -16,14 +16,15 @@ use Rattle.hid_stack.specs.Rig.{Member, fresh_member}
 use Rattle.hid_script.specs.declared.fault.Cause.{Cause}
 use Rattle.hid_script.specs.declared.wanted.Wanted.{Wanted}
 use Rattle.hid_script.specs.declared.wanted.Wanted.TheVariants as wanted
-use Rattle.hid_script.specs.declared.line.Line.{Line}
-use Rattle.hid_script.specs.declared.line.Line.TheVariants as line
-use Rattle.hid_script.specs.Meaning.{meaning_of}
+use Rattle.hid_lines.specs.declared.fault.LineFault.{LineFault}
+use Rattle.hid_lines.specs.declared.line.Line.{Line}
+use Rattle.hid_lines.specs.declared.line.Line.TheVariants as line
+use Rattle.hid_lines.specs.Line.{meaning_of}
 use Rattle.hid_script.specs.Output.{IsFront}
 use Rattle.hid_script.specs.Session.{Session, Outcome, accepted, after_text, Joins, Repeats}
 use Rattle.hid_script.specs.Steps.{TellsLayout, TellsDevice, TellsStep, TellsFound, TellsChange, lays_out, refuses_layout, attaches, stepped, refuses_step, config_of, change_of}
 use Rattle.hid_script.specs.Telling.{Once, times, Means, LineTells, LineBegins, BeginsMeant}
-use Rattle.hid_script.specs.Run.{AllTell}
+use Rattle.hid_script.specs.Runs.{AllTell}
 use Rattle.hid_stack.specs.Laws.{TellsOneThing, FindsOneControl, AttachesOneDevice}
 use Rattle.hid_stack.specs.declared.rig.TheConstants.{MAX_DEVICES}
 use Rattle.hid_script.specs.Laws.{LineTellsOneThing, LinesTellOneText, BeginsWithFronts}
@@ -134,7 +135,7 @@ unfolding Repeats
 one_repeated Part one zero session o other h k = h ∙ sym k
 one_repeated Part one (suc n) session o other h k = one_join (Part session) (Repeats n Part) (one session) (one_repeated Part one n) o other h k
 
-one_meant : HasOneReading → AcceptsNoRefused → HasOneCause → HasOnePlace → HasOneAnswer → (session : Session) (meaning : Result Line Cause) (o other : Outcome) → Means session meaning o → Means session meaning other → o ≡ other
+one_meant : HasOneReading → AcceptsNoRefused → HasOneCause → HasOnePlace → HasOneAnswer → (session : Session) (meaning : Result Line LineFault) (o other : Outcome) → Means session meaning o → Means session meaning other → o ≡ other
 one_meant reading apart cause place one session (Ok said) o other h k = one_repeated (Once said) (one_once reading apart cause place one said) (times said) session o other h k
 one_meant reading apart cause place one session (Err why) o other h k = h ∙ sym k
 
@@ -171,7 +172,7 @@ front_repeated Part one (suc n) (suc count) session next text o below (inl h) (i
     let whole : text ≡ k.0 ++ h.2.text = ap (λ (p : Outcome). p.text) h.5 ∙ ap (λ t. t ++ h.2.text) first in
     (front.0, ap (λ (p : Outcome). p.text) k.5 ∙ ap (λ t. k.0 ++ t) front.1 ∙ sym (append_assoc k.0 h.2.text front.0) ∙ ap (λ t. t ++ front.0) (sym whole))
 
-front_meant : HasOneReading → AcceptsNoRefused → HasOneCause → HasOnePlace → HasOneAnswer → (session : Session) (meaning : Result Line Cause) (text : List ℕ) (o : Outcome) → BeginsMeant session meaning text → Means session meaning o → IsFront text o.text
+front_meant : HasOneReading → AcceptsNoRefused → HasOneCause → HasOnePlace → HasOneAnswer → (session : Session) (meaning : Result Line LineFault) (text : List ℕ) (o : Outcome) → BeginsMeant session meaning text → Means session meaning o → IsFront text o.text
 front_meant reading apart cause place one session (Ok said) text o h k = front_repeated (Once said) (one_once reading apart cause place one said) h.0 (times said) session h.1 text o h.2 h.3 k
 front_meant reading apart cause place one session (Err why) text o h k = rw h (o.text, refl)
 

@@ -1,60 +1,12 @@
--- Worked values of the script's words and text, each by hand.
-use Rattle.std.proofs.Common.{◌≡◌, [], ◌∷◌, ◌++◌, None, Some, refl, pos, negsuc}
+-- Worked values of the line of a fault, each by hand.
+use Rattle.std.proofs.Common.{◌≡◌, [], ◌∷◌, ◌++◌, refl}
 use Rattle.std.specs.Prelude.{codes}
 use Rattle.std.specs.Fmt.{digits}
-use Rattle.hid_descriptor.specs.declared.report.ReportKind.TheVariants.{Input}
-use Rattle.hid_layout.specs.declared.main_item.MainItem.{MainItem}
-use Rattle.hid_descriptor.specs.declared.shape.Shape.TheVariants.{Variable}
 use Rattle.hid_descriptor.specs.declared.fault.Cause.TheVariants as layouts
+use Rattle.hid_cells.specs.declared.fault.ReportFault.TheVariants.{Short}
 use Rattle.hid_script.specs.declared.fault.Cause.TheVariants as causes
 use Rattle.hid_script.specs.declared.fault.StepFault.TheVariants as faults
-use Rattle.hid_cells.specs.declared.fault.ReportFault.TheVariants.{Short}
-use Rattle.hid_script.specs.Words.{words_of}
-use Rattle.hid_script.specs.Text.{hex_text, usage_text, range_text}
-use Rattle.hid_script.specs.LayoutText.{item_head, item_line}
-use Rattle.hid_script.specs.ValuesText.{value_line}
 use Rattle.hid_script.specs.FaultText.{fault_text}
-
--- two words, with a space, a tab and two spaces round them
-two_words : words_of (codes " values" ++ 9 ∷ codes "05  ") ≡ codes "values" ∷ codes "05" ∷ []
-two_words = refl
-
--- two digits at least, and no more than there are
-two_digits : hex_text 0x0A ≡ codes "0A"
-unfolding hex_text digits
-two_digits = refl
-
-four_digits : hex_text 0xFF00 ≡ codes "FF00"
-unfolding hex_text digits
-four_digits = refl
-
-the_x_axis : usage_text (record { page = 0x01; id = 0x30 }) ≡ codes "01:30"
-unfolding hex_text digits
-the_x_axis = refl
-
-three_buttons : range_text (record { page = 0x09; id = 0x01 }, record { page = 0x09; id = 0x03 }) ≡ codes "09:01-09:03"
-unfolding range_text hex_text digits
-three_buttons = refl
-
-one_button : range_text (record { page = 0x09; id = 0x03 }, record { page = 0x09; id = 0x03 }) ≡ codes "09:03"
-unfolding range_text hex_text digits
-one_button = refl
-
--- a number below 0, and a usage that there isn't
-a_value : value_line 2 1 (negsuc 126) None ≡ codes "value 2.1 -127 -" ++ 10 ∷ []
-unfolding value_line digits
-a_value = refl
-
--- the buttons of a mouse: variable, from 0 to 1, in its collections
-buttons : MainItem
-buttons = record { report = 0; offset = 0; size = 1; count = 3; flags = record { 0 = 0x02 }; min = pos 0; max = pos 1; shape = Variable }
-
-mouse_buttons : item_line 0 (record { kind = Input; id = 0; bits = 24 }) buttons
-    ((record { page = 0x09; id = 0x01 }, record { page = 0x09; id = 0x03 }) ∷ [])
-    (record { kind = 1; usage = Some (record { page = 0x01; id = 0x02 }) } ∷ record { kind = 0; usage = None } ∷ [])
-    ≡ codes "item 0 input 0 at 0 1x3 variable 0..1 09:01-09:03 in 1/01:02 0/-" ++ 10 ∷ []
-unfolding buttons item_head range_text hex_text digits
-mouse_buttons = refl
 
 -- the codes of a fault, from the outermost to the innermost
 a_short_report : fault_text (record { line = 2; cause = causes.Step (faults.Report Short) }) ≡ codes "line 2: X4 U8" ++ 10 ∷ []

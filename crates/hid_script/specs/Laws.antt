@@ -1,18 +1,21 @@
--- Laws of what a script tells, which hold whatever runs it.
+-- Laws of what a script tells, which hold whatever runs it (our choice: docs/SCRIPT.md).
 use Rattle.std.specs.Prelude.{◌≡◌, ℕ, List}
 use Rattle.hid_script.specs.Session.{Session, Outcome}
 use Rattle.hid_script.specs.Telling.{LineTells, LineBegins}
 use Rattle.hid_script.specs.Output.{IsFront}
-use Rattle.hid_script.specs.Run.{AllTell}
+use Rattle.hid_script.specs.Runs.{AllTell}
 
 -- a line tells one outcome at most
 abbrev pub LineTellsOneThing : Type 0
-LineTellsOneThing = (session : Session) (line : List ℕ) (o other : Outcome) → LineTells session line o → LineTells session line other → o ≡ other
+LineTellsOneThing = (session : Session) (line : List ℕ) (o other : Outcome)
+    → LineTells session line o → LineTells session line other → o ≡ other
 
 -- lines that are all accepted tell one text at most, and leave one session
 abbrev pub LinesTellOneText : Type 0
-LinesTellOneText = (session : Session) (script : List (List ℕ)) (text other : List ℕ) (last end : Session) → AllTell session script text last → AllTell session script other end → (text ≡ other) × (last ≡ end)
+LinesTellOneText = (session : Session) (script : List (List ℕ)) (text other : List ℕ) (last end : Session)
+    → AllTell session script text last → AllTell session script other end → (text ≡ other) × (last ≡ end)
 
 -- what the first times of a line tell is a front of what the line tells
 abbrev pub BeginsWithFronts : Type 0
-BeginsWithFronts = (session : Session) (line text : List ℕ) (o : Outcome) → LineBegins session line text → LineTells session line o → IsFront text o.text
+BeginsWithFronts = (session : Session) (line text : List ℕ) (o : Outcome)
+    → LineBegins session line text → LineTells session line o → IsFront text o.text

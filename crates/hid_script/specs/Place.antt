@@ -1,4 +1,4 @@
--- A script of which some bytes have come: for proofs.
+-- A script of which some bytes have come: for proofs (our choice).
 use Rattle.std.specs.Prelude.{◌≡◌, ◌⊎◌, ◌==◌, ℕ, ◌+◌, false, List, [], ◌++◌, length, All, Option, Result, Ok, Err}
 use Rattle.std.specs.Str.Lines.{lines}
 use Rattle.std.specs.Io.KnownBytes.{Appends}
@@ -7,7 +7,7 @@ use Rattle.hid_script.specs.declared.fault.ScriptFault.{ScriptFault}
 use Rattle.hid_script.specs.declared.fault.Summary.{Summary}
 use Rattle.hid_script.specs.Session.{Session, Outcome, accepted}
 use Rattle.hid_script.specs.Output.{IsFront}
-use Rattle.hid_script.specs.Run.{Ending, Refusal, Want, Cut, Silence, ending_of, AllTell, Ends, RunsTo}
+use Rattle.hid_script.specs.Runs.{Ending, Refusal, Want, Cut, Silence, ending_of, AllTell, Ends, RunsTo}
 
 -- what was written of a line: all that it tells, or what its end leaves of that
 abbrev pub Writes : (Outcome → Type 0) → (List ℕ → Type 0) → List ℕ → Result (Unit {0}) Cause → Session → Type 0
@@ -15,8 +15,10 @@ Writes Tells Begun written (Ok _) next = Tells (accepted written next)
 Writes Tells Begun written (Err cause) next = Ends Tells Begun written cause
 
 -- known bytes grew by what was written of a line
-abbrev pub AppendsTold : Option (List ℕ) → Option (List ℕ) → (Outcome → Type 0) → (List ℕ → Type 0) → Result (Unit {0}) Cause → Session → Type 0
-AppendsTold old new Tells Begun result next = (written : List ℕ) × Appends old new written × Writes Tells Begun written result next
+abbrev pub AppendsTold : Option (List ℕ) → Option (List ℕ) → (Outcome → Type 0) → (List ℕ → Type 0)
+    → Result (Unit {0}) Cause → Session → Type 0
+AppendsTold old new Tells Begun result next =
+    (written : List ℕ) × Appends old new written × Writes Tells Begun written result next
 
 -- of a part that is told once: nothing, or all
 abbrev pub IsBegun : (Outcome → Type 0) → List ℕ → Type 0
@@ -29,12 +31,16 @@ OnceEndsAs Want Tells written cause = IsBegun Tells written
 OnceEndsAs Cut Tells written cause = (text : List ℕ) × IsBegun Tells text × IsFront written text
 OnceEndsAs Silence Tells written cause = ⊥
 
+-- what was written of a part that is told once
 abbrev pub WritesOnce : (Outcome → Type 0) → List ℕ → Result (Unit {0}) Cause → Session → Type 0
 WritesOnce Tells written (Ok _) next = Tells (accepted written next)
 WritesOnce Tells written (Err cause) next = OnceEndsAs (ending_of cause) Tells written cause
 
-abbrev pub AppendsOnce : Option (List ℕ) → Option (List ℕ) → (Outcome → Type 0) → Result (Unit {0}) Cause → Session → Type 0
-AppendsOnce old new Tells result next = (written : List ℕ) × Appends old new written × WritesOnce Tells written result next
+-- known bytes grew by that
+abbrev pub AppendsOnce : Option (List ℕ) → Option (List ℕ) → (Outcome → Type 0)
+    → Result (Unit {0}) Cause → Session → Type 0
+AppendsOnce old new Tells result next =
+    (written : List ℕ) × Appends old new written × WritesOnce Tells written result next
 
 -- the session, the line that has begun, and how many lines came before it
 pub record Place : Type 0 where
@@ -67,8 +73,10 @@ Takes old bytes written (Ok _) new = Advances old bytes written new
 Takes old bytes written (Err fault) new = (more : List ℕ) → RunsFrom old (bytes ++ more) written (Err fault)
 
 -- known bytes grew by what was written
-abbrev pub AppendsTaken : Option (List ℕ) → Option (List ℕ) → Place → List ℕ → Result (Unit {0}) ScriptFault → Place → Type 0
-AppendsTaken before after old bytes result new = (written : List ℕ) × Appends before after written × Takes old bytes written result new
+abbrev pub AppendsTaken : Option (List ℕ) → Option (List ℕ) → Place → List ℕ
+    → Result (Unit {0}) ScriptFault → Place → Type 0
+AppendsTaken before after old bytes result new =
+    (written : List ℕ) × Appends before after written × Takes old bytes written result new
 
 -- known bytes grew by what was written to the end of a script that ended here
 abbrev pub AppendsRun : Option (List ℕ) → Option (List ℕ) → Place → Result Summary ScriptFault → Type 0

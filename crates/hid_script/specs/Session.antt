@@ -1,5 +1,5 @@
 -- What stands between two lines of a script, and what a part of a script tells: the text that it prints, and where it
--- leaves the session.
+-- leaves the session (our choice: docs/SCRIPT.md).
 use Rattle.std.specs.Prelude.{◌≡◌, ◌⊎◌, ℕ, zero, suc, List, [], ◌++◌, Option, None, Result, Ok, Err}
 use Rattle.hid_layout.specs.Layout.{Contents}
 use Rattle.hid_stack.specs.Rig.{Member}
@@ -37,8 +37,10 @@ after_text text o = record o { text = text ++ o.text }
 -- One part, and then another where the first was not refused. What the first printed stands in either case.
 abbrev pub Joins : (Outcome → Type 0) → (Session → Outcome → Type 0) → Outcome → Type 0
 Joins First Next o =
-    ((text : List ℕ) × (next : Session) × (rest : Outcome) × First (accepted text next) × Next next rest × (o ≡ after_text text rest))
-    ⊎ ((text : List ℕ) × (cause : Cause) × First (record { text = text; end = Err cause }) × (o ≡ record { text = text; end = Err cause }))
+    ((text : List ℕ) × (next : Session) × (rest : Outcome)
+    × First (accepted text next) × Next next rest × (o ≡ after_text text rest))
+    ⊎ ((text : List ℕ) × (cause : Cause)
+    × First (record { text = text; end = Err cause }) × (o ≡ record { text = text; end = Err cause }))
 
 -- A part so many times over, up to the first time that it is refused.
 unfoldable pub Repeats : ℕ → (Session → Outcome → Type 0) → Session → Outcome → Type 0

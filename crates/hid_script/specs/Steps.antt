@@ -1,4 +1,4 @@
--- What the parts of a script tell: layouts, values, devices, and steps of the bus.
+-- What the parts of a script tell: layouts, values, devices, and steps of the bus (our choice: docs/SCRIPT.md).
 use Rattle.std.specs.Prelude.{◌≡◌, ◌≢◌, ◌⊎◌, ◌∷◌, ◌++◌, ℕ, ◌+◌, ◌-◌, ◌^◌, min, List, [], length, if◌then◌else◌, Option, None, Some, Result, Ok, Err}
 use Rattle.hid_descriptor.specs.Items.{Item}
 use Rattle.hid_layout.specs.Layout.{Contents, layout_of}
@@ -25,9 +25,9 @@ use Rattle.hid_script.specs.declared.fault.Cause.TheVariants as causes
 use Rattle.hid_script.specs.declared.fault.StepFault.TheVariants as faults
 use Rattle.hid_script.specs.declared.wanted.Wanted.{Wanted}
 use Rattle.hid_script.specs.declared.wanted.Wanted.TheVariants.{Press, Release, Null, Set, Move}
-use Rattle.hid_script.specs.LayoutText.{layout_text}
-use Rattle.hid_script.specs.ValuesText.{values_text}
-use Rattle.hid_script.specs.StepText.{step_text}
+use Rattle.hid_text.specs.LayoutText.{layout_text}
+use Rattle.hid_text.specs.ValuesText.{values_text}
+use Rattle.hid_text.specs.StepText.{step_text}
 use Rattle.hid_script.specs.Session.{Session, Outcome, accepted, refused}
 
 -- ---- layout and values
@@ -36,6 +36,7 @@ use Rattle.hid_script.specs.Session.{Session, Outcome, accepted, refused}
 abbrev pub lays_out : Session → Contents → Outcome
 lays_out session layout = accepted (layout_text layout) (record session { layout = Some layout })
 
+-- a descriptor that is refused
 abbrev pub refuses_layout : LayoutFault → Outcome
 refuses_layout fault = refused (causes.Step (faults.Layout fault))
 
@@ -55,6 +56,7 @@ abbrev pub valued : Session → List ℕ → Option Contents → Outcome
 valued session bytes None = refused causes.NoLayout
 valued session bytes (Some layout) = read_report session layout bytes (report_named layout bytes)
 
+-- a line of values tells that
 abbrev pub TellsValues : List ℕ → Session → Outcome → Type 0
 TellsValues bytes session o = o ≡ valued session bytes session.layout
 
@@ -64,21 +66,26 @@ TellsValues bytes session o = o ≡ valued session bytes session.layout
 abbrev pub config_of : Boot → Config
 config_of boot = record { vendor = 0xFFFF; product = 0x0001; interval = 10; boot = boot }
 
+-- what the stack refuses
 abbrev pub refuses_step : StackFault → Outcome
 refuses_step fault = refused (causes.Step (faults.Stack fault))
 
 -- a device is attached, and its layout is printed where layouts are asked for
 abbrev pub attaches : Session → Contents → List Member → Outcome
-attaches session layout members = accepted (if session.options.layout then layout_text layout else []) (record session { members = members })
+attaches session layout members =
+    accepted (if session.options.layout then layout_text layout else []) (record session { members = members })
 
--- The next number is the device's, and its descriptor suits; or there is no such device, and want of memory is no reason.
+-- The next number is the device's, and its descriptor suits; or there is no such device, and want of memory is no
+-- reason.
 abbrev pub TellsDevice : Boot → List ℕ → Session → Outcome → Type 0
 TellsDevice boot bytes session o =
     ((dev : ℕ) × (layout : Contents) × (after : List Member)
     × Attaches MAX_DEVICES (config_of boot) bytes session.members (Ok dev) after
-    × (after ≡ session.members ++ fresh_member dev (config_of boot) bytes layout ∷ []) × (o ≡ attaches session layout after))
+    × (after ≡ session.members ++ fresh_member dev (config_of boot) bytes layout ∷ [])
+    × (o ≡ attaches session layout after))
     ⊎ ((fault : StackFault) × (after : List Member)
-    × Attaches MAX_DEVICES (config_of boot) bytes session.members (Err fault) after × (fault ≢ stack.Memory) × (o ≡ refuses_step fault))
+    × Attaches MAX_DEVICES (config_of boot) bytes session.members (Err fault) after
+    × (fault ≢ stack.Memory) × (o ≡ refuses_step fault))
 
 -- ---- steps of the bus
 
@@ -90,12 +97,16 @@ counted events more = min (events + more) (2 ^ 64 - 1)
 abbrev pub stepped : Session → Step → Told → Outcome
 stepped session step shown = accepted
     (step_text session.options.trace step shown (delivered_at session.members step))
-    (record session { members = bus_after session.members step; events = counted session.events (length (delivered_at session.members step)) })
+    (record session {
+      members = bus_after session.members step;
+      events = counted session.events (length (delivered_at session.members step));
+    })
 
 -- a step is taken, or it is refused
 abbrev pub TellsStep : Step → Session → Outcome → Type 0
 TellsStep step session o =
-    ((shown : Told) × (refusal session.members step ≡ None) × Tells session.members step shown × (o ≡ stepped session step shown))
+    ((shown : Told) × (refusal session.members step ≡ None) × Tells session.members step shown
+    × (o ≡ stepped session step shown))
     ⊎ ((fault : StackFault) × (refusal session.members step ≡ Some fault) × (o ≡ refuses_step fault))
 
 -- the change that is wanted of a control
@@ -106,10 +117,13 @@ change_of Null control = changes.Null control
 change_of (Set value) control = changes.Set control value
 change_of (Move by) control = changes.Move control by
 
+-- a control that was found changes; where there is none, that is told
 abbrev pub TellsFound : ℕ → Wanted → Result ControlId StackFault → Session → Outcome → Type 0
 TellsFound dev wanted (Ok control) session o = TellsStep (Change dev (change_of wanted control)) session o
 TellsFound dev wanted (Err fault) session o = o ≡ refuses_step fault
 
 -- the least control with the usage changes, if there is one
 abbrev pub TellsChange : ℕ → Usage → Wanted → Session → Outcome → Type 0
-TellsChange dev usage wanted session o = (found : Result ControlId StackFault) × Finds session.members dev usage found × TellsFound dev wanted found session o
+TellsChange dev usage wanted session o =
+    (found : Result ControlId StackFault)
+    × Finds session.members dev usage found × TellsFound dev wanted found session o

@@ -1,4 +1,4 @@
--- What a line of a script tells.
+-- What a line of a script tells (our choice: docs/SCRIPT.md).
 use Rattle.std.specs.Prelude.{◌≡◌, ℕ, ◌≤◌, List, [], Result, Ok, Err}
 use Rattle.hid_descriptor.specs.declared.fault.LayoutFault.{LayoutFault}
 use Rattle.hid_descriptor.specs.declared.fault.Cause as layouts
@@ -10,9 +10,11 @@ use Rattle.hid_script.specs.declared.fault.Cause.{Cause}
 use Rattle.hid_script.specs.declared.fault.Cause.TheVariants as causes
 use Rattle.hid_script.specs.declared.fault.StepFault.TheVariants as faults
 use Rattle.hid_script.specs.declared.wanted.Wanted.TheVariants as wanted
-use Rattle.hid_script.specs.declared.line.Line.{Line}
-use Rattle.hid_script.specs.declared.line.Line.TheVariants as line
-use Rattle.hid_script.specs.Meaning.{meaning_of}
+use Rattle.hid_lines.specs.declared.fault.LineFault.{LineFault}
+use Rattle.hid_lines.specs.declared.fault.LineFault.TheVariants as lines
+use Rattle.hid_lines.specs.declared.line.Line.{Line}
+use Rattle.hid_lines.specs.declared.line.Line.TheVariants as line
+use Rattle.hid_lines.specs.Line.{meaning_of}
 use Rattle.hid_script.specs.Session.{Session, Outcome, accepted, refused, Repeats}
 use Rattle.hid_script.specs.Steps.{TellsLayout, TellsValues, TellsDevice, TellsChange, TellsStep}
 
@@ -40,11 +42,19 @@ times _ = 1
 abbrev pub CarriesOut : Session → Line → Outcome → Type 0
 CarriesOut session said o = Repeats (times said) (Once said) session o
 
--- a line tells what it says
-abbrev pub Means : Session → Result Line Cause → Outcome → Type 0
-Means session (Ok said) o = CarriesOut session said o
-Means session (Err cause) o = o ≡ refused cause
+-- the fault of a line that says nothing is the script's
+abbrev pub line_cause : LineFault → Cause
+line_cause lines.LineTooLong = causes.LineTooLong
+line_cause lines.Syntax = causes.Syntax
+line_cause lines.BadHex = causes.BadHex
+line_cause lines.Memory = causes.Memory
 
+-- a line tells what it says
+abbrev pub Means : Session → Result Line LineFault → Outcome → Type 0
+Means session (Ok said) o = CarriesOut session said o
+Means session (Err fault) o = o ≡ refused (line_cause fault)
+
+-- a line of these bytes tells what they mean
 unfoldable pub LineTells : Session → List ℕ → Outcome → Type 0
 LineTells session bytes o = Means session (meaning_of bytes) o
 
@@ -52,9 +62,10 @@ LineTells session bytes o = Means session (meaning_of bytes) o
 abbrev pub Begins : ℕ → (Session → Outcome → Type 0) → Session → List ℕ → Type 0
 Begins count Part session text = (n : ℕ) × (next : Session) × (n ≤ count) × Repeats n Part session (accepted text next)
 
-abbrev pub BeginsMeant : Session → Result Line Cause → List ℕ → Type 0
+-- what a line begins to tell; one that isn't understood, nothing
+abbrev pub BeginsMeant : Session → Result Line LineFault → List ℕ → Type 0
 BeginsMeant session (Ok said) text = Begins (times said) (Once said) session text
-BeginsMeant session (Err cause) text = text ≡ []
+BeginsMeant session (Err fault) text = text ≡ []
 
 -- the text of the first times of a line, which a want of memory or the writer may leave
 unfoldable pub LineBegins : Session → List ℕ → List ℕ → Type 0
@@ -65,6 +76,7 @@ abbrev pub cause_from : layouts.Cause → LayoutFault → Cause
 cause_from causes_of.Memory fault = causes.Memory
 cause_from _ fault = causes.Step (faults.Layout fault)
 
+-- the same, of the whole fault
 abbrev pub cause_of : LayoutFault → Cause
 cause_of fault = cause_from fault.cause fault
 

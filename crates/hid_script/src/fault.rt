@@ -3,6 +3,7 @@
 ghost use Rattle.std.specs.Prelude.{◌≡◌};
 
 use hid_layout::LayoutFault;
+use hid_lines::LineFault;
 use hid_stack::StackFault;
 use hid_usages::ReportFault;
 use std::alloc::AllocError;
@@ -58,6 +59,21 @@ pub enum Cause {
     TooManyReads,
     /// X9: `values`, where no `layout` line came before.
     NoLayout,
+}
+
+impl From<LineFault> for Cause {
+    ghost use Rattle.hid_script.specs.Telling.{line_cause};
+
+    ghost from_gives = { λ fault cause. cause ≡ line_cause fault };
+
+    fn from(fault: LineFault) -> Cause {
+        match fault {
+            LineFault::LineTooLong => Cause::LineTooLong,
+            LineFault::Syntax => Cause::Syntax,
+            LineFault::BadHex => Cause::BadHex,
+            LineFault::Memory => Cause::Memory,
+        }
+    }
 }
 
 impl From<LayoutFault> for Cause {

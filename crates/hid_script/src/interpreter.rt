@@ -7,15 +7,13 @@ ghost use Rattle.hid_script.specs.Telling.{Once, times, CarriesOut, Begins, Line
 ghost use Rattle.hid_script.specs.Place.{AppendsTold, AppendsOnce};
 
 use super::fault::{Cause, Options};
-use super::layout_text::print_layout;
-use super::line::{Line, parse_line};
 use super::output::write_text;
-use super::step_text::print_step;
-use super::values_text::print_values;
 use super::wanted::{Wanted, change_of};
 use hid_device::{Boot, Config};
 use hid_layout::{Layout, Usage};
+use hid_lines::{Line, parse_line};
 use hid_stack::{Delivered, Rig, Start, Step};
+use hid_text::{print_layout, print_step, print_values};
 use hid_usages::input_report;
 use std::alloc::Global;
 use std::io::Write;

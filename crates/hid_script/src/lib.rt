@@ -14,35 +14,25 @@
 //! `run` writes exactly the text that the script tells: the clause on [`run`].
 #![tactic(auto)]
 
-mod arguments;
 #[cfg(test)]
 mod device_tests;
-mod event_text;
 mod fault;
 mod fault_text;
 #[cfg(test)]
 mod flush_tests;
 mod interpreter;
 pub mod laws;
-mod layout_text;
-mod line;
-mod numbers;
 mod output;
-mod poll_text;
+mod runs;
 mod script;
-mod step_text;
 #[cfg(test)]
 mod stream_tests;
 #[cfg(test)]
 mod tests;
-mod text;
-mod values_text;
 mod wanted;
-mod whole;
-mod words;
 
 pub use fault::{Cause, Options, ScriptFault, StepFault, Summary};
 pub use fault_text::fault_line;
+pub use hid_lines::{Line, LineFault, parse_line};
 pub use hid_usages::ReportFault;
-pub use line::{Line, parse_line};
-pub use whole::run;
+pub use runs::run;

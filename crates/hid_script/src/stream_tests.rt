@@ -1,17 +1,13 @@
 //! Readers and writers that give and take little, or fail; long lines, and codes. Worked out by hand from docs/SCRIPT.md.
 
-use crate::{
-    Cause, Line, Options, ReportFault, ScriptFault, StepFault, fault_line, parse_line, run,
-};
-use hid_device::{Boot, DeviceCause, DeviceFault};
-use hid_layout::Usage;
-use hid_stack::{DescriptorFault, StackFault, Start};
+use crate::{Cause, Options, ReportFault, ScriptFault, StepFault, fault_line, run};
+use hid_device::{DeviceCause, DeviceFault};
+use hid_stack::{DescriptorFault, StackFault};
 use hid_usages::ChangeFault;
 use std::alloc::{AllocError, Global};
 use std::io;
 use std::io::{BufWriter, ErrorKind, Read, Write};
 use std::test::Fail;
-use usb_transact::Fate;
 
 const QUIET: Options = Options {
     layout: false,
@@ -329,88 +325,6 @@ fn a_line_has_1024_bytes_without_its_end(rt: HostRuntime) -> Result<(), Fail> {
         }
     }
     Ok(())
-}
-
-#[test]
-fn a_line_says_its_bytes(rt: HostRuntime) -> Result<(), Fail> {
-    match parse_line(rt.alloc(), b" values 0a  Ff10\t")? {
-        Line::Values { bytes } => assert_eq!(rt; bytes.as_slice(), [0x0A, 0xFF, 0x10].as_slice()),
-        _ => assert!(rt; false, "values"),
-    }
-    match parse_line(rt.alloc(), b"layout")? {
-        Line::Layout { bytes } => assert!(rt; bytes.is_empty()),
-        _ => assert!(rt; false, "layout"),
-    }
-    Ok(())
-}
-
-#[test]
-fn a_line_says_its_words(rt: HostRuntime) -> Result<(), Fail> {
-    match parse_line(rt.alloc(), b"device ready keyboard 05 01")? {
-        Line::Device { start, boot, bytes } => {
-            assert!(rt; start == Start::Ready && boot == Boot::Keyboard);
-            assert_eq!(rt; bytes.as_slice(), [0x05, 0x01].as_slice());
-        }
-        _ => assert!(rt; false, "device"),
-    }
-    match parse_line(rt.alloc(), b"press 1 07:04")? {
-        Line::Press { dev, usage } => assert!(rt;
-            dev == 1 && usage == Usage { page: 7, id: 4 },
-            "press"
-        ),
-        _ => assert!(rt; false, "press"),
-    }
-    match parse_line(rt.alloc(), b"set 7 fF00:1 -999999999999999999")? {
-        Line::Set { dev, usage, value } => {
-            let named = Usage {
-                page: 0xFF00,
-                id: 1,
-            };
-            assert!(rt;
-                dev == 7 && usage == named && value == -999_999_999_999_999_999,
-                "set"
-            );
-        }
-        _ => assert!(rt; false, "set"),
-    }
-    match parse_line(rt.alloc(), b"move 1 01:30 -2147483648")? {
-        Line::Move { by, .. } => assert_eq!(rt; by, i32::MIN),
-        _ => assert!(rt; false, "move"),
-    }
-    match parse_line(rt.alloc(), b"poll 1")? {
-        Line::Poll { dev, fate, count } => assert!(rt;
-            dev == 1 && fate == Fate::Clean && count == 1,
-            "poll"
-        ),
-        _ => assert!(rt; false, "poll"),
-    }
-    match parse_line(rt.alloc(), b"poll 2 ack 00010000")? {
-        Line::Poll { dev, fate, count } => assert!(rt;
-            dev == 2 && fate == Fate::AckLost && count == 10_000,
-            "polls"
-        ),
-        _ => assert!(rt; false, "polls"),
-    }
-    Ok(())
-}
-
-/// Lines that are none of the script's.
-#[rattlefmt::skip]
-const NO_LINES: [&str; 26] = [
-    "press", "press 1", "press 0 07:04", "press 8 07:04", "press 11 07:04", "press 1 07:04 1",
-    "press 1 0704", "press 1 :04", "press 1 07:", "press 1 00007:04", "press 1 07:04:05", "press 1 0G:04",
-    "set 1 01:39", "set 1 01:39 -", "set 1 01:39 +1", "set 1 01:39 1234567890123456789",
-    "move 1 01:30 2147483648", "move 1 01:30 -2147483649",
-    "frame 0", "frame 10001", "frame 1 1", "poll 1 Clean", "poll 1 clean 0", "poll 1 clean 1 1",
-    "device cold keyboard 0G", "device ready pad 0G",
-];
-
-#[test]
-fn other_words_are_no_line(rt: HostRuntime) {
-    for line in NO_LINES {
-        let result = parse_line(rt.alloc(), line.as_bytes());
-        assert!(rt; matches!(result, Err(Cause::Syntax)), "{line}");
-    }
 }
 
 /// Causes with their codes.

@@ -1,0 +1,66 @@
+-- What the words behind a line's first one say (our choice: the script language of docs/SCRIPT.md).
+use Rattle.std.specs.Prelude.{ℕ, List, [], ◌∷◌, Option, None, Some, codes, ℤ}
+use Rattle.hid_descriptor.specs.declared.usage.Usage.{Usage}
+use Rattle.usb_transact.specs.declared.transaction.Fate.{Fate}
+use Rattle.usb_transact.specs.declared.transaction.Fate.TheVariants.{Clean, TokenLost, ReplyLost, AckLost}
+use Rattle.hid_device.specs.declared.config.Boot.{Boot}
+use Rattle.hid_device.specs.declared.config.Boot.TheVariants.{No, Keyboard, Mouse}
+use Rattle.hid_stack.specs.declared.rig.Start.{Start}
+use Rattle.hid_stack.specs.declared.rig.Start.TheVariants.{Ready}
+use Rattle.hid_lines.specs.Words.{Word, look_up}
+use Rattle.hid_lines.specs.Numbers.{device_of, usage_of, count_of, signed_of, amount_of}
+
+-- START
+abbrev pub start_of : Word → Option Start
+start_of = look_up ((codes "ready", Ready) ∷ [])
+
+-- KIND
+abbrev pub boot_of : Word → Option Boot
+boot_of = look_up ((codes "plain", No) ∷ (codes "keyboard", Keyboard) ∷ (codes "mouse", Mouse) ∷ [])
+
+-- FATE
+abbrev pub fate_of : Word → Option Fate
+fate_of = look_up (
+    (codes "clean", Clean) ∷ (codes "token", TokenLost) ∷ (codes "reply", ReplyLost)
+    ∷ (codes "ack", AckLost) ∷ [])
+
+-- two words that are both understood
+abbrev pub two : {A B : Type 0} → Option A → Option B → Option (A × B)
+two (Some a) (Some b) = Some (a, b)
+two (Some a) None = None
+two None b = None
+
+-- and three
+abbrev pub three : {A B C : Type 0} → Option A → Option B → Option C → Option (A × B × C)
+three (Some a) (Some b) (Some c) = Some (a, b, c)
+three (Some a) (Some b) None = None
+three (Some a) None c = None
+three None b c = None
+
+-- D U
+unfoldable pub control_said : List Word → Option (ℕ × Usage)
+control_said (dev ∷ usage ∷ []) = two (device_of dev) (usage_of usage)
+control_said _ = None
+
+-- D U N, of a value
+unfoldable pub set_said : List Word → Option (ℕ × Usage × ℤ)
+set_said (dev ∷ usage ∷ value ∷ []) = three (device_of dev) (usage_of usage) (signed_of value)
+set_said _ = None
+
+-- D U N, of a motion
+unfoldable pub move_said : List Word → Option (ℕ × Usage × ℤ)
+move_said (dev ∷ usage ∷ by ∷ []) = three (device_of dev) (usage_of usage) (amount_of by)
+move_said _ = None
+
+-- [COUNT]
+unfoldable pub frame_said : List Word → Option ℕ
+frame_said [] = Some 1
+frame_said (count ∷ []) = count_of count
+frame_said _ = None
+
+-- D [FATE [COUNT]]
+unfoldable pub poll_said : List Word → Option (ℕ × Fate × ℕ)
+poll_said (dev ∷ []) = three (device_of dev) (Some Clean) (Some 1)
+poll_said (dev ∷ fate ∷ []) = three (device_of dev) (fate_of fate) (Some 1)
+poll_said (dev ∷ fate ∷ count ∷ []) = three (device_of dev) (fate_of fate) (count_of count)
+poll_said _ = None

@@ -1,0 +1,41 @@
+-- The words of a line, and the bytes that words of hex spell (our choice: the script language of docs/SCRIPT.md).
+use Rattle.std.specs.Prelude.{◌≡◌, ℕ, ◌==◌, Bool, not, ◌||◌, List, [], ◌∷◌, length, filter, sum_by, if◌then◌else◌, Option, None, Some, Result, MatchResult, is_ok}
+use Rattle.std.specs.List.{slice_split, list_all, flat_map}
+use Rattle.std.specs.Result.{result_unwrap_or}
+use Rattle.std.specs.Str.{bytes_eq}
+use Rattle.arrayvec.specs.ArrayVec.{ArrayVec}
+use Rattle.hex.specs.Hex.{decode_of}
+use Rattle.hid_lines.specs.declared.fault.LineFault.{LineFault}
+use Rattle.hid_lines.specs.declared.fault.LineFault.TheVariants.{BadHex}
+
+-- bytes with no blank in them
+abbrev pub Word : Type 0
+Word = List ℕ
+
+-- a space or a tab
+abbrev pub is_blank : ℕ → Bool
+is_blank b = b == 32 || b == 9
+
+-- the words between blanks
+abbrev pub words_of : List ℕ → List Word
+words_of line = filter (λ word. not (length word == 0)) (slice_split is_blank line)
+
+-- what a table has under a word
+abbrev pub look_up : {X : Type 0} → List (Word × X) → Word → Option X
+look_up [] word = None
+look_up (entry ∷ more) word = if bytes_eq word entry.0 then Some entry.1 else look_up more word
+
+-- the bytes that words of hex spell, joined: each word is pairs of digits, of either case
+unfoldable pub hex_of : List Word → Option (List ℕ)
+hex_of words =
+    if list_all (λ word. is_ok (decode_of word)) words
+    then Some (flat_map (λ word. result_unwrap_or (decode_of word) []) words) else None
+
+-- the bytes of all words together
+abbrev pub total_length : List Word → ℕ
+total_length words = sum_by (λ word. length word) words
+
+-- what was read is what the words spell
+abbrev pub GivesHex : Result (ArrayVec ℕ) LineFault → Option (List ℕ) → Type 0
+GivesHex result spelled =
+    MatchResult result (λ bytes. spelled ≡ Some bytes.items) (λ cause. (cause ≡ BadHex) × (spelled ≡ None))

@@ -1,0 +1,114 @@
+//! What the words behind a line's first one say.
+
+ghost use Rattle.std.specs.Prelude.{◌≡◌, map};
+ghost use Rattle.hid_lines.specs.Arguments.{fate_of, boot_of, start_of, control_said, set_said, move_said, frame_said, poll_said};
+
+use super::numbers::{read_amount, read_count, read_device, read_signed, read_usage};
+use super::words::look_up;
+use hid_descriptor::Usage;
+use hid_device::Boot;
+use hid_stack::Start;
+use usb_transact::Fate;
+
+/// START: what the two ends know of each other at first.
+pub fn read_start(word: &[u8]) -> Option<Start>
+    ensures { result ≡ start_of word.now }
+{
+    look_up(&[(b"ready", Start::Ready)], word)
+}
+
+/// KIND: whether a device's reports are those of the boot protocol.
+pub fn read_boot(word: &[u8]) -> Option<Boot>
+    ensures { result ≡ boot_of word.now }
+{
+    look_up(
+        &[
+            (b"plain", Boot::No),
+            (b"keyboard", Boot::Keyboard),
+            (b"mouse", Boot::Mouse),
+        ],
+        word,
+    )
+}
+
+/// FATE: which packet of a transaction is lost.
+fn read_fate(word: &[u8]) -> Option<Fate>
+    ensures { result ≡ fate_of word.now }
+{
+    look_up(
+        &[
+            (b"clean", Fate::Clean),
+            (b"token", Fate::TokenLost),
+            (b"reply", Fate::ReplyLost),
+            (b"ack", Fate::AckLost),
+        ],
+        word,
+    )
+}
+
+/// `D U`: a control of a device, by its usage.
+#[tactic(auto, unfolding(crate::specs::Arguments::control_said))]
+pub fn read_control(words: &[&[u8]]) -> Option<(u8, Usage)>
+    ensures { result ≡ control_said (map (λ word. word.now) words.now) }
+{
+    let [dev, usage] = words else {
+        return None;
+    };
+    let dev = read_device(dev)?;
+    let usage = read_usage(usage)?;
+    Some((dev, usage))
+}
+
+/// `D U N`: a control, and what it is set to.
+#[tactic(auto, unfolding(crate::specs::Arguments::set_said))]
+pub fn read_set(words: &[&[u8]]) -> Option<(u8, Usage, i64)>
+    ensures { result ≡ set_said (map (λ word. word.now) words.now) }
+{
+    let [dev, usage, value] = words else {
+        return None;
+    };
+    let dev = read_device(dev)?;
+    let usage = read_usage(usage)?;
+    let value = read_signed(value)?;
+    Some((dev, usage, value))
+}
+
+/// `D U N`: a control, and by how much it moves.
+#[tactic(auto, unfolding(crate::specs::Arguments::move_said))]
+pub fn read_move(words: &[&[u8]]) -> Option<(u8, Usage, i32)>
+    ensures { result ≡ move_said (map (λ word. word.now) words.now) }
+{
+    let [dev, usage, by] = words else {
+        return None;
+    };
+    let dev = read_device(dev)?;
+    let usage = read_usage(usage)?;
+    let by = read_amount(by)?;
+    Some((dev, usage, by))
+}
+
+/// `[COUNT]`: how many frames pass.
+#[tactic(auto, unfolding(crate::specs::Arguments::frame_said))]
+pub fn read_frame(words: &[&[u8]]) -> Option<u16>
+    ensures { result ≡ frame_said (map (λ word. word.now) words.now) }
+{
+    match words {
+        [] => Some(1),
+        [count] => read_count(count),
+        _ => None,
+    }
+}
+
+/// `D [FATE [COUNT]]`: a device, what is lost, and how often it is polled.
+#[tactic(auto, unfolding(crate::specs::Arguments::poll_said))]
+pub fn read_poll(words: &[&[u8]]) -> Option<(u8, Fate, u16)>
+    ensures { result ≡ poll_said (map (λ word. word.now) words.now) }
+{
+    let (dev, fate, count) = match words {
+        [dev] => (read_device(dev)?, Fate::Clean, 1),
+        [dev, fate] => (read_device(dev)?, read_fate(fate)?, 1),
+        [dev, fate, count] => (read_device(dev)?, read_fate(fate)?, read_count(count)?),
+        _ => return None,
+    };
+    Some((dev, fate, count))
+}

@@ -1,0 +1,25 @@
+//! The lines of a script: their words, the numbers that words spell, and what a line says.
+//! ```text
+//!            words_of_line                read_words
+//!   line -------------------> words -----------------------> Line, or the first LineFault
+//!
+//!   press 1 07:04                        Press { dev: 1, usage: 07:04 }
+//!   poll 1 ack 2                         Poll { dev: 1, fate: AckLost, count: 2 }
+//!   values 0a Ff10                       Values { bytes: 0A FF 10 }
+//!   # a comment                          Nothing
+//!   values 0                             BadHex
+//! ```
+//! The rule to know: a line is read without its end, and alone: what came before it doesn't change what it says.
+//! [`parse_line`] gives exactly what the definition `meaning_of` says, want of memory aside: `Gives`.
+#![tactic(auto)]
+
+mod arguments;
+mod fault;
+mod line;
+mod numbers;
+#[cfg(test)]
+mod tests;
+mod words;
+
+pub use fault::LineFault;
+pub use line::{HEX_LIMIT, LINE_LIMIT, Line, parse_line};

@@ -1,0 +1,103 @@
+-- What a run wrote and answered, of what a script tells (our choice: docs/SCRIPT.md).
+use Rattle.std.specs.Prelude.{◌≡◌, ℕ, ◌+◌, List, [], ◌∷◌, ◌++◌, length, Result, Ok, Err, Option, IfSome}
+use Rattle.std.specs.Str.Lines.{lines}
+use Rattle.std.specs.Io.KnownBytes.{Appends}
+use Rattle.hid_script.specs.declared.fault.Cause.{Cause}
+use Rattle.hid_script.specs.declared.fault.Cause.TheVariants.{Syntax, LineTooLong, BadHex, Step, Read, Write, Memory, TooManyReads, NoLayout}
+use Rattle.hid_script.specs.declared.fault.Options.{Options}
+use Rattle.hid_script.specs.declared.fault.ScriptFault.{ScriptFault}
+use Rattle.hid_script.specs.declared.fault.Summary.{Summary}
+use Rattle.hid_script.specs.Output.{IsFront}
+use Rattle.hid_script.specs.Session.{Session, Outcome, accepted, at_first}
+use Rattle.hid_script.specs.Telling.{LineTells, LineBegins}
+
+-- How a run ends early: its line is refused; memory was wanting in it; the writer cut its text off; or it wasn't run
+-- at all.
+pub data Ending : Type 0 where
+  Refusal : Ending
+  Want : Ending
+  Cut : Ending
+  Silence : Ending
+
+-- the way in which a cause ends a run
+unfoldable pub ending_of : Cause → Ending
+ending_of Syntax = Refusal
+ending_of LineTooLong = Refusal
+ending_of BadHex = Refusal
+ending_of (Step fault) = Refusal
+ending_of NoLayout = Refusal
+ending_of Memory = Want
+ending_of Write = Cut
+ending_of Read = Silence
+ending_of TooManyReads = Silence
+
+-- What was written of the line at which the run ended: what it tells up to its refusal; what its first times tell; a
+-- front of that; or nothing.
+abbrev pub EndsAs : Ending → (Outcome → Type 0) → (List ℕ → Type 0) → List ℕ → Cause → Type 0
+EndsAs Refusal Tells Begun written cause = Tells (record { text = written; end = Err cause })
+EndsAs Want Tells Begun written cause = Begun written
+EndsAs Cut Tells Begun written cause = (text : List ℕ) × Begun text × IsFront written text
+EndsAs Silence Tells Begun written cause = written ≡ []
+
+-- the same, by the cause
+abbrev pub Ends : (Outcome → Type 0) → (List ℕ → Type 0) → List ℕ → Cause → Type 0
+Ends Tells Begun written cause = EndsAs (ending_of cause) Tells Begun written cause
+
+-- what the first of these lines tells
+abbrev pub FirstTells : Session → List (List ℕ) → Outcome → Type 0
+FirstTells session [] o = ⊥
+FirstTells session (line ∷ more) o = LineTells session line o
+
+-- what it begins to tell; where there is none, nothing
+abbrev pub FirstBegins : Session → List (List ℕ) → List ℕ → Type 0
+FirstBegins session [] text = text ≡ []
+FirstBegins session (line ∷ more) text = LineBegins session line text
+
+-- these lines are accepted one after the other, and their texts, joined, are this text
+abbrev pub AllTell : Session → List (List ℕ) → List ℕ → Session → Type 0
+AllTell session [] text last = (text ≡ []) × (last ≡ session)
+AllTell session (line ∷ more) text last =
+    (first : List ℕ) × (next : Session) × (rest : List ℕ)
+    × LineTells session line (accepted first next)
+    × AllTell next more rest last
+    × (text ≡ first ++ rest)
+
+-- All these lines were run. So many lines came before them. The events are those that were delivered.
+pub record Finishes (session : Session) (script : List (List ℕ)) (before : ℕ) (written : List ℕ)
+    (summary : Summary) : Type 0 where
+  pub last : Session
+  pub all : AllTell session script written last
+  pub lines : summary.lines ≡ before + length script
+  pub events : summary.events ≡ last.events
+
+-- The run ended at the line behind the first ones: the whole text of those was written, and what the end leaves of that
+-- line's.
+pub record Stops (session : Session) (script : List (List ℕ)) (before : ℕ) (written : List ℕ)
+    (fault : ScriptFault) : Type 0 where
+  pub first : List (List ℕ)
+  pub others : List (List ℕ)
+  pub split : script ≡ first ++ others
+  pub line : fault.line ≡ before + length first + 1
+  pub text : List ℕ
+  pub now : Session
+  pub all : AllTell session first text now
+  pub part : List ℕ
+  pub ends : Ends (FirstTells now others) (FirstBegins now others) part fault.cause
+  pub whole : written ≡ text ++ part
+
+-- what a run of these lines wrote and answered
+abbrev pub RunsTo : Session → List (List ℕ) → ℕ → List ℕ → Result Summary ScriptFault → Type 0
+RunsTo session script before written (Ok summary) = Finishes session script before written summary
+RunsTo session script before written (Err fault) = Stops session script before written fault
+
+-- the line at which a run ended: behind the last one, where all were run
+abbrev pub line_of : Result Summary ScriptFault → ℕ
+line_of (Ok summary) = summary.lines + 1
+line_of (Err fault) = fault.line
+
+-- the writer's bytes grew by what a run of the reader's bytes writes, where both tell their bytes
+abbrev pub AppendsScript : Options → Option (List ℕ) → Option (List ℕ) → Option (List ℕ)
+    → Result Summary ScriptFault → Type 0
+AppendsScript options reader old new result =
+    IfSome reader (λ script. (written : List ℕ)
+    × Appends old new written × RunsTo (at_first options) (lines script) 0 written result)

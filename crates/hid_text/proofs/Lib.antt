@@ -1,0 +1,4 @@
+pub mod TextLemmas
+pub mod ValueLemmas
+pub mod PollLemmas
+mod Vectors

@@ -1,0 +1,17 @@
+use Rattle.std.proofs.Common.{w64, arith, refl}
+use Rattle.std.proofs.lemmas.Int.{to_z-of_z}
+use Rattle.hid_layout.specs.Reports.{element_of}
+use Rattle.hid_text.proofs.ValueLemmas.{element_lies, value_printed}
+use Rattle.hid_text.proofs.values_text.print_element.Goals as goal
+
+pub element_value-number-requires-clause-element : goal.element_value-number-requires-clause-element
+element_value-number-requires-clause-element c =
+    let there = rw (c.element.ensures, c.if-is_none.false) at c.is_none.ensures in
+    element_lies c.args.layout.now c.args.bytes.now c.args.i c.args.j _ c.items.ensures.layout c.requires.whole refl there
+
+pub returns : goal.returns
+returns c =
+    let there = rw (c.element.ensures, c.if-is_none.false) at c.is_none.ensures in
+    let same = to_z-of_z w64 c.element_value-number.result (omega (arith, c.element_value-number.type_inv)) in
+    value_printed c.args.layout.now c.args.bytes.now c.args.i c.args.j c.items.result.now _ c.entries.result.now (element_of c.args.layout.now c.args.i c.args.j) _ _ _ _ _ c.items.ensures.items c.requires.item c.entries.ensures refl there
+    c.element_value-number.ensures (rw same at c.usage_shown-usage.ensures) (rw same at c.print_value.ensures)

@@ -1,0 +1,6 @@
+pub mod Text
+pub mod LayoutText
+pub mod ValuesText
+pub mod EventText
+pub mod PollText
+pub mod StepText

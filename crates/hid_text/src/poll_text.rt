@@ -1,0 +1,87 @@
+//! Polls, as they are printed.
+
+ghost use Rattle.std.specs.Prelude.{◌≡◌, ◌++◌, OnOk, string_bytes};
+ghost use Rattle.std.specs.Option.{option_copied};
+ghost use Rattle.hid_text.specs.PollText.{bytes_text, packet_words, reply_words, reply_text, verdict_word, poll_text};
+
+use super::text::HexText;
+use std::alloc::AllocError;
+use usb_packet::{Packet, decode};
+use usb_transact::Took;
+
+/// Adds each byte behind a space.
+fn print_bytes(text: &mut String, bytes: &[u8]) -> Result<(), AllocError>
+    ensures { OnOk result (string_bytes text.new ≡ string_bytes text.old ++ bytes_text bytes.now) }
+{
+    for byte in bytes {
+        let byte = HexText(u16::from(*byte));
+        write!(text, " {byte}")?;
+    }
+    Ok(())
+}
+
+/// Adds the name of a packet that a device sends, and of data each byte.
+fn print_packet(text: &mut String, packet: &Packet) -> Result<(), AllocError>
+    ensures { OnOk result (string_bytes text.new
+        ≡ string_bytes text.old ++ packet_words packet.now) }
+{
+    match packet {
+        Packet::Data {
+            one: false,
+            payload,
+        } => {
+            text.push_str("DATA0")?;
+            print_bytes(text, payload.as_slice())
+        }
+        Packet::Data { one: true, payload } => {
+            text.push_str("DATA1")?;
+            print_bytes(text, payload.as_slice())
+        }
+        Packet::Nak => text.push_str("NAK"),
+        Packet::Stall => text.push_str("STALL"),
+        Packet::Ack | Packet::Token { .. } => text.push_str("none"),
+    }
+}
+
+/// Adds what the bytes spell that a device sent.
+fn print_reply(text: &mut String, bytes: &[u8]) -> Result<(), AllocError>
+    ensures { OnOk result (string_bytes text.new ≡ string_bytes text.old ++ reply_words bytes.now) }
+{
+    match decode(bytes) {
+        Ok(packet) => print_packet(text, &packet),
+        Err(_) => text.push_str("none"),
+    }
+}
+
+/// What the host made of the reply.
+fn verdict_word(took: &Took) -> &'static str
+    ensures { result.now ≡ verdict_word took.now }
+{
+    match took {
+        Took::Fresh(_) => "fresh",
+        Took::Again => "again",
+        Took::Nak => "nak",
+        Took::Stall => "stall",
+        Took::Silent => "silent",
+    }
+}
+
+/// Adds the line of a poll: what the device sent, also where it was lost, and what the host made of it.
+#[tactic(auto, unfolding(crate::specs::PollText::poll_text))]
+pub fn print_poll(
+    text: &mut String,
+    dev: u8,
+    reply: Option<&[u8]>,
+    took: &Took,
+) -> Result<(), AllocError>
+    ensures { OnOk result (string_bytes text.new
+        ≡ string_bytes text.old ++ poll_text dev (option_copied reply.entry) took.now) }
+{
+    write!(text, "{dev} poll ")?;
+    match reply {
+        None => text.push_str("none")?,
+        Some(bytes) => print_reply(text, bytes)?,
+    }
+    let verdict = verdict_word(took);
+    writeln!(text, " {verdict}")
+}

@@ -1,0 +1,54 @@
+//! What is printed of a step of the bus.
+
+ghost use Rattle.std.specs.Prelude.{◌≡◌, ◌++◌, OnOk, string_bytes};
+ghost use Rattle.hid_text.specs.StepText.{told_text, events_text, step_text};
+
+use super::event_text::EventText;
+use super::poll_text::print_poll;
+use hid_stack::{Delivered, Step, Told};
+use std::alloc::AllocError;
+
+/// Adds a line for each event.
+fn print_events(text: &mut String, delivered: &[Delivered]) -> Result<(), AllocError>
+    ensures { OnOk result (string_bytes text.new
+        ≡ string_bytes text.old ++ events_text delivered.now) }
+{
+    for event in delivered {
+        let Delivered { dev, event } = *event;
+        let event = EventText { dev, event };
+        writeln!(text, "{event}")?;
+    }
+    Ok(())
+}
+
+/// Adds the line of a poll; other steps have none.
+fn print_told(text: &mut String, step: &Step, told: &Told) -> Result<(), AllocError>
+    ensures { OnOk result (string_bytes text.new
+        ≡ string_bytes text.old ++ told_text step.now told.now) }
+{
+    match (step, told) {
+        (Step::Poll { dev, .. }, Told::Polled { reply, took }) => match reply {
+            None => print_poll(text, *dev, None, took),
+            Some(bytes) => print_poll(text, *dev, Some(bytes.as_slice()), took),
+        },
+        _ => Ok(()),
+    }
+}
+
+/// Adds what is printed of a step that was taken: its line, where lines of steps are asked for, and its events.
+#[tactic(auto, unfolding(crate::specs::StepText::step_text))]
+pub fn print_step(
+    text: &mut String,
+    trace: bool,
+    step: &Step,
+    told: &Told,
+    delivered: &[Delivered],
+) -> Result<(), AllocError>
+    ensures { OnOk result (string_bytes text.new
+        ≡ string_bytes text.old ++ step_text trace step.now told.now delivered.now) }
+{
+    if trace {
+        print_told(text, step, told)?;
+    }
+    print_events(text, delivered)
+}

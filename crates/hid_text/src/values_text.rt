@@ -1,0 +1,146 @@
+//! The values of a report, as they are printed.
+
+ghost use Rattle.std.specs.Prelude.{◌≡◌, ◌++◌, ◌<◌, ◌≤◌, length, IfSome, OnOk, slice_get, string_bytes};
+ghost use Rattle.hid_descriptor.specs.Usages.{usage_list};
+ghost use Rattle.hid_layout.specs.Reports.{report_bytes};
+ghost use Rattle.hid_text.specs.Text.{joined_below};
+ghost use Rattle.hid_usages.specs.Reading.{usage_named};
+ghost use Rattle.hid_text.specs.ValuesText.{usage_of_element, usage_shown, value_line, value_at, values_at, values_text};
+
+use super::text::UsageOrDash;
+use hid_fields::WordCodec;
+use hid_layout::{Layout, MainItem, Shape, Usage, usage_at, usage_count};
+use hid_usages::element_value;
+use std::alloc::AllocError;
+
+/// The usage of an element of a variable item.
+#[tactic(auto, unfolding(crate::specs::ValuesText::usage_of_element))]
+fn usage_of_element(entries: &[(Usage, Usage)], j: usize) -> Option<Usage>
+    requires { length entries.now ≤ 64 }
+    ensures { result ≡ usage_of_element (usage_list entries.now) j }
+{
+    let last = usage_count(entries).saturating_sub(1);
+    usage_at(entries, j.min(last))
+}
+
+/// The usage that a number names in an array.
+fn usage_named(entries: &[(Usage, Usage)], item: &MainItem, number: i64) -> Option<Usage>
+    ensures { result ≡ usage_named item.now (usage_list entries.now) number }
+{
+    if item.min <= number && number <= item.max {
+        usage_at(entries, number.abs_diff(item.min) as usize)
+    } else {
+        None
+    }
+}
+
+fn usage_shown(item: &MainItem, entries: &[(Usage, Usage)], j: usize, number: i64) -> Option<Usage>
+    requires { length entries.now ≤ 64 }
+    ensures { result ≡ usage_shown item.now.shape item.now (usage_list entries.now) j number }
+{
+    match item.shape {
+        Shape::Padding => None,
+        Shape::Variable => usage_of_element(entries, j),
+        Shape::Array => usage_named(entries, item, number),
+    }
+}
+
+/// Adds the line of a value.
+#[tactic(auto, unfolding(crate::specs::ValuesText::value_line))]
+fn print_value(
+    text: &mut String,
+    i: usize,
+    j: usize,
+    number: i64,
+    usage: Option<Usage>,
+) -> Result<(), AllocError>
+    ensures { OnOk result (string_bytes text.new
+        ≡ string_bytes text.old ++ value_line i j number usage) }
+{
+    let usage = UsageOrDash(usage);
+    writeln!(text, "value {i}.{j} {number} {usage}")
+}
+
+/// Adds the line of the element j of the item i, where it is a data element.
+#[tactic(auto, unfolding(crate::specs::ValuesText::value_at))]
+fn print_element(
+    text: &mut String,
+    layout: &Layout,
+    bytes: &[u8],
+    i: usize,
+    j: usize,
+) -> Result<(), AllocError>
+    requires item { i < length layout.now.items }
+    requires whole { IfSome (slice_get layout.now.items i)
+        (λ item. report_bytes layout.now item.report ≤ length bytes.now) }
+    ensures { OnOk result (string_bytes text.new
+        ≡ string_bytes text.old ++ value_at layout.now bytes.now i j) }
+{
+    let item = &layout.items()[i];
+    if layout.element(i, j).is_none() {
+        return Ok(());
+    }
+    let number = element_value::<WordCodec>(layout, bytes, i, j);
+    let usage = usage_shown(item, layout.entries(i), j, number);
+    print_value(text, i, j, number, usage)
+}
+
+/// Adds a line for each data element of the first ones of the item i.
+fn print_elements(
+    text: &mut String,
+    layout: &Layout,
+    bytes: &[u8],
+    i: usize,
+    count: usize,
+) -> Result<(), AllocError>
+    requires item { i < length layout.now.items }
+    requires whole { IfSome (slice_get layout.now.items i)
+        (λ item. report_bytes layout.now item.report ≤ length bytes.now) }
+    ensures { OnOk result (string_bytes text.new
+        ≡ string_bytes text.old ++ joined_below count (value_at layout.now bytes.now i)) }
+{
+    for j in 0..count {
+        print_element(text, layout, bytes, i, j)?;
+    }
+    Ok(())
+}
+
+/// Adds a line for each data element of the item i, where it stands in the report r.
+#[tactic(auto, unfolding(crate::specs::ValuesText::values_at))]
+fn print_values_at(
+    text: &mut String,
+    layout: &Layout,
+    r: usize,
+    bytes: &[u8],
+    i: usize,
+) -> Result<(), AllocError>
+    requires item { i < length layout.now.items }
+    requires whole { report_bytes layout.now r ≤ length bytes.now }
+    ensures { OnOk result (string_bytes text.new
+        ≡ string_bytes text.old ++ values_at layout.now r bytes.now i) }
+{
+    let item = &layout.items()[i];
+    if item.report == r {
+        print_elements(text, layout, bytes, i, item.count as usize)
+    } else {
+        Ok(())
+    }
+}
+
+/// Adds a line for each data element of the report r, in the order of the layout.
+#[tactic(auto, unfolding(crate::specs::ValuesText::values_text))]
+pub fn print_values(
+    text: &mut String,
+    layout: &Layout,
+    r: usize,
+    bytes: &[u8],
+) -> Result<(), AllocError>
+    requires { report_bytes layout.now r ≤ length bytes.now }
+    ensures { OnOk result (string_bytes text.new
+        ≡ string_bytes text.old ++ values_text layout.now r bytes.now) }
+{
+    for i in 0..layout.items().len() {
+        print_values_at(text, layout, r, bytes, i)?;
+    }
+    Ok(())
+}
