@@ -11,7 +11,8 @@ use hid_layout::{Layout, Shape};
 /// Whether a listed item is no Input array, or has a code that names nothing.
 fn has_empty_code(layout: &Layout, i: usize) -> bool
     requires { i < length layout.now.items }
-    ensures { (item : ItemValue) (es : List Entry) → slice_get layout.now.items i ≡ Some item → slice_get layout.now.entries i ≡ Some es
+    ensures { (item : ItemValue) (es : List Entry) → slice_get layout.now.items i ≡ Some item
+        → slice_get layout.now.entries i ≡ Some es
         → result ≡ has_empty_code layout.now.reports item es }
 {
     let item = item_at(layout, i);

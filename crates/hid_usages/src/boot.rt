@@ -125,9 +125,11 @@ pub fn laws()
     ensures mouse { GivesOnly MOUSE mouse_layout }
 
     // What is told of any bytes, whatever was held before.
-    ensures keys { (bytes : List ℕ) (view : List Cell) → AreBytes bytes → 8 ≤ length bytes → FitsView (items_of keyboard_layout) view
+    ensures keys { (bytes : List ℕ) (view : List Cell) → AreBytes bytes → 8 ≤ length bytes
+        → FitsView (items_of keyboard_layout) view
         → TellsKeys bytes view }
-    ensures buttons { (bytes : List ℕ) (view : List Cell) → AreBytes bytes → 3 ≤ length bytes → FitsView (items_of mouse_layout) view
+    ensures buttons { (bytes : List ℕ) (view : List Cell) → AreBytes bytes → 3 ≤ length bytes
+        → FitsView (items_of mouse_layout) view
         → TellsButtons bytes view }
 
     // What is written is read again, save a motion of -128.

@@ -202,3 +202,64 @@ fn both_ends_start_again_at_data0(rt: HostRuntime) {
     assert_eq!(rt; toggles(&host, &device), (false, false));
     assert_eq!(rt; device.answer(), Packet::Nak);
 }
+
+/// Whether a packet arrives, by its fate and its phase (USB 2.0, 8.5.3 and 8.5.4).
+#[rattlefmt::skip]
+const ARRIVES: [(Fate, Phase, bool); 20] = [
+    (Fate::Clean,      Phase::Token,            true),
+    (Fate::Clean,      Phase::HostData,         true),
+    (Fate::Clean,      Phase::Reply,            true),
+    (Fate::Clean,      Phase::Handshake,        true),
+    (Fate::Clean,      Phase::Acknowledgement,  true),
+    (Fate::TokenLost,  Phase::Token,            false),
+    (Fate::TokenLost,  Phase::HostData,         false),
+    (Fate::TokenLost,  Phase::Reply,            true),
+    (Fate::TokenLost,  Phase::Handshake,        true),
+    (Fate::TokenLost,  Phase::Acknowledgement,  true),
+    (Fate::ReplyLost,  Phase::Token,            true),
+    (Fate::ReplyLost,  Phase::HostData,         true),
+    (Fate::ReplyLost,  Phase::Reply,            false),
+    (Fate::ReplyLost,  Phase::Handshake,        false),
+    (Fate::ReplyLost,  Phase::Acknowledgement,  true),
+    (Fate::AckLost,    Phase::Token,            true),
+    (Fate::AckLost,    Phase::HostData,         true),
+    (Fate::AckLost,    Phase::Reply,            true),
+    (Fate::AckLost,    Phase::Handshake,        false),
+    (Fate::AckLost,    Phase::Acknowledgement,  false),
+];
+
+#[test]
+fn a_fate_loses_its_phases_alone(rt: HostRuntime) {
+    for (fate, phase, wanted) in ARRIVES {
+        let came = carried(&fate, phase, &Packet::Nak);
+        assert_eq!(rt; came.is_some(), wanted, "{fate:?} {phase:?}");
+    }
+}
+
+/// A bus on which ACK arrives, whatever is sent.
+struct Stuck;
+
+impl Bus for Stuck {
+    ghost use Rattle.std.specs.Prelude.{Some, ◌∷◌, []};
+
+    ghost arrives = { λ bus phase bytes. Some (0xD2 ∷ []) };
+
+    fn hand_on(&self, _phase: Phase, _bytes: ArrayVec<u8, 65>) -> Option<ArrayVec<u8, 65>> {
+        let mut bytes = ArrayVec::new();
+        bytes.push(0xD2);
+        Some(bytes)
+    }
+}
+
+#[test]
+fn what_is_read_is_what_arrives(rt: HostRuntime) {
+    assert_eq!(rt;
+        carried(&Stuck, Phase::Reply, &Packet::Nak),
+        Some(Packet::Ack)
+    );
+    assert_eq!(rt;
+        replied(&Stuck, Phase::Reply, Some(&Packet::Nak)),
+        Some(Packet::Ack)
+    );
+    assert_eq!(rt; replied(&Stuck, Phase::Reply, None), None);
+}
