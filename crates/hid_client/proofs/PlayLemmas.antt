@@ -8,8 +8,8 @@ use Rattle.hid_usages.specs.Snapshots.{is_pressed, cell_at}
 use Rattle.hid_device.specs.declared.config.Config.{Config}
 use Rattle.hid_device.specs.Inputs.{input_count}
 use Rattle.hid_device.specs.Rounds.{crossed_rounds, events_of, view_of}
-use Rattle.hid_stack.specs.declared.host.Phase.{Phase}
-use Rattle.hid_stack.specs.declared.host.Phase.TheVariants.{Cold, Ready}
+use Rattle.hid_stack.specs.declared.host.HostPhase.{HostPhase}
+use Rattle.hid_stack.specs.declared.host.HostPhase.TheVariants.{Cold, Ready}
 use Rattle.hid_stack.specs.declared.step.Step.{Step}
 use Rattle.hid_stack.specs.declared.step.Delivered.{Delivered}
 use Rattle.hid_stack.specs.Attaching.{Suits, IsAttached}
@@ -20,7 +20,7 @@ use Rattle.hid_stack.specs.Showing.{ShowsKnown, ShowsHost, GivesOf}
 use Rattle.hid_client.specs.Playing.{IsPlayed}
 
 -- the view of a ready host is its member's
-view_shown : (m : Member) (phase : Phase) (view : List Cell) → IsReady phase → IfReady phase (ShowsKnown m) → IfReady phase (λ known. view ≡ known.view) → view ≡ m.station.view
+view_shown : (m : Member) (phase : HostPhase) (view : List Cell) → IsReady phase → IfReady phase (ShowsKnown m) → IfReady phase (λ known. view ≡ known.view) → view ≡ m.station.view
 view_shown m Cold view ready shows is = absurd ready
 view_shown m (Ready known) view ready shows is = is ∙ shows.view
 
