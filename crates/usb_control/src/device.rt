@@ -26,7 +26,7 @@ pub const MAX_WRITE: usize = 64;
 /// | `StatusIn` | a write that took effect, or a read of no bytes | an ACK to `Idle` |
 ///
 /// What answers nothing here gets STALL and leads to `Idle`.
-#[derive(Debug, Drop)]
+#[derive(Drop)]
 pub enum Stage {
     /// No request is open: none came, or it was refused or broken, or its status was acknowledged.
     Idle,
@@ -57,7 +57,7 @@ pub enum Stage {
 }
 
 /// What was heard or said last, as far as the next packet depends on it.
-#[derive(Clone, Copy, Debug, PartialEq, Eq)]
+#[derive(Clone, Copy, PartialEq, Eq)]
 pub enum Heard {
     /// Nothing that counts.
     Nothing,

@@ -52,7 +52,7 @@ pub enum Outcome<'a> {
 ///
 /// Each but the last two leads to `Failed` too: with C1 at a STALL but to SETUP, with C2 at the third try in a row
 /// without an answer, with C3 where too much came.
-#[derive(Clone, Copy, Debug, PartialEq, Eq)]
+#[derive(Clone, Copy, Debug)]
 pub enum HostStage {
     /// SETUP, and DATA0 with the request.
     Setup,

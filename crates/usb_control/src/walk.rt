@@ -4,7 +4,7 @@ ghost use Rattle.usb_control.specs.Descriptors.{HasWalk, IsDescriptor, IsWalk};
 ghost use Rattle.usb_control.specs.Search.{Finds, is_wanted};
 
 /// A descriptor that a host looks for.
-#[derive(Clone, Copy, Debug, PartialEq, Eq)]
+#[derive(Clone, Copy)]
 pub enum Wanted {
     /// An interface.
     Interface,
@@ -78,7 +78,7 @@ pub fn is_walk(bytes: &[u8]) -> bool
 }
 
 /// Bytes cut at a descriptor.
-#[derive(Clone, Copy, Debug)]
+#[derive(Clone, Copy)]
 pub struct Split<'a> {
     /// The descriptors before it.
     pub before: &'a [u8],
