@@ -5,7 +5,7 @@ use Rattle.hid_layout.specs.Controls.{Form, NoControls, Elements, Keys, Item}
 use Rattle.hid_cells.specs.declared.cell.Cell.{Cell}
 use Rattle.hid_cells.specs.declared.cell.Cell.TheVariants.{Vacant, Pressed, Holding, Moved, RolledOver}
 use Rattle.hid_cells.specs.declared.event.Event.{Event}
-use Rattle.hid_views.specs.Events.{change_events, motion_events}
+use Rattle.hid_cells.specs.Events.{change_events, motion_events}
 use Rattle.hid_cells.specs.Parts.{by_item, is_of}
 
 -- A view sees what a part shows: it keeps no motion, and an array that rolled over keeps its keys.
