@@ -1,4 +1,4 @@
--- A field inside a word: what `put` does to the bytes that a field touches, taken as one number (our own,
+-- A field inside a word: what `put` does to the bytes that a field touches, taken as one number (our choice,
 -- of the fast codec).
 use Rattle.std.specs.Prelude.{ℕ, ◌+◌, ◌*◌, ◌/◌, ◌%◌, ◌^◌}
 

@@ -36,14 +36,16 @@ FindsOneControl =
 -- a device is attached in one way at most, or refused for one cause, want of memory aside
 abbrev pub AttachesOneDevice : Type 0
 AttachesOneDevice =
-    (room : ℕ) (config : Config) (descriptor : List ℕ) (members after others : List Member) (result other : Result ℕ StackFault)
+    (room : ℕ) (config : Config) (descriptor : List ℕ) (members after others : List Member)
+    (result other : Result ℕ StackFault)
     → Attaches room config descriptor members result after → Attaches room config descriptor members other others
     → result ≢ Err Memory → other ≢ Err Memory → (result ≡ other) × (after ≡ others)
 
 -- What a poll of a device by its own host comes to: the two stand as the member does behind its step, which tells and
 -- delivers what it says.
 pub record IsPollOfPair (fate : Fate) (device : DeviceState) (host : HostEnd)
-    (result : Result Told StackFault) (device_then : DeviceState) (host_then : HostEnd) (events : List Event) : Type 0 where
+    (result : Result Told StackFault) (device_then : DeviceState) (host_then : HostEnd)
+    (events : List Event) : Type 0 where
   pub told : (told : Told) × (result ≡ Ok told)
       × TellsPoll device.core.layout (station_of device.core host.phase) fate told
   pub after : joint device_then host_then ≡ member_after (joint device host) (Polls fate)

@@ -69,7 +69,8 @@ told_with answer (Err fault) = Err fault
 
 -- The poll by its packets: the token, the device's answer, what the host reads of it, and the ACK for data.
 pub record Transacts (arrivals : Arrivals) (device : DeviceState) (addr : ℕ) (known : Known)
-    (result : Result Told StackFault) (device_then : DeviceState) (host_then : HostEnd) (before events : List Event) : Type 0 where
+    (result : Result Told StackFault) (device_then : DeviceState) (host_then : HostEnd)
+    (before events : List Event) : Type 0 where
   pub token : Option Packet
   pub answer : Option Packet
   pub between : DeviceState
@@ -85,7 +86,8 @@ pub record Transacts (arrivals : Arrivals) (device : DeviceState) (addr : ℕ) (
 
 -- a host that isn't ready sends nothing, and nothing changes
 pub record SendsNothing (device : DeviceState) (addr : ℕ)
-    (result : Result Told StackFault) (device_then : DeviceState) (host_then : HostEnd) (before events : List Event) : Type 0 where
+    (result : Result Told StackFault) (device_then : DeviceState) (host_then : HostEnd)
+    (before events : List Event) : Type 0 where
   pub told : result ≡ Err NotReady
   pub device_stays : device_then ≡ device
   pub host_stays : host_then ≡ record { addr = addr; phase = Cold }

@@ -76,7 +76,8 @@ after items s (Polls fate) = answered items (arrived items s fate) fate
 abbrev pub round_events : List Item → Station → Fate → List Event
 round_events items s fate = elim s.current [
   | None ↦ []
-  | Some round ↦ (if round.crossed then [] else if reaches_host fate then part_events items round.report s.view s.standing.fixed else [])
+  | Some round ↦ (if round.crossed then []
+      else if reaches_host fate then part_events items round.report s.view s.standing.fixed else [])
 ]
 
 -- The events that a step delivers.

@@ -146,7 +146,6 @@ abbrev pub data_in : Bool → Bool → List ℕ → HostTransferState → HostTr
 data_in expected one payload host =
     if beq one expected then joined one payload host else answered host.stage host
 
--- what the host makes of what came
 -- what the host makes of what came, at its stage
 abbrev pub took_at : HostStage → Option Packet → HostTransferState → HostTransferState
 took_at Setup packet host = setup_answered packet host
@@ -159,6 +158,7 @@ took_at StatusIn packet host = in_answered packet status_in host
 took_at StatusOut packet host = handshake packet Done host
 took_at _ packet host = host
 
+-- what the host makes of what came
 abbrev pub took : Option Packet → HostTransferState → HostTransferState
 took packet host = took_at host.stage packet host
 
@@ -168,12 +168,12 @@ is_overrun (Failed Overrun) = true
 is_overrun _ = false
 
 -- data in answer to IN are acknowledged, but for those that are too much
--- whether the host acknowledges what came, at its stage
 abbrev pub acknowledges_at : HostStage → Option Packet → HostStage → Bool
 acknowledges_at (DataIn one) (Some (Data toggle payload)) after = not (is_overrun after)
 acknowledges_at StatusIn (Some (Data toggle payload)) after = not (is_overrun after)
 acknowledges_at _ _ _ = false
 
+-- whether the host acknowledges what came
 abbrev pub acknowledges : Option Packet → HostTransferState → Bool
 acknowledges packet host = acknowledges_at host.stage packet (took packet host).stage
 

@@ -85,8 +85,7 @@ DeviceStands answer_of shape bytes decision applied position control =
 abbrev pub IsBehind : ℕ → Position → Type 0
 IsBehind k device = (j : ℕ) × (suc j ≡ k) × (device ≡ Piece j)
 
--- how far apart the two ends may be: the receiver of a piece may have it before the sender knows
--- how far apart the two ends of a transfer may be
+-- at a piece: its receiver may have it before the sender knows
 abbrev pub NearPiece : Bool → ℕ → ℕ → Bool → Position → Type 0
 NearPiece true count k applied device = (k < count) × ((device ≡ Piece k) ⊎ IsBehind k device)
 NearPiece false count k applied device =
@@ -97,6 +96,7 @@ abbrev pub NearStatus : Bool → ℕ → Position → Type 0
 NearStatus true count device = device ≡ Status
 NearStatus false count device = (device ≡ Status) ⊎ (device ≡ Past) ⊎ IsBehind count device
 
+-- how far apart the two ends of a transfer may be
 abbrev pub Near : Shape → Decision → Bool → Position → Position → Type 0
 Near shape decision applied Setup device =
     (device ≡ Setup) ⊎ (device ≡ first (data_pieces shape decision))

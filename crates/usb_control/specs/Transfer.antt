@@ -170,13 +170,13 @@ piece_tried shape fate (Accepted answer) place =
     let reached : Place = record place { applied = applies shape fate place.host || place.applied } in
     if comes shape place.host then in_tried fate count reached else out_tried fate count reached
 
--- one try, where a SETUP that arrives is decided like this
--- one try at a place
+-- one try, by the place of the host
 abbrev pub tried_at : Position → Shape → Fate → Decision → Place → Place
 tried_at Setup shape fate decision place =
     setup_tried fate (data_pieces shape decision) decision place
 tried_at _ shape fate decision place = piece_tried shape fate place.decision place
 
+-- one try, where a SETUP that arrives is decided like this
 abbrev pub tried : Shape → Fate → Decision → Place → Place
 tried shape fate decision place = tried_at place.host shape fate decision place
 
