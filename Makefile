@@ -14,6 +14,7 @@ run: $(HIDRUN)
 # Proves, tests and builds everything from nothing, looks whether all that documents cite is there, and runs each
 # example on the program that it built.
 test:
+	rm -rf bin/build/rooms
 	rt ci
 	$(MAKE) --no-print-directory documents
 	$(MAKE) --no-print-directory hidrun examples
@@ -27,7 +28,8 @@ try:
 hidrun: $(HIDRUN)
 
 BUILT := crates/hidrun/out/hidrun
-SOURCES := $(shell find crates -name out -prune -o -type f \( -name '*.rt' -o -name '*.antt' \) -print)
+# (folders too, so that a file that was removed is seen)
+SOURCES := $(shell find crates/*/src crates/*/specs crates/*/proofs 2> /dev/null)
 
 $(BUILT): crates.txt $(SOURCES)
 	tools/build hidrun
