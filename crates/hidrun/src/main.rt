@@ -14,12 +14,10 @@ mod status;
 mod tests;
 mod words;
 
-ghost use Rattle.std.specs.Prelude.{◌≡◌, OnOk, IfErr};
-
-use hid_script::{Cause, Options, ScriptFault, Summary, fault_line, run};
+use hid_script::{Cause, Options, ScriptFault, Summary, run};
 use status::{OUTSIDE, WRONG_USAGE, exit_of};
 use std::env;
-use std::io::{BufWriter, Write};
+use std::io::BufWriter;
 use std::process::ExitCode;
 use words::{WordsFault, options_of};
 
@@ -44,30 +42,14 @@ fn main(rt: HostRuntime) -> ExitCode {
     }
 }
 
+/// Runs the script, and tells its fault. The line of a fault takes no memory, so that no want of it stands in the place
+/// of what ended the run.
 fn run_script(rt: &HostRuntime, options: Options) -> ExitCode {
     match run_buffered(rt, options) {
         Ok(_) => ExitCode::SUCCESS,
         Err(fault) => {
-            let line = fault_line(rt.alloc(), &fault);
-            ExitCode::from(exit_of(&told(rt, fault, line)))
-        }
-    }
-}
-
-/// Writes the fault's line to standard error, and gives the fault that was written: where the line found no memory, the
-/// one that `fault_line` gave in its place, X7 of the same line, which is written without any.
-fn told(rt: &HostRuntime, fault: ScriptFault, line: Result<Vec<u8>, ScriptFault>) -> ScriptFault
-    ensures written { OnOk line (result ≡ fault) }
-    ensures wanting { IfErr line (λ wanting. result ≡ wanting) }
-{
-    match line {
-        Ok(line) => {
-            let _ = rt.stderr().write_all(line.as_slice());
-            fault
-        }
-        Err(wanting) => {
-            let _ = eprintln!(rt; "{wanting}");
-            wanting
+            let _ = eprintln!(rt; "{fault}");
+            ExitCode::from(exit_of(&fault))
         }
     }
 }
