@@ -61,6 +61,9 @@ impl Model for HostDevice {
 impl HostDevice {
     /// A host that is ready from the start: it has the layout of this report descriptor, expects DATA0, and polls endpoint
     /// 1 of the device at this address, 1 to [`MAX_ADDRESS`].
+    ///
+    /// # Errors
+    /// [`StackFault::BadDescriptor`] with the layout's cause and place, or [`StackFault::Memory`].
     pub fn ready(alloc: Global, addr: u8, descriptor: &[u8]) -> Result<HostDevice, StackFault>
         requires above { 0 < addr }
         requires addr { addr ≤ MAX_ADDRESS }
@@ -106,6 +109,9 @@ impl HostDevice {
     }
 
     /// The IN token of a poll (USB 2.0, 8.4.1).
+    ///
+    /// # Errors
+    /// [`StackFault::NotReady`] where the host hasn't configured its device.
     pub fn token(&self) -> Result<Packet, StackFault>
         ensures token { result ≡ polls_with self.now.phase }
         ensures fits { IfOk result Fits }

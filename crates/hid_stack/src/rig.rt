@@ -67,6 +67,10 @@ impl Rig {
     }
 
     /// Attaches a device and gives its number: from 1, and its address too. A call that is refused changes nothing.
+    ///
+    /// # Errors
+    /// [`StackFault::TooManyDevices`] where there is no room; then [`StackFault::BadDescriptor`] where there is no
+    /// device of this configuration and descriptor, or [`StackFault::Memory`].
     #[tactic(auto, using(crate::proofs::AttachLemmas::is_attached))]
     pub fn attach(
         &mut self,
@@ -103,6 +107,10 @@ impl Rig {
     }
 
     /// The least control of a device with a usage.
+    ///
+    /// # Errors
+    /// [`StackFault::NoDevice`] where no device has this number, and [`StackFault::Refused`] with
+    /// [`ChangeFault::NoSuchControl`] where none of its controls has the usage.
     pub fn find(&self, dev: u8, usage: Usage) -> Result<ControlId, StackFault>
         ensures { Finds self.now dev usage result }
     {
@@ -114,6 +122,9 @@ impl Rig {
     }
 
     /// A device.
+    ///
+    /// # Errors
+    /// [`StackFault::NoDevice`] where no device has this number.
     pub fn device(&self, dev: u8) -> Result<&Device, StackFault>
         ensures shows { IfOk result (λ device. GivesOf ShowsDevice self.now dev device.now) }
         ensures none { IfErr result (λ fault. (fault ≡ StackFault.NoDevice)
@@ -124,6 +135,9 @@ impl Rig {
     }
 
     /// The host of a device.
+    ///
+    /// # Errors
+    /// [`StackFault::NoDevice`] where no device has this number.
     pub fn host(&self, dev: u8) -> Result<&HostDevice, StackFault>
         ensures shows { IfOk result (λ host. GivesOf ShowsHost self.now dev host.now) }
         ensures none { IfErr result (λ fault. (fault ≡ StackFault.NoDevice)
@@ -134,6 +148,10 @@ impl Rig {
     }
 
     /// One step of the bus. A step that is refused sends nothing and changes nothing.
+    ///
+    /// # Errors
+    /// Of a change or a poll [`StackFault::NoDevice`] where no device has this number; of a change
+    /// [`StackFault::Refused`]; of a poll [`StackFault::Memory`], but never with room for what it delivers.
     pub fn step(&mut self, step: &Step, out: &mut Vec<Delivered>) -> Result<Told, StackFault>
         // What it tells, where the bus stands after it, and what it delivers.
         ensures told { IfOk result (λ told. Tells self.old step.now told) }
