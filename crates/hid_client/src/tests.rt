@@ -94,10 +94,9 @@ fn a_step_that_is_refused_ends_it(rt: HostRuntime) {
         },
         poll(Fate::Clean),
     ];
-    match play(rt.alloc(), &CONFIG, &KEYBOARD, &steps, key(4)) {
-        Ok(_) => assert!(rt; false, "it goes on"),
-        Err(fault) => assert!(rt;
-            fault == StackFault::Refused(ChangeFault::NoSuchControl) || fault == StackFault::Memory
-        ),
-    }
+    let fault = play(rt.alloc(), &CONFIG, &KEYBOARD, &steps, key(4)).err();
+    assert_eq!(rt;
+        fault,
+        Some(StackFault::Refused(ChangeFault::NoSuchControl))
+    );
 }

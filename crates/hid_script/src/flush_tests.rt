@@ -293,14 +293,9 @@ fn flushed(
 fn a_last_flush_that_fails_is_told_whatever_ended_the_run(rt: HostRuntime) {
     for (name, given, then, reads, takes, line, cause) in ENDS {
         // One flush comes before each read, and one at the end.
-        match (
-            flushed(rt.alloc(), given, then, takes, reads.saturating_add(1)),
-            cause,
-        ) {
-            (Ok(_), None) => (),
-            (end, Some(cause)) => assert_eq!(rt; end, Err(ScriptFault { line, cause }), "{name}"),
-            (Err(_), None) => assert!(rt; false, "{name}"),
-        }
+        let end = flushed(rt.alloc(), given, then, takes, reads.saturating_add(1));
+        let fault = cause.map(|cause| ScriptFault { line, cause });
+        assert_eq!(rt; end.err(), fault, "{name}");
         let lost = ScriptFault {
             line,
             cause: Cause::Write,
