@@ -1,7 +1,8 @@
 //! Which devices there are, and why others aren't.
 
+use crate::inputs::input_count;
 use crate::{Boot, Config, Device, DeviceCause, DeviceFault, KEYBOARD, MOUSE};
-use hid_layout::Cause;
+use hid_layout::{Cause, Layout};
 use std::test::Fail;
 
 const fn config(interval: u8, boot: Boot) -> Config {
@@ -131,5 +132,13 @@ fn causes_are_printed_as_their_codes(rt: HostRuntime) -> Result<(), Fail> {
         let printed = format!(in rt.alloc(); "{fault}")?;
         assert_eq!(rt; printed.as_str(), text);
     }
+    Ok(())
+}
+
+#[test]
+fn an_output_report_is_no_input_report(rt: HostRuntime) -> Result<(), Fail> {
+    let layout = Layout::parse(rt.alloc(), &KEYBOARD)?;
+    assert_eq!(rt; layout.reports().len(), 2);
+    assert_eq!(rt; input_count(&layout), 1);
     Ok(())
 }

@@ -152,7 +152,7 @@ const FAR_LEFT: [Row; 10] = [
 ];
 
 #[rattlefmt::skip]
-const CONFIGURED_AGAIN: [Row; 11] = [
+const CONFIGURED_AGAIN: [Row; 13] = [
     (Act::Configure,                     Answer::Nothing,                     None),
     (Act::Press(0, 0),                   Answer::Nothing,                     None),
     (IN,                                 Answer::Data0(&[0x01, 0x00, 0x00]),  Some((0, false))),
@@ -164,6 +164,8 @@ const CONFIGURED_AGAIN: [Row; 11] = [
     (IN,                                 Answer::Data0(&[0x01, 0x00, 0x00]),  Some((0, false))),
     (Act::Ack,                           Answer::Nothing,                     None),
     (IN,                                 Answer::Nak,                         None),
+    (Act::Configure,                     Answer::Nothing,                     None),
+    (IN,                                 Answer::Data0(&[0x01, 0x00, 0x00]),  Some((0, false))),
 ];
 
 #[rattlefmt::skip]
