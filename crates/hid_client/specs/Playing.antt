@@ -10,7 +10,7 @@ use Rattle.hid_usages.specs.Cells.{blank}
 use Rattle.hid_usages.specs.Snapshots.{is_pressed, cell_at}
 use Rattle.hid_device.specs.declared.config.Config.{Config}
 use Rattle.hid_device.specs.Inputs.{input_count}
-use Rattle.hid_device.specs.Rounds.{Round, crossed_rounds, events_of, view_of}
+use Rattle.hid_lives.specs.Rounds.{Round, crossed_rounds, events_of, view_of}
 use Rattle.hid_stack.specs.declared.step.Step.{Step}
 use Rattle.hid_stack.specs.declared.step.Delivered.{Delivered}
 use Rattle.hid_stack.specs.Attaching.{Suits}

@@ -1,6 +1,4 @@
-pub mod Standing
-pub mod Rounds
-pub mod Epochs
+pub use Rattle.hid_lives.specs.Standing
 pub mod Config
 pub mod Fault
 pub mod Inputs

@@ -28,7 +28,7 @@ use Rattle.hid_stack.specs.declared.step.Told.{Told}
 use Rattle.hid_stack.specs.Attaching.{Suits, wants_memory, Attaches, IsBefore, IsLeast, Finds}
 use Rattle.hid_stack.specs.Laws.{TellsOneThing, FindsOneControl, AttachesOneDevice}
 use Rattle.hid_stack.specs.Rig.{Member, fresh_member, member_at}
-use Rattle.hid_stack.specs.Stations.{Station, Open, opened}
+use Rattle.hid_lives.specs.Stations.{Station, Open, opened}
 use Rattle.hid_stack.specs.Tells.{ShowsRound, TellsOpened, TellsPoll, told_by}
 use Rattle.hid_stack.proofs.ReadyLemmas.{refused_unless}
 

@@ -11,16 +11,15 @@ use Rattle.hid_layout.specs.Controls.{items_of}
 use Rattle.hid_layout.specs.Layout.{Contents}
 use Rattle.hid_cells.specs.declared.event.Event.{Event}
 use Rattle.hid_cells.proofs.ItemLemmas.{set_here, set_there}
-use Rattle.hid_device.specs.Rounds.{OwnStep, Changes, Polls, events_of_epoch}
-use Rattle.hid_device.specs.Rounds as own_steps
+use Rattle.hid_lives.specs.Rounds.{OwnStep, Changes, Polls, events_of_epoch}
+use Rattle.hid_lives.specs.Rounds as own_steps
 use Rattle.hid_stack.specs.declared.step.Step.{Step}
 use Rattle.hid_stack.specs.declared.step.Step.TheVariants.{Change, Frame, Poll}
 use Rattle.hid_stack.specs.declared.step.Delivered.{Delivered}
-use Rattle.hid_stack.specs.Stations.{Station, after_all, events_at, events_in}
+use Rattle.hid_lives.specs.Stations.{Station, after_all, events_at, events_in}
 use Rattle.hid_stack.specs.Rig.{Member, member_after, member_after_all, member_at, with_member, one_after, bus_after, tagged, one_delivers, delivered_at, bus_after_all, delivered_in, own_step, own, own_event, from_device, IsIsolated}
 use Rattle.hid_stack.specs.Headline.{DeliversChanges, KeepsToRounds}
-use Rattle.hid_stack.proofs.Delivery.{delivers_epoch}
-use Rattle.hid_stack.proofs.RoundLemmas.{stands_by_rounds}
+use Rattle.hid_lives.proofs.ScheduleLemmas.{delivers_epoch, stands_by_rounds}
 
 same_places : (d e : ℕ) → eqb d 0 ≡ false → eqb e 0 ≡ false → d - 1 ≡ e - 1 → d ≡ e
 same_places d e some_d some_e same = grind (arith, nat_tests)

@@ -11,7 +11,7 @@ use Rattle.hid_cells.specs.declared.change.ChangeFault.{ChangeFault}
 use Rattle.hid_usages.specs.Snapshots.{changed}
 use Rattle.hid_usages.specs.Snapshots as snapshots
 use Rattle.usb_transact.specs.declared.transaction.Fate.{Fate}
-use Rattle.hid_device.specs.Rounds.{OwnStep, Polls}
+use Rattle.hid_lives.specs.Rounds.{OwnStep, Polls}
 use Rattle.hid_stack.specs.declared.fault.StackFault.{StackFault}
 use Rattle.hid_stack.specs.declared.fault.StackFault.TheVariants.{NoDevice, Refused, Memory}
 use Rattle.hid_stack.specs.declared.step.Delivered.{Delivered}
@@ -19,7 +19,7 @@ use Rattle.hid_stack.specs.declared.step.Step.TheVariants.{Change as ChangeStep,
 use Rattle.hid_stack.specs.declared.step.Told.{Told}
 use Rattle.hid_stack.specs.declared.step.Told.TheVariants.{Quiet}
 use Rattle.hid_stack.specs.Rig.{Member, member_at, member_after, with_member, one_after, tagged, delivered_at, change_refusal, refusal, IsRefusal, HasRoomFor, most_events}
-use Rattle.hid_stack.specs.Stations.{events_at}
+use Rattle.hid_lives.specs.Stations.{events_at}
 use Rattle.hid_stack.specs.Tells.{TellsPoll, Tells}
 
 -- the member of a number, at its place

@@ -28,7 +28,7 @@ use Rattle.usb_transact.specs.Taken.{taken}
 use Rattle.usb_transact.specs.Exchange.{took_where}
 use Rattle.usb_transact.proofs.TableLemmas.{read_whole, read_lost, took_answer}
 use Rattle.hid_device.specs.declared.device.TheConstants.{ENDPOINT}
-use Rattle.hid_device.specs.Standing.{first_due}
+use Rattle.hid_lives.specs.Standing.{first_due}
 use Rattle.hid_device.specs.Core.{CoreState, IsSound, IsArmed, AreBytesOf, opened_core_if, opening_of, closed_core}
 use Rattle.hid_device.specs.Device.{DeviceState, polled_device}
 use Rattle.hid_stack.specs.declared.fault.StackFault.{StackFault}
@@ -40,7 +40,8 @@ use Rattle.hid_stack.specs.Slot.{joined, member_with, joint, IsEven, ArePaired, 
 use Rattle.hid_stack.specs.Rig.{Member}
 use Rattle.hid_stack.specs.Ready.{Known, told_of, view_read, events_behind, read_or_refused}
 use Rattle.hid_stack.specs.Polls.{Hears, HearsAck, Ends, spelled, told_with}
-use Rattle.hid_stack.specs.Stations.{Station, Open, opened, opened_by, answered, round_events, part_events, after}
+use Rattle.hid_lives.specs.Rounds.{part_events}
+use Rattle.hid_lives.specs.Stations.{Station, Open, opened, opened_by, answered, round_events, after}
 use Rattle.hid_stack.specs.Tells.{ShowsRound, told_by}
 
 -- toggles that are the same

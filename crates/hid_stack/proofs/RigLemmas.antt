@@ -6,13 +6,13 @@ use Rattle.std.proofs.lemmas.List.Elements.{All-get_or, All-set}
 use Rattle.hid_layout.specs.Controls.{items_of}
 use Rattle.hid_layout.specs.Layout.{Contents}
 use Rattle.hid_device.specs.declared.config.Config.{Config}
-use Rattle.hid_device.specs.Rounds.{OwnStep, Frame}
+use Rattle.hid_lives.specs.Rounds.{OwnStep, Frame}
 use Rattle.hid_stack.specs.declared.step.Step.TheVariants.{Frame as FrameStep}
 use Rattle.hid_stack.specs.declared.fault.StackFault.{StackFault}
 use Rattle.hid_stack.specs.declared.step.Told.{Told}
 use Rattle.hid_stack.specs.Rig.{Member, member_after, fresh_member}
 use Rattle.hid_stack.specs.Sums.{AllHaveMotions}
-use Rattle.hid_stack.proofs.MotionLemmas.{step_moving, fresh_has}
+use Rattle.hid_lives.proofs.MotionLemmas.{step_moving, fresh_has}
 use Rattle.hid_stack.proofs.SumLemmas.{HasItsMotions, bus_has, attached_has}
 
 -- one device behind a step

@@ -8,8 +8,8 @@ use Rattle.std.proofs.lemmas.Option.{slice_get-map, get_or_from_slice_get}
 use Rattle.std.proofs.lemmas.Simd.{map-map}
 use Rattle.hid_layout.specs.Controls.{items_of, max_events}
 use Rattle.hid_layout.specs.Layout.{Contents}
-use Rattle.hid_device.specs.Rounds.{OwnStep, Changes, Polls}
-use Rattle.hid_device.specs.Rounds as own_steps
+use Rattle.hid_lives.specs.Rounds.{OwnStep, Changes, Polls}
+use Rattle.hid_lives.specs.Rounds as own_steps
 use Rattle.hid_stack.specs.declared.step.Step.{Step}
 use Rattle.hid_stack.specs.declared.step.Step.TheVariants.{Change, Frame, Poll}
 use Rattle.hid_stack.specs.Rig.{Member, member_after, member_at, with_member, one_after, bus_after, bus_after_all, HasRoomFor, most_events, most_in}

@@ -24,10 +24,10 @@ use Rattle.usb_transact.specs.Taken.{taken}
 use Rattle.usb_transact.proofs.TableLemmas.{read_whole, read_lost}
 use Rattle.hid_device.specs.declared.device.TheConstants.{ENDPOINT}
 use Rattle.hid_device.specs.Inputs.{input_count}
-use Rattle.hid_device.specs.Standing.{first_due}
+use Rattle.hid_lives.specs.Standing.{first_due}
 use Rattle.hid_device.specs.Core.{CoreState, IsSound, IsArmed, IsBelow, opened_core_if, opening_of}
 use Rattle.hid_device.specs.Device.{DeviceState, is_poll, polled_device, AnswersPoll, AnswersIf, heard}
-use Rattle.hid_device.specs.Rounds.{Polls}
+use Rattle.hid_lives.specs.Rounds.{Polls}
 use Rattle.hid_stack.specs.declared.fault.StackFault.{StackFault}
 use Rattle.hid_stack.specs.declared.host.HostPhase.{HostPhase}
 use Rattle.hid_stack.specs.declared.host.HostPhase.TheVariants.{Cold, Ready}
@@ -36,8 +36,8 @@ use Rattle.hid_stack.specs.declared.step.Told.TheVariants.{Polled}
 use Rattle.hid_stack.specs.Host.{HostEnd, IfReady, ready_after}
 use Rattle.hid_stack.specs.Slot.{joined, station_of, member_with, joint, IsEven, ArePaired, IsPair}
 use Rattle.hid_stack.specs.Ready.{Known, told_of, events_behind}
-use Rattle.hid_stack.specs.Polls.{Hears, Ends, Transacts, GoesByPackets, HasBytes, spelled, told_with}
-use Rattle.hid_stack.specs.Stations.{Station, opened, answered, round_events, after, events_at}
+use Rattle.hid_stack.specs.Polls.{Hears, Ends, PollsOver, GoesByPackets, HasBytes, spelled, told_with}
+use Rattle.hid_lives.specs.Stations.{Station, opened, answered, round_events, after, events_at}
 use Rattle.hid_stack.specs.Laws.{PacketsMakePolls}
 use Rattle.hid_stack.specs.Rig.{Member}
 use Rattle.hid_stack.specs.Tells.{ShowsRound, TellsOpened, TellsPoll, told_by}
@@ -130,7 +130,7 @@ tells_none layout c known None = refl
 tells_none layout c known (Some r) = either_none _
 
 token_lost : (device : DeviceState) (known : Known) (home : ℕ) (result : Result Told StackFault) (device_then : DeviceState) (host_then : HostEnd) (events : List Event)
-    → ArePaired device known → Transacts (arrives_under TokenLost) device home known result device_then host_then [] events
+    → ArePaired device known → PollsOver (arrives_under TokenLost) device home known result device_then host_then [] events
     → PollsAs TokenLost device (joined device.core known) result device_then host_then events
 token_lost device known home result device_then host_then events pair t =
     let lost = read_lost (arrives_under TokenLost) Token (token_to known.pipe) t.token refl t.polled in
@@ -165,7 +165,7 @@ answered_by device known (Some packet) between (armed, arms, packet_is) stands s
 
 token_came : (fate : Fate) (device : DeviceState) (known : Known) (home : ℕ) (result : Result Told StackFault) (device_then : DeviceState) (host_then : HostEnd) (events : List Event)
     → ((bytes : List ℕ) → arrives_under fate Token bytes ≡ Some bytes) → ArePaired device known
-    → (t : Transacts (arrives_under fate) device home known result device_then host_then [] events) → Answered device known t.answer t.between
+    → (t : PollsOver (arrives_under fate) device home known result device_then host_then [] events) → Answered device known t.answer t.between
 token_came fate device known home result device_then host_then events whole pair t =
     let came = read_whole (arrives_under fate) Token (token_to known.pipe) t.token (whole (spelling (token_to known.pipe))) t.polled in
     let h : Hears device (Some (token_to known.pipe)) t.answer t.between = subst (λ (o : Option Packet). Hears device o t.answer t.between) came t.heard in
@@ -178,7 +178,7 @@ token_came fate device known home result device_then host_then events whole pair
 -- from there on
 arrives : (fate : Fate) (device : DeviceState) (known : Known) (home : ℕ) (result : Result Told StackFault) (device_then : DeviceState) (host_then : HostEnd) (events : List Event)
     → ArePaired device known
-    → (t : Transacts (arrives_under fate) device home known result device_then host_then [] events) → (a : Answered device known t.answer t.between)
+    → (t : PollsOver (arrives_under fate) device home known result device_then host_then [] events) → (a : Answered device known t.answer t.between)
     → Arrives fate (opening_of device.core) known device.addr home a.packet result device_then host_then events
 arrives fate device known home result device_then host_then events pair t a =
     let layout : known.layout ≡ (opening_of device.core).layout = pair.layout ∙ sym (keeps device.core).layout in
@@ -223,7 +223,7 @@ told_by_report : (layout : Contents) (s : Station) (fate : Fate) (result : Resul
 told_by_report layout s fate result (report, shows, is) = (told_by s fate report, is, (report, shows, refl))
 
 pub polls : (fate : Fate) (device : DeviceState) (known : Known) (home : ℕ) (result : Result Told StackFault) (device_then : DeviceState) (host_then : HostEnd) (events : List Event)
-    → ArePaired device known → Transacts (arrives_under fate) device home known result device_then host_then [] events
+    → ArePaired device known → PollsOver (arrives_under fate) device home known result device_then host_then [] events
     → PollsAs fate device (joined device.core known) result device_then host_then events
 polls TokenLost device known home result device_then host_then events pair t = token_lost device known home result device_then host_then events pair t
 polls ReplyLost device known home result device_then host_then events pair t =
@@ -266,7 +266,7 @@ pub polls_at : (fate : Fate) (device : DeviceState) (addr : ℕ) (phase : HostPh
 polls_at fate device addr Cold result device_then host_then before events pair none t = absurd pair
 polls_at fate device addr (Ready known) result device_then host_then before events pair none t =
     polls fate device known addr result device_then host_then events pair
-    (subst (λ (es : List Event). Transacts (arrives_under fate) device addr known result device_then host_then es events) none t)
+    (subst (λ (es : List Event). PollsOver (arrives_under fate) device addr known result device_then host_then es events) none t)
 
 -- what is told is what was returned
 pub told_is : (layout : Contents) (s : Station) (fate : Fate) (result : Result Told StackFault) (told : Told)

@@ -5,19 +5,18 @@ use Rattle.std.proofs.lemmas.Int.{ints}
 use Rattle.std.proofs.lemmas.List.Elements.{All-get_or, All-map, All-push, All-set, All-weaker}
 use Rattle.std.proofs.lemmas.Option.{get_or_from_slice_get, slice_get_within}
 use Rattle.hid_layout.specs.Controls.{items_of}
-use Rattle.hid_device.specs.Epochs.{given_motion, Conserves}
-use Rattle.hid_device.specs.Rounds.{OwnStep, Changes, Polls}
-use Rattle.hid_device.specs.Rounds as own_steps
+use Rattle.hid_lives.specs.Motion.{given_motion, Conserves, station_motion, accepted, HasMotions}
+use Rattle.hid_lives.specs.Rounds.{OwnStep, Changes, Polls}
+use Rattle.hid_lives.specs.Rounds as own_steps
 use Rattle.hid_stack.specs.declared.step.Step.{Step}
 use Rattle.hid_stack.specs.declared.step.Step.TheVariants.{Change, Frame, Poll}
 use Rattle.hid_stack.specs.declared.step.Delivered.{Delivered}
-use Rattle.hid_stack.specs.Stations.{after_all, events_in}
+use Rattle.hid_lives.specs.Stations.{after_all, events_in}
 use Rattle.hid_stack.specs.Rig.{Member, member_after, member_after_all, member_at, with_member, one_after, bus_after, bus_after_all, delivered_in, own, from_device}
-use Rattle.hid_stack.specs.Motion.{station_motion, accepted, HasMotions}
 use Rattle.hid_stack.specs.Sums.{AllHaveMotions, SumsUp}
 use Rattle.hid_stack.proofs.Isolation.{isolated}
-use Rattle.hid_stack.proofs.ItemMotionLemmas.{given_append}
-use Rattle.hid_stack.proofs.MotionLemmas.{kept, step_moving}
+use Rattle.hid_lives.proofs.ItemMotionLemmas.{given_append}
+use Rattle.hid_lives.proofs.MotionLemmas.{kept, step_moving}
 
 abbrev pub HasItsMotions : Member → Type 0
 HasItsMotions m = HasMotions (items_of m.layout) m.station

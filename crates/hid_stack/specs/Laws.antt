@@ -7,11 +7,11 @@ use Rattle.hid_layout.specs.Controls.{items_of}
 use Rattle.usb_transact.specs.declared.transaction.Fate.{Fate}
 use Rattle.usb_transact.specs.Fate.{arrives_under}
 use Rattle.hid_device.specs.Device.{DeviceState}
-use Rattle.hid_device.specs.Rounds.{Polls}
+use Rattle.hid_lives.specs.Rounds.{Polls}
 use Rattle.hid_stack.specs.Host.{HostEnd}
 use Rattle.hid_stack.specs.Slot.{IsPair, joint, station_of}
 use Rattle.hid_stack.specs.Polls.{GoesByPackets}
-use Rattle.hid_stack.specs.Stations.{events_at}
+use Rattle.hid_lives.specs.Stations.{events_at}
 use Rattle.hid_device.specs.declared.config.Config.{Config}
 use Rattle.hid_stack.specs.declared.fault.StackFault.{StackFault}
 use Rattle.hid_stack.specs.declared.fault.StackFault.TheVariants.{Memory}

@@ -1,14 +1,12 @@
 pub mod Faults
 pub mod Ready
 pub mod Host
-pub mod Stations
 pub mod Rig
 pub mod Slot
 pub mod Polls
 pub mod Tells
 pub mod Attaching
 pub mod Showing
-pub mod Motion
 pub mod Sums
 pub mod Headline
 pub mod Laws

@@ -68,7 +68,7 @@ told_with answer (Ok took) = Ok (Polled (spelled answer) took)
 told_with answer (Err fault) = Err fault
 
 -- The poll by its packets: the token, the device's answer, what the host reads of it, and the ACK for data.
-pub record Transacts (arrivals : Arrivals) (device : DeviceState) (addr : ℕ) (known : Known)
+pub record PollsOver (arrivals : Arrivals) (device : DeviceState) (addr : ℕ) (known : Known)
     (result : Result Told StackFault) (device_then : DeviceState) (host_then : HostEnd)
     (before events : List Event) : Type 0 where
   pub token : Option Packet
@@ -99,4 +99,4 @@ abbrev pub GoesByPackets : Arrivals → DeviceState → ℕ → HostPhase → Re
 GoesByPackets arrivals device addr Cold result device_then host_then before events =
     SendsNothing device addr result device_then host_then before events
 GoesByPackets arrivals device addr (Ready known) result device_then host_then before events =
-    Transacts arrivals device addr known result device_then host_then before events
+    PollsOver arrivals device addr known result device_then host_then before events

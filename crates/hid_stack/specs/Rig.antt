@@ -10,14 +10,14 @@ use Rattle.hid_usages.specs.Cells.{blank}
 use Rattle.hid_usages.specs.Snapshots.{changed}
 use Rattle.hid_device.specs.declared.config.Config.{Config}
 use Rattle.hid_device.specs.Inputs.{input_count}
-use Rattle.hid_device.specs.Rounds.{OwnStep, Changes, Polls}
-use Rattle.hid_device.specs.Rounds as own_steps
+use Rattle.hid_lives.specs.Rounds.{OwnStep, Changes, Polls}
+use Rattle.hid_lives.specs.Rounds as own_steps
 use Rattle.hid_stack.specs.declared.fault.StackFault.{StackFault}
 use Rattle.hid_stack.specs.declared.fault.StackFault.TheVariants.{NoDevice, Refused, Memory}
 use Rattle.hid_stack.specs.declared.step.Step.{Step}
 use Rattle.hid_stack.specs.declared.step.Step.TheVariants.{Change, Frame, Poll}
 use Rattle.hid_stack.specs.declared.step.Delivered.{Delivered}
-use Rattle.hid_stack.specs.Stations.{Station, fresh, after, after_all, events_at, events_in}
+use Rattle.hid_lives.specs.Stations.{Station, fresh, after, after_all, events_at, events_in}
 
 -- a device with its host: its address, the configuration and the descriptor that it was made with, the layout that
 -- both have, and how the two stand

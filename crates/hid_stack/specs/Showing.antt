@@ -5,7 +5,7 @@ use Rattle.hid_device.specs.declared.device.TheConstants.{ENDPOINT}
 use Rattle.hid_device.specs.Device.{DeviceState}
 use Rattle.hid_stack.specs.Host.{HostEnd, IfReady, IsReady}
 use Rattle.hid_stack.specs.Ready.{Known}
-use Rattle.hid_stack.specs.Stations.{expected}
+use Rattle.hid_lives.specs.Stations.{expected}
 use Rattle.hid_stack.specs.Rig.{Member, member_at}
 
 -- The device of a member: it was made as the member says, is configured and stands as its station does,

@@ -11,7 +11,7 @@ use Rattle.hid_stack.specs.declared.host.HostPhase.{HostPhase}
 use Rattle.hid_stack.specs.declared.host.HostPhase.TheVariants.{Cold, Ready}
 use Rattle.hid_stack.specs.Host.{HostEnd}
 use Rattle.hid_stack.specs.Ready.{Known}
-use Rattle.hid_stack.specs.Stations.{Station, Open}
+use Rattle.hid_lives.specs.Stations.{Station, Open}
 use Rattle.hid_stack.specs.Rig.{Member}
 
 -- an open round has crossed exactly where the two toggles differ

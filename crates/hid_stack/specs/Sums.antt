@@ -4,11 +4,10 @@ use Rattle.std.specs.Prelude.{◌≡◌, ℕ, List, Some, ◌+ℤ◌}
 use Rattle.std.specs.List.{All}
 use Rattle.hid_layout.specs.declared.control.ControlId.{ControlId}
 use Rattle.hid_layout.specs.Controls.{items_of}
-use Rattle.hid_device.specs.Epochs.{given_motion, Conserves}
+use Rattle.hid_lives.specs.Motion.{given_motion, Conserves, station_motion, accepted, HasMotions}
 use Rattle.hid_stack.specs.declared.step.Step.{Step}
 use Rattle.hid_stack.specs.declared.step.Delivered.{Delivered}
 use Rattle.hid_stack.specs.Rig.{Member, member_at, own, from_device}
-use Rattle.hid_stack.specs.Motion.{station_motion, accepted, HasMotions}
 
 -- every device keeps a motion for each of its relative controls
 abbrev pub AllHaveMotions : List Member → Type 0

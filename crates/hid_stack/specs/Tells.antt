@@ -14,7 +14,7 @@ use Rattle.hid_stack.specs.declared.step.Step.{Step}
 use Rattle.hid_stack.specs.declared.step.Step.TheVariants.{Change, Frame, Poll}
 use Rattle.hid_stack.specs.declared.step.Told.{Told}
 use Rattle.hid_stack.specs.declared.step.Told.TheVariants.{Quiet, Polled}
-use Rattle.hid_stack.specs.Stations.{Station, opened}
+use Rattle.hid_lives.specs.Stations.{Station, opened}
 use Rattle.hid_stack.specs.Rig.{Member, member_at}
 
 -- the bytes that show the part of the open round

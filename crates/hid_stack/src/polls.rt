@@ -4,12 +4,12 @@ ghost use Rattle.std.specs.Option.{option_copied};
 ghost use Rattle.hid_layout.specs.Controls.{items_of, max_events};
 ghost use Rattle.hid_usages.specs.Encoding.{AreBytes};
 ghost use Rattle.usb_packet.specs.Spelling.{Fits};
-ghost use Rattle.hid_device.specs.Rounds.{Polls};
+ghost use Rattle.hid_lives.specs.Rounds.{Polls};
 ghost use Rattle.hid_stack.specs.Host.{IfReady};
 ghost use Rattle.hid_stack.specs.Slot.{IsPair, joint, station_of};
 ghost use Rattle.hid_stack.specs.Rig.{member_after};
 ghost use Rattle.hid_stack.specs.Polls.{Hears, HasBytes, Acknowledges, GoesByPackets, spelled};
-ghost use Rattle.hid_stack.specs.Stations.{events_at};
+ghost use Rattle.hid_lives.specs.Stations.{events_at};
 ghost use Rattle.hid_stack.specs.Tells.{TellsPoll};
 
 use crate::fault::StackFault;

@@ -3,7 +3,7 @@ ghost use Rattle.std.specs.Prelude.{◌≡◌, ◌≤◌, ◌+◌, ◌++◌, ◌
 ghost use Rattle.hid_layout.specs.Controls.{items_of, max_events};
 ghost use Rattle.hid_layout.specs.Layout.{Contents};
 ghost use Rattle.hid_usages.specs.Snapshots.{Changes};
-ghost use Rattle.hid_device.specs.Rounds.{Polls, Changes as ChangeStep, Frame as FrameStep};
+ghost use Rattle.hid_lives.specs.Rounds.{Polls, Changes as ChangeStep, Frame as FrameStep};
 ghost use Rattle.hid_device.specs.declared.config.Config.{Config as ConfigValue};
 ghost use Rattle.hid_device.specs.Core.{IsSound};
 ghost use Rattle.hid_device.specs.Fault.{is_memory};
@@ -12,7 +12,7 @@ ghost use Rattle.hid_stack.specs.Attaching.{Suits, IsNoPair};
 ghost use Rattle.hid_stack.specs.Slot.{IsPair};
 ghost use Rattle.hid_stack.specs.Rig.{member_after, tagged, fresh_member};
 ghost use Rattle.hid_stack.specs.Showing.{ShowsDevice, ShowsHost};
-ghost use Rattle.hid_stack.specs.Stations.{events_at};
+ghost use Rattle.hid_lives.specs.Stations.{events_at};
 ghost use Rattle.hid_stack.specs.Tells.{TellsPoll};
 
 use crate::fault::{DescriptorFault, StackFault};

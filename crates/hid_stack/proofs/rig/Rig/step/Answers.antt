@@ -3,7 +3,7 @@ use Rattle.std.specs.Prelude.{slice_set, Some, IfOk, IfErr, OnOk, ◌≢◌}
 use Rattle.hid_stack.specs.declared.fault.StackFault.{StackFault}
 use Rattle.hid_stack.specs.declared.fault.StackFault.TheVariants.{Memory}
 use Rattle.std.proofs.lemmas.Result.{on_ok_weaker}
-use Rattle.hid_device.specs.Rounds.{Changes, Frame, Polls}
+use Rattle.hid_lives.specs.Rounds.{Changes, Frame, Polls}
 use Rattle.hid_stack.specs.declared.rig.TheConstants.{MAX_DEVICES}
 use Rattle.hid_stack.specs.declared.step.Step.{Step}
 use Rattle.hid_stack.specs.Rig.{Member, member_after, bus_after, delivered_at, refusal, IsRefusal, HasRoomFor, most_events}

@@ -10,7 +10,7 @@ use Rattle.hid_cells.specs.Cells.{blank}
 use Rattle.hid_cells.specs.Views.{seen, events_between}
 use Rattle.usb_transact.specs.declared.transaction.Fate.{Fate}
 use Rattle.usb_transact.specs.declared.transaction.Fate.TheVariants.{Clean, TokenLost, ReplyLost, AckLost}
-use Rattle.hid_device.specs.Standing.{Standing, configured, first_due, after_change, after_frame, after_opening}
+use Rattle.hid_lives.specs.Standing.{Standing, configured, first_due, after_change, after_frame, after_opening}
 
 -- What happens at one device: a control changes, a frame passes, or the host polls it and this fate befalls the poll.
 pub data OwnStep : Type 0 where
@@ -47,8 +47,8 @@ has_crossed round = list_any reaches_host round.polls
 abbrev pub has_closed : Round → Bool
 has_closed round = list_any is_clean round.polls
 
--- a device on the bus: how it stands, and the round that is open, where one is
-pub record Bus : Type 0 where
+-- the course of a device: how it stands, and the round that is open, where one is
+pub record Course : Type 0 where
   pub standing : Standing
   pub current : Option Round
 
@@ -57,21 +57,21 @@ abbrev pub new_round : ℕ → Standing → Round
 new_round r d = record { report = r; parts = d.fixed; polls = [] }
 
 -- where some report is due, a round of it opens
-abbrev pub opened_if : List Item → Standing → Option ℕ → Bus
+abbrev pub opened_if : List Item → Standing → Option ℕ → Course
 opened_if items d None = record { standing = d; current = None }
 opened_if items d (Some r) =
     record { standing = after_opening items r d; current = Some (new_round r (after_opening items r d)) }
 
 -- a token that arrives opens a round where none is open and some report is due
-abbrev pub opening : List Item → Bus → Bus
-opening items b = elim b.current [ Some round ↦ b | None ↦ opened_if items b.standing (first_due items b.standing) ]
+abbrev pub opening : List Item → Course → Course
+opening items c = elim c.current [ Some round ↦ c | None ↦ opened_if items c.standing (first_due items c.standing) ]
 
 -- of a poll, before its answer: its token arrives, or is lost
-abbrev pub at_arrival : List Item → Bus → Fate → Bus
-at_arrival items b TokenLost = b
-at_arrival items b Clean = opening items b
-at_arrival items b ReplyLost = opening items b
-at_arrival items b AckLost = opening items b
+abbrev pub at_arrival : List Item → Course → Fate → Course
+at_arrival items c TokenLost = c
+at_arrival items c Clean = opening items c
+at_arrival items c ReplyLost = opening items c
+at_arrival items c AckLost = opening items c
 
 -- a round with one more poll
 abbrev pub polled : Round → Fate → Round
@@ -94,25 +94,25 @@ closed_by_poll (Some round) ReplyLost = []
 closed_by_poll (Some round) AckLost = []
 
 -- a poll leaves the device as it stands, and its round open or not
-abbrev pub after_poll : Bus → Fate → Bus
-after_poll b fate = record { standing = b.standing; current = open_after b.current fate }
+abbrev pub after_poll : Course → Fate → Course
+after_poll c fate = record { standing = c.standing; current = open_after c.current fate }
 
--- The bus after a step, and the round that the step closes.
-abbrev pub after_step : List Item → Bus → OwnStep → Bus
-after_step items b (Changes change) = record { standing = after_change items b.standing change; current = b.current }
-after_step items b Frame = record { standing = after_frame b.standing; current = b.current }
-after_step items b (Polls fate) = after_poll (at_arrival items b fate) fate
+-- The course after a step, and the round that the step closes.
+abbrev pub after_step : List Item → Course → OwnStep → Course
+after_step items c (Changes change) = record { standing = after_change items c.standing change; current = c.current }
+after_step items c Frame = record { standing = after_frame c.standing; current = c.current }
+after_step items c (Polls fate) = after_poll (at_arrival items c fate) fate
 
 -- changes and frames close no round
-abbrev pub closed_by : List Item → Bus → OwnStep → List Round
-closed_by items b (Changes change) = []
-closed_by items b Frame = []
-closed_by items b (Polls fate) = closed_by_poll (at_arrival items b fate).current fate
+abbrev pub closed_by : List Item → Course → OwnStep → List Round
+closed_by items c (Changes change) = []
+closed_by items c Frame = []
+closed_by items c (Polls fate) = closed_by_poll (at_arrival items c fate).current fate
 
 -- behind a list of steps, one after another
-abbrev pub after_steps : List Item → List OwnStep → Bus → Bus
-after_steps items [] b = b
-after_steps items (s ∷ steps) b = after_steps items steps (after_step items b s)
+abbrev pub after_steps : List Item → List OwnStep → Course → Course
+after_steps items [] c = c
+after_steps items (s ∷ steps) c = after_steps items steps (after_step items c s)
 
 -- the round that is open, as a list
 abbrev pub still_open : Option Round → List Round
@@ -120,15 +120,19 @@ still_open None = []
 still_open (Some round) = round ∷ []
 
 -- The rounds of a schedule, in order: those that it closes, and the one that is open at its end.
-abbrev pub rounds : List Item → List OwnStep → Bus → List Round
-rounds items [] b = still_open b.current
-rounds items (s ∷ steps) b = closed_by items b s ++ rounds items steps (after_step items b s)
+abbrev pub rounds : List Item → List OwnStep → Course → List Round
+rounds items [] c = still_open c.current
+rounds items (s ∷ steps) c = closed_by items c s ++ rounds items steps (after_step items c s)
+
+-- what a view tells where it takes the part of a report
+abbrev pub part_events : List Item → ℕ → List Cell → List Cell → List Event
+part_events items r view parts = events_between items r view (seen items r view parts) parts
 
 -- The events of rounds from a view on: the view takes each round's part, and what changes and moves is told.
 abbrev pub events_of : List Item → List Cell → List Round → List Event
 events_of items view [] = []
 events_of items view (round ∷ rest) =
-    events_between items round.report view (seen items round.report view round.parts) round.parts
+    part_events items round.report view round.parts
     ++ events_of items (seen items round.report view round.parts) rest
 
 -- the view once it took the parts of rounds
@@ -137,12 +141,12 @@ view_of items view [] = view
 view_of items view (round ∷ rest) = view_of items (seen items round.report view round.parts) rest
 
 -- a device that was just configured, with this snapshot and these idle times: no round is open
-abbrev pub fresh_bus : List Item → List Cell → List ℕ → Bus
-fresh_bus items snapshot idle = record { standing = configured items snapshot idle; current = None }
+abbrev pub fresh_course : List Item → List Cell → List ℕ → Course
+fresh_course items snapshot idle = record { standing = configured items snapshot idle; current = None }
 
 -- the rounds that crossed since the configuration
 abbrev pub crossed_rounds : List Item → List Cell → List ℕ → List OwnStep → List Round
-crossed_rounds items snapshot idle steps = filter has_crossed (rounds items steps (fresh_bus items snapshot idle))
+crossed_rounds items snapshot idle steps = filter has_crossed (rounds items steps (fresh_course items snapshot idle))
 
 -- The events of a schedule since the configuration: the changes between the parts that crossed, from the initial
 -- view on.

@@ -1,17 +1,63 @@
--- The motion of a control that a station still has, and that steps keep it: what accepted moves add is
--- told once or still there (our choice).
-use Rattle.std.specs.Prelude.{◌≡◌, ℕ, Bool, true, false, not, ◌&&◌, if◌then◌else◌, List, [], ◌∷◌, ◌++◌, length, map, Option, Some, None, Result, Ok, Err, ℤ, pos, ◌+ℤ◌}
+-- The motion of a control: what changes add to it, what events give of it, and what a station still has (our
+-- choice).
+use Rattle.std.specs.Prelude.{◌≡◌, ℕ, Bool, true, false, not, ◌&&◌, ◌==◌, if◌then◌else◌, List, [], ◌∷◌, ◌++◌, length, map, Option, Some, None, Result, Ok, Err, ℤ, pos, ◌+ℤ◌}
 use Rattle.hid_layout.specs.declared.control.ControlId.{ControlId}
 use Rattle.hid_layout.specs.declared.control.ControlKind.TheVariants.{Switch, Value, NullValue, Relative}
 use Rattle.hid_layout.specs.Controls.{Form, NoControls, Elements, Keys, Item}
 use Rattle.hid_cells.specs.declared.cell.Cell.{Cell}
 use Rattle.hid_cells.specs.declared.cell.Cell.TheVariants.{Vacant, Pressed, Holding, Moved, RolledOver}
+use Rattle.hid_cells.specs.declared.change.Change.{Change}
+use Rattle.hid_cells.specs.declared.change.Change.TheVariants as change
 use Rattle.hid_cells.specs.declared.change.ChangeFault.{ChangeFault}
-use Rattle.hid_usages.specs.Parts.{is_of, item_at, motion_of}
-use Rattle.hid_usages.specs.Snapshots.{changed}
-use Rattle.hid_device.specs.Epochs.{Conserves}
-use Rattle.hid_device.specs.Rounds.{OwnStep, Changes, Frame, Polls}
-use Rattle.hid_stack.specs.Stations.{Station, Open, after, after_all, events_in}
+use Rattle.hid_cells.specs.declared.event.Event.{Event}
+use Rattle.hid_cells.specs.declared.event.Event.TheVariants as event
+use Rattle.hid_cells.specs.Parts.{is_of, item_at, motion_of}
+use Rattle.hid_cells.specs.Snapshots.{changed}
+use Rattle.hid_lives.specs.Rounds.{OwnStep, Changes, Frame, Polls}
+use Rattle.hid_lives.specs.Stations.{Station, Open, after, after_all, events_in}
+use Rattle.hid_lives.specs.Lives.{Deed, Own, Configures, befallen, befallen_all, told_in}
+
+-- two IDs name the same control
+abbrev pub is_same_control : ControlId → ControlId → Bool
+is_same_control a b = (a.item == b.item) && (a.index == b.index)
+
+-- what one event gives of a control's motion, delivered or dropped
+abbrev pub given_by : ControlId → Event → ℤ
+given_by c (event.Motion d u by) = if is_same_control d c then by else pos 0
+given_by c (event.Dropped d u by) = if is_same_control d c then by else pos 0
+given_by c (event.Down d u) = pos 0
+given_by c (event.Up d u) = pos 0
+given_by c (event.Value d u v) = pos 0
+given_by c (event.Null d u) = pos 0
+
+-- and what a list of events gives
+abbrev pub given_motion : ControlId → List Event → ℤ
+given_motion c [] = pos 0
+given_motion c (e ∷ events) = given_by c e +ℤ given_motion c events
+
+-- what one accepted change adds to it
+abbrev pub moved_by_change : ControlId → Change → ℤ
+moved_by_change c (change.Move d by) = if is_same_control d c then by else pos 0
+moved_by_change c (change.Press d) = pos 0
+moved_by_change c (change.Release d) = pos 0
+moved_by_change c (change.Set d v) = pos 0
+moved_by_change c (change.Null d) = pos 0
+
+-- what one step adds: frames and polls add nothing
+abbrev pub moved_by : ControlId → OwnStep → ℤ
+moved_by c (Changes change) = moved_by_change c change
+moved_by c Frame = pos 0
+moved_by c (Polls fate) = pos 0
+
+-- and what a list of steps adds
+abbrev pub moved_motion : ControlId → List OwnStep → ℤ
+moved_motion c [] = pos 0
+moved_motion c (s ∷ steps) = moved_by c s +ℤ moved_motion c steps
+
+-- Motion is neither lost nor doubled: what was kept and what accepted steps added is what was given and what is kept.
+abbrev pub Conserves : ControlId → List OwnStep → ℤ → List Event → ℤ → Type 0
+Conserves c steps kept_before events kept_after =
+    kept_before +ℤ moved_motion c steps ≡ given_motion c events +ℤ kept_after
 
 -- what the open round carries of a control's motion, unless it has crossed
 abbrev pub open_motion : List Item → List Cell → Option Open → ControlId → ℤ
@@ -88,3 +134,25 @@ abbrev pub KeepsAccepted : List Item → Station → List OwnStep → Type 0
 KeepsAccepted items s steps =
     (c : ControlId) → Conserves c steps (station_motion items s c)
     (events_in items s steps) (station_motion items (after_all items s steps) c)
+
+-- the own steps of a life, without the changes that are refused where they come
+abbrev pub accepted_in : List Item → Station → List Deed → List OwnStep
+accepted_in items s [] = []
+accepted_in items s (Own x ∷ deeds) = step_if (is_accepted items s x) x ++ accepted_in items (after items s x) deeds
+accepted_in items s (Configures ∷ deeds) = accepted_in items (befallen items s Configures) deeds
+
+-- no round is open where a device is configured
+abbrev pub IsBetweenRounds : Station → Deed → Type 0
+IsBetweenRounds s (Own x) = Unit {0}
+IsBetweenRounds s Configures = s.current ≡ None
+
+-- and so at each configuration of a life
+abbrev pub AreBetweenRounds : List Item → Station → List Deed → Type 0
+AreBetweenRounds items s [] = Unit {0}
+AreBetweenRounds items s (x ∷ deeds) = IsBetweenRounds s x × AreBetweenRounds items (befallen items s x) deeds
+
+-- Neither does what else befalls a device: a configuration would forget the motion of an open round alone.
+abbrev pub KeepsThroughLife : List Item → Station → List Deed → Type 0
+KeepsThroughLife items s deeds =
+    (c : ControlId) → Conserves c (accepted_in items s deeds) (station_motion items s c)
+    (told_in items s deeds) (station_motion items (befallen_all items s deeds) c)

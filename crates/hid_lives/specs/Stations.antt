@@ -4,12 +4,12 @@ use Rattle.std.specs.Prelude.{ℕ, Bool, true, false, not, if◌then◌else◌, 
 use Rattle.hid_layout.specs.Controls.{Item}
 use Rattle.hid_cells.specs.declared.cell.Cell.{Cell}
 use Rattle.hid_cells.specs.declared.event.Event.{Event}
-use Rattle.hid_usages.specs.Cells.{blank}
-use Rattle.hid_usages.specs.Views.{seen, events_between}
+use Rattle.hid_cells.specs.Cells.{blank}
+use Rattle.hid_cells.specs.Views.{seen}
 use Rattle.usb_transact.specs.declared.transaction.Fate.{Fate}
 use Rattle.usb_transact.specs.declared.transaction.Fate.TheVariants.{Clean, TokenLost, ReplyLost, AckLost}
-use Rattle.hid_device.specs.Standing.{Standing, configured, first_due, after_opening, after_change, after_frame}
-use Rattle.hid_device.specs.Rounds.{OwnStep, Changes, Frame, Polls, reaches_host}
+use Rattle.hid_lives.specs.Standing.{Standing, configured, first_due, after_opening, after_change, after_frame}
+use Rattle.hid_lives.specs.Rounds.{OwnStep, Changes, Frame, Polls, reaches_host, part_events}
 
 -- the open round: its report, whose part is the one that was fixed last, and whether it has crossed
 pub record Open : Type 0 where
@@ -28,10 +28,6 @@ pub record Station : Type 0 where
 abbrev pub fresh : List Item → List Cell → List ℕ → Station
 fresh items snapshot idle =
     record { standing = configured items snapshot idle; current = None; odd = false; view = blank items }
-
--- what a view tells where it takes the part of a report
-abbrev pub part_events : List Item → ℕ → List Cell → List Cell → List Event
-part_events items r view parts = events_between items r view (seen items r view parts) parts
 
 -- a round of this report opens
 abbrev pub opened_by : List Item → Station → Option ℕ → Station

@@ -13,22 +13,24 @@ use Rattle.hid_cells.specs.declared.cell.Cell.{Cell}
 use Rattle.hid_cells.specs.declared.cell.Cell.TheVariants.{Vacant}
 use Rattle.hid_cells.specs.declared.change.Change.{Change}
 use Rattle.hid_cells.specs.declared.change.Change.TheVariants.{Press, Release, Set, Null, Move}
-use Rattle.hid_usages.specs.Cells.{Suits, InSnapshot, InPart, FitsSnapshot, FitsShown, FitsView, blank_cell, blank}
-use Rattle.hid_usages.specs.Events.{at, change_events}
-use Rattle.hid_usages.specs.Parts.{blank_parts, is_of, item_at, by_item, shown_cell, shown_of, shown, minus_motion, taken_of, taken, motion_of}
-use Rattle.hid_usages.specs.Snapshots.{OrFault, motion_in, changed_cell, target, cell_at, with_cell, changed_at, changed}
-use Rattle.hid_usages.specs.Views.{seen_of, seen, motions_told, part_of, events_from}
+use Rattle.hid_cells.specs.Cells.{HasRoom, Suits, InSnapshot, InPart, FitsSnapshot, FitsShown, FitsView, blank_cell, blank}
+use Rattle.hid_cells.specs.Events.{at, change_events}
+use Rattle.hid_cells.specs.Parts.{blank_parts, is_of, item_at, by_item, shown_cell, shown_of, shown, minus_motion, taken_of, taken, motion_of}
+use Rattle.hid_cells.specs.Snapshots.{OrFault, motion_in, changed_cell, target, cell_at, with_cell, changed_at, changed}
+use Rattle.hid_cells.specs.Views.{seen_of, seen, motions_told, part_of, events_from}
 use Rattle.hid_cells.proofs.ItemLemmas.{got, control_found, set_here, set_there}
 use Rattle.hid_cells.proofs.PartLemmas.{by_item_length}
-use Rattle.hid_views.proofs.ViewLemmas.{suits_tail}
+use Rattle.hid_cells.specs.declared.event.Event.{Event}
 use Rattle.usb_transact.specs.declared.transaction.Fate.{Fate}
 use Rattle.usb_transact.specs.declared.transaction.Fate.TheVariants.{Clean, TokenLost, ReplyLost, AckLost}
-use Rattle.hid_device.specs.Epochs.{given_motion, moved_by_change, moved_motion}
-use Rattle.hid_device.specs.Rounds.{OwnStep, Changes, Frame, Polls}
-use Rattle.hid_device.specs.Standing.{Standing, first_due}
-use Rattle.hid_stack.specs.Stations.{Station, Open, fresh, part_events, opened_by, opened, arrived, answered, after, round_events, events_at, events_in, after_all}
-use Rattle.hid_stack.specs.Motion.{station_motion, is_done, is_accepted, step_if, accepted, are_accepted, KeepsEach, HasMotions, kept_motions, relative_controls, KeepsMotion, KeepsAccepted}
-use Rattle.hid_stack.proofs.ItemMotionLemmas.{blank_moves, room_moves, shown_moves, minus_moves, split_motion, amount_at, ChangesMotion, changed_motion, has_motion_at, given_append, quiet_changes, told_here, told_elsewhere}
+use Rattle.hid_lives.specs.Motion.{Conserves, open_motion, accepted_in, AreBetweenRounds, KeepsThroughLife, given_motion, moved_by_change, moved_motion}
+use Rattle.hid_lives.specs.Rounds.{OwnStep, Changes, Frame, Polls, part_events}
+use Rattle.hid_lives.specs.Standing.{Standing, first_due}
+use Rattle.hid_lives.specs.Stations.{Station, Open, fresh, opened_by, opened, arrived, answered, after, round_events, events_at, events_in, after_all}
+use Rattle.hid_lives.specs.Motion.{station_motion, is_done, is_accepted, step_if, accepted, are_accepted, KeepsEach, HasMotions, kept_motions, relative_controls, KeepsMotion, KeepsAccepted}
+use Rattle.hid_lives.specs.Lives.{Deed, Own, Configures, owns, befallen, befallen_all, told_in}
+use Rattle.hid_lives.proofs.ScheduleLemmas.{own_told, own_stands}
+use Rattle.hid_lives.proofs.ItemMotionLemmas.{blank_moves, room_moves, shown_moves, minus_moves, split_motion, amount_at, ChangesMotion, changed_motion, has_motion_at, given_append, quiet_changes, told_here, told_elsewhere}
 
 joined : {A : Type 0} (x y : A) (xs ys : List A) → x ≡ y → xs ≡ ys → x ∷ xs ≡ y ∷ ys
 joined x y xs ys h k = cc
@@ -39,12 +41,15 @@ first_same x y xs ys h = cc
 rest_same : (x y : Option ℕ) (xs ys : List (Option ℕ)) → x ∷ xs ≡ y ∷ ys → xs ≡ ys
 rest_same x y xs ys h = cc
 
+rooms_moving : (items : List Item) (cells : List Cell) → length cells ≡ length items → ((i : ℕ) (item : Item) (cell : Cell) → slice_get items i ≡ Some item → slice_get cells i ≡ Some cell → HasRoom (head_of item.form) cell) → KeepsEach items cells
+rooms_moving [] [] same rooms = refl
+rooms_moving [] (cell ∷ cells) same rooms = absurd (omega arith)
+rooms_moving (item ∷ items) [] same rooms = absurd (omega arith)
+rooms_moving (item ∷ items) (cell ∷ cells) same rooms =
+    joined (kept_motions cell) (relative_controls item.form) _ _ (room_moves item.form cell (rooms 0 item cell refl refl)) (rooms_moving items cells (omega arith) (λ i. rooms (suc i)))
+
 suits_moving : (stands : Form → Cell → Type 0) (items : List Item) (cells : List Cell) → Suits stands items cells → KeepsEach items cells
-suits_moving stands [] [] fits = refl
-suits_moving stands [] (cell ∷ cells) fits = let e = fits.one_each in absurd (omega arith)
-suits_moving stands (item ∷ items) [] fits = let e = fits.one_each in absurd (omega arith)
-suits_moving stands (item ∷ items) (cell ∷ cells) fits =
-    joined (kept_motions cell) (relative_controls item.form) _ _ (room_moves item.form cell (fits.room 0 item cell refl refl)) (suits_moving stands items cells (suits_tail stands item items cell cells fits))
+suits_moving stands items cells fits = rooms_moving items cells fits.one_each fits.room
 
 moving_length : (items : List Item) (cells : List Cell) → KeepsEach items cells → length cells ≡ length items
 moving_length [] [] h = refl
@@ -354,17 +359,54 @@ moved_append : (c : ControlId) (xs ys : List OwnStep) → moved_motion c (xs ++ 
 moved_append c [] ys = omega (arith, ints)
 moved_append c (x ∷ xs) ys = omega (arith, ints, moved_append c xs ys)
 
-all_keep : (items : List Item) (s : Station) (steps : List OwnStep) → HasMotions items s → KeepsMotion items s steps
-all_keep items s [] moving c = omega (arith, ints)
-all_keep items s (x ∷ steps) moving c =
+blank_each : (items : List Item) → KeepsEach items (blank items)
+blank_each [] = refl
+blank_each (item ∷ items) = joined _ _ _ _ (blank_moves item.form) (blank_each items)
+
+blank_parts_each : (items : List Item) → KeepsEach items (blank_parts items)
+blank_parts_each [] = refl
+blank_parts_each (item ∷ items) = joined _ _ _ _ (shown_moves (head_of item.form) (blank_cell (head_of item.form)) ∙ blank_moves item.form) (blank_parts_each items)
+
+-- what befalls a station leaves it its motions, and between rounds a configuration loses none
+deed_moving : (items : List Item) (s : Station) (x : Deed) → HasMotions items s → HasMotions items (befallen items s x)
+deed_moving items s (Own x) moving = step_moving items s x moving
+deed_moving items s Configures moving = record { snapshot = moving.snapshot; fixed = blank_parts_each items; view = moving.view }
+
+configured_same : (items : List Item) (s : Station) (c : ControlId) → s.current ≡ None → station_motion items s c ≡ station_motion items (befallen items s Configures) c
+configured_same items s c none_open = ap (λ (o : Option Open). motion_of s.standing.snapshot c +ℤ open_motion items s.standing.fixed o c) none_open
+
+pub lives_keep : (items : List Item) (s : Station) → HasMotions items s → (deeds : List Deed) → AreBetweenRounds items s deeds → KeepsThroughLife items s deeds
+lives_keep items s moving [] between c = omega (arith, ints)
+lives_keep items s moving (Own x ∷ deeds) between c =
     let one : Keeps items s x c = step_keeps items s x c moving in
-    let rest = all_keep items (after items s x) steps (step_moving items s x moving) c in
-    let added = moved_append c (step_if (is_accepted items s x) x) (accepted items (after items s x) steps) in
-    let told = given_append c (events_at items s x) (events_in items (after items s x) steps) in
+    let rest = lives_keep items (after items s x) (step_moving items s x moving) deeds between.1 c in
+    let added = moved_append c (step_if (is_accepted items s x) x) (accepted_in items (after items s x) deeds) in
+    let told = given_append c (events_at items s x) (told_in items (after items s x) deeds) in
     omega (arith, ints, one, rest, added, told)
+lives_keep items s moving (Configures ∷ deeds) between c =
+    let same : station_motion items s c ≡ station_motion items (befallen items s Configures) c = configured_same items s c between.0 in
+    let rest = lives_keep items (befallen items s Configures) (deed_moving items s Configures moving) deeds between.1 c in
+    omega (arith, ints, same, rest)
+
+pub lived_has : (items : List Item) (s : Station) (deeds : List Deed) → HasMotions items s → HasMotions items (befallen_all items s deeds)
+lived_has items s [] has = has
+lived_has items s (x ∷ deeds) has = lived_has items (befallen items s x) deeds (deed_moving items s x has)
+
+-- own steps alone
+own_between : (items : List Item) (s : Station) (steps : List OwnStep) → AreBetweenRounds items s (owns steps)
+own_between items s [] = tt
+own_between items s (x ∷ steps) = (tt, own_between items (after items s x) steps)
+
+own_accepted : (items : List Item) (s : Station) (steps : List OwnStep) → accepted_in items s (owns steps) ≡ accepted items s steps
+own_accepted items s [] = refl
+own_accepted items s (x ∷ steps) = ap (λ (xs : List OwnStep). step_if (is_accepted items s x) x ++ xs) (own_accepted items (after items s x) steps)
 
 pub kept : (items : List Item) (s : Station) → HasMotions items s → (steps : List OwnStep) → KeepsMotion items s steps
-kept items s has steps = all_keep items s steps has
+kept items s has steps c =
+    subst (λ (t : Station). Conserves c (accepted items s steps) (station_motion items s c) (events_in items s steps) (station_motion items t c)) (own_stands items steps s)
+    (subst (λ (es : List Event). Conserves c (accepted items s steps) (station_motion items s c) es (station_motion items (befallen_all items s (owns steps)) c)) (own_told items steps s)
+    (subst (λ (xs : List OwnStep). Conserves c xs (station_motion items s c) (told_in items s (owns steps)) (station_motion items (befallen_all items s (owns steps)) c)) (own_accepted items s steps)
+    (lives_keep items s has (owns steps) (own_between items s steps) c)))
 
 all_accepted : (items : List Item) (s : Station) (steps : List OwnStep) → are_accepted items s steps ≡ true → accepted items s steps ≡ steps
 all_accepted items s [] h = refl
@@ -390,17 +432,8 @@ suits_has items s snapshot fixed view = record {
 
 pub fresh_has : (items : List Item) (idle : List ℕ) → HasMotions items (fresh items (blank items) idle)
 fresh_has items idle = record { snapshot = blank_each items; fixed = blank_parts_each items; view = length-map items (λ item. blank_cell (head_of item.form)) }
-  where
-    blank_each : (items : List Item) → KeepsEach items (blank items)
-    blank_each [] = refl
-    blank_each (item ∷ items) = joined _ _ _ _ (blank_moves item.form) (blank_each items)
-
-    blank_parts_each : (items : List Item) → KeepsEach items (blank_parts items)
-    blank_parts_each [] = refl
-    blank_parts_each (item ∷ items) = joined _ _ _ _ (shown_moves (head_of item.form) (blank_cell (head_of item.form)) ∙ blank_moves item.form) (blank_parts_each items)
 
 pub after_has : (items : List Item) (s : Station) (steps : List OwnStep) → HasMotions items s → HasMotions items (after_all items s steps)
-after_has items s [] has = has
-after_has items s (x ∷ steps) has = after_has items (after items s x) steps (step_moving items s x has)
+after_has items s steps has = subst (HasMotions items) (own_stands items steps s) (lived_has items s (owns steps) has)
 
-pub ruleset keeps = (kept, kept_accepted, suits_has, fresh_has, after_has)
+pub ruleset keeps = (kept, kept_accepted, lives_keep)

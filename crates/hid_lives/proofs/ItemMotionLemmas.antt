@@ -23,15 +23,15 @@ use Rattle.hid_cells.specs.declared.change.ChangeFault.{ChangeFault}
 use Rattle.hid_cells.specs.declared.change.ChangeFault.TheVariants.{NoDirection, MotionFull}
 use Rattle.hid_cells.specs.declared.event.Event.{Event}
 use Rattle.hid_cells.specs.declared.event.Event.TheVariants as event
-use Rattle.hid_usages.specs.Cells.{is_i32, blank_cell, HasRoom, pressed_count}
-use Rattle.hid_usages.specs.Events.{at, switch_event, value_event, motion_event, up_event, down_event, ups, downs, each, element_events, key_events, key_usages, change_events}
-use Rattle.hid_usages.specs.Parts.{clamp, shown_cell, differences, minus_motion}
-use Rattle.hid_usages.specs.Snapshots.{OrFault, unless, motion_in, with_pressed, with_value, with_motion, has_direction, changed_cell, target}
-use Rattle.hid_usages.specs.Views.{motions_told}
+use Rattle.hid_cells.specs.Cells.{is_i32, blank_cell, HasRoom, pressed_count}
+use Rattle.hid_cells.specs.Events.{at, switch_event, value_event, motion_event, up_event, down_event, ups, downs, each, element_events, key_events, key_usages, change_events}
+use Rattle.hid_cells.specs.Parts.{clamp, shown_cell, differences, minus_motion}
+use Rattle.hid_cells.specs.Snapshots.{OrFault, unless, motion_in, with_pressed, with_value, with_motion, has_direction, changed_cell, target}
+use Rattle.hid_cells.specs.Views.{motions_told}
 use Rattle.hid_cells.proofs.ItemLemmas.{set_here, set_there}
 use Rattle.hid_cells.proofs.FillLemmas.{set_length}
-use Rattle.hid_stack.specs.Motion.{kept_motions, relative_controls}
-use Rattle.hid_device.specs.Epochs.{given_motion, is_same_control}
+use Rattle.hid_lives.specs.Motion.{kept_motions, relative_controls}
+use Rattle.hid_lives.specs.Motion.{given_motion, is_same_control}
 
 -- a cell with room for an item's controls moves as they do
 pub room_moves : (form : Form) (cell : Cell) → HasRoom (head_of form) cell → kept_motions cell ≡ relative_controls form

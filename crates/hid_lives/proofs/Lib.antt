@@ -1,0 +1,5 @@
+pub mod LifeLemmas
+pub mod ScheduleLemmas
+pub mod ItemMotionLemmas
+pub mod MotionLemmas
+mod Vectors

@@ -1,0 +1,234 @@
+-- Behind its life a station stands and has told as what came of its course says.
+use Rattle.std.proofs.Common.{◌≡◌, ◌++◌, ℕ, Bool, true, false, not, ◌||◌, List, [], ◌∷◌, Option, Some, None, Result, Ok, Err, refl, ap, sym, ◌∙◌, subst, cond, arith}
+use Rattle.std.specs.List.{list_any}
+use Rattle.hid_layout.specs.Controls.{Item}
+use Rattle.hid_cells.specs.declared.cell.Cell.{Cell}
+use Rattle.hid_cells.specs.declared.change.Change.{Change}
+use Rattle.hid_cells.specs.declared.change.ChangeFault.{ChangeFault}
+use Rattle.hid_cells.specs.declared.event.Event.{Event}
+use Rattle.hid_cells.specs.Cells.{blank}
+use Rattle.hid_cells.specs.Snapshots.{changed}
+use Rattle.hid_cells.specs.Views.{seen}
+use Rattle.usb_transact.specs.declared.transaction.Fate.{Fate}
+use Rattle.usb_transact.specs.declared.transaction.Fate.TheVariants.{Clean, TokenLost, ReplyLost, AckLost}
+use Rattle.hid_lives.specs.Standing.{Standing, configured, first_due, after_change, after_frame, after_opening}
+use Rattle.hid_lives.specs.Rounds.{Changes, Frame, Polls, Round, Course, new_round, reaches_host, is_clean, has_crossed, has_closed, polled, part_events, fresh_course, opened_if, closed_by_poll, after_poll}
+use Rattle.hid_lives.specs.Stations.{Station, Open, fresh, opened_by, answered, round_events}
+use Rattle.hid_lives.specs.Lives.{Deed, Own, Configures, Happening, Ended, ended, happenings, course_behind, round_told, view_past, told_from, view_from, toggle_from, befallen_all, told_in}
+use Rattle.hid_lives.specs.Following.{FollowsLife, LivesOn}
+
+abbrev course : Standing → Option Round → Course
+course d current = record { standing = d; current = current }
+
+abbrev station : Standing → Option Open → Bool → List Cell → Station
+station d current odd view = record { standing = d; current = current; odd = odd; view = view }
+
+abbrev open_round : Round → Bool → Option Open
+open_round r crossed = Some (record { report = r.report; crossed = crossed })
+
+-- one more poll
+any_push : (holds : Fate → Bool) (polls : List Fate) (fate : Fate) → list_any holds (polls ++ fate ∷ []) ≡ list_any holds polls || holds fate
+any_push holds [] fate = grind arith
+any_push holds (x ∷ polls) fate = grind (arith, any_push holds polls fate)
+
+or_false : (b : Bool) → b || false ≡ b
+or_false true = refl
+or_false false = refl
+
+or_true : (b : Bool) → b || true ≡ true
+or_true true = refl
+or_true false = refl
+
+-- an open round, as the course and as the station has it
+record Links (r : Round) (crossed : Bool) (d : Standing) : Type 0 where
+  crossed_is : has_crossed r ≡ crossed
+  unclosed : has_closed r ≡ false
+  parts : r.parts ≡ d.fixed
+
+-- a poll that isn't clean leaves it open; where the report doesn't reach the host, it crosses no more than it had
+stays : (r : Round) (crossed : Bool) (d : Standing) (fate : Fate) → is_clean fate ≡ false → reaches_host fate ≡ false → Links r crossed d → Links (polled r fate) crossed d
+stays r crossed d fate unclean lost l = record {
+  crossed_is = any_push reaches_host r.polls fate ∙ ap (λ (b : Bool). has_crossed r || b) lost ∙ or_false (has_crossed r) ∙ l.crossed_is;
+  unclosed = any_push is_clean r.polls fate ∙ ap (λ (b : Bool). has_closed r || b) unclean ∙ or_false (has_closed r) ∙ l.unclosed;
+  parts = l.parts;
+}
+
+crosses_on : (r : Round) (crossed : Bool) (d : Standing) → Links r crossed d → Links (polled r AckLost) true d
+crosses_on r crossed d l = record {
+  crossed_is = any_push reaches_host r.polls AckLost ∙ or_true (has_crossed r);
+  unclosed = any_push is_clean r.polls AckLost ∙ or_false (has_closed r) ∙ l.unclosed;
+  parts = l.parts;
+}
+
+relink : (r : Round) (crossed : Bool) (d e : Standing) → e.fixed ≡ d.fixed → Links r crossed d → Links r crossed e
+relink r crossed d e same l = record { crossed_is = l.crossed_is; unclosed = l.unclosed; parts = l.parts ∙ sym same }
+
+-- a change leaves the parts that were fixed last
+fixed_stays : (items : List Item) (d : Standing) (c : Change) → (after_change items d c).fixed ≡ d.fixed
+fixed_stays items d c =
+    elim (changed items d.snapshot c) as (λ (x : Result (List Cell) ChangeFault). (elim x as (λ _. Standing) [ Ok cells ↦ record { snapshot = cells; fixed = d.fixed; frames = d.frames; idle = d.idle } | Err fault ↦ d ]).fixed ≡ d.fixed)
+    [ Ok cells ↦ refl | Err fault ↦ refl ]
+
+-- what befalls a station of which this was told already, and what comes of this course
+abbrev Lives : List Item → List Deed → Bool → List Cell → List Event → Station → Course → Type 0
+Lives items deeds odd view told s c =
+    FollowsLife items view odd (happenings items deeds c) (course_behind items deeds c) (told ++ told_in items s deeds) (befallen_all items s deeds)
+
+-- of a station with a round that hasn't crossed, or has: then it was told, and the host's view took it
+abbrev Partway : List Item → List Deed → Type 0
+Partway items deeds = (d : Standing) (odd : Bool) (view : List Cell) (r : Round) (crossed : Bool) → Links r crossed d
+    → Lives items deeds odd view (round_told items view crossed r) (station d (open_round r crossed) odd (view_past items view crossed r)) (course d (Some r))
+
+-- and of one without an open round
+record Delivers (items : List Item) (deeds : List Deed) : Type 0 where
+  quiet : (d : Standing) (odd : Bool) (view : List Cell) → Lives items deeds odd view [] (station d None odd view) (course d None)
+  partway : Partway items deeds
+
+-- a round that is clean has crossed and closed, and is told first
+closes : (items : List Item) (odd : Bool) (view : List Cell) (r : Round) (happened : List Happening) (c : Course) (told : List Event) (s : Station) → has_crossed r ≡ true → has_closed r ≡ true
+    → FollowsLife items (seen items r.report view r.parts) (not odd) happened c told s → FollowsLife items view odd (Ended r ∷ happened) c (part_events items r.report view r.parts ++ told) s
+closes items odd view r happened c told s crossed closed h = record {
+  events = ap (λ (es : List Event). part_events items r.report view r.parts ++ es) h.events ∙ sym (ap (λ (b : Bool). round_told items view b r ++ told_from items (view_past items view b r) happened) crossed);
+  standing = h.standing;
+  open_round = h.open_round;
+  part = h.part;
+  view = h.view ∙ sym (ap (λ (b : Bool). view_from items (view_past items view b r) happened) crossed);
+  toggle = h.toggle ∙ sym (ap (λ (b : Bool). toggle_from has_closed (cond b (not odd) odd) happened) closed);
+  expects = h.expects ∙ sym (ap (λ (b : Bool). toggle_from has_crossed (cond b (not odd) odd) happened) crossed);
+}
+
+none : (items : List Item) → Delivers items []
+none items = record {
+  quiet = λ d odd view. record { events = refl; standing = refl; open_round = refl; part = tt; view = refl; toggle = refl; expects = refl };
+  partway = λ d odd view r crossed l. record {
+    events = ap (λ (b : Bool). round_told items view b r ++ []) (sym l.crossed_is);
+    standing = refl;
+    open_round = ap (open_round r) (sym l.crossed_is);
+    part = l.parts;
+    view = ap (λ (b : Bool). view_past items view b r) (sym l.crossed_is);
+    toggle = sym (ap (λ (b : Bool). cond b (not odd) odd) l.unclosed);
+    expects = ap (λ (b : Bool). cond b (not odd) odd) (sym l.crossed_is);
+  };
+}
+
+change : (items : List Item) (c : Change) (deeds : List Deed) → Delivers items deeds → Delivers items (Own (Changes c) ∷ deeds)
+change items c deeds rest = record {
+  quiet = λ d odd view. rest.quiet (after_change items d c) odd view;
+  partway = λ d odd view r crossed l. rest.partway (after_change items d c) odd view r crossed (relink r crossed d (after_change items d c) (fixed_stays items d c) l);
+}
+
+frame : (items : List Item) (deeds : List Deed) → Delivers items deeds → Delivers items (Own Frame ∷ deeds)
+frame items deeds rest = record {
+  quiet = λ d odd view. rest.quiet (after_frame d) odd view;
+  partway = λ d odd view r crossed l. rest.partway (after_frame d) odd view r crossed (relink r crossed d (after_frame d) refl l);
+}
+
+-- a configuration ends the open round, and toggles begin anew
+configured_quiet : (items : List Item) (deeds : List Deed) → Delivers items deeds → (d : Standing) (odd : Bool) (view : List Cell) → Lives items (Configures ∷ deeds) odd view [] (station d None odd view) (course d None)
+configured_quiet items deeds rest d odd view =
+    let h = rest.quiet (configured items d.snapshot d.idle) false view in
+    record { events = h.events; standing = h.standing; open_round = h.open_round; part = h.part; view = h.view; toggle = h.toggle; expects = h.expects }
+
+configured_partway : (items : List Item) (deeds : List Deed) → Delivers items deeds → Partway items (Configures ∷ deeds)
+configured_partway items deeds rest d odd view r crossed l =
+    let anew : Standing = configured items d.snapshot d.idle in
+    let happened : List Happening = happenings items deeds (course anew None) in
+    let h = rest.quiet anew false (view_past items view crossed r) in
+    record {
+      events = ap (λ (es : List Event). round_told items view crossed r ++ es) h.events
+          ∙ ap (λ (b : Bool). round_told items view b r ++ told_from items (view_past items view b r) happened) (sym l.crossed_is);
+      standing = h.standing;
+      open_round = h.open_round;
+      part = h.part;
+      view = h.view ∙ ap (λ (b : Bool). view_from items (view_past items view b r) happened) (sym l.crossed_is);
+      toggle = h.toggle;
+      expects = h.expects;
+    }
+
+clean : (items : List Item) (deeds : List Deed) → Delivers items deeds → Partway items (Own (Polls Clean) ∷ deeds)
+clean items deeds rest d odd view r crossed l = by_crossed crossed
+  where
+    happened : List Happening
+    happened = happenings items deeds (course d None)
+
+    -- the host's view behind it, with the part as the round has it
+    behind : List Cell → Station
+    behind parts = station d None (not odd) (seen items r.report view parts)
+
+    closed : FollowsLife items view odd (Ended (polled r Clean) ∷ happened) (course_behind items deeds (course d None))
+        (part_events items r.report view r.parts ++ told_in items (behind r.parts) deeds) (befallen_all items (behind r.parts) deeds)
+    closed = closes items odd view (polled r Clean) happened (course_behind items deeds (course d None)) _ _
+        (any_push reaches_host r.polls Clean ∙ or_true (has_crossed r)) (any_push is_clean r.polls Clean ∙ or_true (has_closed r))
+        (rest.quiet d (not odd) (seen items r.report view r.parts))
+
+    by_crossed : (b : Bool) → Lives items (Own (Polls Clean) ∷ deeds) odd view (round_told items view b r) (station d (open_round r b) odd (view_past items view b r)) (course d (Some r))
+    by_crossed true = closed
+    by_crossed false = subst (λ (p : List Cell). FollowsLife items view odd (Ended (polled r Clean) ∷ happened) (course_behind items deeds (course d None))
+        (part_events items r.report view p ++ told_in items (behind p) deeds) (befallen_all items (behind p) deeds)) l.parts closed
+
+token_lost : (items : List Item) (deeds : List Deed) → Delivers items deeds → Partway items (Own (Polls TokenLost) ∷ deeds)
+token_lost items deeds rest d odd view r true l = rest.partway d odd view (polled r TokenLost) true (stays r true d TokenLost refl refl l)
+token_lost items deeds rest d odd view r false l = rest.partway d odd view (polled r TokenLost) false (stays r false d TokenLost refl refl l)
+
+reply_lost : (items : List Item) (deeds : List Deed) → Delivers items deeds → Partway items (Own (Polls ReplyLost) ∷ deeds)
+reply_lost items deeds rest d odd view r true l = rest.partway d odd view (polled r ReplyLost) true (stays r true d ReplyLost refl refl l)
+reply_lost items deeds rest d odd view r false l = rest.partway d odd view (polled r ReplyLost) false (stays r false d ReplyLost refl refl l)
+
+ack_lost : (items : List Item) (deeds : List Deed) → Delivers items deeds → Partway items (Own (Polls AckLost) ∷ deeds)
+ack_lost items deeds rest d odd view r true l = rest.partway d odd view (polled r AckLost) true (crosses_on r true d l)
+ack_lost items deeds rest d odd view r false l =
+    subst (λ (p : List Cell). Lives items deeds odd view (part_events items r.report view p) (station d (open_round r true) odd (seen items r.report view p)) (course d (Some (polled r AckLost)))) l.parts
+    (rest.partway d odd view (polled r AckLost) true (crosses_on r false d l))
+
+-- a poll that arrives where no round is open: it opens one where a report is due, which is then like an open one
+abbrev Arrives : List Item → Fate → List Deed → Standing → Bool → List Cell → Option ℕ → Type 0
+Arrives items fate deeds d odd view due =
+    FollowsLife items view odd (ended (closed_by_poll (opened_if items d due).current fate) ++ happenings items deeds (after_poll (opened_if items d due) fate))
+    (course_behind items deeds (after_poll (opened_if items d due) fate))
+    (round_events items (opened_by items (station d None odd view) due) fate ++ told_in items (answered items (opened_by items (station d None odd view) due) fate) deeds)
+    (befallen_all items (answered items (opened_by items (station d None odd view) due) fate) deeds)
+
+-- the same where a report is due, and where none is
+if_due : (items : List Item) (d : Standing) (P : Option ℕ → Type 0) → P None → ((r : ℕ) → P (Some r)) → P (first_due items d)
+if_due items d P not_due due = elim (first_due items d) as P [ None ↦ not_due | Some r ↦ due r ]
+
+-- a round that just opened
+opened : (items : List Item) (fate : Fate) (deeds : List Deed) → Partway items (Own (Polls fate) ∷ deeds) → (d : Standing) (odd : Bool) (view : List Cell) (r : ℕ)
+    → Lives items (Own (Polls fate) ∷ deeds) odd view [] (station (after_opening items r d) (open_round (new_round r (after_opening items r d)) false) odd view) (course (after_opening items r d) (Some (new_round r (after_opening items r d))))
+opened items fate deeds partway d odd view r =
+    partway (after_opening items r d) odd view (new_round r (after_opening items r d)) false (record { crossed_is = refl; unclosed = refl; parts = refl })
+
+poll : (items : List Item) (fate : Fate) (deeds : List Deed) → Delivers items deeds → Delivers items (Own (Polls fate) ∷ deeds)
+poll items Clean deeds rest = record {
+  quiet = λ d odd view. if_due items d (Arrives items Clean deeds d odd view) (rest.quiet d odd view) (opened items Clean deeds (clean items deeds rest) d odd view);
+  partway = clean items deeds rest;
+}
+poll items TokenLost deeds rest = record { quiet = rest.quiet; partway = token_lost items deeds rest }
+poll items ReplyLost deeds rest = record {
+  quiet = λ d odd view. if_due items d (Arrives items ReplyLost deeds d odd view) (rest.quiet d odd view) (opened items ReplyLost deeds (reply_lost items deeds rest) d odd view);
+  partway = reply_lost items deeds rest;
+}
+poll items AckLost deeds rest = record {
+  quiet = λ d odd view. if_due items d (Arrives items AckLost deeds d odd view) (rest.quiet d odd view) (opened items AckLost deeds (ack_lost items deeds rest) d odd view);
+  partway = ack_lost items deeds rest;
+}
+
+delivers : (items : List Item) (deeds : List Deed) → Delivers items deeds
+delivers items [] = none items
+delivers items (Own (Changes c) ∷ deeds) = change items c deeds (delivers items deeds)
+delivers items (Own Frame ∷ deeds) = frame items deeds (delivers items deeds)
+delivers items (Own (Polls fate) ∷ deeds) = poll items fate deeds (delivers items deeds)
+delivers items (Configures ∷ deeds) =
+    let rest = delivers items deeds in
+    record { quiet = configured_quiet items deeds rest; partway = configured_partway items deeds rest }
+
+-- from any station without an open round
+pub lives_on : (items : List Item) (from : Station) (deeds : List Deed) → from.current ≡ None → LivesOn items from deeds
+lives_on items from deeds none_open =
+    subst (λ (o : Option Open). LivesOn items (station from.standing o from.odd from.view) deeds) (sym none_open)
+    ((delivers items deeds).quiet from.standing from.odd from.view)
+
+-- and from one that was just configured
+pub delivers_life : (items : List Item) (snapshot : List Cell) (idle : List ℕ) (deeds : List Deed)
+    → told_in items (fresh items snapshot idle) deeds ≡ told_from items (blank items) (happenings items deeds (fresh_course items snapshot idle))
+delivers_life items snapshot idle deeds = (lives_on items (fresh items snapshot idle) deeds refl).events

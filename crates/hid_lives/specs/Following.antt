@@ -1,0 +1,63 @@
+-- How a station stands behind its life, and behind the rounds of its own steps (USB 2.0, 8.5.4 and 8.6).
+use Rattle.std.specs.Prelude.{◌≡◌, ℕ, zero, suc, Bool, not, List, length, None, IfSome}
+use Rattle.std.specs.List.{filter}
+use Rattle.std.specs.Option.{option_map}
+use Rattle.hid_layout.specs.Controls.{Item}
+use Rattle.hid_cells.specs.declared.cell.Cell.{Cell}
+use Rattle.hid_cells.specs.declared.event.Event.{Event}
+use Rattle.hid_lives.specs.Rounds.{OwnStep, Round, Course, has_crossed, has_closed, rounds, after_steps, view_of}
+use Rattle.hid_lives.specs.Stations.{Station, Open, expected}
+use Rattle.hid_lives.specs.Lives.{Deed, Happening, happenings, course_behind, told_from, view_from, toggle_from, befallen_all, told_in}
+
+-- what a station keeps of the round that is open: its report, and whether it has crossed
+abbrev pub open_of : Round → Open
+open_of round = record { report = round.report; crossed = has_crossed round }
+
+-- How a station stands behind what happened, from this view and this toggle on, and what was told: it stands as the
+-- course does, with the round that is open there, whose part is the one that was fixed last; the view took the parts
+-- of the rounds that crossed; the device's toggle was changed once for each round closed, and the one that the host
+-- expects once for each round crossed, since the last configuration.
+pub record FollowsLife (items : List Item) (before : List Cell) (odd : Bool) (happened : List Happening)
+    (course : Course) (told : List Event) (s : Station) : Type 0 where
+  pub events : told ≡ told_from items before happened
+  pub standing : s.standing ≡ course.standing
+  pub open_round : s.current ≡ option_map open_of course.current
+  pub part : IfSome course.current (λ round. round.parts ≡ s.standing.fixed)
+  pub view : s.view ≡ view_from items before happened
+  pub toggle : s.odd ≡ toggle_from has_closed odd happened
+  pub expects : expected s ≡ toggle_from has_crossed odd happened
+
+-- a course begins where no round is open
+abbrev pub course_from : Station → Course
+course_from from = record { standing = from.standing; current = None }
+
+-- what befalls a station makes of it, and tells, what comes of its course
+abbrev pub LivesOn : List Item → Station → List Deed → Type 0
+LivesOn items from deeds =
+    FollowsLife items from.view from.odd
+    (happenings items deeds (course_from from)) (course_behind items deeds (course_from from))
+    (told_in items from deeds) (befallen_all items from deeds)
+
+-- a toggle that was changed so many times (USB 2.0, 8.6)
+abbrev pub flips : ℕ → Bool → Bool
+flips zero odd = odd
+flips (suc n) odd = not (flips n odd)
+
+-- How a station stands behind rounds, from this view and this toggle on: as the schedule's course does, with
+-- the round that is open there, whose part is the one that was fixed last; the view took the parts of the
+-- rounds that crossed; the device's toggle was changed once for each round closed, and the one that the
+-- host expects once for each round crossed.
+pub record FollowsRounds (items : List Item) (before : List Cell) (odd : Bool)
+    (gone : List Round) (course : Course) (s : Station) : Type 0 where
+  pub standing : s.standing ≡ course.standing
+  pub open_round : s.current ≡ option_map open_of course.current
+  pub part : IfSome course.current (λ round. round.parts ≡ s.standing.fixed)
+  pub view : s.view ≡ view_of items before (filter has_crossed gone)
+  pub toggle : s.odd ≡ flips (length (filter has_closed gone)) odd
+  pub expects : expected s ≡ flips (length (filter has_crossed gone)) odd
+
+-- a station stands as the rounds of these steps say
+abbrev pub StandsByRounds : List Item → Station → List OwnStep → Station → Type 0
+StandsByRounds items from steps s =
+    FollowsRounds items from.view from.odd
+    (rounds items steps (course_from from)) (after_steps items steps (course_from from)) s

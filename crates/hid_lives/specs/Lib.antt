@@ -1,0 +1,7 @@
+pub mod Standing
+pub mod Rounds
+pub mod Stations
+pub mod Lives
+pub mod Following
+pub mod Motion
+pub mod Rows

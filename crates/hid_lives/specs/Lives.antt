@@ -1,0 +1,97 @@
+-- The life of a device with its host: what befalls the device, and what comes of it and is told (USB 2.0, 8.5.4, 8.6
+-- and 9.4.7).
+use Rattle.std.specs.Prelude.{Bool, false, not, if◌then◌else◌, List, [], ◌∷◌, ◌++◌, map, None}
+use Rattle.hid_layout.specs.Controls.{Item}
+use Rattle.hid_cells.specs.declared.cell.Cell.{Cell}
+use Rattle.hid_cells.specs.declared.event.Event.{Event}
+use Rattle.hid_cells.specs.Views.{seen}
+use Rattle.hid_lives.specs.Standing.{configured}
+use Rattle.hid_lives.specs.Rounds.{OwnStep, Round, Course, has_crossed, fresh_course, after_step, closed_by, still_open, part_events}
+use Rattle.hid_lives.specs.Stations.{Station, after, events_at}
+
+-- What befalls a device: what happens at it by itself, or a configuration takes effect.
+pub data Deed : Type 0 where
+  Own : OwnStep → Deed
+  Configures : Deed
+
+-- own steps as deeds
+abbrev pub owns : List OwnStep → List Deed
+owns steps = map (λ x. Own x) steps
+
+-- What comes of it: a round ends, and toggles begin anew at DATA0.
+pub data Happening : Type 0 where
+  Ended : Round → Happening
+  Began : Happening
+
+-- The course after a deed: a configuration keeps the snapshot and the idle times alone.
+abbrev pub course_after : List Item → Course → Deed → Course
+course_after items c (Own x) = after_step items c x
+course_after items c Configures = fresh_course items c.standing.snapshot c.standing.idle
+
+-- and behind a list of them
+abbrev pub course_behind : List Item → List Deed → Course → Course
+course_behind items [] c = c
+course_behind items (x ∷ deeds) c = course_behind items deeds (course_after items c x)
+
+-- these rounds end
+abbrev pub ended : List Round → List Happening
+ended rounds = map (λ round. Ended round) rounds
+
+-- what comes of one deed: a poll ends the round that it closes, a configuration the one that is open
+abbrev pub happens_by : List Item → Course → Deed → List Happening
+happens_by items c (Own x) = ended (closed_by items c x)
+happens_by items c Configures = ended (still_open c.current) ++ Began ∷ []
+
+-- What comes of a life, in order; the round that is open at its end ends there.
+abbrev pub happenings : List Item → List Deed → Course → List Happening
+happenings items [] c = ended (still_open c.current)
+happenings items (x ∷ deeds) c = happens_by items c x ++ happenings items deeds (course_after items c x)
+
+-- what a round tells: its part, where it crossed
+abbrev pub round_told : List Item → List Cell → Bool → Round → List Event
+round_told items view crossed round = if crossed then part_events items round.report view round.parts else []
+
+-- and the view that took it
+abbrev pub view_past : List Item → List Cell → Bool → Round → List Cell
+view_past items view crossed round = if crossed then seen items round.report view round.parts else view
+
+-- The events of a life, from a view on.
+abbrev pub told_from : List Item → List Cell → List Happening → List Event
+told_from items view [] = []
+told_from items view (Ended round ∷ rest) =
+    round_told items view (has_crossed round) round
+    ++ told_from items (view_past items view (has_crossed round) round) rest
+told_from items view (Began ∷ rest) = told_from items view rest
+
+-- the view behind it
+abbrev pub view_from : List Item → List Cell → List Happening → List Cell
+view_from items view [] = view
+view_from items view (Ended round ∷ rest) = view_from items (view_past items view (has_crossed round) round) rest
+view_from items view (Began ∷ rest) = view_from items view rest
+
+-- a toggle behind it, which each of these rounds changes (USB 2.0, 8.6)
+abbrev pub toggle_from : (Round → Bool) → Bool → List Happening → Bool
+toggle_from changes odd [] = odd
+toggle_from changes odd (Ended round ∷ rest) = toggle_from changes (if changes round then not odd else odd) rest
+toggle_from changes odd (Began ∷ rest) = toggle_from changes false rest
+
+-- The station after a deed: a configuration forgets the open round, the parts that were fixed and the counts.
+abbrev pub befallen : List Item → Station → Deed → Station
+befallen items s (Own x) = after items s x
+befallen items s Configures =
+    record s { standing = configured items s.standing.snapshot s.standing.idle; current = None; odd = false }
+
+-- and after a list of them
+abbrev pub befallen_all : List Item → Station → List Deed → Station
+befallen_all items s [] = s
+befallen_all items s (x ∷ deeds) = befallen_all items (befallen items s x) deeds
+
+-- the events that a deed delivers
+abbrev pub events_on : List Item → Station → Deed → List Event
+events_on items s (Own x) = events_at items s x
+events_on items s Configures = []
+
+-- The events of a list of them, one after another.
+abbrev pub told_in : List Item → Station → List Deed → List Event
+told_in items s [] = []
+told_in items s (x ∷ deeds) = events_on items s x ++ told_in items (befallen items s x) deeds

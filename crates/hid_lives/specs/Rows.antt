@@ -1,0 +1,44 @@
+-- Worked lives of known devices, by what is told of them (USB 2.0, 8.5.4, 8.6 and 9.4.7).
+use Rattle.std.specs.Prelude.{◌≡◌, ℕ, List, [], ◌∷◌, ℤ}
+use Rattle.hid_layout.specs.Controls.{Item}
+use Rattle.hid_cells.specs.declared.change.Change.TheVariants as change
+use Rattle.hid_cells.specs.declared.event.Event.{Event}
+use Rattle.hid_cells.specs.declared.event.Event.TheVariants as event
+use Rattle.hid_cells.specs.Cells.{blank}
+use Rattle.hid_cells.specs.Events.{at}
+use Rattle.hid_cells.specs.Samples.{usage}
+use Rattle.hid_lives.specs.Rounds.{OwnStep, Changes, fresh_course}
+use Rattle.hid_lives.specs.Stations.{Station, fresh, after_all}
+use Rattle.hid_lives.specs.Lives.{Deed, happenings, told_from, befallen_all}
+
+abbrev pub press : ℕ → ℕ → OwnStep
+press i j = Changes (change.Press (at i j))
+
+abbrev pub release : ℕ → ℕ → OwnStep
+release i j = Changes (change.Release (at i j))
+
+abbrev pub move : ℕ → ℕ → ℤ → OwnStep
+move i j by = Changes (change.Move (at i j) by)
+
+-- a keyboard's key is a place of its item 4, and the mouse moves to the right by its item 2
+abbrev pub key_down : ℕ → Event
+key_down id = event.Down (at 4 id) (usage 7 id)
+
+abbrev pub key_up : ℕ → Event
+key_up id = event.Up (at 4 id) (usage 7 id)
+
+abbrev pub motion_x : ℤ → Event
+motion_x by = event.Motion (at 2 0) (usage 1 0x30) by
+
+-- what is told of a device that was just configured, with nothing pressed or moved, one report and this idle time
+abbrev pub Tells : List Item → ℕ → List Deed → List Event → Type 0
+Tells items idle deeds events =
+    told_from items (blank items) (happenings items deeds (fresh_course items (blank items) (idle ∷ []))) ≡ events
+
+-- how both ends stand behind such a life
+abbrev pub behind : List Item → List Deed → Station
+behind items deeds = befallen_all items (fresh items (blank items) (0 ∷ [])) deeds
+
+-- and behind its own steps alone, where no idle time is set
+abbrev pub stands_after : List Item → List OwnStep → Station
+stands_after items steps = after_all items (fresh items (blank items) (0 ∷ [])) steps

@@ -1,0 +1,65 @@
+//! Laws of lives, which hold whatever runs them.
+
+ghost use Rattle.std.specs.Prelude.{◌≡◌, ℕ, List, None, true};
+ghost use Rattle.std.specs.List.{filter};
+ghost use Rattle.hid_layout.specs.Controls.{Item};
+ghost use Rattle.hid_cells.specs.declared.cell.Cell.{Cell};
+ghost use Rattle.hid_cells.specs.Cells.{blank, FitsSnapshot, FitsShown, FitsView};
+ghost use Rattle.hid_lives.specs.Following.{LivesOn, StandsByRounds, course_from};
+ghost use Rattle.hid_lives.specs.Lives.{Deed, happenings, told_from, told_in, befallen_all};
+ghost use Rattle.hid_lives.specs.Motion.{HasMotions, KeepsMotion, KeepsAccepted, KeepsThroughLife};
+ghost use Rattle.hid_lives.specs.Motion.{AreBetweenRounds, are_accepted};
+ghost use Rattle.hid_lives.specs.Rounds.{OwnStep, has_crossed, rounds, events_of, events_of_epoch};
+ghost use Rattle.hid_lives.specs.Rounds.{fresh_course};
+ghost use Rattle.hid_lives.specs.Stations.{Station, fresh, after_all, events_in};
+
+/// Over all that befalls a device, from any station without an open round on, what is told is the events of what came
+/// of it, and the station stands behind it as that says: the view, the open round, and both toggles.
+#[tactic(auto, using(crate::proofs::LifeLemmas::delivers_life))]
+pub fn lives_are_told()
+    ensures lives { (items : List Item) (from : Station) (deeds : List Deed)
+        → from.current ≡ None → LivesOn items from deeds }
+    ensures fresh { (items : List Item) (snapshot : List Cell) (idle : List ℕ) (deeds : List Deed)
+        → told_in items (fresh items snapshot idle) deeds ≡ told_from items (blank items)
+        (happenings items deeds (fresh_course items snapshot idle)) }
+{}
+
+/// Of a device that was just configured its own steps tell the events of its epoch.
+#[tactic(auto, using(crate::proofs::ScheduleLemmas::schedules))]
+pub fn epochs_are_told()
+    ensures { (items : List Item) (snapshot : List Cell) (idle : List ℕ) (steps : List OwnStep)
+        → events_in items (fresh items snapshot idle) steps
+        ≡ events_of_epoch items snapshot idle steps }
+{}
+
+/// The rounds of a device's own steps say all, from any station without an open round on: what the steps deliver, and
+/// how the station stands behind them.
+#[tactic(auto, using(crate::proofs::ScheduleLemmas::schedules))]
+pub fn rounds_say_all()
+    ensures events { (items : List Item) (from : Station) (steps : List OwnStep)
+        → from.current ≡ None → events_in items from steps
+        ≡ events_of items from.view (filter has_crossed (rounds items steps (course_from from))) }
+    ensures stands { (items : List Item) (from : Station) (steps : List OwnStep)
+        → from.current ≡ None → StandsByRounds items from steps (after_all items from steps) }
+{}
+
+/// Steps neither lose nor double the motion of a control: what a station had of it and what accepted moves added is
+/// what was told of it and what the station still has. A station keeps its motions behind any steps. Configurations
+/// lose no motion either where no round is open.
+#[tactic(auto, using(crate::proofs::MotionLemmas::keeps))]
+pub fn motion_is_kept()
+    ensures kept { (items : List Item) (s : Station) → HasMotions items s → (steps : List OwnStep)
+        → KeepsMotion items s steps }
+    ensures accepted { (items : List Item) (s : Station) → HasMotions items s
+        → (steps : List OwnStep) → are_accepted items s steps ≡ true → KeepsAccepted items s steps }
+    ensures suits { (items : List Item) (s : Station) → FitsSnapshot items s.standing.snapshot
+        → FitsShown items s.standing.fixed → FitsView items s.view → HasMotions items s }
+    ensures fresh { (items : List Item) (idle : List ℕ)
+        → HasMotions items (fresh items (blank items) idle) }
+    ensures after { (items : List Item) (s : Station) (steps : List OwnStep) → HasMotions items s
+        → HasMotions items (after_all items s steps) }
+    ensures lives { (items : List Item) (s : Station) → HasMotions items s → (deeds : List Deed)
+        → AreBetweenRounds items s deeds → KeepsThroughLife items s deeds }
+    ensures lived { (items : List Item) (s : Station) (deeds : List Deed) → HasMotions items s
+        → HasMotions items (befallen_all items s deeds) }
+{}

@@ -1,0 +1,65 @@
+//! Worked lives: each row is worked out by hand, and a wrong one fails the check.
+
+ghost use Rattle.std.specs.Prelude.{◌≡◌, [], ◌∷◌, ◌++◌, replicate, true, false, None, pos};
+ghost use Rattle.hid_cells.specs.declared.event.Event.TheVariants as event;
+ghost use Rattle.hid_cells.specs.Events.{at};
+ghost use Rattle.hid_cells.specs.Samples.{keyboard, mouse, usage};
+ghost use Rattle.usb_transact.specs.declared.transaction.Fate.TheVariants as fate;
+ghost use Rattle.hid_lives.specs.Lives.{Configures, owns};
+ghost use Rattle.hid_lives.specs.Motion.{station_motion};
+ghost use Rattle.hid_lives.specs.Rounds.{Frame as AFrame, Polls};
+ghost use Rattle.hid_lives.specs.Rows.{Tells, behind, press, release, move, key_down, key_up, motion_x, stands_after};
+ghost use Rattle.hid_lives.specs.Stations.{expected};
+
+/// A lost acknowledgement: the report goes once more, and is told once.
+pub fn acknowledgement_is_lost()
+    ensures told_once { Tells keyboard 0
+        (owns (press 4 4 ∷ Polls fate.AckLost ∷ press 4 5 ∷ Polls fate.Clean ∷ Polls fate.Clean
+        ∷ []))
+        (key_down 4 ∷ key_down 5 ∷ []) }
+    ensures host_is_ahead { expected (stands_after keyboard (press 4 4 ∷ Polls fate.AckLost ∷ []))
+        ≡ true }
+    ensures device_is_not { (stands_after keyboard (press 4 4 ∷ Polls fate.AckLost ∷ [])).odd
+        ≡ false }
+{}
+
+/// A second configuration: what is pressed goes again and is told once, and toggles begin anew at DATA0.
+pub fn device_is_configured_again()
+    ensures pressed_still { Tells keyboard 0
+        (owns (press 4 4 ∷ Polls fate.Clean ∷ []) ++ Configures ∷ owns (Polls fate.Clean ∷ []))
+        (key_down 4 ∷ []) }
+    ensures let_go_meanwhile { Tells keyboard 0
+        (owns (press 4 4 ∷ Polls fate.Clean ∷ release 4 4 ∷ []) ++ Configures
+        ∷ owns (Polls fate.Clean ∷ press 4 5 ∷ Polls fate.Clean ∷ []))
+        (key_down 4 ∷ key_up 4 ∷ key_down 5 ∷ []) }
+    ensures odd_before { (stands_after keyboard (press 4 4 ∷ Polls fate.Clean ∷ [])).odd ≡ true }
+    ensures even_behind { (behind keyboard
+        (owns (press 4 4 ∷ Polls fate.Clean ∷ []) ++ Configures ∷ [])).odd ≡ false }
+{}
+
+/// A configuration ends the round that is open: its part is told where it crossed, and only there.
+pub fn device_is_configured_in_a_round()
+    ensures crossed { Tells mouse 0
+        (owns (press 0 0 ∷ move 2 0 (pos 5) ∷ Polls fate.AckLost ∷ []) ++ Configures
+        ∷ owns (Polls fate.Clean ∷ []))
+        (event.Down (at 0 0) (usage 9 1) ∷ motion_x (pos 5) ∷ []) }
+    ensures its_motion_is_lost { Tells mouse 0
+        (owns (press 0 0 ∷ move 2 0 (pos 5) ∷ Polls fate.ReplyLost ∷ []) ++ Configures
+        ∷ owns (Polls fate.Clean ∷ []))
+        (event.Down (at 0 0) (usage 9 1) ∷ []) }
+    ensures nothing_is_left { station_motion mouse (behind mouse
+        (owns (move 2 0 (pos 5) ∷ Polls fate.ReplyLost ∷ []) ++ Configures ∷ [])) (at 2 0) ≡ pos 0 }
+    ensures no_round_is_open { (behind mouse
+        (owns (move 2 0 (pos 5) ∷ Polls fate.ReplyLost ∷ []) ++ Configures ∷ [])).current ≡ None }
+    ensures motion_between_rounds_stays { Tells mouse 0
+        (owns (move 2 0 (pos 5) ∷ []) ++ Configures ∷ owns (Polls fate.Clean ∷ []))
+        (motion_x (pos 5) ∷ []) }
+{}
+
+/// A configuration keeps the idle time; a report that goes because it is over says nothing new.
+pub fn idle_time_outlives_a_configuration()
+    ensures nothing_new { Tells keyboard 1
+        (owns (press 4 4 ∷ Polls fate.Clean ∷ []) ++ Configures
+        ∷ owns (Polls fate.Clean ∷ replicate 4 AFrame ++ Polls fate.Clean ∷ []))
+        (key_down 4 ∷ []) }
+{}

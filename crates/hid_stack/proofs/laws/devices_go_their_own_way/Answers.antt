@@ -1,0 +1,11 @@
+use Rattle.hid_stack.proofs.Isolation.{isolated, headline, keeps_to_rounds}
+use Rattle.hid_stack.proofs.laws.devices_go_their_own_way.Goals as goal
+
+pub returns-clause-isolated : goal.returns-clause-isolated
+returns-clause-isolated c = isolated
+
+pub returns-clause-headline : goal.returns-clause-headline
+returns-clause-headline c = headline
+
+pub returns-clause-rounds : goal.returns-clause-rounds
+returns-clause-rounds c = keeps_to_rounds
