@@ -1,0 +1,58 @@
+//! Numbers of requests and descriptors (USB 2.0, tables 9-2, 9-4 and 9-5; HID 1.11, 7.1).
+
+/// bmRequestType: a read of the device.
+pub const OF_DEVICE: u8 = 0x80;
+
+/// bmRequestType: a read of an interface.
+pub const OF_INTERFACE: u8 = 0x81;
+
+/// bmRequestType: a read of an endpoint.
+pub const OF_ENDPOINT: u8 = 0x82;
+
+/// bmRequestType: a write to the device.
+pub const TO_DEVICE: u8 = 0x00;
+
+/// bRequest.
+pub const GET_STATUS: u8 = 0x00;
+
+/// bRequest.
+pub const GET_DESCRIPTOR: u8 = 0x06;
+
+/// bRequest.
+pub const GET_CONFIGURATION: u8 = 0x08;
+
+/// bRequest.
+pub const SET_CONFIGURATION: u8 = 0x09;
+
+/// bRequest.
+pub const GET_INTERFACE: u8 = 0x0A;
+
+/// The type of a device descriptor.
+pub const DEVICE: u8 = 0x01;
+
+/// The type of a configuration descriptor.
+pub const CONFIGURATION: u8 = 0x02;
+
+/// The type of an interface descriptor.
+pub const INTERFACE: u8 = 0x04;
+
+/// The type of an endpoint descriptor.
+pub const ENDPOINT: u8 = 0x05;
+
+/// The type of a HID descriptor.
+pub const HID: u8 = 0x21;
+
+/// The type of a report descriptor.
+pub const REPORT: u8 = 0x22;
+
+/// wValue of GET_DESCRIPTOR: the type in the high byte, and the first of its type in the low one.
+pub const FIRST_DEVICE: u16 = 0x0100;
+
+/// wValue of GET_DESCRIPTOR.
+pub const FIRST_CONFIGURATION: u16 = 0x0200;
+
+/// wValue of GET_DESCRIPTOR.
+pub const FIRST_HID: u16 = 0x2100;
+
+/// wValue of GET_DESCRIPTOR.
+pub const FIRST_REPORT: u16 = 0x2200;

@@ -1,0 +1,159 @@
+//! Requests in the bytes of USB 2.0, 9.4, and HID 1.11, 7.1; descriptors in the layouts of USB 2.0, 9.6, and those of the
+//! keyboard and the mouse of HID 1.11, appendix E.
+use super::*;
+use usb_control::{ConfigInfo, DeviceInfo, Setup};
+
+/// What a host asks, with its eight bytes and what that asks of a device.
+#[rattlefmt::skip]
+const REQUESTS: [(&str, Request, [u8; 8], Asked); 6] = [
+    ("device",        Request::Device,           [0x80, 0x06, 0x00, 0x01, 0x00, 0x00, 0x12, 0x00], Asked::DeviceDescriptor),
+    ("configuration", Request::Config,           [0x80, 0x06, 0x00, 0x02, 0x00, 0x00, 0xFF, 0x00], Asked::Configuration),
+    ("report",        Request::Report,           [0x81, 0x06, 0x00, 0x22, 0x00, 0x00, 0x32, 0x01], Asked::ReportDescriptor),
+    ("configure",     Request::Configure,        [0x00, 0x09, 0x01, 0x00, 0x00, 0x00, 0x00, 0x00], Asked::SetConfiguration),
+    ("status",        Request::Status,           [0x80, 0x00, 0x00, 0x00, 0x00, 0x00, 0x02, 0x00], Asked::Status),
+    ("number",        Request::GetConfiguration, [0x80, 0x08, 0x00, 0x00, 0x00, 0x00, 0x01, 0x00], Asked::GetConfiguration),
+];
+
+#[test]
+fn a_host_asks_in_the_bytes_of_the_standard(rt: HostRuntime) {
+    let asking = Asking {
+        report_length: 0x0132,
+    };
+    for (name, request, bytes, asked) in REQUESTS {
+        let setup = request.setup(&asking);
+        assert_eq!(rt; setup.to_bytes(), bytes, "{name}");
+        assert_eq!(rt; what_is_asked(&setup), Some(asked), "{name}");
+    }
+}
+
+/// Setup data, each row beside the nearest that is none.
+#[rattlefmt::skip]
+const ROWS: [(&str, [u8; 8], Option<Asked>); 34] = [
+    ("the device's status",             [0x80, 0x00, 0, 0, 0, 0, 2, 0],          Some(Asked::Status)),
+    ("with a value",                    [0x80, 0x00, 1, 0, 0, 0, 2, 0],          None),
+    ("with an index",                   [0x80, 0x00, 0, 0, 1, 0, 2, 0],          None),
+    ("more bytes than it has",          [0x80, 0x00, 0, 0, 0, 0, 0xFF, 0xFF],    Some(Asked::Status)),
+    ("written",                         [0x00, 0x00, 0, 0, 0, 0, 2, 0],          None),
+    ("an interface's status",           [0x81, 0x00, 0, 0, 0, 0, 2, 0],          Some(Asked::InterfaceStatus)),
+    ("of interface 1",                  [0x81, 0x00, 0, 0, 1, 0, 2, 0],          None),
+    ("endpoint 0's status",             [0x82, 0x00, 0, 0, 0, 0, 2, 0],          Some(Asked::ControlStatus)),
+    ("to the host",                     [0x82, 0x00, 0, 0, 0x80, 0, 2, 0],       Some(Asked::ControlStatus)),
+    ("endpoint 1's status",             [0x82, 0x00, 0, 0, 0x81, 0, 2, 0],       Some(Asked::ReportStatus)),
+    ("from the host",                   [0x82, 0x00, 0, 0, 0x01, 0, 2, 0],       None),
+    ("endpoint 2's",                    [0x82, 0x00, 0, 0, 0x82, 0, 2, 0],       None),
+    ("the high byte of an index",       [0x82, 0x00, 0, 0, 0x81, 1, 2, 0],       None),
+    ("the device descriptor",           [0x80, 0x06, 0, 1, 0, 0, 0x12, 0],       Some(Asked::DeviceDescriptor)),
+    ("the second",                      [0x80, 0x06, 1, 1, 0, 0, 0x12, 0],       None),
+    ("a configuration",                 [0x80, 0x06, 0, 2, 0, 0, 0xFF, 0],       Some(Asked::Configuration)),
+    ("the second",                      [0x80, 0x06, 1, 2, 0, 0, 0xFF, 0],       None),
+    ("a string",                        [0x80, 0x06, 0, 3, 0, 0, 0xFF, 0],       None),
+    ("in a language",                   [0x80, 0x06, 0, 1, 9, 4, 0x12, 0],       None),
+    ("a HID descriptor",                [0x81, 0x06, 0, 0x21, 0, 0, 9, 0],       Some(Asked::HidDescriptor)),
+    ("of the device",                   [0x80, 0x06, 0, 0x21, 0, 0, 9, 0],       None),
+    ("a report descriptor",             [0x81, 0x06, 0, 0x22, 0, 0, 0x3F, 0],    Some(Asked::ReportDescriptor)),
+    ("a physical descriptor",           [0x81, 0x06, 0, 0x23, 0, 0, 0x3F, 0],    None),
+    ("of interface 1",                  [0x81, 0x06, 0, 0x22, 1, 0, 0x3F, 0],    None),
+    ("the configuration's number",      [0x80, 0x08, 0, 0, 0, 0, 1, 0],          Some(Asked::GetConfiguration)),
+    ("an interface's setting",          [0x81, 0x0A, 0, 0, 0, 0, 1, 0],          Some(Asked::GetInterface)),
+    ("set",                             [0x01, 0x0B, 0, 0, 0, 0, 0, 0],          None),
+    ("a configuration is set",          [0x00, 0x09, 1, 0, 0, 0, 0, 0],          Some(Asked::SetConfiguration)),
+    ("none",                            [0x00, 0x09, 0, 0, 0, 0, 0, 0],          None),
+    ("the second",                      [0x00, 0x09, 2, 0, 0, 0, 0, 0],          None),
+    ("with data",                       [0x00, 0x09, 1, 0, 0, 0, 1, 0],          None),
+    ("an address",                      [0x00, 0x05, 1, 0, 0, 0, 0, 0],          None),
+    ("a feature",                       [0x02, 0x03, 0, 0, 0x81, 0, 0, 0],       None),
+    ("a report, of the class",          [0xA1, 0x01, 0, 1, 0, 0, 8, 0],          None),
+];
+
+#[test]
+fn a_row_has_one_value_and_one_index(rt: HostRuntime) {
+    for (name, bytes, asked) in ROWS {
+        assert_eq!(rt; what_is_asked(&Setup::from_bytes(&bytes)), asked, "{name}");
+    }
+}
+
+/// The keyboard of HID 1.11, appendices E.3 to E.5: interface, HID and endpoint descriptors. It has HID 1.01 and packets of
+/// 8 bytes.
+#[rattlefmt::skip]
+const KEYBOARD: [u8; 25] = [
+    0x09, 0x04, 0x00, 0x00, 0x01, 0x03, 0x01, 0x01, 0x00,
+    0x09, 0x21, 0x01, 0x01, 0x00, 0x01, 0x22, 0x3F, 0x00,
+    0x07, 0x05, 0x81, 0x03, 0x08, 0x00, 0x0A,
+];
+
+/// The mouse of appendices E.7 to E.9: interface 1, endpoint 2.
+#[rattlefmt::skip]
+const MOUSE: [u8; 25] = [
+    0x09, 0x04, 0x01, 0x00, 0x01, 0x03, 0x01, 0x02, 0x00,
+    0x09, 0x21, 0x01, 0x01, 0x00, 0x01, 0x22, 0x32, 0x00,
+    0x07, 0x05, 0x82, 0x03, 0x08, 0x00, 0x0A,
+];
+
+/// A device of appendix E, what is read of it, and the bytes in which its own are others: by place, here and there.
+#[rattlefmt::skip]
+const DEVICES: [(&str, [u8; 25], ConfigInfo, &[(usize, u8, u8)]); 2] = [
+    ("keyboard", KEYBOARD, ConfigInfo { report_length: 63, endpoint: 1, subclass: 1, protocol: 1 },
+        &[(11, 0x11, 0x01), (22, 0x40, 0x08)]),
+    ("mouse",    MOUSE,    ConfigInfo { report_length: 50, endpoint: 2, subclass: 1, protocol: 2 },
+        &[(2, 0x00, 0x01), (11, 0x11, 0x01), (22, 0x40, 0x08)]),
+];
+
+/// A configuration descriptor of one interface in 34 bytes, powered by the bus (USB 2.0, table 9-10).
+const OWN: [u8; 9] = [0x09, 0x02, 0x22, 0x00, 0x01, 0x01, 0x00, 0x80, 0x32];
+
+#[test]
+fn a_configuration_is_that_of_appendix_e(rt: HostRuntime) {
+    for (name, theirs, info, others) in DEVICES {
+        let mut wanted = theirs;
+        for (at, here, there) in others {
+            if *at < 25 {
+                assert_eq!(rt; theirs[*at], *there, "{name} at {at}");
+                wanted[*at] = *here;
+            }
+        }
+        let bytes = configuration(&info, 0x0A);
+        assert_eq!(rt; bytes.len(), 34, "{name}");
+        assert_eq!(rt; &bytes[..9], OWN.as_slice(), "{name}");
+        assert_eq!(rt; &bytes[9..], wanted.as_slice(), "{name}");
+        assert_eq!(rt; ConfigInfo::read(&bytes), Ok(info), "{name}");
+    }
+}
+
+#[test]
+fn the_ends_of_each_field_are_read_back(rt: HostRuntime) {
+    let highest = ConfigInfo {
+        report_length: 0xFEFF,
+        endpoint: 15,
+        subclass: 255,
+        protocol: 255,
+    };
+    let lowest = ConfigInfo {
+        report_length: 0,
+        endpoint: 0,
+        subclass: 0,
+        protocol: 0,
+    };
+    for info in [highest, lowest] {
+        assert_eq!(rt; ConfigInfo::read(&configuration(&info, 255)), Ok(info));
+    }
+}
+
+#[test]
+fn a_hid_descriptor_stands_in_the_configuration(rt: HostRuntime) {
+    let bytes = [0x09, 0x21, 0x11, 0x01, 0x00, 0x01, 0x22, 0x34, 0x12];
+    assert_eq!(rt; hid_descriptor(0x1234), bytes);
+}
+
+#[test]
+fn a_device_descriptor_has_18_bytes(rt: HostRuntime) {
+    let info = DeviceInfo {
+        vendor: 0xFEFF,
+        product: 0x0201,
+    };
+    #[rattlefmt::skip]
+    let wanted = [
+        0x12, 0x01, 0x00, 0x02, 0x00, 0x00, 0x00, 0x08, 0xFF, 0xFE, 0x01, 0x02, 0x00, 0x01, 0x00, 0x00, 0x00, 0x01,
+    ];
+    assert_eq!(rt; device_descriptor(&info), wanted);
+    assert_eq!(rt; DeviceInfo::read(&device_descriptor(&info)), Ok(info));
+}
