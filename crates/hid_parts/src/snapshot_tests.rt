@@ -52,6 +52,13 @@ const ALL_NAMED: [u8; 18] = [
     0x81, 0x00,
 ];
 
+/// An axis from -127 to 127 in report 1, and a button in report 2.
+#[rattlefmt::skip]
+const NUMBERED: [u8; 30] = [
+    0x05, 0x01, 0x85, 0x01, 0x09, 0x30, 0x15, 0x81, 0x25, 0x7F, 0x75, 0x08, 0x95, 0x01, 0x81, 0x02,
+    0x85, 0x02, 0x05, 0x09, 0x09, 0x01, 0x15, 0x00, 0x25, 0x01, 0x75, 0x01, 0x81, 0x02,
+];
+
 /// A byte of padding.
 const PADDING: [u8; 6] = [0x75, 0x08, 0x95, 0x01, 0x81, 0x01];
 
@@ -67,6 +74,9 @@ const LAST_BUTTON: ControlId = ControlId {
 };
 
 const SLIDER: ControlId = ControlId { item: 1, index: 0 };
+
+/// The button of report 2.
+const BUTTON: ControlId = ControlId { item: 1, index: 0 };
 
 const WHEEL: ControlId = ControlId { item: 2, index: 1 };
 
@@ -191,7 +201,7 @@ type ShownRow = (
 );
 
 #[rattlefmt::skip]
-const SHOWN: [ShownRow; 10] = [
+const SHOWN: [ShownRow; 12] = [
     ("nothing is pressed",       &KEYS,            &[],                                               &[0, 0, 0]),
     ("the left Shift and a",     &KEYS,            &[Change::Press(SECOND), Change::Press(A)],                &[0x02, 0x04, 0]),
     ("keys by rising place",     &KEYS,            &[Change::Press(B), Change::Press(A)],                                 &[0, 0x04, 0x05]),
@@ -199,6 +209,8 @@ const SHOWN: [ShownRow; 10] = [
     ("null, the least, nowhere", &VALUES,          &[],                                               &[8, 3, 0, 0]),
     ("values and a motion",      &VALUES,          &[Change::Set(FIRST, 5), Change::Set(SLIDER, 9), Change::Move(WHEEL, -4)], &[5, 9, 0, 0xFC]),
     ("as far as a field goes",   &VALUES,          &[Change::Move(WHEEL, 200)],                    &[8, 3, 0, 0x7F]),
+    ("two motions add up",       &VALUES,          &[Change::Move(WHEEL, 5), Change::Move(WHEEL, -7)], &[8, 3, 0, 0xFE]),
+    ("its ID, and 0 of -127 to 127", &NUMBERED,    &[],                                               &[1, 0]),
     ("the first of three buttons", &BUTTONS,       &[Change::Press(FIRST)],                           &[1]),
     ("the last of 65535 keys",   &BUTTONS_TO_FFFF, &[Change::Press(LAST_BUTTON)],                   &[0xFE, 0xFF, 0xFF, 0xFF]),
     ("padding",                  &PADDING,         &[],                                               &[0]),
@@ -268,7 +280,7 @@ type Due = (
 );
 
 #[rattlefmt::skip]
-const DUE: [Due; 10] = [
+const DUE: [Due; 11] = [
     ("blank",                       &KEYS,   &[],                       &[],                                  false),
     ("a key is pressed",            &KEYS,   &[],                       &[Change::Press(A)],                            true),
     ("and released again",          &KEYS,   &[],                       &[Change::Press(A), Change::Release(A)], false),
@@ -279,6 +291,7 @@ const DUE: [Due; 10] = [
     ("a value",                     &VALUES, &[],                       &[Change::Set(FIRST, 0)],          true),
     ("null as before",              &VALUES, &[],                       &[Change::Null(FIRST)],            false),
     ("a motion",                    &VALUES, &[],                       &[Change::Move(WHEEL, -1)],        true),
+    ("a button of another report",  &NUMBERED, &[],                     &[Change::Press(BUTTON)],          false),
 ];
 
 /// Whether a report is due, of a blank snapshot that is changed so.
@@ -352,9 +365,11 @@ fn motion_that_a_field_cannot_carry_stays(rt: HostRuntime) -> Result<(), Fail> {
     let moved = snapshot.shift(&layout, WHEEL, 200);
     assert_eq!(rt; moved, Ok(()));
     let carried = carry(&layout, &mut snapshot, &mut parts);
+    parts.reset(&layout);
+    let blank = parts.motion(WHEEL);
     let rest = carry(&layout, &mut snapshot, &mut parts);
     let nothing = carry(&layout, &mut snapshot, &mut parts);
-    assert_eq!(rt; [carried, rest, nothing], [127, 73, 0]);
+    assert_eq!(rt; [carried, blank, rest, nothing], [127, 0, 73, 0]);
     Ok(())
 }
 
