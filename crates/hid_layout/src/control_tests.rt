@@ -1,240 +1,16 @@
 //! The controls and codes of the HID specification's keyboard and mouse (HID 1.11, B.1, B.2 and E.10), and of short
 //! descriptors with one rule each, worked out by hand.
 
-use crate::tests::{KEYBOARD, MOUSE, usage};
-use crate::{
-    Cause, Codes, Collection, Control, ControlId, ControlKind, Controls, Layout, LayoutFault, Usage,
-};
-
-fn control(kind: ControlKind, page: u16, id: u16) -> Option<Control> {
-    Some(Control {
-        kind,
-        usage: usage(page, id),
-    })
-}
-
-#[test]
-fn the_mouse_has_five_controls(rt: HostRuntime) {
-    let layout = Layout::parse(rt.alloc(), &MOUSE).expect(&rt, "the mouse is accepted");
-    assert_eq!(rt; layout.items().len(), 3);
-    assert_eq!(rt;
-        layout.controls(0),
-        Controls::Elements {
-            kind: ControlKind::Switch,
-            least: 0,
-            greatest: 1,
-            count: 3
-        }
-    );
-    assert_eq!(rt; layout.controls(1), Controls::None);
-    assert_eq!(rt;
-        layout.controls(2),
-        Controls::Elements {
-            kind: ControlKind::Relative,
-            least: -127,
-            greatest: 127,
-            count: 2
-        }
-    );
-    for (item, index, found) in [
-        (0, 0, control(ControlKind::Switch, 9, 1)),
-        (0, 2, control(ControlKind::Switch, 9, 3)),
-        (0, 3, None),
-        (1, 0, None),
-        (2, 0, control(ControlKind::Relative, 1, 0x30)),
-        (2, 1, control(ControlKind::Relative, 1, 0x31)),
-        (2, 2, None),
-        (3, 0, None),
-    ] {
-        assert_eq!(rt;
-            layout.control(ControlId { item, index }),
-            found,
-            "{item} {index}"
-        );
-    }
-    assert_eq!(rt; layout.max_events(), 5);
-    assert_eq!(rt; layout.reports().len(), 1);
-    assert_eq!(rt; layout.plan(0), [0, 1, 2].as_slice());
-    assert_eq!(rt; layout.starts(0), [0].as_slice());
-    assert_eq!(rt; layout.starts(1).len(), 0);
-    assert_eq!(rt; layout.starts(2), [0, 1].as_slice());
-}
-
-/// The keys of its array are its usages from 07:04 on; LEDs are no controls.
-#[test]
-fn the_keyboard_has_modifiers_and_keys(rt: HostRuntime) {
-    let layout = Layout::parse(rt.alloc(), &KEYBOARD).expect(&rt, "the keyboard is accepted");
-    assert_eq!(rt; layout.items().len(), 5);
-    assert_eq!(rt;
-        layout.controls(0),
-        Controls::Elements {
-            kind: ControlKind::Switch,
-            least: 0,
-            greatest: 1,
-            count: 8
-        }
-    );
-    for item in 1..4 {
-        assert!(rt; item < layout.items().len());
-        assert_eq!(rt; layout.controls(item), Controls::None, "{item}");
-    }
-    assert_eq!(rt;
-        layout.controls(4),
-        Controls::Keys {
-            elements: 6,
-            rolls_over: true,
-            count: 102
-        }
-    );
-    for (item, index, found) in [
-        (0, 0, control(ControlKind::Switch, 7, 0xE0)),
-        (0, 7, control(ControlKind::Switch, 7, 0xE7)),
-        (2, 0, None),
-        (4, 0, None),
-        (4, 1, None),
-        (4, 3, None),
-        (4, 4, control(ControlKind::Switch, 7, 4)),
-        (4, 101, control(ControlKind::Switch, 7, 101)),
-        (4, 102, None),
-    ] {
-        assert_eq!(rt;
-            layout.control(ControlId { item, index }),
-            found,
-            "{item} {index}"
-        );
-    }
-    assert_eq!(rt; layout.codes(4).empty, Some(0));
-    assert_eq!(rt; layout.codes(4).rollover, Some(1));
-    assert_eq!(rt; layout.max_events(), 8 + 2 * 6);
-    assert_eq!(rt; layout.reports().len(), 2);
-    assert_eq!(rt; layout.plan(0), [0, 1, 4].as_slice());
-    assert_eq!(rt; layout.plan(1), [2, 3].as_slice());
-}
+use crate::boot::{KEYBOARD, MOUSE};
+use crate::{Codes, ControlId, Controls, Layout, Usage};
+use std::alloc::Global;
+use std::test::Fail;
 
 /// An array with the usages 09:0000 to 09:FFFF and then 07:0001, which sends 0 to 70,000 in 17 bits.
 const MANY_USAGES: [u8; 26] = [
     0x05, 0x09, 0x1A, 0x00, 0x00, 0x2A, 0xFF, 0xFF, 0x0B, 0x01, 0x00, 0x07, 0x00, 0x15, 0x00, 0x27,
     0x70, 0x11, 0x01, 0x00, 0x75, 0x11, 0x95, 0x01, 0x81, 0x00,
 ];
-
-/// A descriptor of one item, with its controls, what its codes tell, and the control at one place.
-#[rattlefmt::skip]
-const FIELDS: [(&str, &[u8], Controls, Option<i64>, usize, Option<Control>); 7] = [
-    ("a hat: 0 to 7 in 4 bits, so 8 tells null", &[0x05, 0x01, 0x09, 0x39, 0x15, 0x00, 0x25, 0x07, 0x75, 0x04, 0x95, 0x01, 0x81, 0x42],
-        Controls::Elements { kind: ControlKind::NullValue, least: 0, greatest: 7, count: 1 }, Some(8), 0, Some(Control { kind: ControlKind::NullValue, usage: Usage { page: 1, id: 0x39 } })),
-    ("no pattern is left to tell null", &[0x05, 0x01, 0x09, 0x30, 0x15, 0x00, 0x25, 0x01, 0x75, 0x01, 0x95, 0x01, 0x81, 0x42],
-        Controls::Elements { kind: ControlKind::Value, least: 0, greatest: 1, count: 1 }, None, 0, Some(Control { kind: ControlKind::Value, usage: Usage { page: 1, id: 0x30 } })),
-    ("0 to 1 with a null", &[0x05, 0x01, 0x09, 0x30, 0x15, 0x00, 0x25, 0x01, 0x75, 0x02, 0x95, 0x01, 0x81, 0x42],
-        Controls::Elements { kind: ControlKind::NullValue, least: 0, greatest: 1, count: 1 }, Some(2), 0, Some(Control { kind: ControlKind::NullValue, usage: Usage { page: 1, id: 0x30 } })),
-    ("a motion has no null", &[0x05, 0x01, 0x09, 0x30, 0x15, 0x00, 0x25, 0x01, 0x75, 0x02, 0x95, 0x01, 0x81, 0x46],
-        Controls::Elements { kind: ControlKind::Relative, least: 0, greatest: 1, count: 1 }, Some(2), 0, Some(Control { kind: ControlKind::Relative, usage: Usage { page: 1, id: 0x30 } })),
-    ("0 to 7 in 2 bits ends at 3", &[0x05, 0x01, 0x09, 0x30, 0x15, 0x00, 0x25, 0x07, 0x75, 0x02, 0x95, 0x01, 0x81, 0x02],
-        Controls::Elements { kind: ControlKind::Value, least: 0, greatest: 3, count: 1 }, None, 0, Some(Control { kind: ControlKind::Value, usage: Usage { page: 1, id: 0x30 } })),
-    ("the last usage is repeated", &[0x05, 0x09, 0x09, 0x01, 0x09, 0x02, 0x15, 0x00, 0x25, 0x01, 0x75, 0x01, 0x95, 0x03, 0x81, 0x02],
-        Controls::Elements { kind: ControlKind::Switch, least: 0, greatest: 1, count: 3 }, None, 2, Some(Control { kind: ControlKind::Switch, usage: Usage { page: 9, id: 2 } })),
-    ("padding and Output items have no controls", &[0x05, 0x09, 0x19, 0x01, 0x29, 0x02, 0x15, 0x00, 0x25, 0x01, 0x75, 0x01, 0x95, 0x02, 0x91, 0x02],
-        Controls::None, None, 0, None),
-];
-
-#[rattlefmt::skip]
-const ARRAYS: [(&str, &[u8], Controls, (Option<i64>, Option<i64>, Option<i64>), usize, Option<Control>); 7] = [
-    ("every pattern names a key", &[0x05, 0x09, 0x19, 0x01, 0x2A, 0x00, 0x01, 0x15, 0x00, 0x26, 0xFF, 0x00, 0x75, 0x08, 0x95, 0x01, 0x81, 0x00],
-        Controls::Keys { elements: 1, rolls_over: false, count: 256 }, (None, None, None), 255, Some(Control { kind: ControlKind::Switch, usage: Usage { page: 9, id: 256 } })),
-    ("keys end before the place 65,536, and the rollover code does not", &MANY_USAGES,
-        Controls::Keys { elements: 1, rolls_over: true, count: 65536 }, (Some(70001), Some(0), Some(65536)), 65536, None),
-    ("the place before it is a key", &MANY_USAGES,
-        Controls::Keys { elements: 1, rolls_over: true, count: 65536 }, (Some(70001), Some(0), Some(65536)), 65535, Some(Control { kind: ControlKind::Switch, usage: Usage { page: 9, id: 65535 } })),
-    ("a negative minimum names the first usage", &[0x05, 0x09, 0x19, 0x01, 0x29, 0x03, 0x15, 0xFF, 0x25, 0x01, 0x75, 0x03, 0x95, 0x02, 0x81, 0x00],
-        Controls::Keys { elements: 2, rolls_over: false, count: 3 }, (Some(2), Some(2), None), 0, Some(Control { kind: ControlKind::Switch, usage: Usage { page: 9, id: 1 } })),
-    ("keys of two pages", &[0x05, 0x09, 0x0B, 0x04, 0x00, 0x07, 0x00, 0x19, 0x01, 0x29, 0x02, 0x15, 0x00, 0x25, 0x02, 0x75, 0x02, 0x95, 0x01, 0x81, 0x00],
-        Controls::Keys { elements: 1, rolls_over: false, count: 3 }, (Some(3), Some(3), None), 0, Some(Control { kind: ControlKind::Switch, usage: Usage { page: 7, id: 4 } })),
-    ("the range ends before the usages", &[0x05, 0x09, 0x19, 0x01, 0x29, 0x08, 0x15, 0x00, 0x25, 0x03, 0x75, 0x02, 0x95, 0x01, 0x81, 0x00],
-        Controls::Keys { elements: 1, rolls_over: false, count: 8 }, (None, None, None), 4, None),
-    ("errors of a keyboard are no keys", &[0x05, 0x07, 0x19, 0x00, 0x29, 0x04, 0x15, 0x00, 0x25, 0x04, 0x75, 0x03, 0x95, 0x02, 0x81, 0x00],
-        Controls::Keys { elements: 2, rolls_over: true, count: 5 }, (Some(5), Some(0), Some(1)), 2, None),
-];
-
-#[test]
-fn fields_have_their_kind_and_null(rt: HostRuntime) {
-    for (name, descriptor, controls, null, index, control) in FIELDS {
-        let layout = Layout::parse(rt.alloc(), descriptor).expect(&rt, "accepted");
-        assert_eq!(rt; layout.items().len(), 1, "{name}");
-        assert_eq!(rt; layout.controls(0), controls, "{name}");
-        assert_eq!(rt; layout.codes(0).null, null, "{name}");
-        assert_eq!(rt;
-            layout.control(ControlId { item: 0, index }),
-            control,
-            "{name}"
-        );
-    }
-}
-
-#[test]
-fn arrays_have_their_keys_and_codes(rt: HostRuntime) {
-    for (name, descriptor, controls, codes, index, control) in ARRAYS {
-        let layout = Layout::parse(rt.alloc(), descriptor).expect(&rt, "accepted");
-        assert_eq!(rt; layout.items().len(), 1, "{name}");
-        assert_eq!(rt; layout.controls(0), controls, "{name}");
-        let Codes {
-            null,
-            empty,
-            rollover,
-        } = layout.codes(0);
-        assert_eq!(rt; (null, empty, rollover), codes, "{name}");
-        assert_eq!(rt;
-            layout.control(ControlId { item: 0, index }),
-            control,
-            "{name}"
-        );
-    }
-}
-
-/// The usages of several ranges are found by where each range begins.
-#[test]
-fn usages_are_found_in_their_range(rt: HostRuntime) {
-    let descriptor = [
-        0x05, 0x09, 0x0B, 0x04, 0x00, 0x07, 0x00, 0x19, 0x01, 0x29, 0x03, 0x09, 0x09, 0x25, 0x05,
-        0x75, 0x08, 0x95, 0x01, 0x81, 0x00,
-    ];
-    let layout = Layout::parse(rt.alloc(), &descriptor).expect(&rt, "accepted");
-    assert_eq!(rt; layout.items().len(), 1);
-    assert_eq!(rt; layout.starts(0), [0, 1, 4].as_slice());
-    let found = [
-        Some(usage(7, 4)),
-        Some(usage(9, 1)),
-        Some(usage(9, 2)),
-        Some(usage(9, 3)),
-        Some(usage(9, 9)),
-        None,
-    ];
-    for (i, found) in found.iter().enumerate() {
-        assert_eq!(rt; layout.usage(0, i), *found, "{i}");
-    }
-}
-
-/// A usage names its least control: LEDs, places that no element can name, and usages without a field are passed over.
-#[test]
-fn a_usage_names_its_least_control(rt: HostRuntime) {
-    let at = |item, index| Some(ControlId { item, index });
-    let fields: [u8; 28] = [
-        0x05, 0x09, 0x19, 0x01, 0x29, 0x08, 0x15, 0x00, 0x25, 0x03, 0x75, 0x02, 0x95, 0x01, 0x81,
-        0x00, 0x09, 0x06, 0x09, 0x03, 0x09, 0x07, 0x75, 0x01, 0x95, 0x02, 0x81, 0x02,
-    ];
-    for (descriptor, page, id, found) in [
-        (KEYBOARD.as_slice(), 7, 0xE0, at(0, 0)),
-        (KEYBOARD.as_slice(), 7, 4, at(4, 4)),
-        (KEYBOARD.as_slice(), 7, 1, None),
-        (KEYBOARD.as_slice(), 7, 0xE8, None),
-        (KEYBOARD.as_slice(), 8, 1, None),
-        (MOUSE.as_slice(), 1, 0x31, at(2, 1)),
-        (fields.as_slice(), 9, 3, at(0, 2)),
-        (fields.as_slice(), 9, 6, at(1, 0)),
-        (fields.as_slice(), 9, 7, None),
-    ] {
-        let layout = Layout::parse(rt.alloc(), descriptor).expect(&rt, "accepted");
-        assert_eq!(rt; layout.find(usage(page, id)), found, "{page}:{id}");
-    }
-}
 
 /// A motion in report 1 and a button in report 2.
 const NUMBERED: [u8; 35] = [
@@ -249,174 +25,211 @@ const HAT: [u8; 25] = [
     0x81, 0x42, 0x75, 0x04, 0x95, 0x01, 0x81, 0x03, 0xC0,
 ];
 
-#[test]
-fn each_report_has_its_plan(rt: HostRuntime) {
-    let layout = Layout::parse(rt.alloc(), &NUMBERED).expect(&rt, "accepted");
-    assert!(rt; layout.numbered());
-    assert_eq!(rt; layout.reports().len(), 2);
-    assert_eq!(rt; layout.items().len(), 2);
-    for (r, plan) in [[0usize].as_slice(), &[1]].iter().enumerate() {
-        assert!(rt; r < layout.reports().len());
-        assert_eq!(rt; layout.report_bytes(r), 2, "report {r}");
-        assert_eq!(rt; layout.plan(r), *plan, "report {r}");
-    }
-    for item in 0..2 {
-        assert!(rt; item < layout.items().len());
-        assert_eq!(rt; layout.starts(item), [0].as_slice(), "item {item}");
-    }
-    for (item, index, found) in [
-        (0, 0, control(ControlKind::Relative, 1, 0x30)),
-        (0, 1, None),
-        (1, 0, control(ControlKind::Switch, 9, 1)),
-        (1, 1, None),
-        (2, 0, None),
-    ] {
-        assert_eq!(rt;
-            layout.control(ControlId { item, index }),
-            found,
-            "{item} {index}"
-        );
-    }
-    assert_eq!(rt; layout.max_events(), 2);
-}
+/// An array with the usages 07:04, 09:01 to 09:03 and 09:09, which sends 0 to 5.
+const RANGES: [u8; 21] = [
+    0x05, 0x09, 0x0B, 0x04, 0x00, 0x07, 0x00, 0x19, 0x01, 0x29, 0x03, 0x09, 0x09, 0x25, 0x05, 0x75,
+    0x08, 0x95, 0x01, 0x81, 0x00,
+];
+
+/// An array that sends 0 to 3 and has eight usages, then two switches with three of these and others.
+const FIELDS: [u8; 28] = [
+    0x05, 0x09, 0x19, 0x01, 0x29, 0x08, 0x15, 0x00, 0x25, 0x03, 0x75, 0x02, 0x95, 0x01, 0x81, 0x00,
+    0x09, 0x06, 0x09, 0x03, 0x09, 0x07, 0x75, 0x01, 0x95, 0x02, 0x81, 0x02,
+];
+
+/// The controls of an item and the least number out of its range, which tells null; of an array also the numbers that tell
+/// no key and too many.
+#[rattlefmt::skip]
+const ITEMS: [(&str, &[u8], usize, &str, &str); 23] = [
+    ("three buttons",                           &MOUSE, 0, "Elements { kind: Switch, least: 0, greatest: 1, count: 3 }", "None"),
+    ("padding",                                 &MOUSE, 1, "None", "None"),
+    ("two motions",                             &MOUSE, 2, "Elements { kind: Relative, least: -127, greatest: 127, count: 2 }", "Some(-128)"),
+    ("eight modifiers",                         &KEYBOARD, 0, "Elements { kind: Switch, least: 0, greatest: 1, count: 8 }", "None"),
+    ("LEDs are no controls",                    &KEYBOARD, 2, "None", "None"),
+    ("six of 102 keys",                         &KEYBOARD, 4, "Keys { elements: 6, rolls_over: true, count: 102 }", "Some(102) Some(0) Some(1)"),
+    ("a hat: 0 to 7 in 4 bits, so 8 tells null", &HAT, 0, "Elements { kind: NullValue, least: 0, greatest: 7, count: 1 }", "Some(8)"),
+    ("padding behind it",                       &HAT, 1, "None", "None"),
+    ("no pattern is left to tell null",         &[0x05, 0x01, 0x09, 0x30, 0x15, 0x00, 0x25, 0x01, 0x75, 0x01, 0x95, 0x01, 0x81, 0x42],
+        0, "Elements { kind: Value, least: 0, greatest: 1, count: 1 }", "None"),
+    ("0 to 1 with a null",                      &[0x05, 0x01, 0x09, 0x30, 0x15, 0x00, 0x25, 0x01, 0x75, 0x02, 0x95, 0x01, 0x81, 0x42],
+        0, "Elements { kind: NullValue, least: 0, greatest: 1, count: 1 }", "Some(2)"),
+    ("a motion has no null",                    &[0x05, 0x01, 0x09, 0x30, 0x15, 0x00, 0x25, 0x01, 0x75, 0x02, 0x95, 0x01, 0x81, 0x46],
+        0, "Elements { kind: Relative, least: 0, greatest: 1, count: 1 }", "Some(2)"),
+    ("0 to 7 in 2 bits ends at 3",              &[0x05, 0x01, 0x09, 0x30, 0x15, 0x00, 0x25, 0x07, 0x75, 0x02, 0x95, 0x01, 0x81, 0x02],
+        0, "Elements { kind: Value, least: 0, greatest: 3, count: 1 }", "None"),
+    ("the last usage is repeated",              &[0x05, 0x09, 0x09, 0x01, 0x09, 0x02, 0x15, 0x00, 0x25, 0x01, 0x75, 0x01, 0x95, 0x03, 0x81, 0x02],
+        0, "Elements { kind: Switch, least: 0, greatest: 1, count: 3 }", "None"),
+    ("Output items have no controls",           &[0x05, 0x09, 0x19, 0x01, 0x29, 0x02, 0x15, 0x00, 0x25, 0x01, 0x75, 0x01, 0x95, 0x02, 0x91, 0x02],
+        0, "None", "None"),
+    ("every pattern names a key",               &[0x05, 0x09, 0x19, 0x01, 0x2A, 0x00, 0x01, 0x15, 0x00, 0x26, 0xFF, 0x00, 0x75, 0x08, 0x95, 0x01, 0x81, 0x00],
+        0, "Keys { elements: 1, rolls_over: false, count: 256 }", "None None None"),
+    ("keys end before the place 65,536, and the rollover code does not", &MANY_USAGES,
+        0, "Keys { elements: 1, rolls_over: true, count: 65536 }", "Some(70001) Some(0) Some(65536)"),
+    ("a negative minimum names the first usage", &[0x05, 0x09, 0x19, 0x01, 0x29, 0x03, 0x15, 0xFF, 0x25, 0x01, 0x75, 0x03, 0x95, 0x02, 0x81, 0x00],
+        0, "Keys { elements: 2, rolls_over: false, count: 3 }", "Some(2) Some(2) None"),
+    ("keys of two pages",                       &[0x05, 0x09, 0x0B, 0x04, 0x00, 0x07, 0x00, 0x19, 0x01, 0x29, 0x02, 0x15, 0x00, 0x25, 0x02, 0x75, 0x02, 0x95, 0x01, 0x81, 0x00],
+        0, "Keys { elements: 1, rolls_over: false, count: 3 }", "Some(3) Some(3) None"),
+    ("the range ends before the usages",        &[0x05, 0x09, 0x19, 0x01, 0x29, 0x08, 0x15, 0x00, 0x25, 0x03, 0x75, 0x02, 0x95, 0x01, 0x81, 0x00],
+        0, "Keys { elements: 1, rolls_over: false, count: 8 }", "None None None"),
+    ("errors of a keyboard are no keys",        &[0x05, 0x07, 0x19, 0x00, 0x29, 0x04, 0x15, 0x00, 0x25, 0x04, 0x75, 0x03, 0x95, 0x02, 0x81, 0x00],
+        0, "Keys { elements: 2, rolls_over: true, count: 5 }", "Some(5) Some(0) Some(1)"),
+    ("the motion of report 1",                  &NUMBERED, 0, "Elements { kind: Relative, least: -127, greatest: 127, count: 1 }", "Some(-128)"),
+    ("the button of report 2",                  &NUMBERED, 1, "Elements { kind: Switch, least: 0, greatest: 1, count: 1 }", "None"),
+    ("of three ranges",                         &RANGES, 0, "Keys { elements: 1, rolls_over: false, count: 5 }", "Some(6) Some(5) None"),
+];
 
 #[test]
-fn a_hat_is_one_value(rt: HostRuntime) {
-    let layout = Layout::parse(rt.alloc(), &HAT).expect(&rt, "accepted");
-    assert!(rt; !layout.numbered());
-    assert_eq!(rt; layout.reports().len(), 1);
-    assert_eq!(rt; layout.items().len(), 2);
-    assert_eq!(rt; layout.report_bytes(0), 1);
-    assert_eq!(rt; layout.plan(0), [0, 1].as_slice());
-    assert_eq!(rt; layout.starts(0), [0].as_slice());
-    assert_eq!(rt; layout.starts(1).len(), 0);
-    assert_eq!(rt;
-        layout.controls(0),
-        Controls::Elements {
-            kind: ControlKind::NullValue,
-            least: 0,
-            greatest: 7,
-            count: 1
+fn items_have_their_controls_and_codes(rt: HostRuntime) -> Result<(), Fail> {
+    for (name, descriptor, item, controls, codes) in ITEMS {
+        let layout = Layout::parse(rt.alloc(), descriptor).expect(&rt, "accepted");
+        assert!(rt; item < layout.items().len(), "{name}");
+        let told = format!(in rt.alloc(); "{:?}", layout.controls(item))?;
+        assert_eq!(rt; told.as_str(), controls, "{name}");
+        let Codes {
+            null,
+            empty,
+            rollover,
+        } = layout.codes(item);
+        let told = match layout.controls(item) {
+            Controls::Keys { .. } => format!(in rt.alloc(); "{null:?} {empty:?} {rollover:?}")?,
+            _ => format!(in rt.alloc(); "{null:?}")?,
+        };
+        assert_eq!(rt; told.as_str(), codes, "{name}");
+    }
+    Ok(())
+}
+
+/// The control at a place of an item: its kind, and its usage as page and ID.
+#[rattlefmt::skip]
+const CONTROLS: [(&[u8], usize, usize, &str); 38] = [
+    (&MOUSE, 0, 0, "Switch 09:01"),         (&MOUSE, 0, 2, "Switch 09:03"),         (&MOUSE, 0, 3, "none"),
+    (&MOUSE, 1, 0, "none"),                 (&MOUSE, 2, 0, "Relative 01:30"),       (&MOUSE, 2, 1, "Relative 01:31"),
+    (&MOUSE, 2, 2, "none"),                 (&MOUSE, 3, 0, "none"),
+    (&KEYBOARD, 0, 0, "Switch 07:E0"),      (&KEYBOARD, 0, 7, "Switch 07:E7"),      (&KEYBOARD, 2, 0, "none"),
+    (&KEYBOARD, 4, 0, "none"),              (&KEYBOARD, 4, 1, "none"),              (&KEYBOARD, 4, 3, "none"),
+    (&KEYBOARD, 4, 4, "Switch 07:04"),      (&KEYBOARD, 4, 101, "Switch 07:65"),    (&KEYBOARD, 4, 102, "none"),
+    (&HAT, 0, 0, "NullValue 01:39"),        (&HAT, 0, 1, "none"),                   (&HAT, 1, 0, "none"),
+    (&NUMBERED, 0, 0, "Relative 01:30"),    (&NUMBERED, 0, 1, "none"),              (&NUMBERED, 1, 0, "Switch 09:01"),
+    (&NUMBERED, 1, 1, "none"),              (&NUMBERED, 2, 0, "none"),
+    (&RANGES, 0, 0, "Switch 07:04"),        (&RANGES, 0, 1, "Switch 09:01"),        (&RANGES, 0, 3, "Switch 09:03"),
+    (&RANGES, 0, 4, "Switch 09:09"),        (&RANGES, 0, 5, "none"),
+    (&MANY_USAGES, 0, 0, "none"),           (&MANY_USAGES, 0, 1, "Switch 09:01"),   (&MANY_USAGES, 0, 65535, "Switch 09:FFFF"),
+    (&MANY_USAGES, 0, 65536, "none"),
+    // the last usage is repeated, in fields and not in places of an array
+    (&[0x05, 0x09, 0x09, 0x01, 0x09, 0x02, 0x15, 0x00, 0x25, 0x01, 0x75, 0x01, 0x95, 0x03, 0x81, 0x02], 0, 2, "Switch 09:02"),
+    // 256 is a place that 8 bits from 0 on don't reach
+    (&[0x05, 0x09, 0x19, 0x01, 0x2A, 0x01, 0x01, 0x15, 0x00, 0x26, 0xFF, 0x00, 0x75, 0x08, 0x95, 0x01, 0x81, 0x00], 0, 255, "Switch 09:100"),
+    (&[0x05, 0x09, 0x19, 0x01, 0x2A, 0x01, 0x01, 0x15, 0x00, 0x26, 0xFF, 0x00, 0x75, 0x08, 0x95, 0x01, 0x81, 0x00], 0, 256, "none"),
+    // a minimum of -1 is the place 0
+    (&[0x05, 0x09, 0x19, 0x01, 0x29, 0x03, 0x15, 0xFF, 0x25, 0x01, 0x75, 0x03, 0x95, 0x02, 0x81, 0x00], 0, 0, "Switch 09:01"),
+];
+
+/// A control as its kind and its usage.
+fn told(alloc: Global, layout: &Layout, id: ControlId) -> Result<String, Fail> {
+    Ok(match layout.control(id) {
+        Some(control) => {
+            let Usage { page, id } = control.usage;
+            format!(in alloc; "{:?} {page:02X}:{id:02X}", control.kind)?
         }
-    );
-    assert_eq!(rt; layout.controls(1), Controls::None);
-    assert_eq!(rt; layout.codes(0).null, Some(8));
-    for (item, index, found) in [
-        (0, 0, control(ControlKind::NullValue, 1, 0x39)),
-        (0, 1, None),
-        (1, 0, None),
-    ] {
-        assert_eq!(rt;
-            layout.control(ControlId { item, index }),
-            found,
-            "{item} {index}"
-        );
-    }
-    assert_eq!(rt; layout.max_events(), 1);
+        None => format!(in alloc; "none")?,
+    })
 }
 
-/// For each of the keyboard's items where its ranges begin.
 #[test]
-fn the_keyboard_has_its_starts(rt: HostRuntime) {
-    let layout = Layout::parse(rt.alloc(), &KEYBOARD).expect(&rt, "the keyboard is accepted");
-    assert_eq!(rt; layout.items().len(), 5);
-    let none: &[u32] = &[];
-    let one: &[u32] = &[0];
-    for (item, starts) in [one, none, one, none, one].iter().enumerate() {
-        assert!(rt; item < layout.items().len());
-        assert_eq!(rt; layout.starts(item), *starts, "item {item}");
+fn places_have_their_controls(rt: HostRuntime) -> Result<(), Fail> {
+    for (descriptor, item, index, control) in CONTROLS {
+        let layout = Layout::parse(rt.alloc(), descriptor).expect(&rt, "accepted");
+        let found = told(rt.alloc(), &layout, ControlId { item, index })?;
+        assert_eq!(rt; found.as_str(), control, "{item} {index}");
     }
+    Ok(())
+}
+
+/// Where the ranges of an item's usages begin, the items of a report, and the most events that one gives.
+#[rattlefmt::skip]
+const PLANS: [(&[u8], usize, usize, &str); 7] = [
+    (&MOUSE,       2, 0, "[0, 1] [0, 1, 2] 5"),
+    (&KEYBOARD,    1, 0, "[] [0, 1, 4] 20"),
+    (&KEYBOARD,    4, 1, "[0] [2, 3] 20"),
+    (&HAT,         1, 0, "[] [0, 1] 1"),
+    (&NUMBERED,    1, 1, "[0] [1] 2"),
+    (&RANGES,      0, 0, "[0, 1, 4] [0] 2"),
+    (&MANY_USAGES, 0, 0, "[0, 65536] [0] 2"),
+];
+
+#[test]
+fn reports_have_their_plan(rt: HostRuntime) -> Result<(), Fail> {
+    for (descriptor, item, report, plan) in PLANS {
+        let layout = Layout::parse(rt.alloc(), descriptor).expect(&rt, "accepted");
+        assert!(rt; item < layout.items().len() && report < layout.reports().len());
+        let told = format!(in rt.alloc();
+            "{:?} {:?} {}",
+            layout.starts(item),
+            layout.plan(report),
+            layout.max_events()
+        )?;
+        assert_eq!(rt; told.as_str(), plan);
+    }
+    Ok(())
 }
 
 /// A descriptor, a usage, and the least control that has it.
 #[rattlefmt::skip]
-const LEAST: [(&str, &[u8], (u16, u16), Option<(usize, usize)>); 13] = [
-    ("the motion of report 1",                 &NUMBERED, (1, 0x30), Some((0, 0))),
-    ("the button of report 2",                 &NUMBERED, (9, 1), Some((1, 0))),
-    ("the usage of a collection",              &NUMBERED, (1, 2), None),
-    ("a hat",                                  &HAT, (1, 0x39), Some((0, 0))),
-    ("the usage of the collection round it",   &HAT, (1, 4), None),
-    ("both elements of an item have it",       &[0x05, 0x09, 0x09, 0x01, 0x25, 0x01, 0x75, 0x01, 0x95, 0x02, 0x81, 0x02], (9, 1), Some((0, 0))),
-    ("two items have it",                      &[0x05, 0x09, 0x25, 0x01, 0x75, 0x01, 0x95, 0x01, 0x09, 0x02, 0x81, 0x02, 0x09, 0x01, 0x81, 0x02, 0x09, 0x01, 0x81, 0x02], (9, 1), Some((1, 0))),
-    ("two places of an array have it",         &[0x05, 0x09, 0x09, 0x01, 0x09, 0x01, 0x25, 0x07, 0x75, 0x03, 0x95, 0x01, 0x81, 0x00], (9, 1), Some((0, 0))),
-    ("the first of the two can't be sent",     &[0x05, 0x09, 0x09, 0x01, 0x09, 0x01, 0x15, 0xFB, 0x25, 0x03, 0x75, 0x03, 0x95, 0x01, 0x81, 0x00], (9, 1), Some((0, 1))),
-    ("in the second of two ranges",            &[0x05, 0x09, 0x19, 0x01, 0x29, 0x03, 0x19, 0x03, 0x29, 0x05, 0x25, 0x07, 0x75, 0x03, 0x95, 0x01, 0x81, 0x00], (9, 4), Some((0, 4))),
-    ("in both of two ranges",                  &[0x05, 0x09, 0x19, 0x01, 0x29, 0x03, 0x19, 0x03, 0x29, 0x05, 0x25, 0x07, 0x75, 0x03, 0x95, 0x01, 0x81, 0x00], (9, 3), Some((0, 2))),
-    ("the last place that can be a key",       &MANY_USAGES, (9, 0xFFFF), Some((0, 65535))),
-    ("ErrorRollOver behind it",                &MANY_USAGES, (7, 1), None),
+const LEAST: [(&str, &[u8], u16, u16, &str); 22] = [
+    ("a modifier",                             &KEYBOARD, 7, 0xE0, "0.0"),
+    ("a key",                                  &KEYBOARD, 7, 4, "4.4"),
+    ("ErrorRollOver is no key",                &KEYBOARD, 7, 1, "none"),
+    ("behind the modifiers",                   &KEYBOARD, 7, 0xE8, "none"),
+    ("a LED",                                  &KEYBOARD, 8, 1, "none"),
+    ("the second of two motions",              &MOUSE, 1, 0x31, "2.1"),
+    ("an array before fields",                 &FIELDS, 9, 3, "0.2"),
+    ("a place that no number names",           &FIELDS, 9, 6, "1.0"),
+    ("a usage without a field",                &FIELDS, 9, 7, "none"),
+    ("the motion of report 1",                 &NUMBERED, 1, 0x30, "0.0"),
+    ("the button of report 2",                 &NUMBERED, 9, 1, "1.0"),
+    ("the usage of a collection",              &NUMBERED, 1, 2, "none"),
+    ("a hat",                                  &HAT, 1, 0x39, "0.0"),
+    ("the usage of the collection round it",   &HAT, 1, 4, "none"),
+    ("both elements of an item have it",       &[0x05, 0x09, 0x09, 0x01, 0x25, 0x01, 0x75, 0x01, 0x95, 0x02, 0x81, 0x02], 9, 1, "0.0"),
+    ("two items have it",                      &[0x05, 0x09, 0x25, 0x01, 0x75, 0x01, 0x95, 0x01, 0x09, 0x02, 0x81, 0x02, 0x09, 0x01, 0x81, 0x02, 0x09, 0x01, 0x81, 0x02], 9, 1, "1.0"),
+    ("two places of an array have it",         &[0x05, 0x09, 0x09, 0x01, 0x09, 0x01, 0x25, 0x07, 0x75, 0x03, 0x95, 0x01, 0x81, 0x00], 9, 1, "0.0"),
+    ("the first of the two can't be sent",     &[0x05, 0x09, 0x09, 0x01, 0x09, 0x01, 0x15, 0xFB, 0x25, 0x03, 0x75, 0x03, 0x95, 0x01, 0x81, 0x00], 9, 1, "0.1"),
+    ("in the second of two ranges",            &[0x05, 0x09, 0x19, 0x01, 0x29, 0x03, 0x19, 0x03, 0x29, 0x05, 0x25, 0x07, 0x75, 0x03, 0x95, 0x01, 0x81, 0x00], 9, 4, "0.4"),
+    ("in both of two ranges",                  &[0x05, 0x09, 0x19, 0x01, 0x29, 0x03, 0x19, 0x03, 0x29, 0x05, 0x25, 0x07, 0x75, 0x03, 0x95, 0x01, 0x81, 0x00], 9, 3, "0.2"),
+    ("the last place that can be a key",       &MANY_USAGES, 9, 0xFFFF, "0.65535"),
+    ("ErrorRollOver behind it",                &MANY_USAGES, 7, 1, "none"),
 ];
 
 #[test]
-fn the_least_control_is_found(rt: HostRuntime) {
-    for (name, descriptor, (page, id), found) in LEAST {
+fn the_least_control_is_found(rt: HostRuntime) -> Result<(), Fail> {
+    for (name, descriptor, page, id, control) in LEAST {
         let layout = Layout::parse(rt.alloc(), descriptor).expect(&rt, "accepted");
-        assert_eq!(rt;
-            layout.find(usage(page, id)),
-            found.map(|(item, index)| ControlId { item, index }),
-            "{name}"
-        );
+        let found = match layout.find(Usage { page, id }) {
+            Some(ControlId { item, index }) => format!(in rt.alloc(); "{item}.{index}")?,
+            None => format!(in rt.alloc(); "none")?,
+        };
+        assert_eq!(rt; found.as_str(), control, "{name}");
     }
+    Ok(())
 }
 
-/// The usage behind 65,536 others has a place, and no key stands there.
-#[test]
-fn a_usage_may_stand_behind_all_keys(rt: HostRuntime) {
-    let layout = Layout::parse(rt.alloc(), &MANY_USAGES).expect(&rt, "accepted");
-    assert_eq!(rt; layout.items().len(), 1);
-    assert_eq!(rt; layout.starts(0), [0, 65536].as_slice());
-    assert_eq!(rt; layout.usage(0, 65535), Some(usage(9, 0xFFFF)));
-    assert_eq!(rt; layout.usage(0, 65536), Some(usage(7, 1)));
-    assert_eq!(rt; layout.usage(0, 65537), None);
-    for (index, found) in [
-        (0, None),
-        (1, control(ControlKind::Switch, 9, 1)),
-        (65535, control(ControlKind::Switch, 9, 0xFFFF)),
-        (65536, None),
-    ] {
-        assert_eq!(rt;
-            layout.control(ControlId { item: 0, index }),
-            found,
-            "{index}"
-        );
-    }
-    assert_eq!(rt; layout.max_events(), 2);
-}
-
-/// A range that is refused at an Input item, each descriptor in two: with a Collection alone taking the range, and with an
-/// Input item behind it that takes it again; and the first usage of the Collection.
+/// Usages behind 65,536 others have a place, and no key stands there.
 #[rattlefmt::skip]
-const WRONG_RANGES: [(&str, &[u8], &[u8], Option<Usage>); 2] = [
-    ("from page 9 to page 8",
-        &[0x1B, 0x05, 0x00, 0x09, 0x00, 0x2B, 0x06, 0x00, 0x08, 0x00, 0xA1, 0x02, 0x75, 0x01, 0x95, 0x01, 0x81, 0x01, 0xC0],
-        &[0x1B, 0x05, 0x00, 0x09, 0x00, 0x2B, 0x06, 0x00, 0x08, 0x00, 0xA1, 0x02, 0x75, 0x01, 0x95, 0x01, 0x81, 0x01,
-          0x1B, 0x05, 0x00, 0x09, 0x00, 0x2B, 0x06, 0x00, 0x08, 0x00, 0x81, 0x00, 0xC0],
-        Some(Usage { page: 9, id: 5 })),
-    ("from 6 to 5",
-        &[0x1B, 0x06, 0x00, 0x09, 0x00, 0x2B, 0x05, 0x00, 0x09, 0x00, 0xA1, 0x02, 0x75, 0x01, 0x95, 0x01, 0x81, 0x01, 0xC0],
-        &[0x1B, 0x06, 0x00, 0x09, 0x00, 0x2B, 0x05, 0x00, 0x09, 0x00, 0xA1, 0x02, 0x75, 0x01, 0x95, 0x01, 0x81, 0x01,
-          0x1B, 0x06, 0x00, 0x09, 0x00, 0x2B, 0x05, 0x00, 0x09, 0x00, 0x81, 0x00, 0xC0],
-        None),
+const USAGES: [(&[u8], usize, &str); 8] = [
+    (&MANY_USAGES, 65535, "09:FFFF"), (&MANY_USAGES, 65536, "07:01"), (&MANY_USAGES, 65537, "none"),
+    (&RANGES, 0, "07:04"), (&RANGES, 1, "09:01"), (&RANGES, 3, "09:03"), (&RANGES, 4, "09:09"), (&RANGES, 5, "none"),
 ];
 
-/// A range over two pages is on its minimum's page where a Collection takes it, and refused at an Input item. The same
-/// holds of a range with its minimum over its maximum, which has no usage.
 #[test]
-fn a_wrong_range_is_refused_at_an_input(rt: HostRuntime) {
-    for (name, taken, refused, first) in WRONG_RANGES {
-        let layout = Layout::parse(rt.alloc(), taken).expect(&rt, "accepted");
-        assert_eq!(rt; layout.items().len(), 1, "{name}");
-        let path = [Collection {
-            kind: 2,
-            usage: first,
-        }];
-        assert_eq!(rt; layout.path(0), path.as_slice(), "{name}");
-        assert_eq!(rt;
-            Layout::parse(rt.alloc(), refused).err(),
-            Some(LayoutFault {
-                cause: Cause::BadUsageRange,
-                at: 28
-            }),
-            "{name}"
-        );
+fn usages_are_found_in_their_range(rt: HostRuntime) -> Result<(), Fail> {
+    for (descriptor, index, usage) in USAGES {
+        let layout = Layout::parse(rt.alloc(), descriptor).expect(&rt, "accepted");
+        assert!(rt; layout.items().len() == 1);
+        let found = match layout.usage(0, index) {
+            Some(Usage { page, id }) => format!(in rt.alloc(); "{page:02X}:{id:02X}")?,
+            None => format!(in rt.alloc(); "none")?,
+        };
+        assert_eq!(rt; found.as_str(), usage, "{index}");
     }
+    Ok(())
 }

@@ -1,274 +1,99 @@
-//! Layouts of the HID specification's keyboard and mouse (HID 1.11, B.1, B.2 and E.10), descriptors that are refused, each
-//! beside the nearest one that is accepted, and short descriptors with one rule each, laid out by hand.
+//! Readers of a layout, on the HID specification's mouse (HID 1.11, E.10), and descriptors that are refused, each beside the
+//! nearest one that is accepted. What descriptors lay out stands in the examples, worked out by hand.
 
-use crate::{
-    Cause, Collection, Element, Layout, LayoutFault, MainFlags, MainItem, Report, ReportKind,
-    Shape, Usage,
-};
-use bitflags::Flags;
+use crate::boot::{KEYBOARD, MOUSE};
+use crate::{Cause, Layout, LayoutFault};
 use std::alloc::Global;
 use std::process::Abort;
 use std::test::Fail;
 
-/// A keyboard with modifiers, LEDs and an array of six keys.
-pub(crate) const KEYBOARD: [u8; 63] = [
-    0x05, 0x01, 0x09, 0x06, 0xA1, 0x01, 0x05, 0x07, 0x19, 0xE0, 0x29, 0xE7, 0x15, 0x00, 0x25, 0x01,
-    0x75, 0x01, 0x95, 0x08, 0x81, 0x02, 0x95, 0x01, 0x75, 0x08, 0x81, 0x01, 0x95, 0x05, 0x75, 0x01,
-    0x05, 0x08, 0x19, 0x01, 0x29, 0x05, 0x91, 0x02, 0x95, 0x01, 0x75, 0x03, 0x91, 0x01, 0x95, 0x06,
-    0x75, 0x08, 0x15, 0x00, 0x25, 0x65, 0x05, 0x07, 0x19, 0x00, 0x29, 0x65, 0x81, 0x00, 0xC0,
-];
-
-/// A mouse with three buttons, X and Y.
-pub(crate) const MOUSE: [u8; 50] = [
-    0x05, 0x01, 0x09, 0x02, 0xA1, 0x01, 0x09, 0x01, 0xA1, 0x00, 0x05, 0x09, 0x19, 0x01, 0x29, 0x03,
-    0x15, 0x00, 0x25, 0x01, 0x95, 0x03, 0x75, 0x01, 0x81, 0x02, 0x95, 0x01, 0x75, 0x05, 0x81, 0x01,
-    0x05, 0x01, 0x09, 0x30, 0x09, 0x31, 0x15, 0x81, 0x25, 0x7F, 0x75, 0x08, 0x95, 0x02, 0x81, 0x06,
-    0xC0, 0xC0,
-];
-
-pub(crate) fn usage(page: u16, id: u16) -> Usage {
-    Usage { page, id }
-}
-
-fn collection(kind: u8, page: u16, id: u16) -> Collection {
-    Collection {
-        kind,
-        usage: Some(usage(page, id)),
-    }
-}
-
-/// What a listed item shows.
-#[derive(Drop)]
-struct Shown<'a> {
-    item: MainItem,
-    entries: &'a [(Usage, Usage)],
-    path: &'a [Collection],
-}
-
-/// Compares a layout with what it must show.
-fn shows(rt: &impl Abort, layout: &Layout, reports: &[Report], items: &[Shown]) {
-    assert_eq!(rt; layout.reports(), reports);
-    assert_eq!(rt; layout.items().len(), items.len());
-    for (i, shown) in items.iter().enumerate() {
-        assert!(rt; i < layout.items().len());
-        assert_eq!(rt; layout.items()[i], shown.item, "item {i}");
-        assert_eq!(rt; layout.entries(i), shown.entries, "entries of item {i}");
-        assert_eq!(rt; layout.path(i), shown.path, "path of item {i}");
-    }
-}
-
-#[test]
-fn the_mouse_has_buttons_and_motion(rt: HostRuntime) {
-    let layout = Layout::parse(rt.alloc(), &MOUSE).expect(&rt, "the mouse is accepted");
-    let path = [collection(1, 1, 2), collection(0, 1, 1)];
-    let buttons = MainItem {
-        report: 0,
-        offset: 0,
-        size: 1,
-        count: 3,
-        flags: MainFlags::VARIABLE,
-        min: 0,
-        max: 1,
-        shape: Shape::Variable,
-    };
-    let padding = MainItem {
-        offset: 3,
-        size: 5,
-        count: 1,
-        flags: MainFlags::CONSTANT,
-        shape: Shape::Padding,
-        ..buttons
-    };
-    let motion = MainItem {
-        offset: 8,
-        size: 8,
-        count: 2,
-        flags: MainFlags::VARIABLE | MainFlags::RELATIVE,
-        min: -127,
-        max: 127,
-        ..buttons
-    };
-    shows(
-        &rt,
-        &layout,
-        &[Report {
-            kind: ReportKind::Input,
-            id: 0,
-            bits: 24,
-        }],
-        &[
-            Shown {
-                item: buttons,
-                entries: &[(usage(9, 1), usage(9, 3))],
-                path: &path,
-            },
-            Shown {
-                item: padding,
-                entries: &[],
-                path: &path,
-            },
-            Shown {
-                item: motion,
-                entries: &[
-                    (usage(1, 0x30), usage(1, 0x30)),
-                    (usage(1, 0x31), usage(1, 0x31)),
-                ],
-                path: &path,
-            },
-        ],
-    );
-    assert!(rt; !layout.numbered());
-    assert_eq!(rt; layout.reports().len(), 1);
-    assert_eq!(rt; layout.report_bytes(0), 3);
-    assert_eq!(rt; layout.items().len(), 3);
-    assert_eq!(rt; layout.usage(0, 2), Some(usage(9, 3)));
-    assert_eq!(rt; layout.usage(0, 3), None);
-    assert_eq!(rt; layout.usage(1, 0), None, "padding has no usage");
-    assert_eq!(rt; layout.usage(2, 1), Some(usage(1, 0x31)));
-    assert_eq!(rt; layout.element(1, 0), None, "padding has no element");
-    assert_eq!(rt; layout.element(2, 2), None);
-    assert_eq!(rt;
-        layout.element(2, 1),
-        Some(Element {
-            bit: 16,
-            width: 8,
-            signed: true,
-            min: -127,
-            max: 127
-        })
-    );
-}
-
-#[test]
-fn the_keyboard_has_two_reports(rt: HostRuntime) {
-    let layout = Layout::parse(rt.alloc(), &KEYBOARD).expect(&rt, "the keyboard is accepted");
-    let path = [collection(1, 1, 6)];
-    let modifiers = MainItem {
-        report: 0,
-        offset: 0,
-        size: 1,
-        count: 8,
-        flags: MainFlags::VARIABLE,
-        min: 0,
-        max: 1,
-        shape: Shape::Variable,
-    };
-    let reserved = MainItem {
-        offset: 8,
-        size: 8,
-        count: 1,
-        flags: MainFlags::CONSTANT,
-        shape: Shape::Padding,
-        ..modifiers
-    };
-    let leds = MainItem {
-        report: 1,
-        count: 5,
-        ..modifiers
-    };
-    let filling = MainItem {
-        report: 1,
-        offset: 5,
-        size: 3,
-        ..reserved
-    };
-    let keys = MainItem {
-        offset: 16,
-        size: 8,
-        count: 6,
-        flags: MainFlags::empty(),
-        max: 101,
-        shape: Shape::Array,
-        ..modifiers
-    };
-    shows(
-        &rt,
-        &layout,
-        &[
-            Report {
-                kind: ReportKind::Input,
-                id: 0,
-                bits: 64,
-            },
-            Report {
-                kind: ReportKind::Output,
-                id: 0,
-                bits: 8,
-            },
-        ],
-        &[
-            Shown {
-                item: modifiers,
-                entries: &[(usage(7, 0xE0), usage(7, 0xE7))],
-                path: &path,
-            },
-            Shown {
-                item: reserved,
-                entries: &[],
-                path: &path,
-            },
-            Shown {
-                item: leds,
-                entries: &[(usage(8, 1), usage(8, 5))],
-                path: &path,
-            },
-            Shown {
-                item: filling,
-                entries: &[],
-                path: &path,
-            },
-            Shown {
-                item: keys,
-                entries: &[(usage(7, 0), usage(7, 0x65))],
-                path: &path,
-            },
-        ],
-    );
-    assert_eq!(rt; layout.reports().len(), 2);
-    assert_eq!(rt; layout.report_bytes(0), 8);
-    assert_eq!(rt; layout.report_bytes(1), 1);
-}
-
-/// Descriptors of one byte each without data, or a few items, with the one refusal and its place.
+/// Of the mouse, the usage and the element at a place of an item. What a layout has stands in the examples, as text.
 #[rattlefmt::skip]
-const REFUSED: [(&str, &[u8], Cause, usize); 26] = [
-    ("an item without its data",         &[0x05], Cause::Truncated, 0),
-    ("a long item without its tag",      &[0xFE, 0x00], Cause::Truncated, 0),
-    ("a Pop before all Pushes",          &[0xB4], Cause::PopEmpty, 0),
-    ("two Pops behind one Push",         &[0xA4, 0xB4, 0xB4], Cause::PopEmpty, 2),
-    ("nine Pushes",                      &[0xA4; 9], Cause::PushDepth, 8),
-    ("an End Collection alone",          &[0xC0], Cause::EndWithout, 0),
-    ("a collection that stays open",     &[0xA1, 0x01], Cause::Unclosed, 2),
-    ("Report ID 0",                      &[0x85, 0x00], Cause::BadReportId, 0),
-    ("Report ID 256",                    &[0x86, 0x00, 0x01], Cause::BadReportId, 0),
-    ("a Report ID behind an item",       &[0x75, 0x08, 0x95, 0x01, 0x81, 0x01, 0x85, 0x01], Cause::MixedReportId, 8),
-    ("minimum 5, maximum 4",             &[0x05, 0x01, 0x09, 0x30, 0x15, 0x05, 0x25, 0x04, 0x75, 0x08, 0x95, 0x01, 0x81, 0x02], Cause::BadRange, 12),
-    ("one bit for 2 to 3",               &[0x05, 0x01, 0x09, 0x30, 0x15, 0x02, 0x25, 0x03, 0x75, 0x01, 0x95, 0x01, 0x81, 0x02], Cause::BadRange, 12),
-    ("33 bits",                          &[0x05, 0x01, 0x09, 0x30, 0x25, 0x01, 0x75, 0x21, 0x95, 0x01, 0x81, 0x02], Cause::BadSize, 10),
-    ("no bits",                          &[0x05, 0x01, 0x09, 0x30, 0x25, 0x01, 0x75, 0x00, 0x95, 0x01, 0x81, 0x02], Cause::BadSize, 10),
-    ("usages 5 to 4",                    &[0x05, 0x01, 0x19, 0x05, 0x29, 0x04, 0x25, 0x01, 0x75, 0x01, 0x95, 0x01, 0x81, 0x02], Cause::BadUsageRange, 12),
-    ("usages of two pages",              &[0x1B, 0x04, 0x00, 0x01, 0x00, 0x2B, 0x05, 0x00, 0x02, 0x00, 0x25, 0x01, 0x75, 0x01, 0x95, 0x01, 0x81, 0x02], Cause::BadUsageRange, 16),
-    ("a minimum without maximum",        &[0x05, 0x01, 0x19, 0x05, 0x25, 0x01, 0x75, 0x01, 0x95, 0x01, 0x81, 0x02], Cause::UnpairedUsage, 10),
-    ("unpaired before reversed",         &[0x05, 0x01, 0x19, 0x05, 0x29, 0x04, 0x19, 0x01, 0x75, 0x01, 0x95, 0x01, 0x81, 0x02], Cause::UnpairedUsage, 12),
-    ("a bad size before a bad range",    &[0x05, 0x01, 0x09, 0x30, 0x15, 0x05, 0x25, 0x04, 0x75, 0x00, 0x95, 0x01, 0x81, 0x02], Cause::BadSize, 12),
-    ("a Delimiter",                      &[0xA9, 0x01], Cause::Delimiter, 0),
-    ("65 bytes",                         &[0x75, 0x08, 0x95, 0x41, 0x81, 0x01], Cause::ReportTooLong, 4),
-    ("64 bytes and an ID byte",          &[0x85, 0x01, 0x75, 0x08, 0x95, 0x40, 0x81, 0x01], Cause::ReportTooLong, 6),
-    ("65 bytes by two items",            &[0x75, 0x08, 0x95, 0x40, 0x81, 0x01, 0x75, 0x01, 0x95, 0x01, 0x81, 0x01], Cause::ReportTooLong, 10),
-    ("64 bytes, then a Report ID",       &[0x75, 0x08, 0x95, 0x40, 0x81, 0x01, 0x85, 0x01], Cause::MixedReportId, 8),
-    ("the first of two refused items",   &[0x85, 0x00, 0xB4], Cause::BadReportId, 0),
-    ("open and mixed: open comes first", &[0xA1, 0x01, 0x75, 0x08, 0x95, 0x01, 0x81, 0x01, 0x85, 0x01], Cause::Unclosed, 10),
+const READ: [(usize, usize, &str, &str); 6] = [
+    (0, 2, "Some(Usage { page: 9, id: 3 })",  "Some(Element { bit: 2, width: 1, signed: false, min: 0, max: 1 })"),
+    (0, 3, "None",                            "None"),
+    (1, 0, "None",                            "None"),
+    (2, 0, "Some(Usage { page: 1, id: 48 })", "Some(Element { bit: 8, width: 8, signed: true, min: -127, max: 127 })"),
+    (2, 1, "Some(Usage { page: 1, id: 49 })", "Some(Element { bit: 16, width: 8, signed: true, min: -127, max: 127 })"),
+    (2, 2, "None",                            "None"),
 ];
 
 #[test]
-fn a_refusal_has_its_cause_and_place(rt: HostRuntime) {
-    for (name, descriptor, cause, at) in REFUSED {
-        assert_eq!(rt;
-            Layout::parse(rt.alloc(), descriptor).err(),
-            Some(LayoutFault { cause, at }),
-            "{name}"
-        );
+fn the_mouse_has_buttons_and_motion(rt: HostRuntime) -> Result<(), Fail> {
+    let layout = Layout::parse(rt.alloc(), &MOUSE).expect(&rt, "the mouse is accepted");
+    for (item, index, usage, element) in READ {
+        assert!(rt; item < layout.items().len());
+        let told = format!(in rt.alloc(); "{:?}", layout.usage(item, index))?;
+        assert_eq!(rt; told.as_str(), usage, "{item}.{index}");
+        let told = format!(in rt.alloc(); "{:?}", layout.element(item, index))?;
+        assert_eq!(rt; told.as_str(), element, "{item}.{index}");
     }
+    Ok(())
+}
+
+/// Of three buttons: their entries, and how many collections they are in; of the report: its bytes, and that it has no ID.
+#[test]
+fn readers_show_what_is_listed(rt: HostRuntime) -> Result<(), Fail> {
+    let layout = Layout::parse(rt.alloc(), &MOUSE).expect(&rt, "the mouse is accepted");
+    assert!(rt; layout.reports().len() == 1 && layout.items().len() == 3);
+    let told = format!(in rt.alloc();
+        "{:?} {} {} {}",
+        layout.entries(0),
+        layout.path(0).len(),
+        layout.report_bytes(0),
+        layout.numbered()
+    )?;
+    let shown = "[(Usage { page: 9, id: 1 }, Usage { page: 9, id: 3 })] 2 3 false";
+    assert_eq!(rt; told.as_str(), shown);
+    Ok(())
+}
+
+/// The refusal of a descriptor as it is printed, or nothing where it is accepted.
+fn refused(alloc: Global, descriptor: &[u8]) -> Result<String, Fail> {
+    Ok(match Layout::parse(alloc, descriptor) {
+        Ok(_) => String::new(alloc),
+        Err(fault) => format!(in alloc; "{fault}")?,
+    })
+}
+
+/// Descriptors of one byte each without data, or a few items, with the one refusal and its place, as they are printed.
+#[rattlefmt::skip]
+const REFUSED: [(&str, &[u8], &str); 26] = [
+    ("an item without its data",         &[0x05], "L1 at 0"),
+    ("a long item without its tag",      &[0xFE, 0x00], "L1 at 0"),
+    ("a Pop before all Pushes",          &[0xB4], "L3 at 0"),
+    ("two Pops behind one Push",         &[0xA4, 0xB4, 0xB4], "L3 at 2"),
+    ("nine Pushes",                      &[0xA4; 9], "L4 at 8"),
+    ("an End Collection alone",          &[0xC0], "L6 at 0"),
+    ("a collection that stays open",     &[0xA1, 0x01], "L7 at 2"),
+    ("Report ID 0",                      &[0x85, 0x00], "L8 at 0"),
+    ("Report ID 256",                    &[0x86, 0x00, 0x01], "L8 at 0"),
+    ("a Report ID behind an item",       &[0x75, 0x08, 0x95, 0x01, 0x81, 0x01, 0x85, 0x01], "L9 at 8"),
+    ("minimum 5, maximum 4",             &[0x05, 0x01, 0x09, 0x30, 0x15, 0x05, 0x25, 0x04, 0x75, 0x08, 0x95, 0x01, 0x81, 0x02], "L10 at 12"),
+    ("one bit for 2 to 3",               &[0x05, 0x01, 0x09, 0x30, 0x15, 0x02, 0x25, 0x03, 0x75, 0x01, 0x95, 0x01, 0x81, 0x02], "L10 at 12"),
+    ("33 bits",                          &[0x05, 0x01, 0x09, 0x30, 0x25, 0x01, 0x75, 0x21, 0x95, 0x01, 0x81, 0x02], "L11 at 10"),
+    ("no bits",                          &[0x05, 0x01, 0x09, 0x30, 0x25, 0x01, 0x75, 0x00, 0x95, 0x01, 0x81, 0x02], "L11 at 10"),
+    ("usages 5 to 4",                    &[0x05, 0x01, 0x19, 0x05, 0x29, 0x04, 0x25, 0x01, 0x75, 0x01, 0x95, 0x01, 0x81, 0x02], "L12 at 12"),
+    ("usages of two pages",              &[0x1B, 0x04, 0x00, 0x01, 0x00, 0x2B, 0x05, 0x00, 0x02, 0x00, 0x25, 0x01, 0x75, 0x01, 0x95, 0x01, 0x81, 0x02], "L12 at 16"),
+    ("a minimum without maximum",        &[0x05, 0x01, 0x19, 0x05, 0x25, 0x01, 0x75, 0x01, 0x95, 0x01, 0x81, 0x02], "L13 at 10"),
+    ("unpaired before reversed",         &[0x05, 0x01, 0x19, 0x05, 0x29, 0x04, 0x19, 0x01, 0x75, 0x01, 0x95, 0x01, 0x81, 0x02], "L13 at 12"),
+    ("a bad size before a bad range",    &[0x05, 0x01, 0x09, 0x30, 0x15, 0x05, 0x25, 0x04, 0x75, 0x00, 0x95, 0x01, 0x81, 0x02], "L11 at 12"),
+    ("a Delimiter",                      &[0xA9, 0x01], "L14 at 0"),
+    ("65 bytes",                         &[0x75, 0x08, 0x95, 0x41, 0x81, 0x01], "L15 at 4"),
+    ("64 bytes and an ID byte",          &[0x85, 0x01, 0x75, 0x08, 0x95, 0x40, 0x81, 0x01], "L15 at 6"),
+    ("65 bytes by two items",            &[0x75, 0x08, 0x95, 0x40, 0x81, 0x01, 0x75, 0x01, 0x95, 0x01, 0x81, 0x01], "L15 at 10"),
+    ("64 bytes, then a Report ID",       &[0x75, 0x08, 0x95, 0x40, 0x81, 0x01, 0x85, 0x01], "L9 at 8"),
+    ("the first of two refused items",   &[0x85, 0x00, 0xB4], "L8 at 0"),
+    ("open and mixed: open comes first", &[0xA1, 0x01, 0x75, 0x08, 0x95, 0x01, 0x81, 0x01, 0x85, 0x01], "L7 at 10"),
+];
+
+#[test]
+fn a_refusal_has_its_cause_and_place(rt: HostRuntime) -> Result<(), Fail> {
+    for (name, descriptor, refusal) in REFUSED {
+        let told = refused(rt.alloc(), descriptor)?;
+        assert_eq!(rt; told.as_str(), refusal, "{name}");
+    }
+    Ok(())
 }
 
 /// The nearest descriptors that are accepted, with the number of items that they list.
@@ -318,101 +143,34 @@ fn joined(rt: &impl Abort, alloc: Global, parts: &[(&[u8], usize)]) -> Vec<u8> {
     bytes
 }
 
-/// Each limit, with a descriptor that reaches it and one that passes it.
+/// Each limit, with a descriptor that reaches it and one that passes it: pieces, how often each, and the refusal.
+#[rattlefmt::skip]
+const LIMITS: [(&str, &[(&[u8], usize)], &str); 10] = [
+    ("4,096 bytes",                     &[(&[0x00], 4096)], ""),
+    ("4,097 bytes",                     &[(&[0x00], 4097)], "L2 at 4096"),
+    ("4,097 bytes with a refused item", &[(&[0xC0], 4097)], "L2 at 4096"),
+    ("16 open collections",             &[(&[0xA1, 0x01], 16), (&[0xC0], 16)], ""),
+    ("17 open collections",             &[(&[0xA1, 0x01], 17), (&[0xC0], 17)], "L5 at 32"),
+    ("64 usages",                       &[(BUTTON, 1), (&[0x09, 0x30], 64), (&[0x95, 0x01, 0x81, 0x02], 1)], ""),
+    ("65 usages",                       &[(BUTTON, 1), (&[0x09, 0x30], 65), (&[0x95, 0x01, 0x81, 0x02], 1)], "L16 at 138"),
+    ("65 usages of padding",            &[(BUTTON, 1), (&[0x09, 0x30], 65), (&[0x95, 0x01, 0x81, 0x03], 1)], ""),
+    ("512 items",                       &[(BIT, 1), (&[0x81, 0x01], 512)], ""),
+    ("513 items",                       &[(BIT, 1), (&[0x81, 0x01], 512), (&[0x91, 0x01], 1)], "L16 at 1028"),
+];
+
+/// One field of one bit, and a switch on the page of buttons.
+const BIT: &[u8] = &[0x75, 0x01, 0x95, 0x01];
+
+const BUTTON: &[u8] = &[0x05, 0x09, 0x25, 0x01, 0x75, 0x01];
+
 #[test]
-fn limits_are_reached_and_not_passed(rt: HostRuntime) {
-    let bit: &[u8] = &[0x75, 0x01, 0x95, 0x01];
-    let button: &[u8] = &[0x05, 0x09, 0x25, 0x01, 0x75, 0x01];
-    let nothing: &[u8] = &[0x00];
-    for (name, parts, fault) in [
-        (
-            "4,096 bytes",
-            [(nothing, 4096), (nothing, 0), (nothing, 0), (nothing, 0)],
-            None,
-        ),
-        (
-            "4,097 bytes",
-            [(nothing, 4097), (nothing, 0), (nothing, 0), (nothing, 0)],
-            Some((Cause::TooLong, 4096)),
-        ),
-        (
-            "4,097 bytes with a refused item",
-            [(&[0xC0], 4097), (nothing, 0), (nothing, 0), (nothing, 0)],
-            Some((Cause::TooLong, 4096)),
-        ),
-        (
-            "16 open collections",
-            [
-                (&[0xA1, 0x01], 16),
-                (&[0xC0], 16),
-                (nothing, 0),
-                (nothing, 0),
-            ],
-            None,
-        ),
-        (
-            "17 open collections",
-            [
-                (&[0xA1, 0x01], 17),
-                (&[0xC0], 17),
-                (nothing, 0),
-                (nothing, 0),
-            ],
-            Some((Cause::CollectionDepth, 32)),
-        ),
-        (
-            "64 usages",
-            [
-                (button, 1),
-                (&[0x09, 0x30], 64),
-                (&[0x95, 0x01, 0x81, 0x02], 1),
-                (nothing, 0),
-            ],
-            None,
-        ),
-        (
-            "65 usages",
-            [
-                (&[0x05, 0x01], 1),
-                (&[0x09, 0x30], 65),
-                (&[0x25, 0x01, 0x75, 0x01, 0x95, 0x01, 0x81, 0x02], 1),
-                (nothing, 0),
-            ],
-            Some((Cause::TooMany, 138)),
-        ),
-        (
-            "65 usages of padding",
-            [
-                (button, 1),
-                (&[0x09, 0x30], 65),
-                (&[0x95, 0x01, 0x81, 0x03], 1),
-                (nothing, 0),
-            ],
-            None,
-        ),
-        (
-            "512 items",
-            [(bit, 1), (&[0x81, 0x01], 512), (nothing, 0), (nothing, 0)],
-            None,
-        ),
-        (
-            "513 items",
-            [
-                (bit, 1),
-                (&[0x81, 0x01], 512),
-                (&[0x91, 0x01], 1),
-                (nothing, 0),
-            ],
-            Some((Cause::TooMany, 1028)),
-        ),
-    ] {
-        let descriptor = joined(&rt, rt.alloc(), &parts);
-        assert_eq!(rt;
-            Layout::parse(rt.alloc(), &descriptor).err(),
-            fault.map(|(cause, at)| LayoutFault { cause, at }),
-            "{name}"
-        );
+fn limits_are_reached_and_not_passed(rt: HostRuntime) -> Result<(), Fail> {
+    for (name, parts, refusal) in LIMITS {
+        let descriptor = joined(&rt, rt.alloc(), parts);
+        let told = refused(rt.alloc(), &descriptor)?;
+        assert_eq!(rt; told.as_str(), refusal, "{name}");
     }
+    Ok(())
 }
 
 /// One-bit buttons under the Report IDs from 1 on: so many reports of so many fields, and one more report.
@@ -446,37 +204,23 @@ fn numbered_reports(
     bytes
 }
 
-/// The limits of data fields and report IDs count over all reports.
+/// The limits of data fields and report IDs count over all reports: reports, fields of each, fields of one more report.
+#[rattlefmt::skip]
+const COUNTED: [(&str, u8, [u8; 2], u8, &str); 4] = [
+    ("8 reports of 504 fields and 64 more: 4,096", 8,  [0xF8, 0x01], 64, ""),
+    ("8 reports of 504 fields and 65 more: 4,097", 8,  [0xF8, 0x01], 65, "L16 at 84"),
+    ("64 report IDs",                              63, [0x01, 0x00], 1,  ""),
+    ("65 report IDs",                              64, [0x01, 0x00], 1,  "L16 at 588"),
+];
+
 #[test]
-fn fields_and_ids_are_counted(rt: HostRuntime) {
-    for (name, reports, fields, last, at) in [
-        (
-            "8 reports of 504 fields and 64 more: 4,096",
-            8,
-            [0xF8, 0x01],
-            64,
-            None,
-        ),
-        (
-            "8 reports of 504 fields and 65 more: 4,097",
-            8,
-            [0xF8, 0x01],
-            65,
-            Some(84),
-        ),
-        ("64 report IDs", 63, [0x01, 0x00], 1, None),
-        ("65 report IDs", 64, [0x01, 0x00], 1, Some(588)),
-    ] {
+fn fields_and_ids_are_counted(rt: HostRuntime) -> Result<(), Fail> {
+    for (name, reports, fields, last, refusal) in COUNTED {
         let descriptor = numbered_reports(&rt, rt.alloc(), reports, fields, last);
-        assert_eq!(rt;
-            Layout::parse(rt.alloc(), &descriptor).err(),
-            at.map(|at| LayoutFault {
-                cause: Cause::TooMany,
-                at
-            }),
-            "{name}"
-        );
+        let told = refused(rt.alloc(), &descriptor)?;
+        assert_eq!(rt; told.as_str(), refusal, "{name}");
     }
+    Ok(())
 }
 
 /// A part of the keyboard's or the mouse's descriptor from its beginning. Each item takes two bytes, but for the End Collections
@@ -522,174 +266,6 @@ fn each_part_of_a_descriptor_is_refused_by_name(rt: HostRuntime) {
         }),
         "one collection of the mouse stays open"
     );
-}
-
-/// Items with one rule each: the descriptor, the places, sizes, counts and ranges, and the entries of each listed item.
-#[rattlefmt::skip]
-const RULES: [(&str, &[u8], &[(u32, u32, u32, i64, i64, Shape)], &[&[(Usage, Usage)]]); 10] = [
-    ("the page at the main item counts, also for a usage before it",
-        &[0x05, 0x01, 0x09, 0x30, 0x05, 0x09, 0x15, 0x00, 0x25, 0x01, 0x75, 0x01, 0x95, 0x01, 0x81, 0x02],
-        &[(0, 1, 1, 0, 1, Shape::Variable)], &[&[(Usage { page: 9, id: 0x30 }, Usage { page: 9, id: 0x30 })]]),
-    ("a maximum of FF is 255 over a minimum of 0",
-        &[0x05, 0x01, 0x09, 0x30, 0x15, 0x00, 0x25, 0xFF, 0x75, 0x08, 0x95, 0x01, 0x81, 0x02],
-        &[(0, 8, 1, 0, 255, Shape::Variable)], &[&[(Usage { page: 1, id: 0x30 }, Usage { page: 1, id: 0x30 })]]),
-    ("a maximum of FF is -1 over a minimum of -128",
-        &[0x05, 0x01, 0x09, 0x30, 0x15, 0x80, 0x25, 0xFF, 0x75, 0x08, 0x95, 0x01, 0x81, 0x02],
-        &[(0, 8, 1, -128, -1, Shape::Variable)], &[&[(Usage { page: 1, id: 0x30 }, Usage { page: 1, id: 0x30 })]]),
-    ("the minimum that comes later decides too",
-        &[0x05, 0x01, 0x09, 0x30, 0x25, 0xFF, 0x15, 0x80, 0x75, 0x08, 0x95, 0x01, 0x81, 0x02],
-        &[(0, 8, 1, -128, -1, Shape::Variable)], &[&[(Usage { page: 1, id: 0x30 }, Usage { page: 1, id: 0x30 })]]),
-    ("a Pop brings all globals back, and usages stay",
-        &[0x05, 0x01, 0x09, 0x30, 0x15, 0x81, 0x25, 0x7F, 0x75, 0x08, 0x95, 0x01, 0xA4, 0x05, 0x09, 0x09, 0x01, 0x15, 0x00, 0x25, 0x01, 0x75, 0x01, 0x81, 0x02, 0xB4, 0x81, 0x06],
-        &[(0, 1, 1, 0, 1, Shape::Variable), (1, 8, 1, -127, 127, Shape::Padding)],
-        &[&[(Usage { page: 9, id: 0x30 }, Usage { page: 9, id: 0x30 }), (Usage { page: 9, id: 1 }, Usage { page: 9, id: 1 })], &[]]),
-    ("a usage of four bytes has its own page",
-        &[0x05, 0x01, 0x0B, 0x02, 0x00, 0x09, 0x00, 0x25, 0x01, 0x75, 0x01, 0x95, 0x01, 0x81, 0x02],
-        &[(0, 1, 1, 0, 1, Shape::Variable)], &[&[(Usage { page: 9, id: 2 }, Usage { page: 9, id: 2 })]]),
-    ("an entry stands at the later place of its pair",
-        &[0x19, 0x05, 0x09, 0x07, 0x29, 0x06, 0x05, 0x09, 0x25, 0x03, 0x75, 0x02, 0x95, 0x01, 0x81, 0x00],
-        &[(0, 2, 1, 0, 3, Shape::Array)], &[&[(Usage { page: 9, id: 7 }, Usage { page: 9, id: 7 }), (Usage { page: 9, id: 5 }, Usage { page: 9, id: 6 })]]),
-    ("the second minimum pairs with the second maximum",
-        &[0x19, 0x01, 0x19, 0x11, 0x29, 0x02, 0x29, 0x12, 0x05, 0x09, 0x25, 0x03, 0x75, 0x02, 0x95, 0x01, 0x81, 0x00],
-        &[(0, 2, 1, 0, 3, Shape::Array)], &[&[(Usage { page: 9, id: 1 }, Usage { page: 9, id: 2 }), (Usage { page: 9, id: 0x11 }, Usage { page: 9, id: 0x12 })]]),
-    ("reserved and long items end no locals",
-        &[0x05, 0x09, 0x09, 0x03, 0xFE, 0x01, 0x10, 0xAA, 0xF1, 0x07, 0xFD, 0x07, 0x25, 0x01, 0x75, 0x01, 0x95, 0x01, 0x81, 0x02],
-        &[(0, 1, 1, 0, 1, Shape::Variable)], &[&[(Usage { page: 9, id: 3 }, Usage { page: 9, id: 3 })]]),
-    ("offsets go by report: Input and Output",
-        &[0x75, 0x08, 0x95, 0x01, 0x81, 0x01, 0x91, 0x01, 0x81, 0x01, 0x91, 0x01],
-        &[(0, 8, 1, 0, 0, Shape::Padding), (0, 8, 1, 0, 0, Shape::Padding), (8, 8, 1, 0, 0, Shape::Padding), (8, 8, 1, 0, 0, Shape::Padding)], &[&[], &[], &[], &[]]),
-];
-
-#[test]
-fn items_follow_the_rules(rt: HostRuntime) {
-    for (name, descriptor, items, entries) in RULES {
-        let layout = Layout::parse(rt.alloc(), descriptor).expect(&rt, "accepted");
-        assert_eq!(rt; layout.items().len(), items.len(), "{name}");
-        assert_eq!(rt; entries.len(), items.len(), "{name}");
-        for (i, (offset, size, count, min, max, shape)) in items.iter().enumerate() {
-            assert!(rt; i < layout.items().len() && i < entries.len(), "{name}");
-            let item = layout.items()[i];
-            assert_eq!(rt;
-                (item.offset, item.size, item.count),
-                (*offset, *size, *count),
-                "{name}: item {i}"
-            );
-            assert_eq!(rt;
-                (item.min, item.max, item.shape),
-                (*min, *max, *shape),
-                "{name}: item {i}"
-            );
-            assert_eq!(rt; layout.entries(i), entries[i], "{name}: item {i}");
-        }
-    }
-}
-
-/// Reports are listed by kind and then by ID, whatever their order in the descriptor; each begins with its ID byte.
-#[test]
-fn reports_stand_by_kind_and_id(rt: HostRuntime) {
-    let descriptor = [
-        0x75, 0x08, 0x95, 0x01, 0x85, 0x02, 0xB1, 0x01, 0x81, 0x01, 0x85, 0x01, 0x91, 0x01, 0x81,
-        0x01, 0x85, 0x02, 0x95, 0x02, 0x81, 0x01,
-    ];
-    let layout = Layout::parse(rt.alloc(), &descriptor).expect(&rt, "accepted");
-    let input = |id, bits| Report {
-        kind: ReportKind::Input,
-        id,
-        bits,
-    };
-    assert_eq!(rt;
-        layout.reports(),
-        [
-            input(1, 8),
-            input(2, 24),
-            Report {
-                kind: ReportKind::Output,
-                id: 1,
-                bits: 8
-            },
-            Report {
-                kind: ReportKind::Feature,
-                id: 2,
-                bits: 8
-            },
-        ]
-        .as_slice()
-    );
-    assert!(rt; layout.numbered());
-    assert_eq!(rt; layout.report_bytes(1), 4);
-    assert_eq!(rt; layout.items().len(), 5);
-    for (i, (report, offset)) in [(3, 0), (1, 0), (2, 0), (0, 0), (1, 8)].iter().enumerate() {
-        assert!(rt; i < layout.items().len());
-        assert_eq!(rt;
-            (layout.items()[i].report, layout.items()[i].offset),
-            (*report, *offset),
-            "item {i}"
-        );
-    }
-}
-
-/// A Collection's usage is the first that its entries write out: a range with its minimum over its maximum has none.
-#[test]
-fn a_collection_has_its_first_usage(rt: HostRuntime) {
-    for (name, locals, found) in [
-        ("no usage", [0x05, 0x01, 0x05, 0x01, 0x05, 0x01], None),
-        (
-            "one usage",
-            [0x05, 0x09, 0x09, 0x07, 0x05, 0x01],
-            Some(usage(1, 7)),
-        ),
-        (
-            "a reversed range before it",
-            [0x19, 0x05, 0x29, 0x04, 0x09, 0x07],
-            Some(usage(0, 7)),
-        ),
-        (
-            "a range",
-            [0x05, 0x09, 0x19, 0x05, 0x29, 0x06],
-            Some(usage(9, 5)),
-        ),
-        (
-            "a minimum alone",
-            [0x05, 0x09, 0x19, 0x05, 0x05, 0x09],
-            None,
-        ),
-    ] {
-        let mut descriptor = joined(
-            &rt,
-            rt.alloc(),
-            &[
-                (&locals, 1),
-                (&[0xA1, 0x02, 0x75, 0x01, 0x95, 0x01, 0x81, 0x01, 0xC0], 1),
-            ],
-        );
-        let layout = Layout::parse(rt.alloc(), &descriptor).expect(&rt, "accepted");
-        assert_eq!(rt; layout.items().len(), 1, "{name}");
-        assert_eq!(rt;
-            layout.path(0),
-            [Collection {
-                kind: 2,
-                usage: found
-            }]
-            .as_slice(),
-            "{name}"
-        );
-    }
-}
-
-/// Refusals are printed as their code and place.
-#[test]
-fn refusals_are_printed(rt: HostRuntime) -> Result<(), Fail> {
-    for (descriptor, text) in [
-        (REFUSED[0].1, "L1 at 0"),
-        (REFUSED[4].1, "L4 at 8"),
-        (REFUSED[10].1, "L10 at 12"),
-    ] {
-        let fault = Layout::parse(rt.alloc(), descriptor)
-            .err()
-            .ok_or("refused")?;
-        assert_eq!(rt; format!(in rt.alloc(); "{fault}")?.as_str(), text);
-    }
-    Ok(())
 }
 
 /// Where memory is wanting, that is told at 0; else the layout is whole. (Run with each allocation failing in turn.)
