@@ -19,6 +19,12 @@ const HAT: [u8; 25] = [
     0x81, 0x42, 0x75, 0x04, 0x95, 0x01, 0x81, 0x03, 0xC0,
 ];
 
+/// Two axes from -127 to 127.
+#[rattlefmt::skip]
+const STICK: [u8; 16] = [
+    0x05, 0x01, 0x09, 0x30, 0x09, 0x31, 0x15, 0x81, 0x25, 0x7F, 0x75, 0x08, 0x95, 0x02, 0x81, 0x02,
+];
+
 /// An array of two elements of 16 bits, of the buttons 1 to 65,535.
 #[rattlefmt::skip]
 const BUTTONS: [u8; 20] = [
@@ -51,7 +57,14 @@ const B: ControlId = ControlId { item: 4, index: 5 };
 
 const FIRST: ControlId = ControlId { item: 0, index: 0 };
 
+const SECOND: ControlId = ControlId { item: 0, index: 1 };
+
 const SHIFT_DOWN: Event = Event::Down {
+    control: ControlId { item: 0, index: 1 },
+    usage: Usage { page: 7, id: 0xE1 },
+};
+
+const SHIFT_UP: Event = Event::Up {
     control: ControlId { item: 0, index: 1 },
     usage: Usage { page: 7, id: 0xE1 },
 };
@@ -252,17 +265,51 @@ fn a_refused_report_leaves_the_view(rt: HostRuntime) -> Result<(), Fail> {
 }
 
 #[test]
-fn views_are_compared(rt: HostRuntime) -> Result<(), Fail> {
-    let layout = Layout::parse(rt.alloc(), &HAT)?;
-    let before = View::initial(rt.alloc(), &layout)?;
-    let mut after = View::initial(rt.alloc(), &layout)?;
+fn a_view_has_the_values_of_its_elements(rt: HostRuntime) -> Result<(), Fail> {
+    let layout = Layout::parse(rt.alloc(), &STICK)?;
+    let mut view = View::initial(rt.alloc(), &layout)?;
     let mut told = Vec::new(rt.alloc());
     told.reserve(layout.max_events())?;
-    assert!(rt; take_all::<WordCodec>(&layout, &mut after, &[&[3]], &mut told));
-    assert_eq!(rt; [before.value(FIRST), after.value(FIRST)], [None, Some(3)]);
+    assert_eq!(rt; [view.value(FIRST), view.value(SECOND)], [Some(0), Some(0)]);
+    assert!(rt; take_all::<WordCodec>(&layout, &mut view, &[&[5, 0xF9]], &mut told));
+    assert_eq!(rt;
+        [view.value(FIRST), view.value(SECOND)],
+        [Some(5), Some(-7)]
+    );
+    Ok(())
+}
+
+/// Whether these events lead from the view that one report leaves to that of another.
+fn compared(
+    alloc: Global,
+    descriptor: &[u8],
+    before: &[u8],
+    after: &[u8],
+    events: &[Event],
+) -> Result<bool, Fail> {
+    let layout = Layout::parse(alloc, descriptor)?;
+    let mut old = View::initial(alloc, &layout)?;
+    let mut new = View::initial(alloc, &layout)?;
+    let mut told = Vec::new(alloc);
+    told.reserve(layout.max_events())?;
+    let taken = take_all::<WordCodec>(&layout, &mut old, &[before], &mut told)
+        && take_all::<WordCodec>(&layout, &mut new, &[after], &mut told);
     told.clear();
-    changes(&layout, &before, &after, &mut told);
-    assert_eq!(rt; told.as_slice(), [TO_3].as_slice());
+    changes(&layout, &old, &new, &mut told);
+    Ok(taken && told.as_slice() == events)
+}
+
+#[test]
+fn views_are_compared(rt: HostRuntime) -> Result<(), Fail> {
+    let keys_up = compared(
+        rt.alloc(),
+        &KEYBOARD,
+        &[2, 0, 4, 0, 0, 0, 0, 0],
+        &[0; 8],
+        &[SHIFT_UP, A_UP],
+    )?;
+    assert!(rt; keys_up);
+    assert!(rt; compared(rt.alloc(), &HAT, &[0x08], &[3], &[TO_3])?);
     Ok(())
 }
 
