@@ -8,6 +8,10 @@ use Rattle.hid_device.specs.declared.config.Boot.TheVariants as boot
 use Rattle.hid_layout.specs.declared.boot.TheConstants.{KEYBOARD, MOUSE}
 use Rattle.hid_device.specs.Config.{is_config}
 use Rattle.hid_device.specs.Inputs.{input_count}
+use Rattle.hid_device.specs.declared.config.Boot.{Boot}
+use Rattle.hid_device.specs.Deciding.{config_info, reads_if, configuration_number}
+use Rattle.hid_device.specs.Decisions.{Refuses, Reads}
+use Rattle.hid_requests.specs.Descriptors.{configuration_bytes}
 
 -- the wheel and the button are two Input reports; an Output report behind them is none
 abbrev report : ReportKind → ℕ → Report
@@ -35,3 +39,41 @@ address_of_eight_bits = refl
 -- Input reports come from endpoint 1
 endpoint_of_reports : ENDPOINT ≡ 1
 endpoint_of_reports = refl
+
+-- what a host reads of a device of this kind whose report descriptor has so many bytes (HID 1.11, 4.2, 4.3 and appendix E)
+abbrev configuration : Boot → ℕ → List ℕ
+configuration kind len = configuration_bytes (config_info (record { vendor = 0xFFFF; product = 1; interval = 10; boot = kind }) len) 10
+
+boot_keyboard : configuration boot.Keyboard 63
+    ≡ 0x09 ∷ 0x02 ∷ 0x22 ∷ 0x00 ∷ 0x01 ∷ 0x01 ∷ 0x00 ∷ 0x80 ∷ 0x32
+    ∷ 0x09 ∷ 0x04 ∷ 0x00 ∷ 0x00 ∷ 0x01 ∷ 0x03 ∷ 0x01 ∷ 0x01 ∷ 0x00
+    ∷ 0x09 ∷ 0x21 ∷ 0x11 ∷ 0x01 ∷ 0x00 ∷ 0x01 ∷ 0x22 ∷ 0x3F ∷ 0x00
+    ∷ 0x07 ∷ 0x05 ∷ 0x81 ∷ 0x03 ∷ 0x40 ∷ 0x00 ∷ 0x0A ∷ []
+boot_keyboard = refl
+
+boot_mouse_of_50 : configuration boot.Mouse 50
+    ≡ 0x09 ∷ 0x02 ∷ 0x22 ∷ 0x00 ∷ 0x01 ∷ 0x01 ∷ 0x00 ∷ 0x80 ∷ 0x32
+    ∷ 0x09 ∷ 0x04 ∷ 0x00 ∷ 0x00 ∷ 0x01 ∷ 0x03 ∷ 0x01 ∷ 0x02 ∷ 0x00
+    ∷ 0x09 ∷ 0x21 ∷ 0x11 ∷ 0x01 ∷ 0x00 ∷ 0x01 ∷ 0x22 ∷ 0x32 ∷ 0x00
+    ∷ 0x07 ∷ 0x05 ∷ 0x81 ∷ 0x03 ∷ 0x40 ∷ 0x00 ∷ 0x0A ∷ []
+boot_mouse_of_50 = refl
+
+plain_device : configuration boot.No 300
+    ≡ 0x09 ∷ 0x02 ∷ 0x22 ∷ 0x00 ∷ 0x01 ∷ 0x01 ∷ 0x00 ∷ 0x80 ∷ 0x32
+    ∷ 0x09 ∷ 0x04 ∷ 0x00 ∷ 0x00 ∷ 0x01 ∷ 0x03 ∷ 0x00 ∷ 0x00 ∷ 0x00
+    ∷ 0x09 ∷ 0x21 ∷ 0x11 ∷ 0x01 ∷ 0x00 ∷ 0x01 ∷ 0x22 ∷ 0x2C ∷ 0x01
+    ∷ 0x07 ∷ 0x05 ∷ 0x81 ∷ 0x03 ∷ 0x40 ∷ 0x00 ∷ 0x0A ∷ []
+plain_device = refl
+
+-- of a device that isn't configured: its number is 0, and what a configured device alone answers is refused
+not_configured : configuration_number false ≡ 0
+not_configured = refl
+
+configured_once : configuration_number true ≡ 1
+configured_once = refl
+
+refused_before : reads_if false (0 ∷ []) ≡ Refuses
+refused_before = refl
+
+read_after : reads_if true (0 ∷ []) ≡ Reads (0 ∷ [])
+read_after = refl

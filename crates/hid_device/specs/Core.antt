@@ -1,4 +1,5 @@
--- What a contract sees of a device's inside, and what befalls it (USB 2.0, 8.5.4, 8.6 and 9.4.7; HID 1.11, 7.2.4).
+-- What a contract sees of a device's inside, and what befalls it (USB 2.0, 8.5.4, 8.6, 9.2 and 9.4.7; HID 1.11,
+-- 7.2.4).
 use Rattle.std.specs.Prelude.{◌≡◌, ℕ, ◌<◌, Bool, true, false, not, List, length, Option, Some, None}
 use Rattle.hid_layout.specs.Layout.{Contents}
 use Rattle.hid_layout.specs.Controls.{items_of}
@@ -11,11 +12,14 @@ use Rattle.hid_cells.specs.Parts.{has_zeros}
 use Rattle.usb_packet.specs.declared.packet.Packet.{Packet}
 use Rattle.usb_transact.specs.Device.{answer_with}
 use Rattle.hid_device.specs.declared.config.Config.{Config}
+use Rattle.hid_device.specs.declared.decisions.Pending.{Pending}
+use Rattle.hid_device.specs.Laying.{Lays}
 use Rattle.hid_device.specs.Inputs.{input_count, AreInputsFirst}
 use Rattle.hid_device.specs.Standing.{Standing, configured, first_due, after_change, after_frame, after_opening}
 
 -- Its layout, its configuration and its descriptor; whether SET_CONFIGURATION took effect; how it stands; the
--- report of the round that is open, where one is; and whether data go out as DATA1.
+-- report of the round that is open, where one is; whether data go out as DATA1; and of the last request the answer,
+-- where it has one, and what is carried out when its status is asked for.
 pub record CoreState : Type 0 where
   pub layout : Contents
   pub config : Config
@@ -24,6 +28,8 @@ pub record CoreState : Type 0 where
   pub standing : Standing
   pub current : Option ℕ
   pub toggle : Bool
+  pub answer : Option (List ℕ)
+  pub pending : Pending
 
 -- A round of a report opens: the part that it shows is fixed.
 abbrev pub opened_core : CoreState → ℕ → CoreState
@@ -94,6 +100,7 @@ IsBelow count (Some r) = r < count
 
 -- What holds of every device.
 pub record IsSound (core : CoreState) : Type 0 where
+  pub lays : Lays core.descriptor core.layout
   pub empty_codes : has_empty_codes core.layout ≡ true
   pub zeros : has_zeros (items_of core.layout) ≡ true
   pub inputs_first : AreInputsFirst core.layout.reports

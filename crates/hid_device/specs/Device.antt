@@ -1,21 +1,45 @@
--- What a contract sees of a device, and what it makes of each packet that arrives (USB 2.0, 8.4.6.1, 8.5.4 and 8.6).
-use Rattle.std.specs.Prelude.{◌≡◌, ℕ, Bool, true, false, ◌&&◌, ◌==◌, if◌then◌else◌, is_some, Option, Some, None}
+-- What a contract sees of a device, and what it makes of each packet that arrives (USB 2.0, 8.4.6.1, 8.5.3, 8.5.4 and
+-- 8.6).
+use Rattle.std.specs.Prelude.{◌≡◌, ℕ, Bool, true, false, not, ◌&&◌, ◌==◌, if◌then◌else◌, is_some, Option, Some, None}
 use Rattle.hid_cells.specs.declared.change.Change.{Change}
 use Rattle.usb_packet.specs.declared.packet.Packet.{Packet}
 use Rattle.usb_packet.specs.declared.packet.Packet.TheVariants.{Token, Data, Ack, Nak, Stall}
 use Rattle.usb_packet.specs.declared.packet.TokenKind.TheVariants.{Out, In, Setup}
+use Rattle.usb_control.specs.declared.device.Heard.TheVariants.{Nothing}
+use Rattle.usb_control.specs.Device.{DevControlState, Effect, effect}
+use Rattle.usb_control.specs.Computed.{answer_to, control_after}
 use Rattle.hid_device.specs.declared.device.TheConstants.{ENDPOINT}
 use Rattle.hid_device.specs.Core.{CoreState, opening_of, closed_core, configured_core, changed_core, framed_core, Answers}
+use Rattle.hid_device.specs.Deciding.{core_table}
 
--- its address, its inside, and whether the last packet was answered with data of its endpoint, so that an ACK counts
+-- its address, its endpoint 0 with its inside, and whether the last packet was answered with data of its pipe, so that
+-- an ACK counts there
 pub record DeviceState : Type 0 where
   pub addr : ℕ
-  pub core : CoreState
+  pub control : DevControlState CoreState
   pub waits : Bool
+
+-- the inside
+abbrev pub core_of : DeviceState → CoreState
+core_of d = d.control.requests
+
+-- the device with another inside
+abbrev pub with_core : DeviceState → CoreState → DeviceState
+with_core d core = record d {
+  control = record { requests = core; stage = d.control.stage; heard = d.control.heard };
+}
+
+-- the device after a packet that isn't endpoint 0's, with this inside: what endpoint 0 heard before it counts no more
+abbrev pub passed : DeviceState → CoreState → Bool → DeviceState
+passed d core waits = record {
+  addr = d.addr;
+  control = record { requests = core; stage = d.control.stage; heard = Nothing };
+  waits = waits;
+}
 
 -- a poll is an IN token to the device's address and endpoint, once the device is configured
 abbrev pub is_poll : DeviceState → Packet → Bool
-is_poll d (Token In addr endp) = d.core.is_configured && ((addr == d.addr) && (endp == ENDPOINT))
+is_poll d (Token In addr endp) = (core_of d).is_configured && ((addr == d.addr) && (endp == ENDPOINT))
 is_poll d (Token Out addr endp) = false
 is_poll d (Token Setup addr endp) = false
 is_poll d (Data one payload) = false
@@ -24,47 +48,70 @@ is_poll d Nak = false
 is_poll d Stall = false
 
 -- it waits for an ACK exactly where it answers with data
-abbrev pub polled_device : ℕ → CoreState → DeviceState
-polled_device addr core = record { addr = addr; core = core; waits = is_some core.current }
+abbrev pub polled_device : DeviceState → CoreState → DeviceState
+polled_device d core = passed d core (is_some core.current)
 
--- an ACK counts directly behind the data to which it belongs
-abbrev pub after_ack : CoreState → Bool → CoreState
-after_ack core waits = if waits then closed_core core else core
+-- Endpoint 0 is given tokens to it, data, which no other endpoint takes, and each ACK that isn't directly behind the
+-- data of a poll.
+abbrev pub is_control : DeviceState → Packet → Bool
+is_control d (Token kind addr endp) = (addr == d.addr) && (endp == 0)
+is_control d (Data one payload) = true
+is_control d Ack = not d.waits
+is_control d Nak = false
+is_control d Stall = false
 
--- any packet but a poll ends the wait
+-- what a packet brings about at endpoint 0
+abbrev pub effect_of : DeviceState → Packet → Effect
+effect_of d packet = effect (core_of d).answer d.control.stage d.control.heard packet
+
+-- the device after that
+abbrev pub controlled : DeviceState → Effect → DeviceState
+controlled d effect =
+    record { addr = d.addr; control = control_after core_table effect (core_of d); waits = false }
+
+-- any other packet but a poll ends a wait, and an ACK directly behind the data of a poll closes the round
+abbrev pub unheard : DeviceState → Packet → DeviceState
+unheard d Ack = passed d (closed_core (core_of d)) false
+unheard d (Token kind addr endp) = passed d (core_of d) false
+unheard d (Data one payload) = passed d (core_of d) false
+unheard d Nak = passed d (core_of d) false
+unheard d Stall = passed d (core_of d) false
+
+-- what is no poll
 abbrev pub heard : DeviceState → Packet → DeviceState
-heard d Ack = record d { core = after_ack d.core d.waits; waits = false }
-heard d (Token kind addr endp) = record d { waits = false }
-heard d (Data one payload) = record d { waits = false }
-heard d Nak = record d { waits = false }
-heard d Stall = record d { waits = false }
+heard d packet = if is_control d packet then controlled d (effect_of d packet) else unheard d packet
 
 -- The device after a packet arrived.
 abbrev pub device_after : DeviceState → Packet → DeviceState
-device_after d packet = if is_poll d packet then polled_device d.addr (opening_of d.core) else heard d packet
+device_after d packet = if is_poll d packet then polled_device d (opening_of (core_of d)) else heard d packet
 
 -- a poll has an answer, and it is the one of the round
 abbrev pub AnswersPoll : CoreState → Option Packet → Type 0
 AnswersPoll core None = ⊥
 AnswersPoll core (Some packet) = Answers core packet
 
--- a packet that is a poll is answered so, and any other by nothing
-abbrev pub AnswersIf : Bool → CoreState → Option Packet → Type 0
-AnswersIf true core result = AnswersPoll core result
-AnswersIf false core result = result ≡ None
+-- endpoint 0 answers as a control transfer goes, and nothing else is answered
+abbrev pub control_answer : DeviceState → Packet → Option Packet
+control_answer d packet = if is_control d packet then answer_to (effect_of d packet) else None
 
--- What it answers: a poll as it stands once a round was opened for it, and nothing else.
+-- a packet that is a poll is answered so, and any other by this
+abbrev pub AnswersIf : Bool → CoreState → Option Packet → Option Packet → Type 0
+AnswersIf true core other result = AnswersPoll core result
+AnswersIf false core other result = result ≡ other
+
+-- What it answers: a poll as it stands once a round was opened for it, and endpoint 0.
 abbrev pub DeviceAnswers : DeviceState → Packet → Option Packet → Type 0
-DeviceAnswers d packet result = AnswersIf (is_poll d packet) (opening_of d.core) result
+DeviceAnswers d packet result =
+    AnswersIf (is_poll d packet) (opening_of (core_of d)) (control_answer d packet) result
 
--- a configuration ends the wait too
+-- a configuration without a transfer ends the pipe's wait too
 abbrev pub configured_device : DeviceState → DeviceState
-configured_device d = record d { core = configured_core d.core; waits = false }
+configured_device d = record (with_core d (configured_core (core_of d))) { waits = false }
 
 -- a change reaches its inside alone
 abbrev pub changed_device : DeviceState → Change → DeviceState
-changed_device d change = record d { core = changed_core d.core change }
+changed_device d change = with_core d (changed_core (core_of d) change)
 
 -- and so does a frame
 abbrev pub framed_device : DeviceState → DeviceState
-framed_device d = record d { core = framed_core d.core }
+framed_device d = with_core d (framed_core (core_of d))

@@ -2,6 +2,10 @@ pub use Rattle.hid_lives.specs.Standing
 pub mod Config
 pub mod Fault
 pub mod Inputs
+pub mod Laying
+pub mod Decisions
 pub mod Core
+pub mod Deciding
+pub mod DecidingLaws
 pub mod Device
 pub mod Making

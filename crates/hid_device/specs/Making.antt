@@ -1,8 +1,7 @@
 -- Which descriptors and configurations make a device, and why others don't (our choice).
 use Rattle.std.specs.Prelude.{◌≡◌, ℕ, true, false, List, replicate, None, Result, Ok, Err}
-use Rattle.hid_descriptor.specs.Items.{Item}
-use Rattle.hid_descriptor.specs.Faults.{Accepts, Explains}
-use Rattle.hid_layout.specs.Layout.{Contents, layout_of}
+use Rattle.hid_descriptor.specs.Faults.{Explains}
+use Rattle.hid_layout.specs.Layout.{Contents}
 use Rattle.hid_layout.specs.Controls.{items_of}
 use Rattle.hid_cells.specs.Cells.{blank}
 use Rattle.hid_cells.specs.Codes.{has_empty_codes}
@@ -13,6 +12,9 @@ use Rattle.hid_device.specs.declared.fault.DeviceCause.TheVariants.{BadConfig, L
 use Rattle.hid_device.specs.declared.fault.DeviceFault.{DeviceFault}
 use Rattle.hid_device.specs.Config.{is_config}
 use Rattle.hid_device.specs.Inputs.{input_count}
+use Rattle.usb_control.specs.Device.{idle}
+use Rattle.hid_device.specs.declared.decisions.Pending.TheVariants.{Nothing}
+pub use Rattle.hid_device.specs.Laying.{Lays}
 use Rattle.hid_device.specs.Core.{CoreState}
 use Rattle.hid_device.specs.Device.{DeviceState}
 
@@ -31,20 +33,16 @@ new_core config descriptor layout = record {
   };
   current = None;
   toggle = false;
+  answer = None;
+  pending = Nothing;
 }
 
--- and such a device at an address, which waits for no ACK
+-- and such a device at an address, which waits for no ACK, and of which no request is open
 abbrev pub new_device : ℕ → Config → List ℕ → Contents → DeviceState
 new_device addr config descriptor layout =
-    record { addr = addr; core = new_core config descriptor layout; waits = false }
+    record { addr = addr; control = idle (new_core config descriptor layout); waits = false }
 
--- the descriptor is accepted with this layout
-pub record Lays (descriptor : List ℕ) (layout : Contents) : Type 0 where
-  pub items : List Item
-  pub accepted : Accepts descriptor items
-  pub laid : layout ≡ layout_of items
-
--- and a device can send every report of it
+-- a descriptor is accepted with this layout, and a device can send every report of it
 pub record CanServe (descriptor : List ℕ) (layout : Contents) : Type 0 where
   pub lays : Lays descriptor layout
   pub empty_codes : has_empty_codes layout ≡ true

@@ -2,8 +2,11 @@
 
 ghost use Rattle.std.specs.Prelude.{◌≡◌};
 ghost use Rattle.hid_device.specs.Config.{is_config, suits_boot};
+ghost use Rattle.hid_device.specs.Deciding.{config_info, device_info, protocol_of, subclass_of};
 
+use crate::device::ENDPOINT;
 use hid_layout::boot::{KEYBOARD, MOUSE};
+use usb_control::{ConfigInfo, DeviceInfo};
 use usb_packet::MAX_ADDRESS;
 
 /// Whether the reports of a device are those of the boot protocol (HID 1.11, 4.2 and appendix B).
@@ -17,6 +20,29 @@ pub enum Boot {
     Mouse,
 }
 
+impl Boot {
+    /// bInterfaceSubClass (HID 1.11, 4.2).
+    fn subclass(self) -> u8
+        ensures { result ≡ subclass_of self }
+    {
+        match self {
+            Boot::No => 0,
+            Boot::Keyboard | Boot::Mouse => 1,
+        }
+    }
+
+    /// bInterfaceProtocol (HID 1.11, 4.3).
+    fn protocol(self) -> u8
+        ensures { result ≡ protocol_of self }
+    {
+        match self {
+            Boot::No => 0,
+            Boot::Keyboard => 1,
+            Boot::Mouse => 2,
+        }
+    }
+}
+
 /// What the standard descriptors tell of a device (USB 2.0, 9.6).
 #[derive(Clone, Copy, Debug, PartialEq, Eq)]
 pub struct Config {
@@ -28,6 +54,30 @@ pub struct Config {
     pub interval: u8,
     /// Its subclass and protocol.
     pub boot: Boot,
+}
+
+impl Config {
+    /// What a host reads of its device descriptor.
+    pub(crate) fn device_info(&self) -> DeviceInfo
+        ensures { result ≡ device_info self.now }
+    {
+        DeviceInfo {
+            vendor: self.vendor,
+            product: self.product,
+        }
+    }
+
+    /// What a host reads of its configuration, where its report descriptor has this length.
+    pub(crate) fn config_info(&self, report_length: u16) -> ConfigInfo
+        ensures { result ≡ config_info self.now report_length }
+    {
+        ConfigInfo {
+            report_length,
+            endpoint: ENDPOINT,
+            subclass: self.boot.subclass(),
+            protocol: self.boot.protocol(),
+        }
+    }
 }
 
 /// Whether a descriptor is the one of its kind of boot device.

@@ -1,35 +1,36 @@
-//! A device on the bus.
+//! A device on the bus: which packets reach its pipe, and which its endpoint 0.
 
 ghost use Rattle.std.specs.Prelude.{◌≡◌, IfSome};
 ghost use Rattle.hid_layout.specs.Controls.{items_of};
 ghost use Rattle.hid_cells.specs.Snapshots.{Changes};
 ghost use Rattle.usb_packet.specs.Spelling.{Fits};
 ghost use Rattle.hid_device.specs.Core.{IsSound, IsArmed, Answers, opening_of, round_of};
-ghost use Rattle.hid_device.specs.Device.{is_poll, device_after, DeviceAnswers, configured_device, changed_device, framed_device, polled_device};
+ghost use Rattle.hid_device.specs.Device.{is_poll, device_after, DeviceAnswers, configured_device, controlled, core_of, changed_device, effect_of, framed_device, passed, polled_device};
 ghost use Rattle.hid_device.specs.Making.{MakesDevice};
 
 use crate::config::{Config, is_config};
 use crate::fault::{DeviceCause, DeviceFault};
-use crate::inside::Core;
+use crate::state::Core;
 use hid_cells::{Change, ChangeFault};
 use hid_layout::Layout;
 use hid_parts::Shown;
 use std::alloc::Global;
 use std::marker::Model;
 use std::mem;
+use usb_control::DevControl;
 use usb_packet::{Packet, TokenKind};
 use usb_transact::DevPipe;
 
 /// The number of a device's interrupt-IN endpoint (our choice).
 pub const ENDPOINT: u8 = 1;
 
-/// A virtual device. A contract sees it as `addr`, `core` and `waits`. It stands round [`Core`], which is what the device
-/// itself is: which packets reach it, and which ACK counts, is the bus's side of it.
+/// A virtual device. A contract sees it as `addr`, `control` and `waits`. It stands round its endpoint 0 and its [`Core`],
+/// which is what the device itself is: which packets reach it, and which ACK counts, is the bus's side of it.
 #[derive(Drop)]
 pub struct Device {
     addr: u8,
-    core: Core,
-    /// Whether the last packet was answered with data, so that an ACK counts.
+    control: DevControl<Core>,
+    /// Whether the last packet was a poll that was answered with data, so that an ACK is its own.
     waits: bool,
 }
 
@@ -38,10 +39,16 @@ impl Model for Device {
 
     ghost Value = { DeviceState };
 
-    ghost view = { λ d. record { addr = d.addr; core = d.core; waits = d.waits } };
+    ghost view = { λ d. record { addr = d.addr; control = d.control; waits = d.waits } };
 }
 
 impl Device {
+    ghost use Rattle.std.specs.Prelude.{false};
+    ghost use Rattle.std.specs.Borrow.{Lends, sem};
+    ghost use Rattle.usb_control.specs.contracts.device.DevControl.{the_row as control_row};
+    ghost use Rattle.hid_device.specs.contracts.device.Device.{the_row as device_row};
+    ghost use Rattle.hid_device.specs.contracts.state.Core.{the_row as core_row};
+
     /// A device at this address that isn't configured yet: nothing is pressed and nothing has moved. It makes all room that
     /// the other calls fill.
     pub fn new(
@@ -61,7 +68,7 @@ impl Device {
         let core = Core::new(alloc, config, descriptor)?;
         Ok(Device {
             addr,
-            core,
+            control: DevControl::new(core),
             waits: false,
         })
     }
@@ -71,7 +78,7 @@ impl Device {
     pub fn configure(&mut self)
         ensures { self.new ≡ configured_device self.old }
     {
-        self.core.configure();
+        self.control.requests_mut().configure();
         self.waits = false;
     }
 
@@ -79,22 +86,42 @@ impl Device {
     pub fn change(&mut self, change: Change) -> Result<(), ChangeFault>
         // It is done exactly where no fault stands, else it is refused for the first fault that stands.
         ensures changes { Changes
-            (items_of self.old.core.layout) self.old.core.standing.snapshot change result
-            self.new.core.standing.snapshot }
+            (items_of (core_of self.old).layout) (core_of self.old).standing.snapshot change result
+            (core_of self.new).standing.snapshot }
         ensures device { self.new ≡ changed_device self.old change }
     {
-        self.core.change(change)
+        self.control.requests_mut().change(change)
     }
 
     /// A frame of 1 ms passes: it counts for each Input report, up to 1,020.
     pub fn frame(&mut self)
         ensures { self.new ≡ framed_device self.old }
     {
-        self.core.frame();
+        self.control.requests_mut().frame();
+    }
+
+    /// Endpoint 0, to be given packets, or the control of a host's transfer. A wait of the pipe for an ACK ends.
+    pub fn control(&mut self) -> &mut DevControl<Core>
+        ensures* lends { sem 𝓛 (Lends device_row (control_row core_row) self.entry result
+            (λ w. record { addr = self.old.addr; control = w; waits = false })) }
+        ensures now { result.now ≡ self.old.control }
+    {
+        self.waits = false; // an ACK is endpoint 0's from now on
+        &mut self.control
     }
 
     /// What the device makes of a packet that arrives. It answers a poll, an IN token to its address and [`ENDPOINT`], once
-    /// it is configured, and nothing else (USB 2.0, 8.4.6.1 and 8.5.4).
+    /// it is configured, and its endpoint 0 answers as a control transfer goes; nothing else is answered (USB 2.0,
+    /// 8.4.6.1, 8.5.3 and 8.5.4).
+    ///
+    /// | packet | who hears it |
+    /// |---|---|
+    /// | a token to its address and endpoint 0 | endpoint 0 |
+    /// | IN to its address and [`ENDPOINT`], once it is configured | the pipe: a poll |
+    /// | data | endpoint 0, which looks whether its token stands before it |
+    /// | ACK directly behind the data of a poll | the pipe: its round is closed |
+    /// | another ACK | endpoint 0 |
+    /// | all else | none; it ends what either waits for |
     pub fn on_packet(&mut self, packet: &Packet) -> Option<Packet>
         // A poll opens a round where none is open and some report is due; an ACK directly behind its data closes it.
         ensures device { self.new ≡ device_after self.old packet.now }
@@ -102,78 +129,107 @@ impl Device {
 
         // An answer has a spelling, and can be read back.
         ensures fits { IfSome result (λ answer. Fits answer) }
-        ensures sound { IfSome result (λ _. IsSound self.new.core) }
+        ensures sound { IfSome result (λ _. IsSound (core_of self.new)) }
     {
         let waited = mem::replace(&mut self.waits, false);
         match packet {
+            Packet::Token { addr, endp, .. } if *addr == self.addr && *endp == 0 => self.hear(
+                packet,
+            ),
             Packet::Token {
                 kind: TokenKind::In,
                 addr,
                 endp,
             } if self.is_polled(*addr, *endp) => Some(self.poll()),
-            Packet::Ack => {
-                if waited {
-                    self.core.acknowledged();
-                }
+            Packet::Ack if waited => {
+                self.pass();
+                self.control.requests_mut().acknowledged();
                 None
             }
-            Packet::Token { .. } | Packet::Data { .. } | Packet::Nak | Packet::Stall => None,
+            Packet::Data { .. } | Packet::Ack => self.hear(packet),
+            Packet::Token { .. } | Packet::Nak | Packet::Stall => {
+                self.pass();
+                None
+            }
         }
     }
 
     /// The layout of its reports.
     pub fn layout(&self) -> &Layout
-        ensures layout { result.now ≡ self.now.core.layout }
-        ensures sound { IsSound self.now.core }
+        ensures layout { result.now ≡ (core_of self.now).layout }
+        ensures sound { IsSound (core_of self.now) }
     {
-        self.core.layout()
+        self.control.requests().layout()
     }
 
     /// The report of the open round, and whether its data go out as DATA1.
     pub fn open_round(&self) -> Option<(usize, bool)>
-        ensures { result ≡ round_of self.now.core }
+        ensures { result ≡ round_of (core_of self.now) }
     {
-        self.core.open_round()
+        self.control.requests().open_round()
     }
 
     /// The parts that were fixed last, blank where none was since the configuration.
     pub fn fixed(&self) -> &Shown
-        ensures { result.now ≡ self.now.core.standing.fixed }
+        ensures { result.now ≡ (core_of self.now).standing.fixed }
     {
-        self.core.fixed()
+        self.control.requests().fixed()
     }
 
     /// The pipe of its Input reports: something is armed exactly while a round is open, and it is the bytes of the part that
     /// was fixed for it.
     pub fn pipe(&self) -> &DevPipe
-        ensures toggle { result.now.toggle ≡ self.now.core.toggle }
-        ensures armed { IsArmed self.now.core.layout self.now.core.standing.fixed
-            self.now.core.current result.now.armed }
+        ensures toggle { result.now.toggle ≡ (core_of self.now).toggle }
+        ensures armed { IsArmed (core_of self.now).layout (core_of self.now).standing.fixed
+            (core_of self.now).current result.now.armed }
     {
-        self.core.pipe()
+        self.control.requests().pipe()
     }
 }
 
 impl Device {
+    ghost use Rattle.std.specs.Prelude.{false};
     ghost use Rattle.usb_packet.specs.declared.packet.Packet.TheVariants.{Token};
     ghost use Rattle.usb_packet.specs.declared.packet.TokenKind.TheVariants.{In};
+    ghost use Rattle.usb_control.specs.Computed.{answer_to};
 
     /// Whether an IN token to this endpoint polls the device.
     fn is_polled(&self, addr: u8, endp: u8) -> bool
         ensures { result ≡ is_poll self.now (Token In addr endp) }
     {
-        self.core.is_configured() && (addr == self.addr && endp == ENDPOINT)
+        self.control.requests().is_configured() && (addr == self.addr && endp == ENDPOINT)
+    }
+
+    /// Endpoint 0 hears a packet.
+    fn hear(&mut self, packet: &Packet) -> Option<Packet>
+        requires { self.old.waits ≡ false }
+        ensures device { self.new ≡ controlled self.old (effect_of self.old packet.now) }
+        ensures answer { result ≡ answer_to (effect_of self.old packet.now) }
+        ensures fits { IfSome result Fits }
+        ensures sound { IsSound (core_of self.new) }
+    {
+        let answer = self.control.on_packet(packet);
+        self.control.requests().is_sound();
+        answer
+    }
+
+    /// A packet that isn't endpoint 0's passes: what endpoint 0 heard before it counts no more.
+    fn pass(&mut self)
+        ensures { self.new ≡ passed self.old (core_of self.old) self.old.waits }
+    {
+        let _ = self.control.on_packet(&Packet::Nak);
     }
 
     /// The answer to a poll, once a round was opened for it.
     fn poll(&mut self) -> Packet
-        ensures device { self.new ≡ polled_device self.old.addr (opening_of self.old.core) }
-        ensures answer { Answers (opening_of self.old.core) result }
+        ensures device { self.new ≡ polled_device self.old (opening_of (core_of self.old)) }
+        ensures answer { Answers (opening_of (core_of self.old)) result }
         ensures fits { Fits result }
-        ensures sound { IsSound self.new.core }
+        ensures sound { IsSound (core_of self.new) }
     {
-        self.core.open_if_due();
-        self.waits = self.core.open_round().is_some();
-        self.core.answer()
+        self.pass();
+        self.control.requests_mut().open_if_due();
+        self.waits = self.control.requests().open_round().is_some();
+        self.control.requests().poll_answer()
     }
 }

@@ -1,4 +1,5 @@
-//! A virtual human interface device at the far end of the bus (USB 2.0, 8.4.6.1, 8.5.4 and 8.6; HID 1.11, 5 to 8).
+//! A virtual human interface device at the far end of the bus (USB 2.0, 8.4.6.1, 8.5.3, 8.5.4, 8.6
+//! and 9.4; HID 1.11, 5 to 8).
 //! ```text
 //!   host                 Device::on_packet                                  Core
 //!   IN 69 81 00 ------>  no round open: the lowest due report? -------->  Snapshot::due, idle times
@@ -9,6 +10,10 @@
 //!              <-------  what is armed under the toggle, else NAK          DevPipe::answer
 //!   ACK 0xD2 --------->  directly behind data: the round is closed         DevPipe::acknowledged
 //!
+//!   SETUP 2D 01 00, DATA0 80 08 .. -->  endpoint 0: DevControl           Core::prepare: decides, fixes the answer
+//!   IN 69 01 00 ------>  the answer, or STALL; or what is pending            Core::answer, Core::apply
+//!                            takes effect
+//!
 //!   Device::change       the snapshot alone; the open round stays as it was fixed
 //!   Device::frame        a frame more for each report, up to 1,020
 //!   Device::configure    DATA0, nothing armed, no round, blank parts, no frames; the snapshot stays
@@ -17,13 +22,14 @@
 //! same toggle, until its acknowledgement arrives. What changes meanwhile goes into a later round, and motion that its
 //! field can't carry stays in the snapshot for one.
 //!
-//! A new device isn't configured and answers nothing. All that endpoint 0 will read and write stands in `Core`, beside the
-//! address and the wait for an ACK.
+//! A new device isn't configured: it answers no poll, and at endpoint 0 what the standard has for that state. All that
+//! endpoint 0 reads and writes stands in [`Core`], beside the address and the wait for an ACK. Class requests get STALL.
 //!
 //! The promise: a device is made exactly where no cause of [`DeviceCause`] stands ([`Device::new`]); a packet does to it
 //! what `device_after` says, and is answered as `DeviceAnswers` says (`device` and `answer` on [`Device::on_packet`]), of
-//! which `specs/Rounds.antt` makes rounds and their events; something is armed exactly while a round is open, and it is the
-//! bytes of the part that was fixed for it (`armed` on [`Device::pipe`]). No call takes memory but [`Device::new`].
+//! which `specs/Rounds.antt` of `hid_lives` makes rounds and their events; something is armed exactly while a round is open,
+//! and it is the bytes of the part that was fixed for it (`armed` on [`Device::pipe`]). No call takes memory but
+//! [`Device::new`].
 //! ```text
 //!   let mut mouse = Device::new(alloc, 1, &config, &MOUSE)?;         // or Err, printed as `V10 at 12`
 //!   mouse.configure();
@@ -34,16 +40,18 @@
 #![tactic(auto)]
 
 mod config;
+mod decisions;
 mod device;
 mod fault;
 mod frames;
 mod inputs;
-mod inside;
+mod state;
 
 pub use config::{Boot, Config};
 pub use device::{Device, ENDPOINT};
 pub use fault::{DeviceCause, DeviceFault};
 pub use hid_layout::boot::{KEYBOARD, MOUSE};
+pub use state::Core;
 
 #[cfg(test)]
 mod tests;

@@ -4,3 +4,4 @@
 mod idle;
 mod making;
 mod polls;
+mod requests;

@@ -123,24 +123,24 @@ frame items deeds rest = record {
   partway = λ d odd view r crossed l. rest.partway (after_frame d) odd view r crossed (relink r crossed d (after_frame d) refl l);
 }
 
--- a configuration ends the open round, and toggles begin anew
+-- a configuration ends the open round, and both ends begin anew
 configured_quiet : (items : List Item) (deeds : List Deed) → Delivers items deeds → (d : Standing) (odd : Bool) (view : List Cell) → Lives items (Configures ∷ deeds) odd view [] (station d None odd view) (course d None)
 configured_quiet items deeds rest d odd view =
-    let h = rest.quiet (configured items d.snapshot d.idle) false view in
+    let h = rest.quiet (configured items d.snapshot d.idle) false (blank items) in
     record { events = h.events; standing = h.standing; open_round = h.open_round; part = h.part; view = h.view; toggle = h.toggle; expects = h.expects }
 
 configured_partway : (items : List Item) (deeds : List Deed) → Delivers items deeds → Partway items (Configures ∷ deeds)
 configured_partway items deeds rest d odd view r crossed l =
     let anew : Standing = configured items d.snapshot d.idle in
     let happened : List Happening = happenings items deeds (course anew None) in
-    let h = rest.quiet anew false (view_past items view crossed r) in
+    let h = rest.quiet anew false (blank items) in
     record {
       events = ap (λ (es : List Event). round_told items view crossed r ++ es) h.events
-          ∙ ap (λ (b : Bool). round_told items view b r ++ told_from items (view_past items view b r) happened) (sym l.crossed_is);
+          ∙ ap (λ (b : Bool). round_told items view b r ++ told_from items (blank items) happened) (sym l.crossed_is);
       standing = h.standing;
       open_round = h.open_round;
       part = h.part;
-      view = h.view ∙ ap (λ (b : Bool). view_from items (view_past items view b r) happened) (sym l.crossed_is);
+      view = h.view;
       toggle = h.toggle;
       expects = h.expects;
     }

@@ -370,7 +370,11 @@ blank_parts_each (item ∷ items) = joined _ _ _ _ (shown_moves (head_of item.fo
 -- what befalls a station leaves it its motions, and between rounds a configuration loses none
 deed_moving : (items : List Item) (s : Station) (x : Deed) → HasMotions items s → HasMotions items (befallen items s x)
 deed_moving items s (Own x) moving = step_moving items s x moving
-deed_moving items s Configures moving = record { snapshot = moving.snapshot; fixed = blank_parts_each items; view = moving.view }
+deed_moving items s Configures moving = record {
+  snapshot = moving.snapshot;
+  fixed = blank_parts_each items;
+  view = length-map items (λ item. blank_cell (head_of item.form));
+}
 
 configured_same : (items : List Item) (s : Station) (c : ControlId) → s.current ≡ None → station_motion items s c ≡ station_motion items (befallen items s Configures) c
 configured_same items s c none_open = ap (λ (o : Option Open). motion_of s.standing.snapshot c +ℤ open_motion items s.standing.fixed o c) none_open

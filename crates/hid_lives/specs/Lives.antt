@@ -1,13 +1,13 @@
 -- The life of a device with its host: what befalls the device, and what comes of it and is told (USB 2.0, 8.5.4, 8.6
 -- and 9.4.7).
-use Rattle.std.specs.Prelude.{Bool, false, not, if◌then◌else◌, List, [], ◌∷◌, ◌++◌, map, None}
+use Rattle.std.specs.Prelude.{Bool, false, not, if◌then◌else◌, List, [], ◌∷◌, ◌++◌, map}
 use Rattle.hid_layout.specs.Controls.{Item}
 use Rattle.hid_cells.specs.declared.cell.Cell.{Cell}
 use Rattle.hid_cells.specs.declared.event.Event.{Event}
+use Rattle.hid_cells.specs.Cells.{blank}
 use Rattle.hid_cells.specs.Views.{seen}
-use Rattle.hid_lives.specs.Standing.{configured}
 use Rattle.hid_lives.specs.Rounds.{OwnStep, Round, Course, has_crossed, fresh_course, after_step, closed_by, still_open, part_events}
-use Rattle.hid_lives.specs.Stations.{Station, after, events_at}
+use Rattle.hid_lives.specs.Stations.{Station, fresh, after, events_at}
 
 -- What befalls a device: what happens at it by itself, or a configuration takes effect.
 pub data Deed : Type 0 where
@@ -18,7 +18,7 @@ pub data Deed : Type 0 where
 abbrev pub owns : List OwnStep → List Deed
 owns steps = map (λ x. Own x) steps
 
--- What comes of it: a round ends, and toggles begin anew at DATA0.
+-- What comes of it: a round ends, or both ends begin anew, with toggles at DATA0 and the initial view.
 pub data Happening : Type 0 where
   Ended : Round → Happening
   Began : Happening
@@ -61,13 +61,13 @@ told_from items view [] = []
 told_from items view (Ended round ∷ rest) =
     round_told items view (has_crossed round) round
     ++ told_from items (view_past items view (has_crossed round) round) rest
-told_from items view (Began ∷ rest) = told_from items view rest
+told_from items view (Began ∷ rest) = told_from items (blank items) rest
 
 -- the view behind it
 abbrev pub view_from : List Item → List Cell → List Happening → List Cell
 view_from items view [] = view
 view_from items view (Ended round ∷ rest) = view_from items (view_past items view (has_crossed round) round) rest
-view_from items view (Began ∷ rest) = view_from items view rest
+view_from items view (Began ∷ rest) = view_from items (blank items) rest
 
 -- a toggle behind it, which each of these rounds changes (USB 2.0, 8.6)
 abbrev pub toggle_from : (Round → Bool) → Bool → List Happening → Bool
@@ -75,11 +75,11 @@ toggle_from changes odd [] = odd
 toggle_from changes odd (Ended round ∷ rest) = toggle_from changes (if changes round then not odd else odd) rest
 toggle_from changes odd (Began ∷ rest) = toggle_from changes false rest
 
--- The station after a deed: a configuration forgets the open round, the parts that were fixed and the counts.
+-- The station after a deed: behind a configuration both ends are freshly configured, the host with its initial view. (A
+-- host that is ready hears nothing of it: it is made anew, or reads the device again.)
 abbrev pub befallen : List Item → Station → Deed → Station
 befallen items s (Own x) = after items s x
-befallen items s Configures =
-    record s { standing = configured items s.standing.snapshot s.standing.idle; current = None; odd = false }
+befallen items s Configures = fresh items s.standing.snapshot s.standing.idle
 
 -- and after a list of them
 abbrev pub befallen_all : List Item → Station → List Deed → Station

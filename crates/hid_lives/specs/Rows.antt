@@ -24,9 +24,6 @@ move i j by = Changes (change.Move (at i j) by)
 abbrev pub key_down : ℕ → Event
 key_down id = event.Down (at 4 id) (usage 7 id)
 
-abbrev pub key_up : ℕ → Event
-key_up id = event.Up (at 4 id) (usage 7 id)
-
 abbrev pub motion_x : ℤ → Event
 motion_x by = event.Motion (at 2 0) (usage 1 0x30) by
 
@@ -36,8 +33,8 @@ Tells items idle deeds events =
     told_from items (blank items) (happenings items deeds (fresh_course items (blank items) (idle ∷ []))) ≡ events
 
 -- how both ends stand behind such a life
-abbrev pub behind : List Item → List Deed → Station
-behind items deeds = befallen_all items (fresh items (blank items) (0 ∷ [])) deeds
+abbrev pub behind : List Item → ℕ → List Deed → Station
+behind items idle deeds = befallen_all items (fresh items (blank items) (idle ∷ [])) deeds
 
 -- and behind its own steps alone, where no idle time is set
 abbrev pub stands_after : List Item → List OwnStep → Station

@@ -9,8 +9,8 @@
 //!   Report     81 06 00 22 00 00 length           ReportDescriptor   the descriptor of the device's reports
 //!   Configure  00 09 01 00 00 00 00 00            SetConfiguration   it takes effect
 //! ```
-//! The rule to know: a row has one wValue and one wIndex, and a request with another one is nothing that a device
-//! answers. wLength counts in a write alone; the answer to a read is cut to it as it is sent.
+//! The rule to know: a row has one wValue and one wIndex, the status of endpoint 0 two; a request with others is nothing
+//! that a device answers. wLength counts in a write alone; the answer to a read is cut to it as it is sent.
 //!
 //! The promise: a request is told as the row that the standard's tables have for it ([`what_is_asked`]), what a host asks
 //! has a row ([`laws::requests_have_rows`]), and what a host reads of a device's configuration is what it was made of

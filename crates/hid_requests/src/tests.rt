@@ -66,7 +66,7 @@ const ROWS: [(&str, [u8; 8], Option<Asked>); 34] = [
 ];
 
 #[test]
-fn a_row_has_one_value_and_one_index(rt: HostRuntime) {
+fn what_is_asked_is_a_row(rt: HostRuntime) {
     for (name, bytes, asked) in ROWS {
         assert_eq!(rt; what_is_asked(&Setup::from_bytes(&bytes)), asked, "{name}");
     }

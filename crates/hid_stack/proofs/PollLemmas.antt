@@ -30,7 +30,7 @@ use Rattle.usb_transact.proofs.TableLemmas.{read_whole, read_lost, took_answer}
 use Rattle.hid_device.specs.declared.device.TheConstants.{ENDPOINT}
 use Rattle.hid_lives.specs.Standing.{first_due}
 use Rattle.hid_device.specs.Core.{CoreState, IsSound, IsArmed, AreBytesOf, opened_core_if, opening_of, closed_core}
-use Rattle.hid_device.specs.Device.{DeviceState, polled_device}
+use Rattle.hid_device.specs.Device.{DeviceState, passed, polled_device}
 use Rattle.hid_stack.specs.declared.fault.StackFault.{StackFault}
 use Rattle.hid_stack.specs.declared.step.Told.{Told}
 use Rattle.hid_stack.specs.declared.step.Told.TheVariants.{Polled}
@@ -102,14 +102,14 @@ abbrev pub sharing : CoreState → Known → Known
 sharing c known = record known { layout = c.layout }
 
 -- a poll whose token arrived, from the device's answer on
-pub record Arrives (fate : Fate) (c : CoreState) (known : Known) (addr home : ℕ) (packet : Packet)
+pub record Arrives (fate : Fate) (c : CoreState) (known : Known) (d : DeviceState) (home : ℕ) (packet : Packet)
     (result : Result Told StackFault) (device_then : DeviceState) (host_then : HostEnd) (events : List Event) : Type 0 where
   pub reply : Option Packet
   pub replied : Carries (arrives_under fate) Reply packet reply
   pub told : result ≡ told_with (Some packet) (told_of c.layout (taken known.pipe.expects reply))
   pub host_moved : host_then ≡ ready_after home (sharing c known) (taken known.pipe.expects reply)
   pub delivers : events ≡ events_behind (sharing c known) (taken known.pipe.expects reply)
-  pub ended : Ends (arrives_under fate) (told_of c.layout (taken known.pipe.expects reply)) (polled_device addr c) device_then
+  pub ended : Ends (arrives_under fate) (told_of c.layout (taken known.pipe.expects reply)) (polled_device d c) device_then
 
 -- what a poll makes of the station, once a round was opened for it
 pub record Lands (fate : Fate) (of : Station → Member) (s : Station)
@@ -131,15 +131,16 @@ pair_of d e h home known device_is host_is pair =
     subst (λ (x : DeviceState). IsPair x h.phase) (sym device_is) (subst (λ (x : HostEnd). IsPair e x.phase) (sym host_is) pair)
 
 -- the device's wait, behind its answer
-abbrev waiting : ℕ → CoreState → ℕ → DeviceState
-waiting addr c r = polled_device addr (record c { current = Some r })
+abbrev waiting : DeviceState → CoreState → ℕ → DeviceState
+waiting d c r = polled_device d (record c { current = Some r })
 
-abbrev closed_device : ℕ → CoreState → ℕ → DeviceState
-closed_device addr c r = record { addr = addr; core = closed_core (record c { current = Some r }); waits = false }
+abbrev closed_device : DeviceState → CoreState → ℕ → DeviceState
+closed_device d c r = passed d (closed_core (record c { current = Some r })) false
 
 -- what holds of a device holds once its round is closed
 closed_sound : (c : CoreState) (r : ℕ) → IsSound (record c { current = Some r }) → IsSound (closed_core (record c { current = Some r }))
 closed_sound c r s = record {
+  lays = s.lays;
   empty_codes = s.empty_codes;
   zeros = s.zeros;
   inputs_first = s.inputs_first;
@@ -151,20 +152,20 @@ closed_sound c r s = record {
 }
 
 -- an ACK that arrives closes the round
-ack_closes : (arrivals : Arrivals) (addr : ℕ) (c : CoreState) (r : ℕ) (after : DeviceState)
-    → arrivals Acknowledgement (spelling packets.Ack) ≡ Some (spelling packets.Ack) → HearsAck arrivals (waiting addr c r) after
-    → after ≡ closed_device addr c r
-ack_closes arrivals addr c r after whole h =
+ack_closes : (arrivals : Arrivals) (d : DeviceState) (c : CoreState) (r : ℕ) (after : DeviceState)
+    → arrivals Acknowledgement (spelling packets.Ack) ≡ Some (spelling packets.Ack) → HearsAck arrivals (waiting d c r) after
+    → after ≡ closed_device d c r
+ack_closes arrivals d c r after whole h =
     let came = read_whole arrivals Acknowledgement packets.Ack h.came whole h.carried in
-    let heard : Hears (waiting addr c r) (Some packets.Ack) h.answer after = subst (λ (o : Option Packet). Hears (waiting addr c r) o h.answer after) came h.heard in
+    let heard : Hears (waiting d c r) (Some packets.Ack) h.answer after = subst (λ (o : Option Packet). Hears (waiting d c r) o h.answer after) came h.heard in
     heard.1
 
 -- one that is lost leaves it open
-ack_lost : (arrivals : Arrivals) (addr : ℕ) (c : CoreState) (r : ℕ) (after : DeviceState)
-    → arrivals Acknowledgement (spelling packets.Ack) ≡ None → HearsAck arrivals (waiting addr c r) after → after ≡ waiting addr c r
-ack_lost arrivals addr c r after lost h =
+ack_lost : (arrivals : Arrivals) (d : DeviceState) (c : CoreState) (r : ℕ) (after : DeviceState)
+    → arrivals Acknowledgement (spelling packets.Ack) ≡ None → HearsAck arrivals (waiting d c r) after → after ≡ waiting d c r
+ack_lost arrivals d c r after lost h =
     let came = read_lost arrivals Acknowledgement packets.Ack h.came lost h.carried in
-    let heard : Hears (waiting addr c r) None h.answer after = subst (λ (o : Option Packet). Hears (waiting addr c r) o h.answer after) came h.heard in
+    let heard : Hears (waiting d c r) None h.answer after = subst (λ (o : Option Packet). Hears (waiting d c r) o h.answer after) came h.heard in
     heard.1
 
 -- what a host makes of fresh data that show a part
@@ -193,21 +194,21 @@ abbrev open_station : CoreState → Known → ℕ → Bool → Station
 open_station c known r same = record { standing = c.standing; current = Some (record { report = r; crossed = not same }); odd = c.toggle; view = known.view }
 
 -- data that reach a host which expects them, where the ACK arrives
-fresh_clean : (c : CoreState) (known : Known) (addr home r : ℕ) (bytes : List ℕ) (result : Result Told StackFault) (device_then : DeviceState) (host_then : HostEnd) (events : List Event)
-    → Meets addr (record c { current = Some r }) known → ReadsAsShown c.layout r c.standing.fixed bytes known.view → AreBytesOf c.layout c.standing.fixed r bytes
+fresh_clean : (c : CoreState) (known : Known) (d : DeviceState) (home r : ℕ) (bytes : List ℕ) (result : Result Told StackFault) (device_then : DeviceState) (host_then : HostEnd) (events : List Event)
+    → Meets d.addr (record c { current = Some r }) known → ReadsAsShown c.layout r c.standing.fixed bytes known.view → AreBytesOf c.layout c.standing.fixed r bytes
     → beq c.toggle known.pipe.expects ≡ true
     → result ≡ told_with (Some (packets.Data c.toggle (payload bytes))) (told_of c.layout (Fresh (payload bytes)))
     → host_then ≡ ready_after home (sharing c known) (Fresh (payload bytes)) → events ≡ events_behind (sharing c known) (Fresh (payload bytes))
-    → HearsAck (arrives_under Clean) (waiting addr c r) device_then
-    → Lands Clean (member_with addr c) (open_station c known r true) result device_then host_then events
-fresh_clean c known addr home r bytes result device_then host_then events meets reads shows same told moved delivers hears =
-    let closes = ack_closes (arrives_under Clean) addr c r device_then refl hears in
+    → HearsAck (arrives_under Clean) (waiting d c r) device_then
+    → Lands Clean (member_with d.addr c) (open_station c known r true) result device_then host_then events
+fresh_clean c known d home r bytes result device_then host_then events meets reads shows same told moved delivers hears =
+    let closes = ack_closes (arrives_under Clean) d c r device_then refl hears in
     let host_is = moved ∙ fresh_host (sharing c known) home r c.standing.fixed bytes reads in
     record {
-      member = member_of device_then (closed_device addr c r) host_then home (seeing (sharing c known) r c.standing.fixed) closes host_is;
+      member = member_of device_then (closed_device d c r) host_then home (seeing (sharing c known) r c.standing.fixed) closes host_is;
       delivered = delivers ∙ fresh_events (sharing c known) r c.standing.fixed bytes reads;
       told = (bytes, shows, told ∙ ap (told_with (Some (packets.Data c.toggle (payload bytes)))) (fresh_told (sharing c known) r c.standing.fixed bytes reads));
-      pair = pair_of device_then (closed_device addr c r) host_then home (seeing (sharing c known) r c.standing.fixed) closes host_is (record {
+      pair = pair_of device_then (closed_device d c r) host_then home (seeing (sharing c known) r c.standing.fixed) closes host_is (record {
         configured = meets.configured;
         layout = refl;
         addr = meets.to_device;
@@ -220,20 +221,20 @@ fresh_clean c known addr home r bytes result device_then host_then events meets 
     }
 
 -- where it is lost
-fresh_ack_lost : (c : CoreState) (known : Known) (addr home r : ℕ) (bytes : List ℕ) (result : Result Told StackFault) (device_then : DeviceState) (host_then : HostEnd) (events : List Event)
-    → Meets addr (record c { current = Some r }) known → ReadsAsShown c.layout r c.standing.fixed bytes known.view → AreBytesOf c.layout c.standing.fixed r bytes
+fresh_ack_lost : (c : CoreState) (known : Known) (d : DeviceState) (home r : ℕ) (bytes : List ℕ) (result : Result Told StackFault) (device_then : DeviceState) (host_then : HostEnd) (events : List Event)
+    → Meets d.addr (record c { current = Some r }) known → ReadsAsShown c.layout r c.standing.fixed bytes known.view → AreBytesOf c.layout c.standing.fixed r bytes
     → beq c.toggle known.pipe.expects ≡ true
     → result ≡ told_with (Some (packets.Data c.toggle (payload bytes))) (told_of c.layout (Fresh (payload bytes)))
     → host_then ≡ ready_after home (sharing c known) (Fresh (payload bytes)) → events ≡ events_behind (sharing c known) (Fresh (payload bytes))
-    → HearsAck (arrives_under AckLost) (waiting addr c r) device_then
-    → Lands AckLost (member_with addr c) (open_station c known r true) result device_then host_then events
-fresh_ack_lost c known addr home r bytes result device_then host_then events meets reads shows same told moved delivers hears =
-    let stays = ack_lost (arrives_under AckLost) addr c r device_then refl hears in
+    → HearsAck (arrives_under AckLost) (waiting d c r) device_then
+    → Lands AckLost (member_with d.addr c) (open_station c known r true) result device_then host_then events
+fresh_ack_lost c known d home r bytes result device_then host_then events meets reads shows same told moved delivers hears =
+    let stays = ack_lost (arrives_under AckLost) d c r device_then refl hears in
     let host_is = moved ∙ fresh_host (sharing c known) home r c.standing.fixed bytes reads in
     let crossed = other_differs c.toggle known.pipe.expects same in
     record {
-      member = member_of device_then (waiting addr c r) host_then home (seeing (sharing c known) r c.standing.fixed) stays host_is
-          ∙ ap (λ (b : Bool). member_with addr c (record {
+      member = member_of device_then (waiting d c r) host_then home (seeing (sharing c known) r c.standing.fixed) stays host_is
+          ∙ ap (λ (b : Bool). member_with d.addr c (record {
             standing = c.standing;
             current = Some (record { report = r; crossed = not b });
             odd = c.toggle;
@@ -241,7 +242,7 @@ fresh_ack_lost c known addr home r bytes result device_then host_then events mee
           })) crossed;
       delivered = delivers ∙ fresh_events (sharing c known) r c.standing.fixed bytes reads;
       told = (bytes, shows, told ∙ ap (told_with (Some (packets.Data c.toggle (payload bytes)))) (fresh_told (sharing c known) r c.standing.fixed bytes reads));
-      pair = pair_of device_then (waiting addr c r) host_then home (seeing (sharing c known) r c.standing.fixed) stays host_is (record {
+      pair = pair_of device_then (waiting d c r) host_then home (seeing (sharing c known) r c.standing.fixed) stays host_is (record {
         configured = meets.configured;
         layout = refl;
         addr = meets.to_device;
@@ -254,20 +255,20 @@ fresh_ack_lost c known addr home r bytes result device_then host_then events mee
     }
 
 -- data that a host took before: where the ACK arrives, and where it is lost
-again_clean : (c : CoreState) (known : Known) (addr home r : ℕ) (bytes : List ℕ) (result : Result Told StackFault) (device_then : DeviceState) (host_then : HostEnd) (events : List Event)
-    → Meets addr (record c { current = Some r }) known → AreBytesOf c.layout c.standing.fixed r bytes
+again_clean : (c : CoreState) (known : Known) (d : DeviceState) (home r : ℕ) (bytes : List ℕ) (result : Result Told StackFault) (device_then : DeviceState) (host_then : HostEnd) (events : List Event)
+    → Meets d.addr (record c { current = Some r }) known → AreBytesOf c.layout c.standing.fixed r bytes
     → beq c.toggle known.pipe.expects ≡ false
     → result ≡ Ok (Polled (spelled (Some (packets.Data c.toggle (payload bytes)))) Again)
     → host_then ≡ ready_with home (sharing c known) → events ≡ []
-    → HearsAck (arrives_under Clean) (waiting addr c r) device_then
-    → Lands Clean (member_with addr c) (open_station c known r false) result device_then host_then events
-again_clean c known addr home r bytes result device_then host_then events meets shows differ told moved delivers hears =
-    let closes = ack_closes (arrives_under Clean) addr c r device_then refl hears in
+    → HearsAck (arrives_under Clean) (waiting d c r) device_then
+    → Lands Clean (member_with d.addr c) (open_station c known r false) result device_then host_then events
+again_clean c known d home r bytes result device_then host_then events meets shows differ told moved delivers hears =
+    let closes = ack_closes (arrives_under Clean) d c r device_then refl hears in
     record {
-      member = member_of device_then (closed_device addr c r) host_then home (sharing c known) closes moved;
+      member = member_of device_then (closed_device d c r) host_then home (sharing c known) closes moved;
       delivered = delivers;
       told = (bytes, shows, told);
-      pair = pair_of device_then (closed_device addr c r) host_then home (sharing c known) closes moved (record {
+      pair = pair_of device_then (closed_device d c r) host_then home (sharing c known) closes moved (record {
         configured = meets.configured;
         layout = refl;
         addr = meets.to_device;
@@ -279,21 +280,21 @@ again_clean c known addr home r bytes result device_then host_then events meets 
       });
     }
 
-again_ack_lost : (c : CoreState) (known : Known) (addr home r : ℕ) (bytes : List ℕ) (result : Result Told StackFault) (device_then : DeviceState) (host_then : HostEnd) (events : List Event)
-    → Meets addr (record c { current = Some r }) known → AreBytesOf c.layout c.standing.fixed r bytes
+again_ack_lost : (c : CoreState) (known : Known) (d : DeviceState) (home r : ℕ) (bytes : List ℕ) (result : Result Told StackFault) (device_then : DeviceState) (host_then : HostEnd) (events : List Event)
+    → Meets d.addr (record c { current = Some r }) known → AreBytesOf c.layout c.standing.fixed r bytes
     → beq c.toggle known.pipe.expects ≡ false
     → result ≡ Ok (Polled (spelled (Some (packets.Data c.toggle (payload bytes)))) Again)
     → host_then ≡ ready_with home (sharing c known) → events ≡ []
-    → HearsAck (arrives_under AckLost) (waiting addr c r) device_then
-    → Lands AckLost (member_with addr c) (open_station c known r false) result device_then host_then events
-again_ack_lost c known addr home r bytes result device_then host_then events meets shows differ told moved delivers hears =
-    let stays = ack_lost (arrives_under AckLost) addr c r device_then refl hears in
+    → HearsAck (arrives_under AckLost) (waiting d c r) device_then
+    → Lands AckLost (member_with d.addr c) (open_station c known r false) result device_then host_then events
+again_ack_lost c known d home r bytes result device_then host_then events meets shows differ told moved delivers hears =
+    let stays = ack_lost (arrives_under AckLost) d c r device_then refl hears in
     record {
-      member = member_of device_then (waiting addr c r) host_then home (sharing c known) stays moved
-          ∙ ap (λ (b : Bool). member_with addr c (open_station c known r b)) differ;
+      member = member_of device_then (waiting d c r) host_then home (sharing c known) stays moved
+          ∙ ap (λ (b : Bool). member_with d.addr c (open_station c known r b)) differ;
       delivered = delivers;
       told = (bytes, shows, told);
-      pair = pair_of device_then (waiting addr c r) host_then home (sharing c known) stays moved (record {
+      pair = pair_of device_then (waiting d c r) host_then home (sharing c known) stays moved (record {
         configured = meets.configured;
         layout = refl;
         addr = meets.to_device;
@@ -314,17 +315,17 @@ unread : (known : Known) (c : CoreState) (r : ℕ) → [] ≡ round_events (item
 unread known c r = either_none (not (beq c.toggle known.pipe.expects))
 
 -- where nothing is taken and no round closes, the station stays
-stays : (c : CoreState) (known : Known) (addr home : ℕ) (current : Option ℕ) (armed : Option (List ℕ))
+stays : (c : CoreState) (known : Known) (d : DeviceState) (home : ℕ) (current : Option ℕ) (armed : Option (List ℕ))
     (result : Result Told StackFault) (device_then : DeviceState) (host_then : HostEnd) (events : List Event)
-    → IsEven c.toggle known.pipe.expects current → Meets addr (record c { current = current }) known → IsArmed c.layout c.standing.fixed current armed
+    → IsEven c.toggle known.pipe.expects current → Meets d.addr (record c { current = current }) known → IsArmed c.layout c.standing.fixed current armed
     → result ≡ Ok (Polled (spelled (Some (answer_with c.toggle armed))) Silent)
-    → device_then ≡ polled_device addr (record c { current = current }) → host_then ≡ ready_with home (sharing c known) → events ≡ []
-    → Lands ReplyLost (member_with addr c) (joined (record c { current = current }) known) result device_then host_then events
-stays c known addr home None None result device_then host_then events even meets arms told device_is host_is none = record {
-  member = member_of device_then (polled_device addr (record c { current = None })) host_then home (sharing c known) device_is host_is;
+    → device_then ≡ polled_device d (record c { current = current }) → host_then ≡ ready_with home (sharing c known) → events ≡ []
+    → Lands ReplyLost (member_with d.addr c) (joined (record c { current = current }) known) result device_then host_then events
+stays c known d home None None result device_then host_then events even meets arms told device_is host_is none = record {
+  member = member_of device_then (polled_device d (record c { current = None })) host_then home (sharing c known) device_is host_is;
   delivered = none;
   told = ([], refl, told);
-  pair = pair_of device_then (polled_device addr (record c { current = None })) host_then home (sharing c known) device_is host_is (record {
+  pair = pair_of device_then (polled_device d (record c { current = None })) host_then home (sharing c known) device_is host_is (record {
     configured = meets.configured;
     layout = refl;
     addr = meets.to_device;
@@ -335,13 +336,13 @@ stays c known addr home None None result device_then host_then events even meets
     fits = meets.fits;
   });
 }
-stays c known addr home None (Some bytes) result device_then host_then events even meets arms told device_is host_is none = absurd arms
-stays c known addr home (Some r) None result device_then host_then events even meets arms told device_is host_is none = absurd arms
-stays c known addr home (Some r) (Some bytes) result device_then host_then events even meets arms told device_is host_is none = record {
-  member = member_of device_then (waiting addr c r) host_then home (sharing c known) device_is host_is;
+stays c known d home None (Some bytes) result device_then host_then events even meets arms told device_is host_is none = absurd arms
+stays c known d home (Some r) None result device_then host_then events even meets arms told device_is host_is none = absurd arms
+stays c known d home (Some r) (Some bytes) result device_then host_then events even meets arms told device_is host_is none = record {
+  member = member_of device_then (waiting d c r) host_then home (sharing c known) device_is host_is;
   delivered = none ∙ unread known c r;
   told = (bytes, arms, told);
-  pair = pair_of device_then (waiting addr c r) host_then home (sharing c known) device_is host_is (record {
+  pair = pair_of device_then (waiting d c r) host_then home (sharing c known) device_is host_is (record {
     configured = meets.configured;
     layout = refl;
     addr = meets.to_device;
@@ -354,37 +355,37 @@ stays c known addr home (Some r) (Some bytes) result device_then host_then event
 }
 
 -- a reply that is lost
-pub reply_lost : (c : CoreState) (known : Known) (addr home : ℕ) (current : Option ℕ) (armed : Option (List ℕ)) (packet : Packet)
+pub reply_lost : (c : CoreState) (known : Known) (d : DeviceState) (home : ℕ) (current : Option ℕ) (armed : Option (List ℕ)) (packet : Packet)
     (result : Result Told StackFault) (device_then : DeviceState) (host_then : HostEnd) (events : List Event)
-    → IsEven c.toggle known.pipe.expects current → Meets addr (record c { current = current }) known
+    → IsEven c.toggle known.pipe.expects current → Meets d.addr (record c { current = current }) known
     → IsArmed c.layout c.standing.fixed current armed → packet ≡ answer_with c.toggle armed
-    → Arrives ReplyLost (record c { current = current }) known addr home packet result device_then host_then events
-    → Lands ReplyLost (member_with addr c) (joined (record c { current = current }) known) result device_then host_then events
-reply_lost c known addr home current armed packet result device_then host_then events even meets arms packet_is t =
+    → Arrives ReplyLost (record c { current = current }) known d home packet result device_then host_then events
+    → Lands ReplyLost (member_with d.addr c) (joined (record c { current = current }) known) result device_then host_then events
+reply_lost c known d home current armed packet result device_then host_then events even meets arms packet_is t =
     let lost = read_lost (arrives_under ReplyLost) Reply packet t.reply refl t.replied in
     let took : taken known.pipe.expects t.reply ≡ Silent = ap (taken known.pipe.expects) lost in
     let host_is : host_then ≡ ready_with home (sharing c known) = t.host_moved ∙ ap (ready_after home (sharing c known)) took in
     let told : result ≡ Ok (Polled (spelled (Some (answer_with c.toggle armed))) Silent)
     = t.told ∙ ap (λ (x : Took). told_with (Some packet) (told_of c.layout x)) took ∙ ap (λ (x : Packet). Ok (Polled (spelled (Some x)) Silent)) packet_is in
-    let device_is : device_then ≡ polled_device addr (record c { current = current })
-    = subst (λ (x : Took). Ends (arrives_under ReplyLost) (told_of c.layout x) (polled_device addr (record c { current = current })) device_then) took t.ended in
-    stays c known addr home current armed result device_then host_then events even meets arms told device_is host_is (t.delivers ∙ ap (events_behind (sharing c known)) took)
+    let device_is : device_then ≡ polled_device d (record c { current = current })
+    = subst (λ (x : Took). Ends (arrives_under ReplyLost) (told_of c.layout x) (polled_device d (record c { current = current })) device_then) took t.ended in
+    stays c known d home current armed result device_then host_then events even meets arms told device_is host_is (t.delivers ∙ ap (events_behind (sharing c known)) took)
 
 -- what a poll whose answer reaches the host comes to, by what the host takes
-pub record Comes (fate : Fate) (c : CoreState) (known : Known) (addr home : ℕ) (packet : Packet) (took : Took)
+pub record Comes (fate : Fate) (c : CoreState) (known : Known) (d : DeviceState) (home : ℕ) (packet : Packet) (took : Took)
     (result : Result Told StackFault) (device_then : DeviceState) (host_then : HostEnd) (events : List Event) : Type 0 where
   pub told : result ≡ told_with (Some packet) (told_of c.layout took)
   pub host_moved : host_then ≡ ready_after home (sharing c known) took
   pub delivers : events ≡ events_behind (sharing c known) took
-  pub ended : Ends (arrives_under fate) (told_of c.layout took) (polled_device addr c) device_then
+  pub ended : Ends (arrives_under fate) (told_of c.layout took) (polled_device d c) device_then
 
 -- an answer that reaches the host is taken by its row
-pub comes : (fate : Fate) (c : CoreState) (known : Known) (addr home : ℕ) (armed : Option (List ℕ)) (packet : Packet)
+pub comes : (fate : Fate) (c : CoreState) (known : Known) (d : DeviceState) (home : ℕ) (armed : Option (List ℕ)) (packet : Packet)
     (result : Result Told StackFault) (device_then : DeviceState) (host_then : HostEnd) (events : List Event)
     → ((bytes : List ℕ) → arrives_under fate Reply bytes ≡ Some bytes) → packet ≡ answer_with c.toggle armed
-    → Arrives fate c known addr home packet result device_then host_then events
-    → Comes fate c known addr home (answer_with c.toggle armed) (took_where known.pipe.expects c.toggle armed) result device_then host_then events
-comes fate c known addr home armed packet result device_then host_then events whole packet_is t =
+    → Arrives fate c known d home packet result device_then host_then events
+    → Comes fate c known d home (answer_with c.toggle armed) (took_where known.pipe.expects c.toggle armed) result device_then host_then events
+comes fate c known d home armed packet result device_then host_then events whole packet_is t =
     let came = read_whole (arrives_under fate) Reply packet t.reply (whole (spelling packet)) t.replied in
     let took : taken known.pipe.expects t.reply ≡ took_where known.pipe.expects c.toggle armed
     = ap (taken known.pipe.expects) (came ∙ ap (λ (x : Packet). Some x) packet_is) ∙ took_answer known.pipe.expects c.toggle armed in
@@ -393,29 +394,29 @@ comes fate c known addr home armed packet result device_then host_then events wh
           ∙ ap (λ (x : Packet). told_with (Some x) (told_of c.layout (took_where known.pipe.expects c.toggle armed))) packet_is;
       host_moved = t.host_moved ∙ ap (ready_after home (sharing c known)) took;
       delivers = t.delivers ∙ ap (events_behind (sharing c known)) took;
-      ended = subst (λ (x : Took). Ends (arrives_under fate) (told_of c.layout x) (polled_device addr c) device_then) took t.ended;
+      ended = subst (λ (x : Took). Ends (arrives_under fate) (told_of c.layout x) (polled_device d c) device_then) took t.ended;
     }
 
 -- the same where it is known what the host takes
-comes_as : (fate : Fate) (c : CoreState) (known : Known) (addr home : ℕ) (packet : Packet) (took other : Took)
+comes_as : (fate : Fate) (c : CoreState) (known : Known) (d : DeviceState) (home : ℕ) (packet : Packet) (took other : Took)
     (result : Result Told StackFault) (device_then : DeviceState) (host_then : HostEnd) (events : List Event)
-    → took ≡ other → Comes fate c known addr home packet took result device_then host_then events
-    → Comes fate c known addr home packet other result device_then host_then events
-comes_as fate c known addr home packet took other result device_then host_then events is t =
-    subst (λ (x : Took). Comes fate c known addr home packet x result device_then host_then events) is t
+    → took ≡ other → Comes fate c known d home packet took result device_then host_then events
+    → Comes fate c known d home packet other result device_then host_then events
+comes_as fate c known d home packet took other result device_then host_then events is t =
+    subst (λ (x : Took). Comes fate c known d home packet x result device_then host_then events) is t
 
 -- a poll at which no round is open and none opens
-nak : (fate : Fate) (c : CoreState) (known : Known) (addr home : ℕ)
+nak : (fate : Fate) (c : CoreState) (known : Known) (d : DeviceState) (home : ℕ)
     (result : Result Told StackFault) (device_then : DeviceState) (host_then : HostEnd) (events : List Event)
-    → IsEven c.toggle known.pipe.expects None → Meets addr (record c { current = None }) known
-    → Comes fate (record c { current = None }) known addr home packets.Nak Nak result device_then host_then events
-    → (joint device_then host_then ≡ member_with addr c (joined (record c { current = None }) known))
+    → IsEven c.toggle known.pipe.expects None → Meets d.addr (record c { current = None }) known
+    → Comes fate (record c { current = None }) known d home packets.Nak Nak result device_then host_then events
+    → (joint device_then host_then ≡ member_with d.addr c (joined (record c { current = None }) known))
     × (events ≡ []) × (result ≡ Ok (Polled (spelled (Some packets.Nak)) Nak)) × IsPair device_then host_then.phase
-nak fate c known addr home result device_then host_then events even meets t = (
-  member_of device_then (polled_device addr (record c { current = None })) host_then home (sharing c known) t.ended t.host_moved,
+nak fate c known d home result device_then host_then events even meets t = (
+  member_of device_then (polled_device d (record c { current = None })) host_then home (sharing c known) t.ended t.host_moved,
   t.delivers,
   t.told,
-  pair_of device_then (polled_device addr (record c { current = None })) host_then home (sharing c known) t.ended t.host_moved (record {
+  pair_of device_then (polled_device d (record c { current = None })) host_then home (sharing c known) t.ended t.host_moved (record {
     configured = meets.configured;
     layout = refl;
     addr = meets.to_device;
@@ -428,69 +429,69 @@ nak fate c known addr home result device_then host_then events even meets t = (
 )
 
 -- the station of an open round, by the toggles
-opens_station : (fate : Fate) (addr : ℕ) (c : CoreState) (known : Known) (r : ℕ) (b : Bool)
+opens_station : (fate : Fate) (d : DeviceState) (c : CoreState) (known : Known) (r : ℕ) (b : Bool)
     (result : Result Told StackFault) (device_then : DeviceState) (host_then : HostEnd) (events : List Event)
-    → beq c.toggle known.pipe.expects ≡ b → Lands fate (member_with addr c) (open_station c known r b) result device_then host_then events
-    → Lands fate (member_with addr c) (joined (record c { current = Some r }) known) result device_then host_then events
-opens_station fate addr c known r b result device_then host_then events is lands =
-    subst (λ (x : Bool). Lands fate (member_with addr c) (open_station c known r x) result device_then host_then events) (sym is) lands
+    → beq c.toggle known.pipe.expects ≡ b → Lands fate (member_with d.addr c) (open_station c known r b) result device_then host_then events
+    → Lands fate (member_with d.addr c) (joined (record c { current = Some r }) known) result device_then host_then events
+opens_station fate d c known r b result device_then host_then events is lands =
+    subst (λ (x : Bool). Lands fate (member_with d.addr c) (open_station c known r x) result device_then host_then events) (sym is) lands
 
 -- the row of data, by the toggles
 abbrev row : Bool → List ℕ → Took
 row b bytes = cond b (Fresh (payload bytes)) Again
 
-pub clean : (c : CoreState) (known : Known) (addr home : ℕ) (current : Option ℕ) (armed : Option (List ℕ))
+pub clean : (c : CoreState) (known : Known) (d : DeviceState) (home : ℕ) (current : Option ℕ) (armed : Option (List ℕ))
     (result : Result Told StackFault) (device_then : DeviceState) (host_then : HostEnd) (events : List Event)
-    → IsEven c.toggle known.pipe.expects current → Meets addr (record c { current = current }) known → IsArmed c.layout c.standing.fixed current armed
+    → IsEven c.toggle known.pipe.expects current → Meets d.addr (record c { current = current }) known → IsArmed c.layout c.standing.fixed current armed
     → ((r : ℕ) (bytes : List ℕ) → current ≡ Some r → armed ≡ Some bytes → ReadsAsShown c.layout r c.standing.fixed bytes known.view)
-    → Comes Clean (record c { current = current }) known addr home (answer_with c.toggle armed) (took_where known.pipe.expects c.toggle armed) result device_then host_then events
-    → Lands Clean (member_with addr c) (joined (record c { current = current }) known) result device_then host_then events
-clean c known addr home None None result device_then host_then events even meets arms reads t =
-    let done = nak Clean c known addr home result device_then host_then events even meets t in
+    → Comes Clean (record c { current = current }) known d home (answer_with c.toggle armed) (took_where known.pipe.expects c.toggle armed) result device_then host_then events
+    → Lands Clean (member_with d.addr c) (joined (record c { current = current }) known) result device_then host_then events
+clean c known d home None None result device_then host_then events even meets arms reads t =
+    let done = nak Clean c known d home result device_then host_then events even meets t in
     record { member = done.0; delivered = done.1; told = ([], refl, done.2); pair = done.3 }
-clean c known addr home None (Some bytes) result device_then host_then events even meets arms reads t = absurd arms
-clean c known addr home (Some r) None result device_then host_then events even meets arms reads t = absurd arms
-clean c known addr home (Some r) (Some bytes) result device_then host_then events even meets arms reads t =
+clean c known d home None (Some bytes) result device_then host_then events even meets arms reads t = absurd arms
+clean c known d home (Some r) None result device_then host_then events even meets arms reads t = absurd arms
+clean c known d home (Some r) (Some bytes) result device_then host_then events even meets arms reads t =
     let shown = reads r bytes refl refl in
     elim (cases_Bool (beq c.toggle known.pipe.expects)) [
       | inl same ↦
-          let f = comes_as Clean (record c { current = Some r }) known addr home (answer_with c.toggle (Some bytes)) (took_where known.pipe.expects c.toggle (Some bytes)) (Fresh (payload bytes))
+          let f = comes_as Clean (record c { current = Some r }) known d home (answer_with c.toggle (Some bytes)) (took_where known.pipe.expects c.toggle (Some bytes)) (Fresh (payload bytes))
           result device_then host_then events (ap (λ (b : Bool). row b bytes) same) t in
-          let acked : Ends (arrives_under Clean) (Ok (Fresh (payload bytes))) (waiting addr c r) device_then
-          = subst (λ (x : Result Took StackFault). Ends (arrives_under Clean) x (waiting addr c r) device_then) (fresh_told (sharing c known) r c.standing.fixed bytes shown) f.ended in
-          opens_station Clean addr c known r true result device_then host_then events same
-          (fresh_clean c known addr home r bytes result device_then host_then events meets shown arms same f.told f.host_moved f.delivers acked)
+          let acked : Ends (arrives_under Clean) (Ok (Fresh (payload bytes))) (waiting d c r) device_then
+          = subst (λ (x : Result Took StackFault). Ends (arrives_under Clean) x (waiting d c r) device_then) (fresh_told (sharing c known) r c.standing.fixed bytes shown) f.ended in
+          opens_station Clean d c known r true result device_then host_then events same
+          (fresh_clean c known d home r bytes result device_then host_then events meets shown arms same f.told f.host_moved f.delivers acked)
       | inr differ ↦
-          let f = comes_as Clean (record c { current = Some r }) known addr home (answer_with c.toggle (Some bytes)) (took_where known.pipe.expects c.toggle (Some bytes)) Again
+          let f = comes_as Clean (record c { current = Some r }) known d home (answer_with c.toggle (Some bytes)) (took_where known.pipe.expects c.toggle (Some bytes)) Again
           result device_then host_then events (ap (λ (b : Bool). row b bytes) differ) t in
-          opens_station Clean addr c known r false result device_then host_then events differ
-          (again_clean c known addr home r bytes result device_then host_then events meets arms differ f.told f.host_moved f.delivers f.ended)
+          opens_station Clean d c known r false result device_then host_then events differ
+          (again_clean c known d home r bytes result device_then host_then events meets arms differ f.told f.host_moved f.delivers f.ended)
     ]
 
-pub ack_lost_poll : (c : CoreState) (known : Known) (addr home : ℕ) (current : Option ℕ) (armed : Option (List ℕ))
+pub ack_lost_poll : (c : CoreState) (known : Known) (d : DeviceState) (home : ℕ) (current : Option ℕ) (armed : Option (List ℕ))
     (result : Result Told StackFault) (device_then : DeviceState) (host_then : HostEnd) (events : List Event)
-    → IsEven c.toggle known.pipe.expects current → Meets addr (record c { current = current }) known → IsArmed c.layout c.standing.fixed current armed
+    → IsEven c.toggle known.pipe.expects current → Meets d.addr (record c { current = current }) known → IsArmed c.layout c.standing.fixed current armed
     → ((r : ℕ) (bytes : List ℕ) → current ≡ Some r → armed ≡ Some bytes → ReadsAsShown c.layout r c.standing.fixed bytes known.view)
-    → Comes AckLost (record c { current = current }) known addr home (answer_with c.toggle armed) (took_where known.pipe.expects c.toggle armed) result device_then host_then events
-    → Lands AckLost (member_with addr c) (joined (record c { current = current }) known) result device_then host_then events
-ack_lost_poll c known addr home None None result device_then host_then events even meets arms reads t =
-    let done = nak AckLost c known addr home result device_then host_then events even meets t in
+    → Comes AckLost (record c { current = current }) known d home (answer_with c.toggle armed) (took_where known.pipe.expects c.toggle armed) result device_then host_then events
+    → Lands AckLost (member_with d.addr c) (joined (record c { current = current }) known) result device_then host_then events
+ack_lost_poll c known d home None None result device_then host_then events even meets arms reads t =
+    let done = nak AckLost c known d home result device_then host_then events even meets t in
     record { member = done.0; delivered = done.1; told = ([], refl, done.2); pair = done.3 }
-ack_lost_poll c known addr home None (Some bytes) result device_then host_then events even meets arms reads t = absurd arms
-ack_lost_poll c known addr home (Some r) None result device_then host_then events even meets arms reads t = absurd arms
-ack_lost_poll c known addr home (Some r) (Some bytes) result device_then host_then events even meets arms reads t =
+ack_lost_poll c known d home None (Some bytes) result device_then host_then events even meets arms reads t = absurd arms
+ack_lost_poll c known d home (Some r) None result device_then host_then events even meets arms reads t = absurd arms
+ack_lost_poll c known d home (Some r) (Some bytes) result device_then host_then events even meets arms reads t =
     let shown = reads r bytes refl refl in
     elim (cases_Bool (beq c.toggle known.pipe.expects)) [
       | inl same ↦
-          let f = comes_as AckLost (record c { current = Some r }) known addr home (answer_with c.toggle (Some bytes)) (took_where known.pipe.expects c.toggle (Some bytes)) (Fresh (payload bytes))
+          let f = comes_as AckLost (record c { current = Some r }) known d home (answer_with c.toggle (Some bytes)) (took_where known.pipe.expects c.toggle (Some bytes)) (Fresh (payload bytes))
           result device_then host_then events (ap (λ (b : Bool). row b bytes) same) t in
-          let acked : Ends (arrives_under AckLost) (Ok (Fresh (payload bytes))) (waiting addr c r) device_then
-          = subst (λ (x : Result Took StackFault). Ends (arrives_under AckLost) x (waiting addr c r) device_then) (fresh_told (sharing c known) r c.standing.fixed bytes shown) f.ended in
-          opens_station AckLost addr c known r true result device_then host_then events same
-          (fresh_ack_lost c known addr home r bytes result device_then host_then events meets shown arms same f.told f.host_moved f.delivers acked)
+          let acked : Ends (arrives_under AckLost) (Ok (Fresh (payload bytes))) (waiting d c r) device_then
+          = subst (λ (x : Result Took StackFault). Ends (arrives_under AckLost) x (waiting d c r) device_then) (fresh_told (sharing c known) r c.standing.fixed bytes shown) f.ended in
+          opens_station AckLost d c known r true result device_then host_then events same
+          (fresh_ack_lost c known d home r bytes result device_then host_then events meets shown arms same f.told f.host_moved f.delivers acked)
       | inr differ ↦
-          let f = comes_as AckLost (record c { current = Some r }) known addr home (answer_with c.toggle (Some bytes)) (took_where known.pipe.expects c.toggle (Some bytes)) Again
+          let f = comes_as AckLost (record c { current = Some r }) known d home (answer_with c.toggle (Some bytes)) (took_where known.pipe.expects c.toggle (Some bytes)) Again
           result device_then host_then events (ap (λ (b : Bool). row b bytes) differ) t in
-          opens_station AckLost addr c known r false result device_then host_then events differ
-          (again_ack_lost c known addr home r bytes result device_then host_then events meets arms differ f.told f.host_moved f.delivers f.ended)
+          opens_station AckLost d c known r false result device_then host_then events differ
+          (again_ack_lost c known d home r bytes result device_then host_then events meets arms differ f.told f.host_moved f.delivers f.ended)
     ]

@@ -11,7 +11,7 @@ use Rattle.hid_cells.specs.declared.change.Change.{Change}
 use Rattle.hid_cells.proofs.BlankLemmas.{initial_fits}
 use Rattle.hid_device.specs.declared.config.Config.{Config}
 use Rattle.hid_device.specs.Core.{IsSound}
-use Rattle.hid_device.specs.Device.{DeviceState, changed_device, configured_device}
+use Rattle.hid_device.specs.Device.{DeviceState, changed_device, configured_device, core_of}
 use Rattle.hid_device.specs.Making.{MakesDevice, new_device}
 use Rattle.hid_stack.specs.declared.fault.StackFault.{StackFault}
 use Rattle.hid_stack.specs.declared.fault.StackFault.TheVariants as faults
@@ -46,7 +46,7 @@ pub record Made (addr : ℕ) (config : Config) (descriptor : List ℕ) (device :
 
 pub makes : (addr : ℕ) (config : Config) (descriptor : List ℕ) (made device : DeviceState) (host : HostEnd)
     → HasOneReading → MakesDevice addr config descriptor (Ok made) → device ≡ configured_device made
-    → ((before : List Spelled) × Accepts descriptor before × (host ≡ ready_host addr (layout_of before))) → IsSound device.core
+    → ((before : List Spelled) × Accepts descriptor before × (host ≡ ready_host addr (layout_of before))) → IsSound (core_of device)
     → Made addr config descriptor device host
 makes addr config descriptor made device host law (fits, (layout, serves, made_is)) device_was (before, accepts, host_was) sound =
     let same : layout_of before ≡ layout = ap layout_of (law descriptor before serves.lays.items accepts serves.lays.accepted) ∙ sym serves.lays.laid in
@@ -63,7 +63,7 @@ makes addr config descriptor made device host law (fits, (layout, serves, made_i
         addr = refl;
         endp = refl;
         even = refl;
-        sound = subst (λ (d : DeviceState). IsSound d.core) device_is sound;
+        sound = subst (λ (d : DeviceState). IsSound (core_of d)) device_is sound;
         laid = laid;
         fits = initial_fits layout laid;
       }));
@@ -71,11 +71,11 @@ makes addr config descriptor made device host law (fits, (layout, serves, made_i
     }
 
 -- a change leaves a device paired with its host
-changed_pair_at : (device device_then : DeviceState) (phase : HostPhase) (change : Change) → device_then ≡ changed_device device change → IsSound device_then.core
+changed_pair_at : (device device_then : DeviceState) (phase : HostPhase) (change : Change) → device_then ≡ changed_device device change → IsSound (core_of device_then)
     → IsPair device phase → IsPair device_then phase
 changed_pair_at device device_then Cold change is sound pair = absurd pair
 changed_pair_at device device_then (Ready known) change is sound pair =
-    let sound_then = subst (λ (d : DeviceState). IsSound d.core) is sound in
+    let sound_then = subst (λ (d : DeviceState). IsSound (core_of d)) is sound in
     subst (λ (d : DeviceState). ArePaired d known) (sym is) (record {
       configured = pair.configured;
       layout = pair.layout;
@@ -87,11 +87,11 @@ changed_pair_at device device_then (Ready known) change is sound pair =
       fits = pair.fits;
     })
 
-pub changed_pair : (device device_then : DeviceState) (host : HostEnd) (phase : HostPhase) (change : Change) (capacity : ℕ) → device_then ≡ changed_device device change → IsSound device_then.core
-    → IsPair device phase × (host.addr ≡ device.addr) × (max_events (items_of device.core.layout) ≤ capacity)
-    → IsPair device_then phase × (host.addr ≡ device_then.addr) × (max_events (items_of device_then.core.layout) ≤ capacity)
+pub changed_pair : (device device_then : DeviceState) (host : HostEnd) (phase : HostPhase) (change : Change) (capacity : ℕ) → device_then ≡ changed_device device change → IsSound (core_of device_then)
+    → IsPair device phase × (host.addr ≡ device.addr) × (max_events (items_of (core_of device).layout) ≤ capacity)
+    → IsPair device_then phase × (host.addr ≡ device_then.addr) × (max_events (items_of (core_of device_then).layout) ≤ capacity)
 changed_pair device device_then host phase change capacity is sound (pair, home, room) = (
   changed_pair_at device device_then phase change is sound pair,
   home ∙ sym (ap (λ (d : DeviceState). d.addr) is),
-  subst (λ (d : DeviceState). max_events (items_of d.core.layout) ≤ capacity) (sym is) room,
+  subst (λ (d : DeviceState). max_events (items_of (core_of d).layout) ≤ capacity) (sym is) room,
 )

@@ -26,7 +26,7 @@ use Rattle.hid_device.specs.declared.device.TheConstants.{ENDPOINT}
 use Rattle.hid_device.specs.Inputs.{input_count}
 use Rattle.hid_lives.specs.Standing.{first_due}
 use Rattle.hid_device.specs.Core.{CoreState, IsSound, IsArmed, IsBelow, opened_core_if, opening_of}
-use Rattle.hid_device.specs.Device.{DeviceState, is_poll, polled_device, AnswersPoll, AnswersIf, heard}
+use Rattle.hid_device.specs.Device.{DeviceState, is_poll, polled_device, AnswersPoll, AnswersIf, control_answer, heard, core_of}
 use Rattle.hid_lives.specs.Rounds.{Polls}
 use Rattle.hid_stack.specs.declared.fault.StackFault.{StackFault}
 use Rattle.hid_stack.specs.declared.host.HostPhase.{HostPhase}
@@ -111,9 +111,9 @@ reads_at c known packet armed sound laid fits arms has packet_is r bytes current
 -- what a poll comes to at the two ends
 pub record PollsAs (fate : Fate) (device : DeviceState) (s : Station)
     (result : Result Told StackFault) (device_then : DeviceState) (host_then : HostEnd) (events : List Event) : Type 0 where
-  pub member : joint device_then host_then ≡ member_with device.addr device.core (after (items_of device.core.layout) s (Polls fate))
-  pub delivered : events ≡ events_at (items_of device.core.layout) s (Polls fate)
-  pub told : (told : Told) × (result ≡ Ok told) × TellsPoll device.core.layout s fate told
+  pub member : joint device_then host_then ≡ member_with device.addr (core_of device) (after (items_of (core_of device).layout) s (Polls fate))
+  pub delivered : events ≡ events_at (items_of (core_of device).layout) s (Polls fate)
+  pub told : (told : Told) × (result ≡ Ok told) × TellsPoll (core_of device).layout s fate told
   pub pair : IsPair device_then host_then.phase
 
 -- a token that is lost changes nothing
@@ -131,7 +131,7 @@ tells_none layout c known (Some r) = either_none _
 
 token_lost : (device : DeviceState) (known : Known) (home : ℕ) (result : Result Told StackFault) (device_then : DeviceState) (host_then : HostEnd) (events : List Event)
     → ArePaired device known → PollsOver (arrives_under TokenLost) device home known result device_then host_then [] events
-    → PollsAs TokenLost device (joined device.core known) result device_then host_then events
+    → PollsAs TokenLost device (joined (core_of device) known) result device_then host_then events
 token_lost device known home result device_then host_then events pair t =
     let lost = read_lost (arrives_under TokenLost) Token (token_to known.pipe) t.token refl t.polled in
     let heard : Hears device None t.answer t.between = subst (λ (o : Option Packet). Hears device o t.answer t.between) lost t.heard in
@@ -141,8 +141,8 @@ token_lost device known home result device_then host_then events pair t =
     let host_is : host_then ≡ ready_with home known = t.host_moved ∙ ap (ready_after home known) took in
     record {
       member = member_of device_then device host_then home known device_is host_is
-          ∙ ap (member_with device.addr device.core) (stays_closed device.core.layout device.core known device.core.current);
-      delivered = t.delivers ∙ ap (events_behind known) took ∙ tells_none device.core.layout device.core known device.core.current;
+          ∙ ap (member_with device.addr (core_of device)) (stays_closed (core_of device).layout (core_of device) known (core_of device).current);
+      delivered = t.delivers ∙ ap (events_behind known) took ∙ tells_none (core_of device).layout (core_of device) known (core_of device).current;
       told = (Polled None Silent, t.told ∙ ap (λ (x : Took). told_with t.answer (told_of known.layout x)) took ∙ ap (λ (o : Option Packet). Ok (Polled (spelled o) Silent)) heard.0, refl);
       pair = pair_of device_then device host_then home known device_is host_is pair;
     }
@@ -152,13 +152,13 @@ pub record Answered (device : DeviceState) (known : Known) (answer : Option Pack
   pub packet : Packet
   pub armed : Option (List ℕ)
   pub is : answer ≡ Some packet
-  pub arms : IsArmed (opening_of device.core).layout (opening_of device.core).standing.fixed (opening_of device.core).current armed
-  pub packet_is : packet ≡ answer_with (opening_of device.core).toggle armed
-  pub stands : between ≡ polled_device device.addr (opening_of device.core)
-  pub sound : IsSound (opening_of device.core)
+  pub arms : IsArmed (opening_of (core_of device)).layout (opening_of (core_of device)).standing.fixed (opening_of (core_of device)).current armed
+  pub packet_is : packet ≡ answer_with (opening_of (core_of device)).toggle armed
+  pub stands : between ≡ polled_device device (opening_of (core_of device))
+  pub sound : IsSound (opening_of (core_of device))
 
-answered_by : (device : DeviceState) (known : Known) (answer : Option Packet) (between : DeviceState) → AnswersPoll (opening_of device.core) answer
-    → between ≡ polled_device device.addr (opening_of device.core) → IfSome answer (λ _. IsSound (opening_of device.core)) → Answered device known answer between
+answered_by : (device : DeviceState) (known : Known) (answer : Option Packet) (between : DeviceState) → AnswersPoll (opening_of (core_of device)) answer
+    → between ≡ polled_device device (opening_of (core_of device)) → IfSome answer (λ _. IsSound (opening_of (core_of device))) → Answered device known answer between
 answered_by device known None between h stands sound = absurd h
 answered_by device known (Some packet) between (armed, arms, packet_is) stands sound =
     record { packet = packet; armed = armed; is = refl; arms = arms; packet_is = packet_is; stands = stands; sound = sound }
@@ -169,20 +169,20 @@ token_came : (fate : Fate) (device : DeviceState) (known : Known) (home : ℕ) (
 token_came fate device known home result device_then host_then events whole pair t =
     let came = read_whole (arrives_under fate) Token (token_to known.pipe) t.token (whole (spelling (token_to known.pipe))) t.polled in
     let h : Hears device (Some (token_to known.pipe)) t.answer t.between = subst (λ (o : Option Packet). Hears device o t.answer t.between) came t.heard in
-    let stands : t.between ≡ polled_device device.addr (opening_of device.core)
-    = h.1 ∙ ap (λ (b : Bool). cond b (polled_device device.addr (opening_of device.core)) (heard device (token_to known.pipe))) (polls_it device known pair) in
+    let stands : t.between ≡ polled_device device (opening_of (core_of device))
+    = h.1 ∙ ap (λ (b : Bool). cond b (polled_device device (opening_of (core_of device))) (heard device (token_to known.pipe))) (polls_it device known pair) in
     answered_by device known t.answer t.between
-    (subst (λ (b : Bool). AnswersIf b (opening_of device.core) t.answer) (polls_it device known pair) h.0)
-    stands (subst (λ (d : DeviceState). IfSome t.answer (λ _. IsSound d.core)) stands h.2)
+    (subst (λ (b : Bool). AnswersIf b (opening_of (core_of device)) (control_answer device (token_to known.pipe)) t.answer) (polls_it device known pair) h.0)
+    stands (subst (λ (d : DeviceState). IfSome t.answer (λ _. IsSound (core_of d))) stands h.2)
 
 -- from there on
 arrives : (fate : Fate) (device : DeviceState) (known : Known) (home : ℕ) (result : Result Told StackFault) (device_then : DeviceState) (host_then : HostEnd) (events : List Event)
     → ArePaired device known
     → (t : PollsOver (arrives_under fate) device home known result device_then host_then [] events) → (a : Answered device known t.answer t.between)
-    → Arrives fate (opening_of device.core) known device.addr home a.packet result device_then host_then events
+    → Arrives fate (opening_of (core_of device)) known device home a.packet result device_then host_then events
 arrives fate device known home result device_then host_then events pair t a =
-    let layout : known.layout ≡ (opening_of device.core).layout = pair.layout ∙ sym (keeps device.core).layout in
-    let shared : known ≡ sharing (opening_of device.core) known = ap (λ (l : Contents). record known { layout = l }) layout in
+    let layout : known.layout ≡ (opening_of (core_of device)).layout = pair.layout ∙ sym (keeps (core_of device)).layout in
+    let shared : known ≡ sharing (opening_of (core_of device)) known = ap (λ (l : Contents). record known { layout = l }) layout in
     record {
       reply = t.reply;
       replied = subst (λ (o : Option Packet). Replies (arrives_under fate) Reply o t.reply) a.is t.replied;
@@ -190,15 +190,15 @@ arrives fate device known home result device_then host_then events pair t a =
           ∙ ap (λ (l : Contents). told_with (Some a.packet) (told_of l (taken known.pipe.expects t.reply))) layout;
       host_moved = t.host_moved ∙ ap (λ (k : Known). ready_after home k (taken known.pipe.expects t.reply)) shared;
       delivers = t.delivers ∙ ap (λ (k : Known). events_behind k (taken known.pipe.expects t.reply)) shared;
-      ended = subst (λ (d : DeviceState). Ends (arrives_under fate) (told_of (opening_of device.core).layout (taken known.pipe.expects t.reply)) d device_then) a.stands
+      ended = subst (λ (d : DeviceState). Ends (arrives_under fate) (told_of (opening_of (core_of device)).layout (taken known.pipe.expects t.reply)) d device_then) a.stands
           (subst (λ (l : Contents). Ends (arrives_under fate) (told_of l (taken known.pipe.expects t.reply)) t.between device_then) layout t.ended);
     }
 
-meets : (device : DeviceState) (known : Known) → ArePaired device known → IsSound (opening_of device.core) → Meets device.addr (opening_of device.core) known
+meets : (device : DeviceState) (known : Known) → ArePaired device known → IsSound (opening_of (core_of device)) → Meets device.addr (opening_of (core_of device)) known
 meets device known pair sound =
-    let layout : known.layout ≡ (opening_of device.core).layout = pair.layout ∙ sym (keeps device.core).layout in
+    let layout : known.layout ≡ (opening_of (core_of device)).layout = pair.layout ∙ sym (keeps (core_of device)).layout in
     record {
-      configured = (keeps device.core).configured ∙ pair.configured;
+      configured = (keeps (core_of device)).configured ∙ pair.configured;
       to_device = pair.addr;
       endp = pair.endp;
       sound = sound;
@@ -208,11 +208,11 @@ meets device known pair sound =
 
 -- the station from before the token
 landed : (fate : Fate) (device : DeviceState) (known : Known) (result : Result Told StackFault) (device_then : DeviceState) (host_then : HostEnd) (events : List Event)
-    → ArePaired device known → Lands fate (member_with device.addr (opening_of device.core)) (joined (opening_of device.core) known) result device_then host_then events
-    → Lands fate (member_with device.addr device.core) (opened (items_of device.core.layout) (joined device.core known)) result device_then host_then events
+    → ArePaired device known → Lands fate (member_with device.addr (opening_of (core_of device))) (joined (opening_of (core_of device)) known) result device_then host_then events
+    → Lands fate (member_with device.addr (core_of device)) (opened (items_of (core_of device).layout) (joined (core_of device) known)) result device_then host_then events
 landed fate device known result device_then host_then events pair lands =
-    subst (λ (s : Station). Lands fate (member_with device.addr device.core) s result device_then host_then events) (opens device.core known pair.even)
-    (subst (λ (of : Station → Member). Lands fate of (joined (opening_of device.core) known) result device_then host_then events) (member_kept device.addr device.core) lands)
+    subst (λ (s : Station). Lands fate (member_with device.addr (core_of device)) s result device_then host_then events) (opens (core_of device) known pair.even)
+    (subst (λ (of : Station → Member). Lands fate of (joined (opening_of (core_of device)) known) result device_then host_then events) (member_kept device.addr (core_of device)) lands)
 
 -- what is told, by the bytes that show the part
 abbrev TellsSome : Contents → Station → Fate → Result Told StackFault → Type 0
@@ -224,45 +224,45 @@ told_by_report layout s fate result (report, shows, is) = (told_by s fate report
 
 pub polls : (fate : Fate) (device : DeviceState) (known : Known) (home : ℕ) (result : Result Told StackFault) (device_then : DeviceState) (host_then : HostEnd) (events : List Event)
     → ArePaired device known → PollsOver (arrives_under fate) device home known result device_then host_then [] events
-    → PollsAs fate device (joined device.core known) result device_then host_then events
+    → PollsAs fate device (joined (core_of device) known) result device_then host_then events
 polls TokenLost device known home result device_then host_then events pair t = token_lost device known home result device_then host_then events pair t
 polls ReplyLost device known home result device_then host_then events pair t =
     let a = token_came ReplyLost device known home result device_then host_then events (λ bytes. refl) pair t in
-    let c = opening_of device.core in
-    let even = even_at device.core known.pipe.expects device.core.current pair.even in
+    let c = opening_of (core_of device) in
+    let even = even_at (core_of device) known.pipe.expects (core_of device).current pair.even in
     let lands = landed ReplyLost device known result device_then host_then events pair
-    (reply_lost c known device.addr home c.current a.armed a.packet result device_then host_then events even (meets device known pair a.sound) a.arms a.packet_is
+    (reply_lost c known device home c.current a.armed a.packet result device_then host_then events even (meets device known pair a.sound) a.arms a.packet_is
     (arrives ReplyLost device known home result device_then host_then events pair t a)) in
-    record { member = lands.member; delivered = lands.delivered; told = told_by_report device.core.layout (opened (items_of device.core.layout) (joined device.core known)) ReplyLost result lands.told; pair = lands.pair }
+    record { member = lands.member; delivered = lands.delivered; told = told_by_report (core_of device).layout (opened (items_of (core_of device).layout) (joined (core_of device) known)) ReplyLost result lands.told; pair = lands.pair }
 polls Clean device known home result device_then host_then events pair t =
     let a = token_came Clean device known home result device_then host_then events (λ bytes. refl) pair t in
-    let c = opening_of device.core in
-    let even = even_at device.core known.pipe.expects device.core.current pair.even in
+    let c = opening_of (core_of device) in
+    let even = even_at (core_of device) known.pipe.expects (core_of device).current pair.even in
     let m = meets device known pair a.sound in
     let has = subst (λ (o : Option Packet). IfSome o HasBytes) a.is t.bytes in
     let lands = landed Clean device known result device_then host_then events pair
-    (clean c known device.addr home c.current a.armed result device_then host_then events even m a.arms
+    (clean c known device home c.current a.armed result device_then host_then events even m a.arms
     (reads_at c known a.packet a.armed a.sound m.laid m.fits a.arms has a.packet_is)
-    (comes Clean c known device.addr home a.armed a.packet result device_then host_then events (λ bytes. refl) a.packet_is
+    (comes Clean c known device home a.armed a.packet result device_then host_then events (λ bytes. refl) a.packet_is
     (arrives Clean device known home result device_then host_then events pair t a))) in
-    record { member = lands.member; delivered = lands.delivered; told = told_by_report device.core.layout (opened (items_of device.core.layout) (joined device.core known)) Clean result lands.told; pair = lands.pair }
+    record { member = lands.member; delivered = lands.delivered; told = told_by_report (core_of device).layout (opened (items_of (core_of device).layout) (joined (core_of device) known)) Clean result lands.told; pair = lands.pair }
 polls AckLost device known home result device_then host_then events pair t =
     let a = token_came AckLost device known home result device_then host_then events (λ bytes. refl) pair t in
-    let c = opening_of device.core in
-    let even = even_at device.core known.pipe.expects device.core.current pair.even in
+    let c = opening_of (core_of device) in
+    let even = even_at (core_of device) known.pipe.expects (core_of device).current pair.even in
     let m = meets device known pair a.sound in
     let has = subst (λ (o : Option Packet). IfSome o HasBytes) a.is t.bytes in
     let lands = landed AckLost device known result device_then host_then events pair
-    (ack_lost_poll c known device.addr home c.current a.armed result device_then host_then events even m a.arms
+    (ack_lost_poll c known device home c.current a.armed result device_then host_then events even m a.arms
     (reads_at c known a.packet a.armed a.sound m.laid m.fits a.arms has a.packet_is)
-    (comes AckLost c known device.addr home a.armed a.packet result device_then host_then events (λ bytes. refl) a.packet_is
+    (comes AckLost c known device home a.armed a.packet result device_then host_then events (λ bytes. refl) a.packet_is
     (arrives AckLost device known home result device_then host_then events pair t a))) in
-    record { member = lands.member; delivered = lands.delivered; told = told_by_report device.core.layout (opened (items_of device.core.layout) (joined device.core known)) AckLost result lands.told; pair = lands.pair }
+    record { member = lands.member; delivered = lands.delivered; told = told_by_report (core_of device).layout (opened (items_of (core_of device).layout) (joined (core_of device) known)) AckLost result lands.told; pair = lands.pair }
 
 -- the same of a host, which is ready
 pub polls_at : (fate : Fate) (device : DeviceState) (addr : ℕ) (phase : HostPhase) (result : Result Told StackFault) (device_then : DeviceState) (host_then : HostEnd) (before events : List Event)
     → IsPair device phase → before ≡ [] → GoesByPackets (arrives_under fate) device addr phase result device_then host_then before events
-    → PollsAs fate device (station_of device.core phase) result device_then host_then events
+    → PollsAs fate device (station_of (core_of device) phase) result device_then host_then events
 polls_at fate device addr Cold result device_then host_then before events pair none t = absurd pair
 polls_at fate device addr (Ready known) result device_then host_then before events pair none t =
     polls fate device known addr result device_then host_then events pair
@@ -284,7 +284,7 @@ home_stays arrivals device addr (Ready known) result device_then host_then befor
 
 -- no more is delivered than a report of the device's layout can tell
 pub few_of : (device : DeviceState) (phase : HostPhase) (before events : List Event) → IsPair device phase → before ≡ []
-    → IfReady phase (λ (known : Known). length events ≤ length before + max_events (items_of known.layout)) → length events ≤ max_events (items_of device.core.layout)
+    → IfReady phase (λ (known : Known). length events ≤ length before + max_events (items_of known.layout)) → length events ≤ max_events (items_of (core_of device).layout)
 few_of device Cold before events pair none few = absurd pair
 few_of device (Ready known) before events pair none few =
     let same = ap (λ (l : Contents). max_events (items_of l)) pair.layout in

@@ -6,7 +6,7 @@ use Rattle.hid_cells.specs.declared.event.Event.{Event}
 use Rattle.hid_layout.specs.Controls.{items_of}
 use Rattle.usb_transact.specs.declared.transaction.Fate.{Fate}
 use Rattle.usb_transact.specs.Fate.{arrives_under}
-use Rattle.hid_device.specs.Device.{DeviceState}
+use Rattle.hid_device.specs.Device.{DeviceState, core_of}
 use Rattle.hid_lives.specs.Rounds.{Polls}
 use Rattle.hid_stack.specs.Host.{HostEnd}
 use Rattle.hid_stack.specs.Slot.{IsPair, joint, station_of}
@@ -47,9 +47,9 @@ pub record IsPollOfPair (fate : Fate) (device : DeviceState) (host : HostEnd)
     (result : Result Told StackFault) (device_then : DeviceState) (host_then : HostEnd)
     (events : List Event) : Type 0 where
   pub told : (told : Told) × (result ≡ Ok told)
-      × TellsPoll device.core.layout (station_of device.core host.phase) fate told
+      × TellsPoll (core_of device).layout (station_of (core_of device) host.phase) fate told
   pub after : joint device_then host_then ≡ member_after (joint device host) (Polls fate)
-  pub delivers : events ≡ events_at (items_of device.core.layout) (station_of device.core host.phase) (Polls fate)
+  pub delivers : events ≡ events_at (items_of (core_of device).layout) (station_of (core_of device) host.phase) (Polls fate)
   pub pair : IsPair device_then host_then.phase
 
 -- the packets that a fate lets arrive come to that

@@ -14,7 +14,7 @@ use Rattle.usb_transact.specs.Bus.{Arrivals, Carries, Replies}
 use Rattle.usb_transact.specs.Host.{token_to}
 use Rattle.usb_transact.specs.Taken.{taken}
 use Rattle.hid_device.specs.Core.{IsSound}
-use Rattle.hid_device.specs.Device.{DeviceState, DeviceAnswers, device_after}
+use Rattle.hid_device.specs.Device.{DeviceState, DeviceAnswers, device_after, core_of}
 use Rattle.hid_stack.specs.declared.fault.StackFault.{StackFault}
 use Rattle.hid_stack.specs.declared.fault.StackFault.TheVariants.{NotReady}
 use Rattle.hid_stack.specs.declared.host.HostPhase.{HostPhase}
@@ -37,7 +37,7 @@ abbrev pub Hears : DeviceState → Option Packet → Option Packet → DeviceSta
 Hears device None answer after = (answer ≡ None) × (after ≡ device)
 Hears device (Some packet) answer after =
     DeviceAnswers device packet answer × (after ≡ device_after device packet)
-    × IfSome answer (λ _. IsSound after.core)
+    × IfSome answer (λ _. IsSound (core_of after))
 
 -- an ACK is sent, and the device hears what arrives of it
 pub record HearsAck (arrivals : Arrivals) (device after : DeviceState) : Type 0 where

@@ -2,7 +2,7 @@
 use Rattle.std.specs.Prelude.{◌≡◌, ℕ, true, List, Some}
 use Rattle.std.specs.Option.{option_map}
 use Rattle.hid_device.specs.declared.device.TheConstants.{ENDPOINT}
-use Rattle.hid_device.specs.Device.{DeviceState}
+use Rattle.hid_device.specs.Device.{DeviceState, core_of}
 use Rattle.hid_stack.specs.Host.{HostEnd, IfReady, IsReady}
 use Rattle.hid_stack.specs.Ready.{Known}
 use Rattle.hid_lives.specs.Stations.{expected}
@@ -12,13 +12,13 @@ use Rattle.hid_stack.specs.Rig.{Member, member_at}
 -- the round that is open there is open here, and its toggle is set where the rounds closed are odd in number.
 pub record ShowsDevice (m : Member) (d : DeviceState) : Type 0 where
   pub home : d.addr ≡ m.addr
-  pub config : d.core.config ≡ m.config
-  pub descriptor : d.core.descriptor ≡ m.descriptor
-  pub layout : d.core.layout ≡ m.layout
-  pub configured : d.core.is_configured ≡ true
-  pub standing : d.core.standing ≡ m.station.standing
-  pub open_report : d.core.current ≡ option_map (λ round. round.report) m.station.current
-  pub toggle : d.core.toggle ≡ m.station.odd
+  pub config : (core_of d).config ≡ m.config
+  pub descriptor : (core_of d).descriptor ≡ m.descriptor
+  pub layout : (core_of d).layout ≡ m.layout
+  pub configured : (core_of d).is_configured ≡ true
+  pub standing : (core_of d).standing ≡ m.station.standing
+  pub open_report : (core_of d).current ≡ option_map (λ round. round.report) m.station.current
+  pub toggle : (core_of d).toggle ≡ m.station.odd
 
 -- what its ready host keeps: the toggle that it expects is the other one exactly while an open round has crossed
 pub record ShowsKnown (m : Member) (known : Known) : Type 0 where

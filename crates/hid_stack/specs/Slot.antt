@@ -6,7 +6,7 @@ use Rattle.hid_layout.specs.Controls.{items_of}
 use Rattle.hid_usages.specs.Cells.{blank, FitsView}
 use Rattle.hid_device.specs.declared.device.TheConstants.{ENDPOINT}
 use Rattle.hid_device.specs.Core.{CoreState, IsSound}
-use Rattle.hid_device.specs.Device.{DeviceState}
+use Rattle.hid_device.specs.Device.{DeviceState, core_of}
 use Rattle.hid_stack.specs.declared.host.HostPhase.{HostPhase}
 use Rattle.hid_stack.specs.declared.host.HostPhase.TheVariants.{Cold, Ready}
 use Rattle.hid_stack.specs.Host.{HostEnd}
@@ -45,7 +45,7 @@ member_with addr core s =
 
 -- and the member that they are
 abbrev pub joint : DeviceState → HostEnd → Member
-joint device host = member_with device.addr device.core (station_of device.core host.phase)
+joint device host = member_with device.addr (core_of device) (station_of (core_of device) host.phase)
 
 -- where no round is open the toggles are the same
 abbrev pub IsEven : Bool → Bool → Option ℕ → Type 0
@@ -55,12 +55,12 @@ IsEven toggle expects (Some r) = Unit {0}
 -- A device that is configured, and what its ready host keeps: the host polls the device, has its layout, and
 -- expects the device's toggle where no round is open.
 pub record ArePaired (device : DeviceState) (known : Known) : Type 0 where
-  pub configured : device.core.is_configured ≡ true
-  pub layout : known.layout ≡ device.core.layout
+  pub configured : (core_of device).is_configured ≡ true
+  pub layout : known.layout ≡ (core_of device).layout
   pub addr : known.pipe.addr ≡ device.addr
   pub endp : known.pipe.endp ≡ ENDPOINT
-  pub even : IsEven device.core.toggle known.pipe.expects device.core.current
-  pub sound : IsSound device.core
+  pub even : IsEven (core_of device).toggle known.pipe.expects (core_of device).current
+  pub sound : IsSound (core_of device)
   pub laid : IsLayout known.layout
   pub fits : FitsView (items_of known.layout) known.view
 

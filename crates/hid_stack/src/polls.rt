@@ -1,4 +1,5 @@
 //! One poll: the host's token, the device's answer, and ACK for data, each packet as its bytes (USB 2.0, 8.5.4).
+ghost use Rattle.hid_device.specs.Device.{core_of};
 ghost use Rattle.std.specs.Prelude.{◌≡◌, ◌≤◌, ◌+◌, [], length, IfSome, vec_len, vec_capacity};
 ghost use Rattle.std.specs.Option.{option_copied};
 ghost use Rattle.hid_layout.specs.Controls.{items_of, max_events};
@@ -108,17 +109,17 @@ pub(crate) fn poll_pair(
     events: &mut Vec<Event>,
 ) -> Told
     requires pair { IsPair device.old host.old.phase }
-    requires room { max_events (items_of device.old.core.layout) ≤ vec_capacity events.old }
-    ensures told { TellsPoll device.old.core.layout
-        (station_of device.old.core host.old.phase) fate result }
+    requires room { max_events (items_of (core_of device.old).layout) ≤ vec_capacity events.old }
+    ensures told { TellsPoll (core_of device.old).layout
+        (station_of (core_of device.old) host.old.phase) fate result }
     ensures after { joint device.new host.new
         ≡ member_after (joint device.old host.old) (Polls fate) }
     ensures pair { IsPair device.new host.new.phase }
     ensures home { host.new.addr ≡ host.old.addr }
     ensures events { events.new.items
-        ≡ events_at (items_of device.old.core.layout) (station_of device.old.core host.old.phase)
+        ≡ events_at (items_of (core_of device.old).layout) (station_of (core_of device.old) host.old.phase)
         (Polls fate) }
-    ensures few { length events.new.items ≤ max_events (items_of device.old.core.layout) }
+    ensures few { length events.new.items ≤ max_events (items_of (core_of device.old).layout) }
     ensures capacity { vec_capacity events.new ≡ vec_capacity events.old }
 {
     events.clear();

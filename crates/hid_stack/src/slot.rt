@@ -1,4 +1,5 @@
 //! A device of the bus with its host.
+ghost use Rattle.hid_device.specs.Device.{core_of};
 ghost use Rattle.std.specs.Prelude.{◌≡◌, ◌≤◌, ◌+◌, ◌++◌, ◌<◌, ℕ, List, map, length, IfOk, IfErr, IsOk, OnOk, OnErr, vec_len, vec_capacity};
 ghost use Rattle.hid_layout.specs.Controls.{items_of, max_events};
 ghost use Rattle.hid_layout.specs.Layout.{Contents};
@@ -47,7 +48,7 @@ impl Model for Slot {
     ghost view = { λ s. joint s.device s.host };
 
     ghost invariant = { λ s. IsPair s.device s.host.phase × (s.host.addr ≡ s.device.addr)
-        × (max_events (items_of s.device.core.layout) ≤ vec_capacity s.events) };
+        × (max_events (items_of s.device.control.requests.layout) ≤ vec_capacity s.events) };
 }
 
 /// What a want of a device is told as.
@@ -79,7 +80,7 @@ fn wants_memory(cause: Cause) -> bool
 
 // What holds of every device.
 fn is_sound(device: &Device)
-    ensures { IsSound device.now.core }
+    ensures { IsSound (core_of device.now) }
 {
     let _layout = device.layout();
 }

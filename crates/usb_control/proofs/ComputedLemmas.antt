@@ -1,4 +1,4 @@
--- Where what answers requests does so by functions, a try is its function.
+-- Where what answers requests does so by functions, what a packet brings about and a try are their functions.
 use Rattle.std.proofs.Common.{◌≡◌, ◌↔◌, Bool, true, false, ◌&&◌, Option, Some, None, refl, ap, sym, ◌∙◌, subst}
 use Rattle.usb_packet.specs.declared.packet.Packet.{Packet}
 use Rattle.usb_transact.specs.declared.transaction.Fate.{Fate}
@@ -22,7 +22,7 @@ rebuilt {R} c requests stage heard q s h =
     ∙ ap (λ (x : Stage). let d : DevControlState R = record { requests = requests; stage = x; heard = c.heard } in d) s
     ∙ ap (λ (x : Heard). let d : DevControlState R = record { requests = requests; stage = stage; heard = x } in d) h
 
-does_control :
+pub does_control :
     {R : Type 0} (t : Table R) (e : Effect) (old : R) (new : DevControlState R) (result : Option Packet)
     → Does (PreparesBy t) (AppliesBy t) e old new result → new ≡ control_after t e old
 does_control t (Answers answer stage heard) old new result h = h.0
@@ -31,7 +31,7 @@ does_control t (Decides bytes) old new result (said, gives, stage, heard, is) =
     gives.1 (stage ∙ ap (λ (b : Bool). begun b (reads (setup_of bytes)) (setup_of bytes).length) gives.0) heard
 does_control t (Applies bytes) old new result h = rebuilt new (t.applied old bytes) StatusIn hears.Answered h.0 h.1 h.2
 
-does_answer :
+pub does_answer :
     {R : Type 0} (t : Table R) (e : Effect) (old : R) (new : DevControlState R) (result : Option Packet)
     → Does (PreparesBy t) (AppliesBy t) e old new result → result ≡ answer_to e
 does_answer t (Answers answer stage heard) old new result h = h.1

@@ -1,3 +1,4 @@
+use Rattle.hid_device.specs.Device.{core_of}
 use Rattle.std.proofs.Common.{◌≡◌, ◌∙◌, Ok, Err, sym}
 use Rattle.usb_transact.specs.Fate.{arrives_under}
 use Rattle.hid_stack.specs.Slot.{station_of}
@@ -12,7 +13,7 @@ unreachable-requires c =
 pub returns-clause-told : goal.returns-clause-told
 returns-clause-told c =
     let done = polls_at c.args.fate c.args.device.now c.args.host.now.addr c.args.host.now.phase c.poll.result c.poll.new.device c.poll.new.host c.clear.new.self.items c.poll.new.out.items c.requires.pair c.clear.ensures.items c.poll.ensures.packets in
-    told_is c.args.device.now.core.layout (station_of c.args.device.now.core c.args.host.now.phase) c.args.fate c.poll.result c.in-Ok.told c.in-Ok.is done.told
+    told_is (core_of c.args.device.now).layout (station_of (core_of c.args.device.now) c.args.host.now.phase) c.args.fate c.poll.result c.in-Ok.told c.in-Ok.is done.told
 
 pub returns-clause-after : goal.returns-clause-after
 returns-clause-after c = (polls_at c.args.fate c.args.device.now c.args.host.now.addr c.args.host.now.phase c.poll.result c.poll.new.device c.poll.new.host c.clear.new.self.items c.poll.new.out.items c.requires.pair c.clear.ensures.items c.poll.ensures.packets).member

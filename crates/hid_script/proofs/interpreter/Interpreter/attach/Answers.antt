@@ -18,5 +18,5 @@ returns-in_err-print_layout g c = memory_ends _ (TellsDevice c.args.boot c.args.
 
 pub returns : goal.returns
 returns g c =
-    device_written _ _ (session_of c.args.self.now) c.args.boot c.args.descriptor.now c.in_ok-dev.dev c.attach.new.self c.in_ok-device.device.now.core.layout c.as_bytes.result.now _ c.if-not-self.false c.in_ok-dev.ensures.attaches c.in_ok-device.ensures.shows.0 c.in_ok-device.ensures.shows.1 c.in_ok-device.ensures.shows.2.layout (search rules)
+    device_written _ _ (session_of c.args.self.now) c.args.boot c.args.descriptor.now c.in_ok-dev.dev c.attach.new.self c.in_ok-device.device.now.control.requests.layout c.as_bytes.result.now _ c.if-not-self.false c.in_ok-dev.ensures.attaches c.in_ok-device.ensures.shows.0 c.in_ok-device.ensures.shows.1 c.in_ok-device.ensures.shows.2.layout (search rules)
     c.write_text.ensures.ok c.write_text.ensures.cause c.write_text.ensures.front

@@ -1,6 +1,6 @@
 use Rattle.std.proofs.Common.{subst}
 use Rattle.hid_device.specs.Core.{CoreState, IsSound, Answers}
-use Rattle.hid_device.proofs.inside.Core.answer.Goals as goal
+use Rattle.hid_device.proofs.state.Core.poll_answer.Goals as goal
 
 pub returns-clause-answer : goal.returns-clause-answer
 returns-clause-answer c =

@@ -2,7 +2,7 @@ use Rattle.std.proofs.Common.{◌≡◌, ◌-◌, length}
 use Rattle.std.specs.List.{find, range_with_len}
 use Rattle.hid_layout.specs.Controls.{items_of}
 use Rattle.hid_device.specs.Standing.{is_due, first_due}
-use Rattle.hid_device.proofs.inside.Core.first_due.Given as goal
+use Rattle.hid_device.proofs.state.Core.first_due.Given as goal
 
 abbrev pub invariant-loop-report : goal.invariant-loop-report
 invariant-loop-report l =

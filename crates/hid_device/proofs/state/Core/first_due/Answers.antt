@@ -2,7 +2,7 @@ use Rattle.std.proofs.Common.{◌≡◌, ◌<◌, length, false, sym, ◌∙◌,
 use Rattle.hid_layout.specs.Controls.{items_of}
 use Rattle.hid_device.specs.Standing.{is_due}
 use Rattle.hid_device.proofs.DueLemmas.{find_next}
-use Rattle.hid_device.proofs.inside.Core.first_due.Goals as goal
+use Rattle.hid_device.proofs.state.Core.first_due.Goals as goal
 
 pub loop-report-preserved : goal.loop-report-preserved
 loop-report-preserved c =

@@ -3,7 +3,7 @@ use Rattle.std.proofs.lemmas.List.{length-set}
 use Rattle.hid_parts.specs.Encoding.{AreBytes}
 use Rattle.usb_transact.specs.Device.{DevPipeState}
 use Rattle.hid_device.specs.Core.{CoreState, IsArmed}
-use Rattle.hid_device.proofs.inside.Core.open.Goals as goal
+use Rattle.hid_device.proofs.state.Core.open.Goals as goal
 
 pub invariant_of-self : goal.invariant_of-self
 invariant_of-self c =
@@ -13,6 +13,7 @@ invariant_of-self c =
     let are_bytes : AreBytes c.encode_report-bytes.result.items = subst AreBytes c.deref.ensures.0 c.are_bytes.ensures in
     record {
       sound = record {
+        lays = before.lays;
         empty_codes = before.empty_codes;
         zeros = before.zeros;
         inputs_first = before.inputs_first;

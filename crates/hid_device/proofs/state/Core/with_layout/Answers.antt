@@ -1,23 +1,26 @@
-use Rattle.std.proofs.Common.{◌≡◌, ℕ, List, Option, None, sym, ap, subst, arith}
+use Rattle.std.proofs.Common.{◌≡◌, ℕ, List, Option, None, sym, ap, subst, arith, rules}
 use Rattle.std.proofs.lemmas.Grind.{common_steps}
 use Rattle.usb_transact.specs.Device.{DevPipeState}
+use Rattle.hid_device.specs.Laying.{Lays}
 use Rattle.hid_device.specs.Core.{IsArmed}
 use Rattle.hid_device.proofs.InputLemmas.{inputs_first}
-use Rattle.hid_device.proofs.inside.Core.with_layout.Goals as goal
+use Rattle.hid_device.proofs.state.Core.with_layout.Goals as goal
 
 pub invariant_of-result : goal.invariant_of-result
 invariant_of-result c =
+    let kept : c.in_ok-descriptor.descriptor.items ≡ c.args.descriptor.now = search rules in
     let armed : c.new.result.armed ≡ None = ap (λ (pipe : DevPipeState). pipe.armed) c.new.ensures in
     record {
       sound = record {
+        lays = subst (λ (bytes : List ℕ). Lays bytes c.args.layout) (sym kept) c.requires.lays;
         empty_codes = c.requires.empty_codes;
         zeros = c.requires.zeros;
         inputs_first = inputs_first c.args.descriptor.now c.args.layout c.requires.lays;
-        snapshot = c.in_ok-blank.ensures.fits;
-        fixed = c.in_ok-blank-2.ensures.fits;
+        snapshot = c.in_ok-snapshot.ensures.fits;
+        fixed = c.in_ok-fixed.ensures.fits;
         each_frames = grind (arith, common_steps);
         each_idle = grind (arith, common_steps);
         of_input = tt;
       };
-      armed = subst (λ (bytes : Option (List ℕ)). IsArmed c.args.layout c.in_ok-blank-2.field-0 None bytes) (sym armed) tt;
+      armed = subst (λ (bytes : Option (List ℕ)). IsArmed c.args.layout c.in_ok-fixed.fixed None bytes) (sym armed) tt;
     }

@@ -1,6 +1,6 @@
 //! The inside of a device: all that endpoint 0 reads and writes, and the pipe of its Input reports.
 
-ghost use Rattle.std.specs.Prelude.{◌≡◌, ◌<◌, length, None, IfSome, IfOk, IfErr};
+ghost use Rattle.std.specs.Prelude.{◌≡◌, ◌<◌, ◌≤◌, length, None, IfSome, IfOk, IfErr};
 ghost use Rattle.hid_layout.specs.Controls.{items_of};
 ghost use Rattle.hid_cells.specs.Cells.{FitsSnapshot};
 ghost use Rattle.hid_parts.specs.Encoding.{AreBytes};
@@ -8,9 +8,12 @@ ghost use Rattle.hid_cells.specs.Snapshots.{Changes};
 ghost use Rattle.usb_packet.specs.Spelling.{Fits};
 ghost use Rattle.hid_device.specs.Standing.{is_due, first_due};
 ghost use Rattle.hid_device.specs.Core.{IsSound, IsArmed, Answers, opened_core, opening_of, closed_core, configured_core, changed_core, framed_core, round_of};
+ghost use Rattle.hid_device.specs.Decisions.{decided_by};
+ghost use Rattle.hid_device.specs.Deciding.{decided_row, reads_if};
 ghost use Rattle.hid_device.specs.Making.{no_memory, new_core, CanServe, RefusesDescriptor, MakesCore};
 
 use crate::config::Config;
+use crate::decisions::{Answer, Decision, Pending, reads};
 use crate::fault::{DeviceCause, DeviceFault};
 use crate::frames::{count_frame, is_idle_over};
 use crate::inputs::input_count;
@@ -18,12 +21,14 @@ use hid_cells::{Change, ChangeFault, has_empty_codes, has_zeros};
 use hid_fields::WordCodec;
 use hid_layout::Layout;
 use hid_parts::{Shown, Snapshot, encode_report};
+use hid_requests::{Asked, configuration, device_descriptor, hid_descriptor, what_is_asked};
 use std::alloc::Global;
 use std::marker::Model;
+use usb_control::{Requests, Setup};
 use usb_packet::Packet;
 use usb_transact::DevPipe;
 
-/// The inside of a device.
+/// The inside of a device, which answers the requests of its endpoint 0. A contract sees it as a `CoreState`.
 #[derive(Drop)]
 pub struct Core {
     layout: Layout,
@@ -42,10 +47,16 @@ pub struct Core {
     pipe: DevPipe,
     /// The report of the open round.
     current: Option<usize>,
+    /// The answer to the last request, where it was a read that was accepted.
+    answer: Option<Answer>,
+    /// What its status brings about.
+    pending: Pending,
 }
 
 impl Model for Core {
+    ghost use Rattle.std.specs.Prelude.{option_map};
     ghost use Rattle.hid_device.specs.Core.{CoreState, IsCore};
+    ghost use Rattle.hid_device.specs.Decisions.{answer_bytes};
 
     ghost Value = { CoreState };
 
@@ -57,6 +68,8 @@ impl Model for Core {
       standing = record { snapshot = c.snapshot; fixed = c.fixed; frames = c.frames.items; idle = c.idle.items };
       current = c.current;
       toggle = c.pipe.toggle;
+      answer = option_map (answer_bytes c.descriptor.items) c.answer;
+      pending = c.pending;
     } };
 
     // What is armed is the part that was fixed, exactly while a round is open.
@@ -68,6 +81,8 @@ impl Model for Core {
       standing = record { snapshot = c.snapshot; fixed = c.fixed; frames = c.frames.items; idle = c.idle.items };
       current = c.current;
       toggle = c.pipe.toggle;
+      answer = option_map (answer_bytes c.descriptor.items) c.answer;
+      pending = c.pending;
     }) c.pipe.armed };
 }
 
@@ -110,17 +125,24 @@ impl Core {
         ensures wanting { IfErr result (λ fault. fault ≡ no_memory) }
     {
         let count = input_count(&layout);
+        let descriptor = Vec::from_slice(alloc, descriptor)?;
+        let snapshot = Snapshot::blank(alloc, &layout)?;
+        let fixed = Shown::blank(alloc, &layout)?;
+        let frames = vec![in alloc; 0; count]?;
+        let idle = vec![in alloc; 0; count]?;
         Ok(Core {
+            layout,
             config: *config,
-            descriptor: Vec::from_slice(alloc, descriptor)?,
+            descriptor,
             is_configured: false,
-            snapshot: Snapshot::blank(alloc, &layout)?,
-            fixed: Shown::blank(alloc, &layout)?,
-            frames: vec![in alloc; 0; count]?,
-            idle: vec![in alloc; 0; count]?,
+            snapshot,
+            fixed,
+            frames,
+            idle,
             pipe: DevPipe::new(),
             current: None,
-            layout,
+            answer: None,
+            pending: Pending::Nothing,
         })
     }
 
@@ -136,6 +158,13 @@ impl Core {
             Ok(layout) => Core::with_layout(alloc, layout, config, descriptor),
             Err(fault) => Err(fault),
         }
+    }
+
+    // What holds of every device holds of this one.
+    pub(crate) fn is_sound(&self)
+        ensures { IsSound self.now }
+    {
+        let _layout = &self.layout;
     }
 
     pub(crate) fn layout(&self) -> &Layout
@@ -215,7 +244,7 @@ impl Core {
     }
 
     /// The answer to a poll: what is armed under the toggle, else NAK (USB 2.0, 8.4.6.1).
-    pub(crate) fn answer(&self) -> Packet
+    pub(crate) fn poll_answer(&self) -> Packet
         ensures answer { Answers self.now result }
         ensures fits { Fits result }
         ensures sound { IsSound self.now }
@@ -267,6 +296,107 @@ impl Core {
         are_bytes(&bytes);
         self.pipe.arm(&bytes);
         self.current = Some(report);
+    }
+}
+
+impl Core {
+    /// In bytes, the report descriptor.
+    fn report_length(&self) -> u16
+        ensures { result ≡ length self.now.descriptor }
+    {
+        self.descriptor.len() as u16
+    }
+
+    /// A read that a configured device alone answers.
+    fn reads_configured(&self, bytes: &[u8]) -> Decision
+        requires { length bytes.now ≤ 64 }
+        ensures { decided_by self.now.descriptor result ≡ reads_if self.now.is_configured bytes.now }
+    {
+        if self.is_configured {
+            reads(bytes)
+        } else {
+            Decision::Refuses
+        }
+    }
+
+    /// What is decided on a request, by its row (USB 2.0, 9.4; HID 1.11, 7.1).
+    fn decide(&self, asked: Asked) -> Decision
+        ensures { decided_by self.now.descriptor result ≡ decided_row self.now asked }
+    {
+        match asked {
+            Asked::Status | Asked::ControlStatus => reads(&[0, 0]),
+            Asked::InterfaceStatus | Asked::ReportStatus => self.reads_configured(&[0, 0]),
+            Asked::DeviceDescriptor => reads(&device_descriptor(&self.config.device_info())),
+            Asked::Configuration => {
+                let info = self.config.config_info(self.report_length());
+                reads(&configuration(&info, self.config.interval))
+            }
+            Asked::HidDescriptor => reads(&hid_descriptor(self.report_length())),
+            Asked::ReportDescriptor => Decision::Reads(Answer::Descriptor),
+            Asked::GetConfiguration => reads(&[u8::from(self.is_configured)]),
+            Asked::GetInterface => self.reads_configured(&[0]),
+            Asked::SetConfiguration => Decision::Writes(Pending::Configure),
+        }
+    }
+}
+
+impl Requests for Core {
+    ghost use Rattle.usb_control.specs.Computed.{AppliesBy, PreparesBy};
+    ghost use Rattle.hid_device.specs.Deciding.{core_table};
+    ghost use Rattle.hid_device.specs.DecidingLaws.{SameButRequest, read_has_answer, write_is_short, prepare_keeps, prepare_forgets, read_has_no_effect};
+
+    ghost answer_of = { core_table.answer_of };
+
+    ghost prepare_gives = { PreparesBy core_table };
+
+    ghost apply_gives = { AppliesBy core_table };
+
+    ghost same_but_request = { SameButRequest };
+
+    ghost read_has_answer = { read_has_answer };
+
+    ghost write_is_short = { write_is_short };
+
+    ghost prepare_keeps = { prepare_keeps };
+
+    ghost prepare_forgets = { prepare_forgets };
+
+    ghost read_has_no_effect = { read_has_no_effect };
+
+    #[tactic(auto, unfolding(crate::specs::Deciding::decide))]
+    fn prepare(&mut self, setup: &Setup) -> bool {
+        let decision = match what_is_asked(setup) {
+            Some(asked) => self.decide(asked),
+            None => Decision::Refuses,
+        };
+        self.answer = None;
+        self.pending = Pending::Nothing;
+        match decision {
+            Decision::Refuses => false,
+            Decision::Reads(answer) => {
+                self.answer = Some(answer);
+                true
+            }
+            Decision::Writes(pending) => {
+                self.pending = pending;
+                true
+            }
+        }
+    }
+
+    fn answer(&self) -> Option<&[u8]> {
+        match &self.answer {
+            None => None,
+            Some(Answer::Bytes(bytes)) => Some(bytes.as_slice()),
+            Some(Answer::Descriptor) => Some(self.descriptor.as_slice()),
+        }
+    }
+
+    fn apply(&mut self, _bytes: &[u8]) {
+        match self.pending {
+            Pending::Nothing => {}
+            Pending::Configure => self.configure(),
+        }
     }
 }
 
