@@ -1,9 +1,8 @@
 -- A list that is filled from the front with another.
-use Rattle.std.proofs.Common.{◌≡◌, ℕ, zero, suc, ◌+◌, ◌<◌, ◌≤◌, List, [], ◌∷◌, ◌++◌, length, take, drop, map, Some, refl, sym, ap, ◌∙◌, append-nil, arith}
+use Rattle.std.proofs.Common.{◌≡◌, ℕ, zero, suc, ◌+◌, ◌<◌, ◌≤◌, List, [], ◌∷◌, ◌++◌, length, take, drop, map, Some, refl, sym, ap, ◌∙◌, append-nil, arith, Bool, true, false}
 use Rattle.std.specs.List.{list_any, list_all, slice_get, slice_set, zip}
 use Rattle.std.proofs.Math.Seq.{drop-length, take-length}
 use Rattle.std.proofs.lemmas.List.{length-map, drop_all}
-use Rattle.std.proofs.Common.{Bool, true, false}
 use Rattle.hid_cells.proofs.ListLemmas.{map_at, zip_at, drop_at}
 
 front : (j : ℕ) → suc j + 1 ≡ suc (j + 1)

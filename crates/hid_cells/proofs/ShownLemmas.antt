@@ -12,11 +12,10 @@ use Rattle.hid_layout.specs.declared.control.ControlKind.TheVariants.{Switch, Va
 use Rattle.hid_layout.specs.Controls.{Form, NoControls, Elements, Keys, Item, items_of, head_of}
 use Rattle.hid_cells.specs.declared.cell.Cell.{Cell}
 use Rattle.hid_cells.specs.declared.cell.Cell.TheVariants.{Vacant, Pressed, Holding, Moved, RolledOver}
-use Rattle.hid_cells.specs.Cells.{is_in, is_i32, pressed_count, are_motions, HasRoom, InSnapshot, InPart, Suits}
+use Rattle.hid_cells.specs.Cells.{is_in, is_i32, pressed_count, are_motions, HasRoom, InSnapshot, InPart, Suits, blank_cell}
 use Rattle.std.proofs.lemmas.Option.{slice_get_within}
 use Rattle.hid_layout.specs.declared.control.Controls.{Controls}
 use Rattle.hid_layout.specs.declared.control.Controls.TheVariants as head
-use Rattle.hid_cells.specs.Cells.{blank_cell}
 use Rattle.hid_cells.specs.Parts.{item_at, HasRoomOf, AreMotions, blank_parts, has_zeros, clamp, is_of, by_item, shown_cell, shown_of, shown, differences, minus_motion, taken_of, taken, has_zero}
 use Rattle.hid_cells.proofs.CodeLemmas.{test_true, true_test, both_true}
 use Rattle.hid_cells.proofs.FillLemmas.{length_map_zip}

@@ -8,13 +8,14 @@ use Rattle.hid_usages.specs.Snapshots.{is_pressed, cell_at}
 use Rattle.hid_device.specs.declared.config.Config.{Config}
 use Rattle.hid_device.specs.Inputs.{input_count}
 use Rattle.hid_lives.specs.Rounds.{crossed_rounds, events_of, view_of}
-use Rattle.hid_stack.specs.declared.host.HostPhase.{HostPhase}
-use Rattle.hid_stack.specs.declared.host.HostPhase.TheVariants.{Cold, Ready}
+use Rattle.hid_host.specs.declared.phase.HostPhase.{HostPhase}
+use Rattle.hid_host.specs.declared.phase.HostPhase.TheVariants.{Cold, Described, Parsed, Ready}
 use Rattle.hid_stack.specs.declared.step.Step.{Step}
 use Rattle.hid_stack.specs.declared.step.Delivered.{Delivered}
 use Rattle.hid_stack.specs.Attaching.{Suits, IsAttached}
 use Rattle.hid_stack.specs.Headline.{DeliversChanges, KeepsToRounds}
-use Rattle.hid_stack.specs.Host.{HostEnd, IfReady, IsReady}
+use Rattle.hid_host.specs.Host.{HostEnd}
+use Rattle.hid_host.specs.Phase.{IfReady, IsReady}
 use Rattle.hid_stack.specs.Rig.{Member, fresh_member, own, from_device}
 use Rattle.hid_stack.specs.Showing.{ShowsKnown, ShowsHost, GivesOf}
 use Rattle.hid_client.specs.Playing.{IsPlayed}
@@ -22,6 +23,8 @@ use Rattle.hid_client.specs.Playing.{IsPlayed}
 -- the view of a ready host is its member's
 view_shown : (m : Member) (phase : HostPhase) (view : List Cell) → IsReady phase → IfReady phase (ShowsKnown m) → IfReady phase (λ known. view ≡ known.view) → view ≡ m.station.view
 view_shown m Cold view ready shows is = absurd ready
+view_shown m (Described info) view ready shows is = absurd ready
+view_shown m (Parsed info layout) view ready shows is = absurd ready
 view_shown m (Ready known) view ready shows is = is ∙ shows.view
 
 same_member : (m n : Member) → (let o = Some m in o) ≡ Some n → m ≡ n

@@ -8,7 +8,7 @@ use Rattle.std.proofs.lemmas.Grind.{common_steps}
 use Rattle.std.proofs.lemmas.Bool.Decides.{nat_tests}
 use Rattle.hid_descriptor.specs.declared.fault.Cause.{Cause}
 use Rattle.hid_descriptor.specs.declared.fault.Cause.TheVariants.{PopEmpty, PushDepth, CollectionDepth, EndWithout, Delimiter, BadReportId, UnpairedUsage, BadUsageRange, BadSize, BadRange}
-use Rattle.hid_descriptor.specs.Items.{Item, is, is_field, REPORT_ID, PUSH, POP, COLLECTION, END_COLLECTION, DELIMITER, LOGICAL_MINIMUM}
+use Rattle.hid_descriptor.specs.Items.{Spelled, is, is_field, REPORT_ID, PUSH, POP, COLLECTION, END_COLLECTION, DELIMITER, LOGICAL_MINIMUM}
 use Rattle.hid_descriptor.specs.Matching.{waiting_after}
 use Rattle.hid_descriptor.specs.Globals.{look_back, open_pushes}
 use Rattle.hid_descriptor.specs.Usages.{Entry, are_ranges}
@@ -104,7 +104,7 @@ data_entries flags count (x ∷ xs) e = by_shape (shape_of flags count (x ∷ xs
     by_shape Array e = refl
 
 -- an item of this prefix is no field
-no_field : (item : Item) → is REPORT_ID item ≡ true → is_field item ≡ false
+no_field : (item : Spelled) → is REPORT_ID item ≡ true → is_field item ≡ false
 no_field item r = let h : prefix_of item ≡ 0x84 = grind (arith, nat_tests) in rw h refl
 
 fifth_unmet : (a b c d e : Bool) (i j k l m : Cause) (o : Option Cause) → cond a (Some i) (cond b (Some j) (cond c (Some k) (cond d (Some l) (cond e (Some m) o)))) ≡ None → e ≡ false
@@ -116,7 +116,7 @@ fifth_unmet a b c d e i j k l m o h =
     (not_met e m o s.1).0
 
 -- an accepted Report ID has at most 255
-id_unmet : (before : List Item) (item : Item) → fault_of before item ≡ None → is REPORT_ID item ≡ true → unsigned_of (data_of item) < 256
+id_unmet : (before : List Spelled) (item : Spelled) → fault_of before item ≡ None → is REPORT_ID item ≡ true → unsigned_of (data_of item) < 256
 id_unmet before item e r =
     let other : other_fault before item ≡ None = subst (λ b. cond b (field_fault before item) (other_fault before item) ≡ None) (no_field item r) e in
     let n : ℕ = unsigned_of (data_of item) in
@@ -129,7 +129,7 @@ id_unmet before item e r =
     small_of n h = grind (arith, common_steps, nat_tests)
 
 -- going back over accepted items, the Report ID in force has at most 255
-pub small_ids : (waiting : ℕ) (before : List Item) → AreAccepted before → unsigned_of (look_back REPORT_ID waiting before) < 256
+pub small_ids : (waiting : ℕ) (before : List Spelled) → AreAccepted before → unsigned_of (look_back REPORT_ID waiting before) < 256
 small_ids waiting [] a = omega arith
 small_ids waiting (item ∷ before) a = by_case (nat_eq waiting 0) (is REPORT_ID item) refl (id_unmet before item a.1) (small_ids (waiting_after PUSH POP waiting item) before a.0)
   where
@@ -140,12 +140,12 @@ small_ids waiting (item ∷ before) a = by_case (nat_eq waiting 0) (is REPORT_ID
     by_case false b e here rest = rest
 
 -- each of these items is spelled as one
-abbrev pub AreSpelled : List Item → Type 0
+abbrev pub AreSpelled : List Spelled → Type 0
 AreSpelled [] = Unit {0}
 AreSpelled (item ∷ before) = IsSpelling item × AreSpelled before
 
 -- the data of a short item of a size that its first byte tells
-short_data : (item : Item) → IsSpelling item → is LOGICAL_MINIMUM item ≡ true → length (data_of item) ≤ 4
+short_data : (item : Spelled) → IsSpelling item → is LOGICAL_MINIMUM item ≡ true → length (data_of item) ≤ 4
 short_data [] s r = absurd s
 short_data (first ∷ rest) s r =
     let h : first - first % 4 ≡ 0x14 = grind (arith, nat_tests) in
@@ -175,7 +175,7 @@ pub low_signed : (bytes : List ℕ) → length bytes ≤ 4 → neg_ℤ (pos (2 ^
 low_signed bytes h = low_by_sign (nat_lt (2 * little_endian bytes) (256 ^ length bytes)) (256 ^ length bytes) (little_endian bytes) (pattern_count (length bytes) h)
 
 -- a Logical Minimum in force has at most four bytes
-pub short_minimum : (waiting : ℕ) (before : List Item) → AreSpelled before → length (look_back LOGICAL_MINIMUM waiting before) ≤ 4
+pub short_minimum : (waiting : ℕ) (before : List Spelled) → AreSpelled before → length (look_back LOGICAL_MINIMUM waiting before) ≤ 4
 short_minimum waiting [] s = omega arith
 short_minimum waiting (item ∷ before) s = by_case (nat_eq waiting 0) (is LOGICAL_MINIMUM item) refl (short_data item s.0) (short_minimum (waiting_after PUSH POP waiting item) before s.1)
   where

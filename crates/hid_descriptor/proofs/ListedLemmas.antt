@@ -8,7 +8,7 @@ use Rattle.std.proofs.lemmas.Grind.{common_steps}
 use Rattle.std.proofs.lemmas.Bool.Decides.{nat_tests}
 use Rattle.hid_descriptor.specs.declared.report.ReportKind.{ReportKind}
 use Rattle.hid_descriptor.specs.declared.fault.Cause.TheVariants.{ReportTooLong, TooMany}
-use Rattle.hid_descriptor.specs.Items.{Item, is_field}
+use Rattle.hid_descriptor.specs.Items.{Spelled, is_field}
 use Rattle.hid_descriptor.specs.Usages.{Entry, entries, are_paired}
 use Rattle.hid_descriptor.specs.Fields.{Field, bits_of, report_bits, shape_of, shown_entries, is_padding, field_of, list_field, add_field, fields, has_flag, CONSTANT}
 use Rattle.hid_descriptor.specs.Faults.{first_met, checked_values, value_tests, limit_tests, field_fault, other_fault, fault_of, AreAccepted, are_too_many, report_limit, element_count, report_ids}
@@ -77,7 +77,7 @@ within_limits fs field e =
     record { short = not_over (report_limit field.id) (report_bits field.kind field.id fs) a.0; few = c.0; few_entries = not_over 64 (length field.entries) c.1 }
 
 -- an accepted Input, Output or Feature item describes a sound field, within the limits
-pub accepted_field : (before : List Item) (item : Item) → AreAccepted before → AreSpelled before → field_fault before item ≡ None → bits_of (field_of (fields before) before item) ≢ 0
+pub accepted_field : (before : List Spelled) (item : Spelled) → AreAccepted before → AreSpelled before → field_fault before item ≡ None → bits_of (field_of (fields before) before item) ≢ 0
     → IsSound (field_of (fields before) before item) × IsWithin (list_field (fields before) (field_of (fields before) before item)) (field_of (fields before) before item)
 unfolding field_fault
 accepted_field before item a s e bits =
@@ -156,7 +156,7 @@ list_step fs f false z a o facts =
     let within : IsWithin (fs ++ f ∷ []) f = subst (λ l. IsWithin l f) grown (facts some).1 in
     one_more fs f a (facts some).0 o within.short within.few
 
-field_step : (before : List Item) (item : Item) (b : Bool) → is_field item ≡ b → AreAccepted before → AreSpelled before → fault_of before item ≡ None → AreListed (fields before)
+field_step : (before : List Spelled) (item : Spelled) (b : Bool) → is_field item ≡ b → AreAccepted before → AreSpelled before → fault_of before item ≡ None → AreListed (fields before)
     → AreListed (cond b (list_field (fields before) (field_of (fields before) before item)) (fields before))
 field_step before item true e a s h so_far =
     let unmet : field_fault before item ≡ None = subst (λ b. cond b (field_fault before item) (other_fault before item) ≡ None) e h in
@@ -164,7 +164,7 @@ field_step before item true e a s h so_far =
 field_step before item false e a s h so_far = so_far
 
 -- the fields that accepted items list
-pub listed : (before : List Item) → AreAccepted before → AreSpelled before → AreListed (fields before)
+pub listed : (before : List Spelled) → AreAccepted before → AreSpelled before → AreListed (fields before)
 unfolding add_field
 listed [] a s = none_listed
 listed (item ∷ before) a s = field_step before item (is_field item) refl a.0 s.1 a.1 (listed before a.0 s.1)

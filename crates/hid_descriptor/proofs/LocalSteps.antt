@@ -8,18 +8,18 @@ use Rattle.std.proofs.lemmas.List.{map-append, length-map}
 use Rattle.hid_items.specs.Spelling.{prefix_of}
 use Rattle.hid_descriptor.specs.declared.locals.NamedUsage.{NamedUsage}
 use Rattle.hid_descriptor.specs.declared.locals.Locals.{Locals}
-use Rattle.hid_descriptor.specs.Items.{Item, is, is_main, USAGE, USAGE_MINIMUM, USAGE_MAXIMUM}
+use Rattle.hid_descriptor.specs.Items.{Spelled, is, is_main, USAGE, USAGE_MINIMUM, USAGE_MAXIMUM}
 use Rattle.hid_descriptor.specs.Usages.{usage_named, entry_of, to_list, locals, minima, maxima, entry_at, entries_behind}
 use Rattle.hid_descriptor.specs.Locals.{named, on_page, entry_on_page, AreLocals, AddsLocal, entry_completed}
 
-pub locals_more : (before : List Item) (item : Item) → is_main item ≡ false → locals (item ∷ before) ≡ locals before ++ item ∷ []
+pub locals_more : (before : List Spelled) (item : Spelled) → is_main item ≡ false → locals (item ∷ before) ≡ locals before ++ item ∷ []
 locals_more before item h = grind (arith, common_steps)
 
-pub filter_more : (p : Item → Bool) (xs : List Item) (x : Item) → filter p (xs ++ x ∷ []) ≡ filter p xs ++ cond (p x) (x ∷ []) []
+pub filter_more : (p : Spelled → Bool) (xs : List Spelled) (x : Spelled) → filter p (xs ++ x ∷ []) ≡ filter p xs ++ cond (p x) (x ∷ []) []
 filter_more p [] x = grind (arith, common_steps)
 filter_more p (y ∷ xs) x = grind (arith, common_steps, filter_more p xs x)
 
-pub entries_more : (page : ℕ) (front xs : List Item) (x : Item) → entries_behind page front (xs ++ x ∷ []) ≡ entries_behind page front xs ++ entry_at page (front ++ xs) x
+pub entries_more : (page : ℕ) (front xs : List Spelled) (x : Spelled) → entries_behind page front (xs ++ x ∷ []) ≡ entries_behind page front xs ++ entry_at page (front ++ xs) x
 entries_more page front [] x = rw append-nil (rw append-nil refl)
 entries_more page front (y ∷ xs) x =
     ap (λ r. entry_at page front y ++ r) (entries_more page (front ++ y ∷ []) xs x)
@@ -34,26 +34,26 @@ map_to_list : {A B : Type 0} (f : A → B) (o : Option A) → map f (to_list o) 
 map_to_list f None = refl
 map_to_list f (Some x) = refl
 
-named_on_page : (page : ℕ) (item : Item) → on_page page (named item) ≡ usage_named page item
+named_on_page : (page : ℕ) (item : Spelled) → on_page page (named item) ≡ usage_named page item
 named_on_page page item = grind (arith, common_steps)
 
 -- an entry that a pair of kept usages makes, where the other one is looked up
-pair_low : (page : ℕ) (item : Item) (o : Option Item) → map (entry_on_page page) (to_list (option_map (λ high. (named item, high)) (option_map named o))) ≡ to_list (option_map (λ high. entry_of page item high) o)
+pair_low : (page : ℕ) (item : Spelled) (o : Option Spelled) → map (entry_on_page page) (to_list (option_map (λ high. (named item, high)) (option_map named o))) ≡ to_list (option_map (λ high. entry_of page item high) o)
 pair_low page item None = refl
 pair_low page item (Some high) = ap (λ e. e ∷ []) (ap (λ u. (u, on_page page (named high))) (named_on_page page item) ∙ ap (λ u. (usage_named page item, u)) (named_on_page page high))
 
-pair_high : (page : ℕ) (item : Item) (o : Option Item) → map (entry_on_page page) (to_list (option_map (λ low. (low, named item)) (option_map named o))) ≡ to_list (option_map (λ low. entry_of page low item) o)
+pair_high : (page : ℕ) (item : Spelled) (o : Option Spelled) → map (entry_on_page page) (to_list (option_map (λ low. (low, named item)) (option_map named o))) ≡ to_list (option_map (λ low. entry_of page low item) o)
 pair_high page item None = refl
 pair_high page item (Some low) = ap (λ e. e ∷ []) (ap (λ u. (u, on_page page (named item))) (named_on_page page low) ∙ ap (λ u. (usage_named page low, u)) (named_on_page page item))
 
-pair_one : (page : ℕ) (item : Item) → map (entry_on_page page) ((named item, named item) ∷ []) ≡ entry_of page item item ∷ []
+pair_one : (page : ℕ) (item : Spelled) → map (entry_on_page page) ((named item, named item) ∷ []) ≡ entry_of page item item ∷ []
 pair_one page item = pair_low page item (Some item)
 
-length_named : (xs : List Item) → length (map named xs) ≡ length xs
+length_named : (xs : List Spelled) → length (map named xs) ≡ length xs
 length_named xs = length-map xs named
 
 -- the entry kept at a local item is the one that counts there
-completed : (page : ℕ) (ls : List Item) (item : Item) → map (entry_on_page page) (entry_completed (prefix_of item) (named item) (map named (minima ls)) (map named (maxima ls))) ≡ entry_at page ls item
+completed : (page : ℕ) (ls : List Spelled) (item : Spelled) → map (entry_on_page page) (entry_completed (prefix_of item) (named item) (map named (minima ls)) (map named (maxima ls))) ≡ entry_at page ls item
 completed page ls item = by_case (is USAGE item) (is USAGE_MINIMUM item) (is USAGE_MAXIMUM item)
   where
     by_case : (a b c : Bool) → map (entry_on_page page) (cond a ((named item, named item) ∷ []) (cond b (to_list (option_map (λ high. (named item, high)) (slice_get (map named (maxima ls)) (length (map named (minima ls)))))) (cond c (to_list (option_map (λ low. (low, named item)) (slice_get (map named (minima ls)) (length (map named (maxima ls)))))) [])))
@@ -67,12 +67,12 @@ map_if : {A B : Type 0} (f : A → B) (b : Bool) (x : A) → map f (cond b (x �
 map_if f true x = refl
 map_if f false x = refl
 
-kept_more : (p : Item → Bool) (ls : List Item) (item : Item) (old new : List NamedUsage) → old ≡ map named (filter p ls) → new ≡ old ++ cond (p item) (named item ∷ []) [] → new ≡ map named (filter p (ls ++ item ∷ []))
+kept_more : (p : Spelled → Bool) (ls : List Spelled) (item : Spelled) (old new : List NamedUsage) → old ≡ map named (filter p ls) → new ≡ old ++ cond (p item) (named item ∷ []) [] → new ≡ map named (filter p (ls ++ item ∷ []))
 kept_more p ls item old new e f =
     f ∙ ap (λ o. o ++ cond (p item) (named item ∷ []) []) e ∙ ap (λ t. map named (filter p ls) ++ t) (sym (map_if named (p item) item)) ∙ sym (map-append named (filter p ls) _) ∙ ap (map named) (sym (filter_more p ls item))
 
 -- what is kept of one more local item is what counts of it
-pub locals_added : (before : List Item) (item : Item) (old new : Locals) → is_main item ≡ false → AreLocals before old → AddsLocal (prefix_of item) (named item) old new → AreLocals (item ∷ before) new
+pub locals_added : (before : List Spelled) (item : Spelled) (old new : Locals) → is_main item ≡ false → AreLocals before old → AddsLocal (prefix_of item) (named item) old new → AreLocals (item ∷ before) new
 locals_added before item old new h is_old adds =
     let more : locals (item ∷ before) ≡ locals before ++ item ∷ [] = locals_more before item h in
     record {
@@ -88,5 +88,5 @@ locals_added before item old new h is_old adds =
     }
 
 -- the kept item is the one that was read
-pub adds_item : (prefix : ℕ) (item : Item) (old new : Locals) → prefix ≡ prefix_of item → AddsLocal prefix (named item) old new → AddsLocal (prefix_of item) (named item) old new
+pub adds_item : (prefix : ℕ) (item : Spelled) (old new : Locals) → prefix ≡ prefix_of item → AddsLocal prefix (named item) old new → AddsLocal (prefix_of item) (named item) old new
 adds_item prefix item old new p a = subst (λ n. AddsLocal n (named item) old new) p a

@@ -3,7 +3,7 @@ use Rattle.std.proofs.Common.{◌≡◌, ◌≢◌, ℕ, zero, suc, ◌+◌, ◌
 use Rattle.std.proofs.lemmas.Grind.{common_steps}
 use Rattle.std.proofs.lemmas.Bool.Decides.{nat_tests}
 use Rattle.hid_items.specs.Spelling.{data_of}
-use Rattle.hid_descriptor.specs.Items.{Item, is, PUSH, POP}
+use Rattle.hid_descriptor.specs.Items.{Spelled, is, PUSH, POP}
 use Rattle.hid_descriptor.specs.Matching.{Placed, open_items}
 use Rattle.hid_descriptor.specs.Globals.{look_back}
 
@@ -32,7 +32,7 @@ step false true (suc k) sets own here front p look open_at at not_both h ih e =
     grind (arith, common_steps, nat_tests, ap look b)
 
 -- the Push that a Pop waits for is the last one that is open
-pub look_back_matched : (prefix k : ℕ) (before : List Item) (front : List Placed) (p : Placed) → open_items PUSH POP k before ≡ front ++ p ∷ [] → look_back prefix (suc k) before ≡ look_back prefix 0 (p.0)
+pub look_back_matched : (prefix k : ℕ) (before : List Spelled) (front : List Placed) (p : Placed) → open_items PUSH POP k before ≡ front ++ p ∷ [] → look_back prefix (suc k) before ≡ look_back prefix 0 (p.0)
 look_back_matched prefix k [] front p e = grind (arith, common_steps)
 look_back_matched prefix k (item ∷ before) front p e =
     step (is POP item) (is PUSH item) k (is prefix item) (data_of item) (before, item) front p (λ j. look_back prefix j before) (λ j. open_items PUSH POP j before) (λ q. look_back prefix 0 (q.0))
@@ -61,7 +61,7 @@ cut_step false true (suc k) here front p open_at not_both ih e =
     grind (arith, common_steps, nat_tests, ap open_at b)
 
 -- a closing item closes the last one that is open
-pub open_items_cut : (opening closing : ℕ) → opening ≢ closing → (k : ℕ) (before : List Item) (front : List Placed) (p : Placed) → open_items opening closing k before ≡ front ++ p ∷ [] → open_items opening closing (suc k) before ≡ front
+pub open_items_cut : (opening closing : ℕ) → opening ≢ closing → (k : ℕ) (before : List Spelled) (front : List Placed) (p : Placed) → open_items opening closing k before ≡ front ++ p ∷ [] → open_items opening closing (suc k) before ≡ front
 open_items_cut opening closing d k [] front p e = grind (arith, common_steps)
 open_items_cut opening closing d k (item ∷ before) front p e =
     cut_step (is closing item) (is opening item) k (before, item) front p (λ j. open_items opening closing j before)

@@ -6,7 +6,7 @@ use Rattle.std.proofs.lemmas.Grind.{common_steps}
 use Rattle.std.proofs.lemmas.Bool.Decides.{nat_tests}
 use Rattle.hid_items.specs.Spelling.{prefix_of}
 use Rattle.hid_descriptor.specs.declared.collection.Collection.{Collection}
-use Rattle.hid_descriptor.specs.Items.{Item, COLLECTION, END_COLLECTION}
+use Rattle.hid_descriptor.specs.Items.{Spelled, COLLECTION, END_COLLECTION}
 use Rattle.hid_descriptor.specs.Matching.{Placed, open_items}
 use Rattle.hid_descriptor.specs.Usages.{Entry, usage_list, is_range, are_ranges}
 use Rattle.hid_descriptor.specs.Path.{collection_of, path}
@@ -34,13 +34,13 @@ pub range_failed : (page : ℕ) (es : List (NamedUsage × NamedUsage)) (i : ℕ)
 range_failed page es i d h t e =
     sym (all_failed is_range (entry_on_page page (get_or es i d)) (map (entry_on_page page) (drop (suc i) es)) t) ∙ ap (ranges_on page) (sym (drop-cons es i d h)) ∙ e
 
-open_matched : (before : List Item) (item : Item) (front : List Placed) (p : Placed) → prefix_of item ≡ END_COLLECTION → open_items COLLECTION END_COLLECTION 0 before ≡ front ++ p ∷ [] → open_items COLLECTION END_COLLECTION 0 (item ∷ before) ≡ front
+open_matched : (before : List Spelled) (item : Spelled) (front : List Placed) (p : Placed) → prefix_of item ≡ END_COLLECTION → open_items COLLECTION END_COLLECTION 0 before ≡ front ++ p ∷ [] → open_items COLLECTION END_COLLECTION 0 (item ∷ before) ≡ front
 open_matched before item front p h e =
     let q : open_items COLLECTION END_COLLECTION 1 before ≡ front = open_items_cut COLLECTION END_COLLECTION (λ d. absurd (omega arith)) 0 before front p e in
     grind (arith, common_steps, nat_tests)
 
 -- an End Collection closes the innermost collection
-pub path_ended : (before : List Item) (item : Item) (rest : List Collection) (last : Collection) → prefix_of item ≡ END_COLLECTION → path before ≡ rest ++ last ∷ [] → path (item ∷ before) ≡ rest
+pub path_ended : (before : List Spelled) (item : Spelled) (rest : List Collection) (last : Collection) → prefix_of item ≡ END_COLLECTION → path before ≡ rest ++ last ∷ [] → path (item ∷ before) ≡ rest
 path_ended before item rest last h e =
     let l : LastOf collection_of (open_items COLLECTION END_COLLECTION 0 before) rest last = last_of collection_of (open_items COLLECTION END_COLLECTION 0 before) rest last e in
     ap (map collection_of) (open_matched before item l.front l.last h l.whole) ∙ l.images

@@ -9,7 +9,7 @@ use Rattle.std.proofs.lemmas.List.Elements.{All-head, All-tail}
 use Rattle.hid_items.specs.Spelling.{IsSpelling, IsCut}
 use Rattle.hid_descriptor.specs.declared.fault.Cause.{Cause}
 use Rattle.hid_descriptor.specs.declared.fault.Cause.TheVariants.{TooLong, Truncated, Unclosed, MixedReportId}
-use Rattle.hid_descriptor.specs.Items.{Item}
+use Rattle.hid_descriptor.specs.Items.{Spelled}
 use Rattle.hid_descriptor.specs.Path.{path}
 use Rattle.hid_descriptor.specs.Faults.{fault_of, AreAccepted, is_mixed, Reaches, IsRefused, IsRefusedAsWhole, Refuses, Accepts}
 
@@ -17,15 +17,15 @@ use Rattle.hid_descriptor.specs.Faults.{fault_of, AreAccepted, is_mixed, Reaches
 abbrev pub ArePrefixFree : Type 0
 ArePrefixFree = (item other more rest : List ℕ) → IsSpelling item → IsSpelling other → item ++ more ≡ other ++ rest → item ≡ other
 
-abbrev all_of : List Item → List ℕ
+abbrev all_of : List Spelled → List ℕ
 all_of items = flat_map (λ item. item) items
 
-some_bytes : (item : Item) → IsSpelling item → 0 < length item
+some_bytes : (item : Spelled) → IsSpelling item → 0 < length item
 some_bytes [] s = absurd s
 some_bytes (b ∷ bytes) s = omega arith
 
 -- of two lists of items with which some bytes begin, the shorter one stands at the front of the other
-front_of : ArePrefixFree → (xs ys : List Item) (p q : List ℕ) → All IsSpelling xs → All IsSpelling ys → all_of xs ++ p ≡ all_of ys ++ q → length (all_of xs) ≤ length (all_of ys) → (zs : List Item) × (ys ≡ xs ++ zs)
+front_of : ArePrefixFree → (xs ys : List Spelled) (p q : List ℕ) → All IsSpelling xs → All IsSpelling ys → all_of xs ++ p ≡ all_of ys ++ q → length (all_of xs) ≤ length (all_of ys) → (zs : List Spelled) × (ys ≡ xs ++ zs)
 front_of free [] ys p q a b e le = (ys, refl)
 front_of free (x ∷ xs) [] p q a b e le =
     let n : length (all_of (x ∷ xs)) ≡ length x + length (all_of xs) = length-append x (all_of xs) in
@@ -40,26 +40,26 @@ front_of free (x ∷ xs) (y ∷ ys) p q a b e le =
     (rest.0, ap (λ l. y ∷ l) rest.1 ∙ ap (λ h. h ∷ (xs ++ rest.0)) (sym first))
 
 -- the bytes that some reached items take, and the rest
-split_at : (bytes : List ℕ) (at : ℕ) (before : List Item) → Reaches bytes at before → all_of (reverse before) ++ drop at bytes ≡ bytes
+split_at : (bytes : List ℕ) (at : ℕ) (before : List Spelled) → Reaches bytes at before → all_of (reverse before) ++ drop at bytes ≡ bytes
 split_at bytes at before r = ap (λ l. l ++ drop at bytes) r.items.joined ∙ take-append-drop at bytes
 
-taken : (bytes : List ℕ) (at : ℕ) (before : List Item) → Reaches bytes at before → length (all_of (reverse before)) ≡ at
+taken : (bytes : List ℕ) (at : ℕ) (before : List Spelled) → Reaches bytes at before → length (all_of (reverse before)) ≡ at
 taken bytes at before r = omega (arith, ap length (split_at bytes at before r), length-append (all_of (reverse before)) (drop at bytes), length-drop at bytes, r.within)
 
-accepted_front : (more before : List Item) → AreAccepted (more ++ before) → AreAccepted before
+accepted_front : (more before : List Spelled) → AreAccepted (more ++ before) → AreAccepted before
 accepted_front [] before a = a
 accepted_front (m ∷ more) before a = accepted_front more before a.0
 
 -- an item comes next, and it is accepted
-abbrev pub GoesOn : List ℕ → ℕ → List Item → Type 0
-GoesOn bytes at before = (item : Item) × IsSpelling item × ((more : List ℕ) × (drop at bytes ≡ item ++ more)) × (fault_of before item ≡ None)
+abbrev pub GoesOn : List ℕ → ℕ → List Spelled → Type 0
+GoesOn bytes at before = (item : Spelled) × IsSpelling item × ((more : List ℕ) × (drop at bytes ≡ item ++ more)) × (fault_of before item ≡ None)
 
 All-tail_of : {A : Type 0} (P : A → Type 0) (xs ys : List A) → All P (xs ++ ys) → All P ys
 All-tail_of P [] ys a = a
 All-tail_of P (x ∷ xs) ys a = All-tail_of P xs ys (All-tail P x (xs ++ ys) a)
 
 -- the items behind some others, and what they say of them
-goes_on : (bytes : List ℕ) (at there : ℕ) (before others zs : List Item) (z : Item) → Reaches bytes at before → Reaches bytes there others → reverse others ≡ reverse before ++ z ∷ zs → GoesOn bytes at before
+goes_on : (bytes : List ℕ) (at there : ℕ) (before others zs : List Spelled) (z : Spelled) → Reaches bytes at before → Reaches bytes there others → reverse others ≡ reverse before ++ z ∷ zs → GoesOn bytes at before
 goes_on bytes at there before others zs z r s e =
     let all : All IsSpelling (reverse before ++ z ∷ zs) = subst (All IsSpelling) e s.items.spelled in
     let spelled : IsSpelling z = All-head IsSpelling z zs (All-tail_of IsSpelling (reverse before) (z ∷ zs) all) in
@@ -71,23 +71,23 @@ goes_on bytes at there before others zs z r s e =
     (z, spelled, (all_of zs ++ drop there bytes, append_cancel_left (all_of (reverse before)) (drop at bytes) (z ++ (all_of zs ++ drop there bytes)) whole), accepted.1)
 
 -- items that reach less far go on
-reaches_on : ArePrefixFree → (bytes : List ℕ) (at there : ℕ) (before others : List Item) → Reaches bytes at before → Reaches bytes there others → at ≤ there → ((at ≡ there) × (before ≡ others)) ⊎ GoesOn bytes at before
+reaches_on : ArePrefixFree → (bytes : List ℕ) (at there : ℕ) (before others : List Spelled) → Reaches bytes at before → Reaches bytes there others → at ≤ there → ((at ≡ there) × (before ≡ others)) ⊎ GoesOn bytes at before
 reaches_on free bytes at there before others r s le =
     let front = front_of free (reverse before) (reverse others) (drop at bytes) (drop there bytes) r.items.spelled s.items.spelled (split_at bytes at before r ∙ sym (split_at bytes there others s)) (omega (arith, le, taken bytes at before r, taken bytes there others s)) in
     by_case front.0 front.1
   where
-    by_case : (zs : List Item) → reverse others ≡ reverse before ++ zs → ((at ≡ there) × (before ≡ others)) ⊎ GoesOn bytes at before
+    by_case : (zs : List Spelled) → reverse others ≡ reverse before ++ zs → ((at ≡ there) × (before ≡ others)) ⊎ GoesOn bytes at before
     by_case [] e =
         let same : before ≡ others = sym (reverse-reverse before) ∙ ap reverse (sym (e ∙ append-nil (reverse before))) ∙ reverse-reverse others in
         inl (sym (taken bytes at before r) ∙ ap (λ l. length (all_of (reverse l))) same ∙ taken bytes there others s, same)
     by_case (z ∷ zs) e = inr (goes_on bytes at there before others zs z r s e)
 
 -- no accepted item follows
-abbrev pub Stops : List ℕ → ℕ → List Item → Type 0
+abbrev pub Stops : List ℕ → ℕ → List Spelled → Type 0
 Stops bytes at before = GoesOn bytes at before → ⊥
 
 -- accepted items stop at one place
-pub one_stop : ArePrefixFree → (bytes : List ℕ) (at there : ℕ) (before others : List Item) → Reaches bytes at before → Reaches bytes there others → Stops bytes at before → Stops bytes there others → (at ≡ there) × (before ≡ others)
+pub one_stop : ArePrefixFree → (bytes : List ℕ) (at there : ℕ) (before others : List Spelled) → Reaches bytes at before → Reaches bytes there others → Stops bytes at before → Stops bytes there others → (at ≡ there) × (before ≡ others)
 one_stop free bytes at there before others r s p q = by_order (le_total at there)
   where
     le_total : (m n : ℕ) → (m ≤ n) ⊎ (n ≤ m)
@@ -110,13 +110,13 @@ one_stop free bytes at there before others r s p q = by_order (le_total at there
     by_order (inr le) = second (reaches_on free bytes there at others before s r le)
 
 -- why no accepted item follows some accepted ones
-pub data Why (bytes : List ℕ) (cause : Cause) (at : ℕ) (before : List Item) : Type 0 where
-  at_item : (item : Item) → IsRefused bytes cause at before item → Why bytes cause at before
+pub data Why (bytes : List ℕ) (cause : Cause) (at : ℕ) (before : List Spelled) : Type 0 where
+  at_item : (item : Spelled) → IsRefused bytes cause at before item → Why bytes cause at before
   cut : cause ≡ Truncated → Reaches bytes at before → IsCut (drop at bytes) → Why bytes cause at before
   unclosed : cause ≡ Unclosed → Reaches bytes at before → at ≡ length bytes → 0 < length (path before) → Why bytes cause at before
   mixed : cause ≡ MixedReportId → Reaches bytes at before → at ≡ length bytes → length (path before) ≡ 0 → is_mixed before ≡ true → Why bytes cause at before
 
-why_reaches : (bytes : List ℕ) (cause : Cause) (at : ℕ) (before : List Item) → Why bytes cause at before → Reaches bytes at before
+why_reaches : (bytes : List ℕ) (cause : Cause) (at : ℕ) (before : List Spelled) → Why bytes cause at before → Reaches bytes at before
 why_reaches bytes cause at before (at_item item r) = r.reaches
 why_reaches bytes cause at before (cut c r e) = r
 why_reaches bytes cause at before (unclosed c r l o) = r
@@ -128,7 +128,7 @@ none_left bytes at item more l s e = omega (arith, l, ap length e, length-drop a
 not_both : (o : Option Cause) (cause : Cause) → o ≡ Some cause → o ≡ None → ⊥
 not_both o cause a b = cc
 
-why_stops : ArePrefixFree → (bytes : List ℕ) (cause : Cause) (at : ℕ) (before : List Item) → Why bytes cause at before → Stops bytes at before
+why_stops : ArePrefixFree → (bytes : List ℕ) (cause : Cause) (at : ℕ) (before : List Spelled) → Why bytes cause at before → Stops bytes at before
 why_stops free bytes cause at before (at_item item r) (z, spelled, next, accepted) =
     let same : item ≡ z = free item z r.next.0 next.0 r.spelled spelled (sym r.next.1 ∙ next.1) in
     not_both (fault_of before z) cause (ap (fault_of before) (sym same) ∙ r.fault) accepted
@@ -137,7 +137,7 @@ why_stops free bytes cause at before (unclosed c r l o) (z, spelled, next, accep
 why_stops free bytes cause at before (mixed c r l o m) (z, spelled, next, accepted) = none_left bytes at z next.0 l spelled next.1
 
 -- at one place there is one cause
-one_why : ArePrefixFree → (bytes : List ℕ) (cause other : Cause) (at : ℕ) (before : List Item) → Why bytes cause at before → Why bytes other at before → cause ≡ other
+one_why : ArePrefixFree → (bytes : List ℕ) (cause other : Cause) (at : ℕ) (before : List Spelled) → Why bytes cause at before → Why bytes other at before → cause ≡ other
 one_why free bytes cause other at before (at_item item r) (at_item z s) =
     let same : item ≡ z = free item z r.next.0 s.next.0 r.spelled s.spelled (sym r.next.1 ∙ s.next.1) in
     let e : Some cause ≡ Some other = sym r.fault ∙ ap (fault_of before) same ∙ s.fault in
@@ -161,18 +161,18 @@ one_why free bytes cause other at before (mixed c r l o m) (mixed d s k p n) = c
 abbrev IsLong : List ℕ → Cause → ℕ → Type 0
 IsLong bytes cause at = (cause ≡ TooLong) × (at ≡ 4096) × (4096 < length bytes)
 
-whole_why : (bytes : List ℕ) (cause : Cause) (at : ℕ) → IsRefusedAsWhole bytes cause at → IsLong bytes cause at ⊎ ((before : List Item) × Why bytes cause at before)
+whole_why : (bytes : List ℕ) (cause : Cause) (at : ℕ) → IsRefusedAsWhole bytes cause at → IsLong bytes cause at ⊎ ((before : List Spelled) × Why bytes cause at before)
 whole_why bytes TooLong at w = inl (refl, w.1, w.0)
 whole_why bytes Truncated at w = inr (w.0, cut refl w.1 w.2)
 whole_why bytes Unclosed at w = inr (w.0, unclosed refl w.1 w.2 w.3)
 whole_why bytes MixedReportId at w = inr (w.0, mixed refl w.1 w.2 w.3 w.4)
 whole_why bytes cause at w = absurd w
 
-refusal_why : (bytes : List ℕ) (cause : Cause) (at : ℕ) → Refuses bytes cause at → IsLong bytes cause at ⊎ ((before : List Item) × Why bytes cause at before)
+refusal_why : (bytes : List ℕ) (cause : Cause) (at : ℕ) → Refuses bytes cause at → IsLong bytes cause at ⊎ ((before : List Spelled) × Why bytes cause at before)
 refusal_why bytes cause at (inl (before, item, r)) = inr (before, at_item item r)
 refusal_why bytes cause at (inr w) = whole_why bytes cause at w
 
-same_refusal : ArePrefixFree → (bytes : List ℕ) (cause other : Cause) (at there : ℕ) → IsLong bytes cause at ⊎ ((before : List Item) × Why bytes cause at before) → IsLong bytes other there ⊎ ((before : List Item) × Why bytes other there before) → (cause ≡ other) × (at ≡ there)
+same_refusal : ArePrefixFree → (bytes : List ℕ) (cause other : Cause) (at there : ℕ) → IsLong bytes cause at ⊎ ((before : List Spelled) × Why bytes cause at before) → IsLong bytes other there ⊎ ((before : List Spelled) × Why bytes other there before) → (cause ≡ other) × (at ≡ there)
 same_refusal free bytes cause other at there (inl long) (inl too) = (long.0 ∙ sym too.0, long.1 ∙ sym too.1)
 same_refusal free bytes cause other at there (inl long) (inr (others, w)) = absurd (omega (arith, long.2, (why_reaches bytes other there others w).short))
 same_refusal free bytes cause other at there (inr (before, w)) (inl long) = absurd (omega (arith, long.2, (why_reaches bytes cause at before w).short))
@@ -184,13 +184,13 @@ pub one_refusal : ArePrefixFree → (bytes : List ℕ) (cause other : Cause) (at
 one_refusal free bytes cause other at there r s = same_refusal free bytes cause other at there (refusal_why bytes cause at r) (refusal_why bytes other there s)
 
 -- all items of an accepted descriptor are there
-accepted_stops : (bytes : List ℕ) (before : List Item) → Accepts bytes before → Stops bytes (length bytes) before
+accepted_stops : (bytes : List ℕ) (before : List Spelled) → Accepts bytes before → Stops bytes (length bytes) before
 accepted_stops bytes before a (z, spelled, next, accepted) = none_left bytes (length bytes) z next.0 refl spelled next.1
 
-pub one_list : ArePrefixFree → (bytes : List ℕ) (before others : List Item) → Accepts bytes before → Accepts bytes others → before ≡ others
+pub one_list : ArePrefixFree → (bytes : List ℕ) (before others : List Spelled) → Accepts bytes before → Accepts bytes others → before ≡ others
 one_list free bytes before others a b = (one_stop free bytes (length bytes) (length bytes) before others a.reaches b.reaches (accepted_stops bytes before a) (accepted_stops bytes others b)).1
 
-no_why : ArePrefixFree → (bytes : List ℕ) (cause : Cause) (before : List Item) → Accepts bytes before → Why bytes cause (length bytes) before → ⊥
+no_why : ArePrefixFree → (bytes : List ℕ) (cause : Cause) (before : List Spelled) → Accepts bytes before → Why bytes cause (length bytes) before → ⊥
 no_why free bytes cause before a (at_item item r) = none_left bytes (length bytes) item r.next.0 refl r.spelled r.next.1
 no_why free bytes cause before a (cut c r e) = omega (arith, e.some, length-drop (length bytes) bytes)
 no_why free bytes cause before a (unclosed c r l o) = omega (arith, o, a.closed)
@@ -199,10 +199,10 @@ no_why free bytes cause before a (mixed c r l o m) = true_not_false (sym m ∙ a
     true_not_false : true ≡ false → ⊥
     true_not_false e = cc
 
-pub no_refusal : ArePrefixFree → (bytes : List ℕ) (before : List Item) (cause : Cause) (at : ℕ) → Accepts bytes before → Refuses bytes cause at → ⊥
+pub no_refusal : ArePrefixFree → (bytes : List ℕ) (before : List Spelled) (cause : Cause) (at : ℕ) → Accepts bytes before → Refuses bytes cause at → ⊥
 no_refusal free bytes before cause at a r = by_why (refusal_why bytes cause at r)
   where
-    by_why : IsLong bytes cause at ⊎ ((others : List Item) × Why bytes cause at others) → ⊥
+    by_why : IsLong bytes cause at ⊎ ((others : List Spelled) × Why bytes cause at others) → ⊥
     by_why (inl long) = omega (arith, long.2, a.reaches.short)
     by_why (inr (others, w)) =
         let stop = one_stop free bytes at (length bytes) others before (why_reaches bytes cause at others w) a.reaches (why_stops free bytes cause at others w) (accepted_stops bytes before a) in

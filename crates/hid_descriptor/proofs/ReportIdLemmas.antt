@@ -10,7 +10,7 @@ use Rattle.hid_descriptor.specs.declared.report.Report.{Report}
 use Rattle.hid_descriptor.specs.declared.report.ReportKind.{ReportKind}
 use Rattle.hid_descriptor.specs.declared.report.ReportKind.TheVariants.{Input, Output, Feature}
 use Rattle.hid_descriptor.specs.Kinds.{rank}
-use Rattle.hid_descriptor.specs.Items.{Item, is, is_field, PUSH, POP, REPORT_ID}
+use Rattle.hid_descriptor.specs.Items.{Spelled, is, is_field, PUSH, POP, REPORT_ID}
 use Rattle.hid_descriptor.specs.Matching.{waiting_after}
 use Rattle.hid_descriptor.specs.Globals.{look_back}
 use Rattle.hid_descriptor.specs.Fields.{Field, bits_of, report_bits, field_of, add_field, fields}
@@ -89,7 +89,7 @@ one_place fs i k a b e f kinds ids =
 pub byte_id : (fs : List Field) (i : ℕ) (r : Report) → slice_get (reports_of fs) i ≡ Some r → r.id < 256
 byte_id fs i r e = (key_over 0 (reports_of fs) i r (all_rise fs) e).1
 
-none_set : (waiting : ℕ) (before : List Item) → list_any (is REPORT_ID) before ≡ false → look_back REPORT_ID waiting before ≡ []
+none_set : (waiting : ℕ) (before : List Spelled) → list_any (is REPORT_ID) before ≡ false → look_back REPORT_ID waiting before ≡ []
 none_set waiting [] none = refl
 none_set waiting (item ∷ before) none = by_item (is REPORT_ID item) (nat_eq waiting 0) none (λ rest. none_set (waiting_after PUSH POP waiting item) before rest)
   where
@@ -100,7 +100,7 @@ none_set waiting (item ∷ before) none = by_item (is REPORT_ID item) (nat_eq wa
     by_item false false e rest = rest e
 
 -- where no item sets a report ID, no field has one
-pub fields_unnumbered : (before : List Item) → list_any (is REPORT_ID) before ≡ false → (i : ℕ) (f : Field) → slice_get (fields before) i ≡ Some f → f.id ≡ 0
+pub fields_unnumbered : (before : List Spelled) → list_any (is REPORT_ID) before ≡ false → (i : ℕ) (f : Field) → slice_get (fields before) i ≡ Some f → f.id ≡ 0
 unfolding add_field
 fields_unnumbered [] none i f e = absurd (cc)
 fields_unnumbered (item ∷ before) none i f e = by_field (is_field item) (nat_eq (bits_of field) 0) (fields_unnumbered before rest i f) e

@@ -5,7 +5,7 @@ use Rattle.std.proofs.lemmas.Bool.Decides.{nat_tests}
 use Rattle.hid_items.specs.Spelling.{prefix_of}
 use Rattle.hid_descriptor.specs.declared.globals.Globals.{Globals}
 use Rattle.hid_descriptor.specs.declared.globals.SavedGlobals.{SavedGlobals}
-use Rattle.hid_descriptor.specs.Items.{Item, PUSH, POP, USAGE_PAGE, LOGICAL_MINIMUM, LOGICAL_MAXIMUM, REPORT_SIZE, REPORT_ID, REPORT_COUNT}
+use Rattle.hid_descriptor.specs.Items.{Spelled, PUSH, POP, USAGE_PAGE, LOGICAL_MINIMUM, LOGICAL_MAXIMUM, REPORT_SIZE, REPORT_ID, REPORT_COUNT}
 use Rattle.hid_descriptor.specs.Matching.{Placed, open_items}
 use Rattle.hid_descriptor.specs.Globals.{look_back, in_force, open_pushes}
 use Rattle.hid_descriptor.specs.State.{globals_at, AreGlobals}
@@ -30,12 +30,12 @@ last_of f (x ∷ w ∷ xs) [] z e = absurd (cc)
 last_of f (x ∷ xs) (y ∷ ys) z e = last_under f x xs y ys z (cc) (last_of f xs ys z (cc))
 
 -- behind a Pop each global is as at its Push
-pub in_force_matched : (prefix : ℕ) (before : List Item) (item : Item) (front : List Placed) (p : Placed) → prefix ≢ POP → prefix_of item ≡ POP → open_pushes before ≡ front ++ p ∷ [] → in_force prefix (item ∷ before) ≡ in_force prefix (p.0)
+pub in_force_matched : (prefix : ℕ) (before : List Spelled) (item : Spelled) (front : List Placed) (p : Placed) → prefix ≢ POP → prefix_of item ≡ POP → open_pushes before ≡ front ++ p ∷ [] → in_force prefix (item ∷ before) ≡ in_force prefix (p.0)
 in_force_matched prefix before item front p d h e =
     let q : look_back prefix 1 before ≡ look_back prefix 0 (p.0) = look_back_matched prefix 0 before front p e in
     grind (arith, common_steps, nat_tests)
 
-globals_matched : (before : List Item) (item : Item) (front : List Placed) (p : Placed) → prefix_of item ≡ POP → open_pushes before ≡ front ++ p ∷ [] → globals_at (item ∷ before) ≡ globals_at (p.0)
+globals_matched : (before : List Spelled) (item : Spelled) (front : List Placed) (p : Placed) → prefix_of item ≡ POP → open_pushes before ≡ front ++ p ∷ [] → globals_at (item ∷ before) ≡ globals_at (p.0)
 globals_matched before item front p h e =
     let same : (prefix : ℕ) → prefix ≢ POP → in_force prefix (item ∷ before) ≡ in_force prefix (p.0) = λ prefix d. in_force_matched prefix before item front p d h e in
     let e1 : in_force USAGE_PAGE (item ∷ before) ≡ in_force USAGE_PAGE (p.0) = same USAGE_PAGE (λ d. absurd (omega arith)) in
@@ -46,13 +46,13 @@ globals_matched before item front p h e =
     let e6 : in_force REPORT_ID (item ∷ before) ≡ in_force REPORT_ID (p.0) = same REPORT_ID (λ d. absurd (omega arith)) in
     cc
 
-pushes_matched : (before : List Item) (item : Item) (front : List Placed) (p : Placed) → prefix_of item ≡ POP → open_pushes before ≡ front ++ p ∷ [] → open_pushes (item ∷ before) ≡ front
+pushes_matched : (before : List Spelled) (item : Spelled) (front : List Placed) (p : Placed) → prefix_of item ≡ POP → open_pushes before ≡ front ++ p ∷ [] → open_pushes (item ∷ before) ≡ front
 pushes_matched before item front p h e =
     let q : open_items PUSH POP 1 before ≡ front = open_items_cut PUSH POP (λ d. absurd (omega arith)) 0 before front p e in
     grind (arith, common_steps, nat_tests)
 
 -- a Pop takes the globals that were saved last
-pub globals_popped : (before : List Item) (item : Item) (old new : SavedGlobals) → prefix_of item ≡ POP → AreGlobals before old → old.saved.items ≡ new.saved.items ++ new.now ∷ [] → AreGlobals (item ∷ before) new
+pub globals_popped : (before : List Spelled) (item : Spelled) (old new : SavedGlobals) → prefix_of item ≡ POP → AreGlobals before old → old.saved.items ≡ new.saved.items ++ new.now ∷ [] → AreGlobals (item ∷ before) new
 globals_popped before item old new h is_old e =
     let f : Placed → Globals = λ push. globals_at (push.0) in
     let l : LastOf f (open_pushes before) new.saved.items new.now = last_of f (open_pushes before) new.saved.items new.now (sym is_old.at_pushes ∙ e) in

@@ -13,18 +13,18 @@ use Rattle.hid_items.specs.declared.Items.{Items}
 use Rattle.hid_descriptor.specs.declared.fault.Cause.{Cause}
 use Rattle.hid_descriptor.specs.declared.fault.Cause.TheVariants.{Memory, Truncated}
 use Rattle.hid_descriptor.specs.declared.parser.Parser.{Parser}
-use Rattle.hid_descriptor.specs.Items.{Item}
+use Rattle.hid_descriptor.specs.Items.{Spelled}
 use Rattle.hid_descriptor.specs.Faults.{fault_of, Reaches, IsRefused, Refuses, Explains}
 use Rattle.hid_descriptor.specs.Parser.{StandsAt, Took, told_place, place_of, HasTaken}
 
-pub reverse_more : (before : List Item) (item : Item) → reverse (item ∷ before) ≡ reverse before ++ item ∷ []
+pub reverse_more : (before : List Spelled) (item : Spelled) → reverse (item ∷ before) ≡ reverse before ++ item ∷ []
 reverse_more before item = grind (arith, common_steps)
 
-joined_more : (before : List Item) (item : Item) → flat_map (λ i. i) (reverse (item ∷ before)) ≡ flat_map (λ i. i) (reverse before) ++ item
+joined_more : (before : List Spelled) (item : Spelled) → flat_map (λ i. i) (reverse (item ∷ before)) ≡ flat_map (λ i. i) (reverse before) ++ item
 joined_more before item = ap (flat_map (λ i. i)) (reverse_more before item) ∙ flat_map-append (λ i. i) (reverse before) (item ∷ []) ∙ ap (λ t. flat_map (λ i. i) (reverse before) ++ t) (append-nil item)
 
 -- the place after some items is in the descriptor, and the items are in front of it
-pub reached : (bytes : List ℕ) (before : List Item) (rest : Items) (parser : Parser) → length bytes ≤ 4096 → HasTaken bytes before rest parser → Reaches bytes rest.at before
+pub reached : (bytes : List ℕ) (before : List Spelled) (rest : Items) (parser : Parser) → length bytes ≤ 4096 → HasTaken bytes before rest parser → Reaches bytes rest.at before
 reached bytes before rest parser le t = record {
   short = le;
   within = omega (arith, ap length t.joined, length-append (flat_map (λ item. item) (reverse before)) rest.rest.now, t.place);
@@ -32,10 +32,10 @@ reached bytes before rest parser le t = record {
   accepted = t.accepted;
 }
 
-pub rest_dropped : (bytes : List ℕ) (before : List Item) (rest : Items) (parser : Parser) → HasTaken bytes before rest parser → drop rest.at bytes ≡ rest.rest.now
+pub rest_dropped : (bytes : List ℕ) (before : List Spelled) (rest : Items) (parser : Parser) → HasTaken bytes before rest parser → drop rest.at bytes ≡ rest.rest.now
 rest_dropped bytes before rest parser t = ap (drop rest.at) (sym t.joined) ∙ ap (λ n. drop n (flat_map (λ item. item) (reverse before) ++ rest.rest.now)) t.place ∙ drop-append_seam (flat_map (λ item. item) (reverse before)) rest.rest.now
 
-pub next_taken : (bytes : List ℕ) (before : List Item) (old new : Items) (item : Read) (parser next : Parser) → HasTaken bytes before old parser → GivesItem old item new → fault_of before item.bytes.now ≡ None → StandsAt (item.bytes.now ∷ before) next → HasTaken bytes (item.bytes.now ∷ before) new next
+pub next_taken : (bytes : List ℕ) (before : List Spelled) (old new : Items) (item : Read) (parser next : Parser) → HasTaken bytes before old parser → GivesItem old item new → fault_of before item.bytes.now ≡ None → StandsAt (item.bytes.now ∷ before) next → HasTaken bytes (item.bytes.now ∷ before) new next
 next_taken bytes before old new item parser next t g f s = record {
   joined = ap (λ j. j ++ new.rest.now) (joined_more before item.bytes.now) ∙ append_assoc (flat_map (λ i. i) (reverse before)) item.bytes.now new.rest.now ∙ ap (λ r. flat_map (λ i. i) (reverse before) ++ r) (sym g.rest) ∙ t.joined;
   place = omega (arith, g.after, t.place, ap length (joined_more before item.bytes.now), length-append (flat_map (λ i. i) (reverse before)) item.bytes.now);
@@ -44,7 +44,7 @@ next_taken bytes before old new item parser next t g f s = record {
   stands = s;
 }
 
-took_err : (before : List Item) (item : Item) (cause : Cause) (parser : Parser) → Took before item (Err cause) parser → (cause ≡ Memory → ⊥) → fault_of before item ≡ Some cause
+took_err : (before : List Spelled) (item : Spelled) (cause : Cause) (parser : Parser) → Took before item (Err cause) parser → (cause ≡ Memory → ⊥) → fault_of before item ≡ Some cause
 took_err before item Memory parser t n = absurd (n refl)
 took_err before item cause parser t n = t
 
@@ -53,7 +53,7 @@ explains_refusal bytes Memory at n r = absurd (n refl)
 explains_refusal bytes cause at n r = r
 
 -- a refused item explains the fault, unless memory was wanting
-pub item_explains : (bytes : List ℕ) (before : List Item) (old new : Items) (item : Read) (parser next : Parser) (cause : Cause) → length bytes ≤ 4096 → HasTaken bytes before old parser → GivesItem old item new → Took before item.bytes.now (Err cause) next → Explains bytes cause (told_place cause item.at)
+pub item_explains : (bytes : List ℕ) (before : List Spelled) (old new : Items) (item : Read) (parser next : Parser) (cause : Cause) → length bytes ≤ 4096 → HasTaken bytes before old parser → GivesItem old item new → Took before item.bytes.now (Err cause) next → Explains bytes cause (told_place cause item.at)
 item_explains bytes before old new item parser next Memory le t g k = refl
 item_explains bytes before old new item parser next cause le t g k =
     explains_refusal bytes cause item.at (λ e. cc) (inl (
@@ -67,11 +67,11 @@ item_explains bytes before old new item parser next cause le t g k =
       }),
     ))
 
-pub cut_explains : (bytes : List ℕ) (before : List Item) (old new : Items) (parser : Parser) (e : ItemFault) → length bytes ≤ 4096 → HasTaken bytes before old parser → GivesNext old (Some (Err e)) new → Explains bytes Truncated (place_of e)
+pub cut_explains : (bytes : List ℕ) (before : List Spelled) (old new : Items) (parser : Parser) (e : ItemFault) → length bytes ≤ 4096 → HasTaken bytes before old parser → GivesNext old (Some (Err e)) new → Explains bytes Truncated (place_of e)
 cut_explains bytes before old new parser (faults.Truncated at) le t k =
     subst (λ n. Explains bytes Truncated n) (sym k.0) (inr (before, reached bytes before old parser le t, subst IsCut (sym (rest_dropped bytes before old parser t)) k.1))
 
-pub all_taken : (bytes : List ℕ) (before : List Item) (old : Items) (parser : Parser) → length bytes ≤ 4096 → HasTaken bytes before old parser → old.rest.now ≡ [] → Reaches bytes (length bytes) before
+pub all_taken : (bytes : List ℕ) (before : List Spelled) (old : Items) (parser : Parser) → length bytes ≤ 4096 → HasTaken bytes before old parser → old.rest.now ≡ [] → Reaches bytes (length bytes) before
 all_taken bytes before old parser le t e =
     let n : old.at ≡ length bytes = omega (arith, t.place, ap length t.joined, length-append (flat_map (λ i. i) (reverse before)) old.rest.now, ap length e) in
     subst (λ at. Reaches bytes at before) n (reached bytes before old parser le t)

@@ -7,7 +7,7 @@ use Rattle.hid_descriptor.specs.declared.fault.Cause.TheVariants.{Memory}
 use Rattle.hid_descriptor.specs.declared.field.KeptField.{KeptField}
 use Rattle.hid_descriptor.specs.declared.kept.KeptFields.{KeptFields}
 use Rattle.hid_descriptor.specs.declared.parser.Parser.{Parser}
-use Rattle.hid_descriptor.specs.Items.{Item, is_field}
+use Rattle.hid_descriptor.specs.Items.{Spelled, is_field}
 use Rattle.hid_descriptor.specs.Globals.{logical_minimum, logical_maximum, report_id, report_size, report_count}
 use Rattle.hid_descriptor.specs.Usages.{Entry, entries, are_paired, minima, maxima, locals}
 use Rattle.hid_descriptor.specs.Path.{path}
@@ -25,11 +25,11 @@ use Rattle.hid_descriptor.proofs.ReportsLemmas.{bits_in-reports_of}
 use Rattle.hid_descriptor.proofs.Frames.{globals_main, field_is_main, field_path_kept, field_no_id}
 
 -- the bits so far of its report
-pub offset_there : (before : List Item) (p : Parser) (head : KeptField) → StandsAt before p → head.id < 256 → bits_in head.kind head.id p.fields.reports.list.items ≡ report_bits head.kind head.id (fields before)
+pub offset_there : (before : List Spelled) (p : Parser) (head : KeptField) → StandsAt before p → head.id < 256 → bits_in head.kind head.id p.fields.reports.list.items ≡ report_bits head.kind head.id (fields before)
 offset_there before p head s small = ap (bits_in head.kind head.id) s.fields_there.reports ∙ bits_in-reports_of head.kind head.id (fields before) small
 
 -- the field that the parser describes is the one that looking back gives
-pub field_there : (before : List Item) (item : Item) (p : Parser) (head : KeptField) (es : List Entry) → StandsAt before p → (kind : ReportKind) → kind ≡ kind_of item → head.id < 256 → es ≡ entries before → IsDescribed kind item p.globals.now p.fields.reports.list.items es head
+pub field_there : (before : List Spelled) (item : Spelled) (p : Parser) (head : KeptField) (es : List Entry) → StandsAt before p → (kind : ReportKind) → kind ≡ kind_of item → head.id < 256 → es ≡ entries before → IsDescribed kind item p.globals.now p.fields.reports.list.items es head
     → whole_field head (shown_entries head.shape es) p.collections.open.items ≡ field_of (fields before) before item
 field_there before item p head es s kind k small e d =
     let g : p.globals.now ≡ globals_at before = s.globals_there.in_force_now in
@@ -45,45 +45,45 @@ field_there before item p head es s kind k small e d =
     let offset : head.offset ≡ report_bits head.kind head.id (fields before) = d.offset ∙ ap (λ x. bits_in x p.globals.now.id p.fields.reports.list.items) (sym d.same_kind) ∙ ap (λ n. bits_in head.kind n p.fields.reports.list.items) (sym d.id) ∙ offset_there before p head s small in
     cc
 
-pub paired_there : (before : List Item) (old : Parser) → StandsAt before old → nat_eq (length old.locals.minima.items) (length old.locals.maxima.items) ≡ are_paired before
+pub paired_there : (before : List Spelled) (old : Parser) → StandsAt before old → nat_eq (length old.locals.minima.items) (length old.locals.maxima.items) ≡ are_paired before
 paired_there before old s =
     let a : length old.locals.minima.items ≡ length (minima (locals before)) = ap length s.locals_there.all_minima ∙ length-map (minima (locals before)) named in
     let b : length old.locals.maxima.items ≡ length (maxima (locals before)) = ap length s.locals_there.all_maxima ∙ length-map (maxima (locals before)) named in
     cc
 
 -- the fault of a field item by what stands at it
-fault_by : (before : List Item) (item : Item) (field : Field) (limits : Option Cause) → is_field item ≡ true → field ≡ field_of (fields before) before item → first_met (checked_values field (are_paired before) (entries before)) ≡ None → first_met (limit_tests (list_field (fields before) field) field) ≡ limits → fault_of before item ≡ limits
+fault_by : (before : List Spelled) (item : Spelled) (field : Field) (limits : Option Cause) → is_field item ≡ true → field ≡ field_of (fields before) before item → first_met (checked_values field (are_paired before) (entries before)) ≡ None → first_met (limit_tests (list_field (fields before) field) field) ≡ limits → fault_of before item ≡ limits
 unfolding field_fault
 fault_by before item field limits i d n l =
     rw i (ap (λ (f : Field). first_met (field_tests (fields before) before f)) (sym d) ∙ met_behind (checked_values field (are_paired before) (entries before)) (limit_tests (list_field (fields before) field) field) n ∙ l)
 
-refused_by_values : (before : List Item) (item : Item) (field : Field) (cause : Cause) → is_field item ≡ true → field ≡ field_of (fields before) before item → first_met (checked_values field (are_paired before) (entries before)) ≡ Some cause → fault_of before item ≡ Some cause
+refused_by_values : (before : List Spelled) (item : Spelled) (field : Field) (cause : Cause) → is_field item ≡ true → field ≡ field_of (fields before) before item → first_met (checked_values field (are_paired before) (entries before)) ≡ Some cause → fault_of before item ≡ Some cause
 unfolding field_fault
 refused_by_values before item field cause i d n = rw i (ap (λ (f : Field). first_met (field_tests (fields before) before f)) (sym d) ∙ met_before (checked_values field (are_paired before) (entries before)) (limit_tests (list_field (fields before) field) field) cause n)
 
-took_refused : (before : List Item) (item : Item) (cause : Cause) (parser : Parser) → fault_of before item ≡ Some cause → Took before item (Err cause) parser
+took_refused : (before : List Spelled) (item : Spelled) (cause : Cause) (parser : Parser) → fault_of before item ≡ Some cause → Took before item (Err cause) parser
 took_refused before item Memory parser f = tt
 took_refused before item cause parser f = f
 
-fields_more : (before : List Item) (item : Item) → is_field item ≡ true → fields (item ∷ before) ≡ list_field (fields before) (field_of (fields before) before item)
+fields_more : (before : List Spelled) (item : Spelled) → is_field item ≡ true → fields (item ∷ before) ≡ list_field (fields before) (field_of (fields before) before item)
 unfolding add_field
 fields_more before item i = rw i refl
 
-checked_there : (before : List Item) (field : Field) (es : List Entry) (paired : Bool) (told : Option Cause) → es ≡ entries before → paired ≡ are_paired before → first_met (checked_values field paired es) ≡ told → first_met (checked_values field (are_paired before) (entries before)) ≡ told
+checked_there : (before : List Spelled) (field : Field) (es : List Entry) (paired : Bool) (told : Option Cause) → es ≡ entries before → paired ≡ are_paired before → first_met (checked_values field paired es) ≡ told → first_met (checked_values field (are_paired before) (entries before)) ≡ told
 checked_there before field es paired told e q n = ap (λ u. first_met (checked_values field (are_paired before) u)) (sym e) ∙ ap (λ b. first_met (checked_values field b es)) (sym q) ∙ n
 
 -- a field item whose values are wrong
-pub field_refused : (before : List Item) (item : Item) (field : Field) (es : List Entry) (paired : Bool) (cause : Cause) (new : Parser) → is_field item ≡ true → field ≡ field_of (fields before) before item → es ≡ entries before → paired ≡ are_paired before → first_met (checked_values field paired es) ≡ Some cause → Took before item (Err cause) new
+pub field_refused : (before : List Spelled) (item : Spelled) (field : Field) (es : List Entry) (paired : Bool) (cause : Cause) (new : Parser) → is_field item ≡ true → field ≡ field_of (fields before) before item → es ≡ entries before → paired ≡ are_paired before → first_met (checked_values field paired es) ≡ Some cause → Took before item (Err cause) new
 field_refused before item field es paired cause new i d e q n = took_refused before item cause new (refused_by_values before item field cause i d (checked_there before field es paired (Some cause) e q n))
 
 -- a field item that a limit refuses
-pub field_limited : (before : List Item) (item : Item) (field : Field) (es : List Entry) (paired : Bool) (cause : Cause) (kept : KeptFields) (new : Parser) → is_field item ≡ true → field ≡ field_of (fields before) before item → es ≡ entries before → paired ≡ are_paired before → first_met (checked_values field paired es) ≡ None
+pub field_limited : (before : List Spelled) (item : Spelled) (field : Field) (es : List Entry) (paired : Bool) (cause : Cause) (kept : KeptFields) (new : Parser) → is_field item ≡ true → field ≡ field_of (fields before) before item → es ≡ entries before → paired ≡ are_paired before → first_met (checked_values field paired es) ≡ None
     → Lists (fields before) field (Err cause) kept → Took before item (Err cause) new
 field_limited before item field es paired Memory kept new i d e q n l = tt
 field_limited before item field es paired cause kept new i d e q n l = fault_by before item field (Some cause) i d (checked_there before field es paired None e q n) l
 
 -- a field item that is taken
-pub field_taken : (before : List Item) (item : Item) (field : Field) (es : List Entry) (paired : Bool) (old new : Parser) → is_field item ≡ true → StandsAt before old → field ≡ field_of (fields before) before item → es ≡ entries before → paired ≡ are_paired before → first_met (checked_values field paired es) ≡ None
+pub field_taken : (before : List Spelled) (item : Spelled) (field : Field) (es : List Entry) (paired : Bool) (old new : Parser) → is_field item ≡ true → StandsAt before old → field ≡ field_of (fields before) before item → es ≡ entries before → paired ≡ are_paired before → first_met (checked_values field paired es) ≡ None
     → AreKept (list_field (fields before) field) new.fields × (first_met (limit_tests (list_field (fields before) field) field) ≡ None) → new.globals ≡ old.globals → new.collections ≡ old.collections → new.numbered ≡ old.numbered → AreLocals (item ∷ before) new.locals
     → (fault_of before item ≡ None) × StandsAt (item ∷ before) new
 field_taken before item field es paired old new i s d e q n l g p m locals = (
@@ -98,7 +98,7 @@ field_taken before item field es paired old new i s d e q n l g p m locals = (
 )
 
 -- a field item whose values are right, as listing it tells
-pub field_told : (before : List Item) (item : Item) (field : Field) (es : List Entry) (paired : Bool) (old mid new : Parser) (r : Result Unit Cause) → is_field item ≡ true → StandsAt before old → field ≡ field_of (fields before) before item → es ≡ entries before → paired ≡ are_paired before → first_met (checked_values field paired es) ≡ None
+pub field_told : (before : List Spelled) (item : Spelled) (field : Field) (es : List Entry) (paired : Bool) (old mid new : Parser) (r : Result Unit Cause) → is_field item ≡ true → StandsAt before old → field ≡ field_of (fields before) before item → es ≡ entries before → paired ≡ are_paired before → first_met (checked_values field paired es) ≡ None
     → Lists (fields before) field r new.fields → new ≡ record mid { fields = new.fields } → mid.globals ≡ old.globals → mid.collections ≡ old.collections → mid.numbered ≡ old.numbered → AreLocals (item ∷ before) mid.locals → Took before item r new
 field_told before item field es paired old mid new (Ok done) i s d e q n l o g p m locals =
     field_taken before item field es paired old new i s d e q n l (ap (λ (x : Parser). x.globals) o ∙ g) (ap (λ (x : Parser). x.collections) o ∙ p) (ap (λ (x : Parser). x.numbered) o ∙ m) (subst (AreLocals (item ∷ before)) (sym (ap (λ (x : Parser). x.locals) o)) locals)

@@ -26,5 +26,5 @@ code_of TooMany = codes "L16"
 code_of Memory = codes "L17"
 
 -- a refusal is printed as its code, the word at, and its place in decimal
-abbrev pub fault_text : LayoutFault → List ℕ
-fault_text fault = code_of fault.cause ++ codes " at " ++ decimal fault.at
+abbrev pub layout_fault_text : LayoutFault → List ℕ
+layout_fault_text fault = code_of fault.cause ++ codes " at " ++ decimal fault.at

@@ -7,16 +7,16 @@ use Rattle.hid_items.specs.Spelling.{data_of, unsigned_of, IsSpelling, AreItems,
 use Rattle.hid_descriptor.specs.declared.limits.TheConstants.{MAX_DESCRIPTOR, MAX_ITEMS, MAX_ELEMENTS, MAX_ENTRIES, MAX_OPEN_PUSHES, MAX_OPEN_COLLECTIONS, MAX_REPORT_IDS, MAX_REPORT_BYTES, MAX_WIDTH}
 use Rattle.hid_descriptor.specs.declared.fault.Cause.{Cause}
 use Rattle.hid_descriptor.specs.declared.fault.Cause.TheVariants.{Truncated, TooLong, PopEmpty, PushDepth, CollectionDepth, EndWithout, Unclosed, BadReportId, MixedReportId, BadRange, BadSize, BadUsageRange, UnpairedUsage, Delimiter, ReportTooLong, TooMany, Memory}
-use Rattle.hid_descriptor.specs.Items.{Item, is, is_field, PUSH, POP, REPORT_ID, DELIMITER, COLLECTION, END_COLLECTION}
+use Rattle.hid_descriptor.specs.Items.{Spelled, is, is_field, PUSH, POP, REPORT_ID, DELIMITER, COLLECTION, END_COLLECTION}
 use Rattle.hid_descriptor.specs.Globals.{open_pushes}
 use Rattle.hid_descriptor.specs.Usages.{Entry, entries, are_paired, are_ranges}
 use Rattle.hid_descriptor.specs.Path.{path}
 use Rattle.hid_descriptor.specs.Fields.{Field, fields, list_field, field_of, report_bits, has_flag, CONSTANT, is_padding}
 
 -- a step that is done has no fault, and one that is refused has its cause
-abbrev pub Tells : Result Unit Cause → Option Cause → Type 0
-Tells (Ok done) fault = fault ≡ None
-Tells (Err cause) fault = fault ≡ Some cause
+abbrev pub Says : Result Unit Cause → Option Cause → Type 0
+Says (Ok done) fault = fault ≡ None
+Says (Err cause) fault = fault ≡ Some cause
 
 -- the first cause whose test is met
 abbrev pub first_met : List (Bool × Cause) → Option Cause
@@ -82,17 +82,17 @@ limit_tests fs field =
     ∷ []
 
 -- all tests of a field, in the order in which a cause is told
-abbrev pub field_tests : List Field → List Item → Field → List (Bool × Cause)
+abbrev pub field_tests : List Field → List Spelled → Field → List (Bool × Cause)
 field_tests earlier before field =
     checked_values field (are_paired before) (entries before) ++ limit_tests (list_field earlier field) field
 
 -- the cause for which an Input, Output or Feature item is refused behind the items before it
-unfoldable pub field_fault : List Item → Item → Option Cause
+unfoldable pub field_fault : List Spelled → Spelled → Option Cause
 field_fault before item =
     first_met (field_tests (fields before) before (field_of (fields before) before item))
 
 -- the cause for which another item is refused
-abbrev pub other_fault : List Item → Item → Option Cause
+abbrev pub other_fault : List Spelled → Spelled → Option Cause
 other_fault before item = first_met (
     (is POP item && (length (open_pushes before) == 0), PopEmpty)
     ∷ (is PUSH item && nat_le MAX_OPEN_PUSHES (length (open_pushes before)), PushDepth)
@@ -103,27 +103,27 @@ other_fault before item = first_met (
     ∷ [])
 
 -- the cause for which an item is refused
-abbrev pub fault_of : List Item → Item → Option Cause
+abbrev pub fault_of : List Spelled → Spelled → Option Cause
 fault_of before item = if is_field item then field_fault before item else other_fault before item
 
 -- no item of these (the last one first) is refused
-abbrev pub AreAccepted : List Item → Type 0
+abbrev pub AreAccepted : List Spelled → Type 0
 AreAccepted [] = Unit {0}
 AreAccepted (item ∷ before) = AreAccepted before × (fault_of before item ≡ None)
 
 -- some field has no ID, though some item sets one
-abbrev pub is_mixed : List Item → Bool
+abbrev pub is_mixed : List Spelled → Bool
 is_mixed before = list_any (is REPORT_ID) before && list_any (λ field. field.id == 0) (fields before)
 
 -- a descriptor that isn't too long begins with these items (the last one first), which take `at` bytes and are accepted
-pub record Reaches (bytes : List ℕ) (at : ℕ) (before : List Item) : Type 0 where
+pub record Reaches (bytes : List ℕ) (at : ℕ) (before : List Spelled) : Type 0 where
   pub short : length bytes ≤ MAX_DESCRIPTOR
   pub within : at ≤ length bytes
   pub items : AreItems (take at bytes) (reverse before)
   pub accepted : AreAccepted before
 
 -- this item comes next, and is refused for the cause
-pub record IsRefused (bytes : List ℕ) (cause : Cause) (at : ℕ) (before : List Item) (item : Item) : Type 0 where
+pub record IsRefused (bytes : List ℕ) (cause : Cause) (at : ℕ) (before : List Spelled) (item : Spelled) : Type 0 where
   pub reaches : Reaches bytes at before
   pub spelled : IsSpelling item
   pub next : (more : List ℕ) × (drop at bytes ≡ item ++ more)
@@ -131,17 +131,17 @@ pub record IsRefused (bytes : List ℕ) (cause : Cause) (at : ℕ) (before : Lis
 
 -- an item of the descriptor is refused for this cause at this place
 abbrev pub IsRefusedAtItem : List ℕ → Cause → ℕ → Type 0
-IsRefusedAtItem bytes cause at = (before : List Item) × (item : Item) × IsRefused bytes cause at before item
+IsRefusedAtItem bytes cause at = (before : List Spelled) × (item : Spelled) × IsRefused bytes cause at before item
 
 -- The descriptor is refused as a whole: it is too long, cut off behind its items, or its items are accepted
 -- and a collection is open at the end, or an item has no report ID though some item sets one.
 abbrev pub IsRefusedAsWhole : List ℕ → Cause → ℕ → Type 0
 IsRefusedAsWhole bytes TooLong at = (MAX_DESCRIPTOR < length bytes) × (at ≡ MAX_DESCRIPTOR)
-IsRefusedAsWhole bytes Truncated at = (before : List Item) × Reaches bytes at before × IsCut (drop at bytes)
+IsRefusedAsWhole bytes Truncated at = (before : List Spelled) × Reaches bytes at before × IsCut (drop at bytes)
 IsRefusedAsWhole bytes Unclosed at =
-    (before : List Item) × Reaches bytes at before × (at ≡ length bytes) × (0 < length (path before))
+    (before : List Spelled) × Reaches bytes at before × (at ≡ length bytes) × (0 < length (path before))
 IsRefusedAsWhole bytes MixedReportId at =
-    (before : List Item) × Reaches bytes at before × (at ≡ length bytes)
+    (before : List Spelled) × Reaches bytes at before × (at ≡ length bytes)
     × (length (path before) ≡ 0) × (is_mixed before ≡ true)
 IsRefusedAsWhole bytes cause at = ⊥
 
@@ -155,7 +155,7 @@ Explains bytes Memory at = at ≡ 0
 Explains bytes cause at = Refuses bytes cause at
 
 -- the descriptor is accepted, with these items (the last one first)
-pub record Accepts (bytes : List ℕ) (before : List Item) : Type 0 where
+pub record Accepts (bytes : List ℕ) (before : List Spelled) : Type 0 where
   pub reaches : Reaches bytes (length bytes) before
   pub closed : length (path before) ≡ 0
   pub unmixed : is_mixed before ≡ false
@@ -166,7 +166,7 @@ or_else None other = other
 or_else (Some x) other = Some x
 
 -- the first refused item behind the items before it, with its cause and its place
-abbrev pub first_fault : List Item → ℕ → List Item → Option (Cause × ℕ)
+abbrev pub first_fault : List Spelled → ℕ → List Spelled → Option (Cause × ℕ)
 first_fault before at [] = None
 first_fault before at (item ∷ items) =
     or_else (option_map (λ cause. (cause, at)) (fault_of before item))

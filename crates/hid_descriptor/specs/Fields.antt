@@ -8,7 +8,7 @@ use Rattle.hid_descriptor.specs.declared.shape.Shape.{Shape}
 use Rattle.hid_descriptor.specs.declared.shape.Shape.TheVariants.{Padding, Variable, Array}
 pub use Rattle.hid_descriptor.specs.Kinds.{same_kind}
 pub use Rattle.hid_descriptor.specs.Flags.{has_flag, CONSTANT, VARIABLE, FLAGS}
-use Rattle.hid_descriptor.specs.Items.{Item, is, is_field, INPUT, OUTPUT}
+use Rattle.hid_descriptor.specs.Items.{Spelled, is, is_field, INPUT, OUTPUT}
 use Rattle.hid_descriptor.specs.Globals.{report_id, report_size, report_count, logical_minimum, logical_maximum}
 use Rattle.hid_descriptor.specs.Usages.{Entry, entries}
 use Rattle.hid_descriptor.specs.Path.{path}
@@ -28,7 +28,7 @@ pub record Field : Type 0 where
   pub path : List Collection
 
 -- the kind of the report that an item puts fields into (6.2.2.5)
-abbrev pub kind_of : Item → ReportKind
+abbrev pub kind_of : Spelled → ReportKind
 kind_of item = if is INPUT item then Input else (if is OUTPUT item then Output else Feature)
 
 -- a field takes its size as often as its count says (6.2.2.7)
@@ -59,7 +59,7 @@ shown_entries Variable es = es
 shown_entries Array es = es
 
 -- the field that an item describes, behind the earlier fields
-abbrev pub field_of : List Field → List Item → Item → Field
+abbrev pub field_of : List Field → List Spelled → Spelled → Field
 field_of earlier before item =
     let flags = unsigned_of (data_of item) % FLAGS in
     let shape = shape_of flags (report_count before) (entries before) in
@@ -82,10 +82,10 @@ abbrev pub list_field : List Field → Field → List Field
 list_field earlier field = if bits_of field == 0 then earlier else earlier ++ field ∷ []
 
 -- the listed fields, once one more item has come
-unfoldable pub add_field : List Field → List Item → Item → List Field
+unfoldable pub add_field : List Field → List Spelled → Spelled → List Field
 add_field earlier before item = if is_field item then list_field earlier (field_of earlier before item) else earlier
 
 -- the listed fields of these items (the last one first), in order
-abbrev pub fields : List Item → List Field
+abbrev pub fields : List Spelled → List Field
 fields [] = []
 fields (item ∷ before) = add_field (fields before) before item

@@ -3,12 +3,12 @@
 use Rattle.std.specs.Prelude.{ℕ, Bool, List, ◌==◌, ◌||◌}
 use Rattle.hid_items.specs.Spelling.{prefix_of}
 
--- an item is its bytes
-abbrev pub Item : Type 0
-Item = List ℕ
+-- an item as it is spelled: its bytes
+abbrev pub Spelled : Type 0
+Spelled = List ℕ
 
 -- the item has this prefix
-abbrev pub is : ℕ → Item → Bool
+abbrev pub is : ℕ → Spelled → Bool
 is prefix item = prefix_of item == prefix
 
 -- the prefix of Input, a main item (6.2.2.4)
@@ -80,9 +80,9 @@ abbrev pub DELIMITER : ℕ
 DELIMITER = 0xA8
 
 -- an Input, Output or Feature item, which describes fields of a report
-abbrev pub is_field : Item → Bool
+abbrev pub is_field : Spelled → Bool
 is_field item = is INPUT item || (is OUTPUT item || is FEATURE item)
 
 -- any of the five main items, at which locals end
-abbrev pub is_main : Item → Bool
+abbrev pub is_main : Spelled → Bool
 is_main item = is_field item || (is COLLECTION item || is END_COLLECTION item)

@@ -2,18 +2,18 @@
 use Rattle.std.specs.Prelude.{◌≡◌, ◌≢◌, ℕ, List, ◌∷◌, ◌++◌, true}
 use Rattle.hid_items.specs.Spelling.{prefix_of}
 use Rattle.hid_descriptor.specs.declared.fault.Cause.{Cause}
-use Rattle.hid_descriptor.specs.Items.{Item, is, PUSH, POP}
+use Rattle.hid_descriptor.specs.Items.{Spelled, is, PUSH, POP}
 use Rattle.hid_descriptor.specs.Globals.{in_force, IsBetween}
 use Rattle.hid_descriptor.specs.Faults.{Accepts, Refuses}
 
 -- a descriptor is accepted with one list of items at most
 abbrev pub HasOneReading : Type 0
-HasOneReading = (bytes : List ℕ) (before others : List Item)
+HasOneReading = (bytes : List ℕ) (before others : List Spelled)
     → Accepts bytes before → Accepts bytes others → before ≡ others
 
 -- what is accepted is not refused
 abbrev pub AcceptsNoRefused : Type 0
-AcceptsNoRefused = (bytes : List ℕ) (before : List Item) (cause : Cause) (at : ℕ)
+AcceptsNoRefused = (bytes : List ℕ) (before : List Spelled) (cause : Cause) (at : ℕ)
     → Accepts bytes before → Refuses bytes cause at → ⊥
 
 -- a descriptor is refused for one cause at most
@@ -28,6 +28,6 @@ HasOnePlace = (bytes : List ℕ) (cause other : Cause) (at there : ℕ)
 
 -- a global behind a Pop is the one that was in force before the matching Push (6.2.2.7)
 abbrev pub PopRestores : Type 0
-PopRestores = (prefix : ℕ) (pop push : Item) (between before : List Item)
+PopRestores = (prefix : ℕ) (pop push : Spelled) (between before : List Spelled)
     → prefix ≢ POP → prefix_of pop ≡ POP → is PUSH push ≡ true → IsBetween 0 between
     → in_force prefix (pop ∷ (between ++ push ∷ before)) ≡ in_force prefix before

@@ -3,13 +3,13 @@ use Rattle.std.specs.Prelude.{◌≡◌, ◌≤◌, List, length, map}
 use Rattle.std.specs.List.{list_any}
 use Rattle.hid_descriptor.specs.declared.limits.TheConstants.{MAX_ITEMS}
 use Rattle.hid_descriptor.specs.declared.listing.ListedFields.{ListedFields}
-use Rattle.hid_descriptor.specs.Items.{Item, is, REPORT_ID}
+use Rattle.hid_descriptor.specs.Items.{Spelled, is, REPORT_ID}
 use Rattle.hid_descriptor.specs.Fields.{fields}
 use Rattle.hid_descriptor.specs.Heads.{head_of}
 use Rattle.hid_descriptor.specs.Reporting.{reports_of}
 
 -- these are the listed fields of these items (the last one first), with their reports
-pub record ListsFields (before : List Item) (listed : ListedFields) : Type 0 where
+pub record ListsFields (before : List Spelled) (listed : ListedFields) : Type 0 where
   pub heads : listed.fields.items ≡ map head_of (fields before)
   pub reports : listed.reports.items ≡ reports_of (fields before)
   pub entries : listed.lists.entries ≡ map (λ field. field.entries) (fields before)

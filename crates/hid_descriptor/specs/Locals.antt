@@ -5,11 +5,11 @@ use Rattle.hid_items.specs.Spelling.{data_of, unsigned_of}
 use Rattle.hid_descriptor.specs.declared.usage.Usage.{Usage}
 use Rattle.hid_descriptor.specs.declared.locals.NamedUsage.{NamedUsage}
 use Rattle.hid_descriptor.specs.declared.locals.Locals.{Locals}
-use Rattle.hid_descriptor.specs.Items.{Item, USAGE, USAGE_MINIMUM, USAGE_MAXIMUM}
+use Rattle.hid_descriptor.specs.Items.{Spelled, USAGE, USAGE_MINIMUM, USAGE_MAXIMUM}
 use Rattle.hid_descriptor.specs.Usages.{Entry, to_list, locals, minima, maxima, entries_behind}
 
 -- the usage that an item names, before its page is known
-abbrev pub named : Item → NamedUsage
+abbrev pub named : Spelled → NamedUsage
 named item =
     let n = unsigned_of (data_of item) in
     if length (data_of item) == 4 then record { page = Some (n / 2 ^ 16); id = n % 2 ^ 16 }
@@ -24,7 +24,7 @@ abbrev pub entry_on_page : ℕ → NamedUsage × NamedUsage → Entry
 entry_on_page page e = (on_page page (e.0), on_page page (e.1))
 
 -- the locals behind these items, for whatever page will be in force
-pub record AreLocals (before : List Item) (kept : Locals) : Type 0 where
+pub record AreLocals (before : List Spelled) (kept : Locals) : Type 0 where
   pub all_minima : kept.minima.items ≡ map named (minima (locals before))
   pub all_maxima : kept.maxima.items ≡ map named (maxima (locals before))
   pub all_entries : (page : ℕ) → map (entry_on_page page) kept.entries.items ≡ entries_behind page [] (locals before)

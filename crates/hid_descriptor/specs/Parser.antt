@@ -8,7 +8,7 @@ use Rattle.hid_items.specs.declared.ItemFault.TheVariants.{Truncated}
 use Rattle.hid_descriptor.specs.declared.fault.Cause.{Cause}
 use Rattle.hid_descriptor.specs.declared.fault.Cause.TheVariants.{Memory}
 use Rattle.hid_descriptor.specs.declared.parser.Parser.{Parser}
-use Rattle.hid_descriptor.specs.Items.{Item, is, INPUT, OUTPUT, FEATURE, COLLECTION, END_COLLECTION, PUSH, POP, REPORT_ID, DELIMITER}
+use Rattle.hid_descriptor.specs.Items.{Spelled, is, INPUT, OUTPUT, FEATURE, COLLECTION, END_COLLECTION, PUSH, POP, REPORT_ID, DELIMITER}
 use Rattle.hid_descriptor.specs.Path.{path}
 use Rattle.hid_descriptor.specs.Fields.{Field, fields, list_field, shape_of, FLAGS}
 use Rattle.hid_descriptor.specs.Totals.{bits_in}
@@ -24,7 +24,7 @@ use Rattle.hid_descriptor.specs.Kept.{AreKept}
 use Rattle.hid_descriptor.specs.declared.kept.KeptFields.{KeptFields}
 
 -- the parser's state is what looking back over these items gives
-pub record StandsAt (before : List Item) (parser : Parser) : Type 0 where
+pub record StandsAt (before : List Spelled) (parser : Parser) : Type 0 where
   pub globals_there : AreGlobals before parser.globals
   pub locals_there : AreLocals before parser.locals
   pub path_there : parser.collections.open.items ≡ path before
@@ -33,7 +33,7 @@ pub record StandsAt (before : List Item) (parser : Parser) : Type 0 where
 
 -- One step: the item is accepted, and the state moves behind it, or it is refused for this cause. Memory may
 -- be wanting at any item.
-abbrev pub Took : List Item → Item → Result Unit Cause → Parser → Type 0
+abbrev pub Took : List Spelled → Spelled → Result Unit Cause → Parser → Type 0
 Took before item (Ok done) parser = (fault_of before item ≡ None) × StandsAt (item ∷ before) parser
 Took before item (Err Memory) parser = Unit {0}
 Took before item (Err cause) parser = fault_of before item ≡ Some cause
@@ -56,7 +56,7 @@ told_place Memory at = 0
 told_place cause at = at
 
 -- the parser has taken these items, and the rest is to come
-pub record HasTaken (bytes : List ℕ) (before : List Item) (rest : Items) (parser : Parser) : Type 0 where
+pub record HasTaken (bytes : List ℕ) (before : List Spelled) (rest : Items) (parser : Parser) : Type 0 where
   pub joined : flat_map (λ item. item) (reverse before) ++ rest.rest.now ≡ bytes
   pub place : rest.at ≡ length (flat_map (λ item. item) (reverse before))
   pub spelled : All IsSpelling (reverse before)
@@ -68,7 +68,7 @@ abbrev pub place_of : ItemFault → ℕ
 place_of (Truncated at) = at
 
 -- the field that an item describes, by the globals in force, the reports so far and its usages
-pub record IsDescribed (kind : ReportKind) (item : Item) (globals : Globals)
+pub record IsDescribed (kind : ReportKind) (item : Spelled) (globals : Globals)
     (reports : List Report) (es : List Entry) (field : KeptField) : Type 0 where
   pub same_kind : field.kind ≡ kind
   pub id : field.id ≡ globals.id

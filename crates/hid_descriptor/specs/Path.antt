@@ -3,7 +3,7 @@ use Rattle.std.specs.Prelude.{◌%◌, ◌^◌, List, map, slice_get}
 use Rattle.hid_items.specs.Spelling.{data_of, unsigned_of}
 use Rattle.hid_descriptor.specs.declared.collection.Collection.{Collection}
 use Rattle.hid_descriptor.specs.Matching.{Placed, open_items}
-use Rattle.hid_descriptor.specs.Items.{Item, COLLECTION, END_COLLECTION}
+use Rattle.hid_descriptor.specs.Items.{Spelled, COLLECTION, END_COLLECTION}
 use Rattle.hid_descriptor.specs.Usages.{entries, usage_list}
 
 -- the collection that an item opens, with the first of its usages
@@ -14,5 +14,5 @@ collection_of (before, item) = record {
 }
 
 -- the collections that are open behind these items, the outermost first
-abbrev pub path : List Item → List Collection
+abbrev pub path : List Spelled → List Collection
 path before = map collection_of (open_items COLLECTION END_COLLECTION 0 before)

@@ -3,11 +3,11 @@ use Rattle.std.specs.Prelude.{◌≡◌, List, map, if◌then◌else◌, ℤ, po
 use Rattle.hid_items.specs.Spelling.{unsigned_of, signed_of}
 use Rattle.hid_descriptor.specs.declared.globals.Globals.{Globals}
 use Rattle.hid_descriptor.specs.declared.globals.SavedGlobals.{SavedGlobals}
-use Rattle.hid_descriptor.specs.Items.{Item, LOGICAL_MAXIMUM}
+use Rattle.hid_descriptor.specs.Items.{Spelled, LOGICAL_MAXIMUM}
 use Rattle.hid_descriptor.specs.Globals.{open_pushes, in_force, usage_page, logical_minimum, report_size, report_count, report_id}
 
 -- the globals in force behind these items
-abbrev pub globals_at : List Item → Globals
+abbrev pub globals_at : List Spelled → Globals
 globals_at before = record {
   page = usage_page before;
   minimum = logical_minimum before;
@@ -23,6 +23,6 @@ abbrev pub maximum_of : Globals → ℤ
 maximum_of globals = if int_le (pos 0) globals.minimum then pos globals.maximum_unsigned else globals.maximum_signed
 
 -- the parser's globals are those in force behind these items, and at each open Push
-pub record AreGlobals (before : List Item) (globals : SavedGlobals) : Type 0 where
+pub record AreGlobals (before : List Spelled) (globals : SavedGlobals) : Type 0 where
   pub in_force_now : globals.now ≡ globals_at before
   pub at_pushes : globals.saved.items ≡ map (λ push. globals_at (push.0)) (open_pushes before)

@@ -4,15 +4,15 @@ use Rattle.std.specs.List.{take_while, list_all, flat_map}
 use Rattle.std.specs.Option.{option_map}
 use Rattle.hid_items.specs.Spelling.{data_of, unsigned_of}
 use Rattle.hid_descriptor.specs.declared.usage.Usage.{Usage}
-use Rattle.hid_descriptor.specs.Items.{Item, is, is_main, USAGE, USAGE_MINIMUM, USAGE_MAXIMUM}
+use Rattle.hid_descriptor.specs.Items.{Spelled, is, is_main, USAGE, USAGE_MINIMUM, USAGE_MAXIMUM}
 use Rattle.hid_descriptor.specs.Globals.{usage_page}
 
 -- the items after the last main item, in order
-abbrev pub locals : List Item → List Item
+abbrev pub locals : List Spelled → List Spelled
 locals before = reverse (take_while (λ item. not (is_main item)) before)
 
 -- The usage that an item names. One of four bytes has its page in the high word; another is on the given page.
-abbrev pub usage_named : ℕ → Item → Usage
+abbrev pub usage_named : ℕ → Spelled → Usage
 usage_named page item =
     let n = unsigned_of (data_of item) in
     if length (data_of item) == 4 then record { page = n / 2 ^ 16; id = n % 2 ^ 16 } else record { page = page; id = n }
@@ -22,15 +22,15 @@ abbrev pub Entry : Type 0
 Entry = Usage × Usage
 
 -- the range from the usage of one item to that of another
-abbrev pub entry_of : ℕ → Item → Item → Entry
+abbrev pub entry_of : ℕ → Spelled → Spelled → Entry
 entry_of page low high = (usage_named page low, usage_named page high)
 
 -- the Usage Minimum items among these
-abbrev pub minima : List Item → List Item
+abbrev pub minima : List Spelled → List Spelled
 minima items = filter (is USAGE_MINIMUM) items
 
 -- the Usage Maximum items among these
-abbrev pub maxima : List Item → List Item
+abbrev pub maxima : List Spelled → List Spelled
 maxima items = filter (is USAGE_MAXIMUM) items
 
 -- a value that may be there, as a list
@@ -40,7 +40,7 @@ to_list (Some x) = x ∷ []
 
 -- The entry that is whole at a local item, behind the locals in front of it: a Usage's own, or that of the
 -- k-th Usage Minimum with the k-th Usage Maximum, at the later of the two.
-abbrev pub entry_at : ℕ → List Item → Item → List Entry
+abbrev pub entry_at : ℕ → List Spelled → Spelled → List Entry
 entry_at page front item =
     if is USAGE item then entry_of page item item ∷ []
     else (if is USAGE_MINIMUM item
@@ -50,16 +50,16 @@ entry_at page front item =
     else []))
 
 -- the entries that these local items make whole, behind the locals in front of them
-abbrev pub entries_behind : ℕ → List Item → List Item → List Entry
+abbrev pub entries_behind : ℕ → List Spelled → List Spelled → List Entry
 entries_behind page front [] = []
 entries_behind page front (item ∷ items) = entry_at page front item ++ entries_behind page (front ++ item ∷ []) items
 
 -- the entries of the main item after these, on the Usage Page in force at that item
-abbrev pub entries : List Item → List Entry
+abbrev pub entries : List Spelled → List Entry
 entries before = entries_behind (usage_page before) [] (locals before)
 
 -- each Usage Minimum has its Usage Maximum
-abbrev pub are_paired : List Item → Bool
+abbrev pub are_paired : List Spelled → Bool
 are_paired before = length (minima (locals before)) == length (maxima (locals before))
 
 -- the minimum isn't over its maximum, and the two are on one page

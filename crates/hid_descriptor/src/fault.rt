@@ -1,7 +1,7 @@
 //! Why a descriptor is refused.
 
 ghost use Rattle.std.specs.Prelude.{◌≡◌, Some};
-ghost use Rattle.hid_descriptor.specs.Codes.{code_of, fault_text};
+ghost use Rattle.hid_descriptor.specs.Codes.{code_of, layout_fault_text};
 
 use std::alloc::AllocError;
 use std::fmt;
@@ -102,7 +102,7 @@ pub struct LayoutFault {
 }
 
 impl fmt::Display for LayoutFault {
-    ghost output = { λ fault. Some (fault_text fault) };
+    ghost output = { λ fault. Some (layout_fault_text fault) };
 
     fn fmt<W: fmt::Write>(&self, f: &mut fmt::Formatter<W>) -> fmt::Result {
         let LayoutFault { cause, at } = *self;

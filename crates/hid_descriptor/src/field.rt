@@ -5,7 +5,7 @@ ghost use Rattle.std.specs.Bool.{OnFalse};
 ghost use Rattle.hid_descriptor.specs.Fields.{is_padding, shape_of, shown_entries};
 ghost use Rattle.hid_descriptor.specs.Usages.{is_range, are_ranges};
 ghost use Rattle.hid_descriptor.specs.Locals.{entry_on_page};
-ghost use Rattle.hid_descriptor.specs.Faults.{report_limit, has_value, first_met, value_tests, checked_values, Tells};
+ghost use Rattle.hid_descriptor.specs.Faults.{report_limit, has_value, first_met, value_tests, checked_values, Says};
 
 use crate::fault::Cause;
 use crate::flags::MainFlags;
@@ -77,7 +77,7 @@ impl KeptField {
     }
 
     fn test_values(&self, locals: &Locals, page: u16) -> Result<(), Cause>
-        ensures { Tells result (first_met
+        ensures { Says result (first_met
             (value_tests (whole_field self.now [] [])
             (length locals.now.minima.items == length locals.now.maxima.items)
             (map (entry_on_page page) locals.now.entries.items))) }
@@ -103,7 +103,7 @@ impl KeptField {
 
     /// Refuses wrong usages, a wrong size and a wrong range, unless the item is Constant or has no fields.
     pub(crate) fn check_values(&self, locals: &Locals, page: u16) -> Result<(), Cause>
-        ensures { Tells result (first_met
+        ensures { Says result (first_met
             (checked_values (whole_field self.now [] [])
             (length locals.now.minima.items == length locals.now.maxima.items)
             (map (entry_on_page page) locals.now.entries.items))) }

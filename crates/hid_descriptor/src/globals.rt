@@ -3,7 +3,7 @@
 ghost use Rattle.std.specs.Prelude.{◌≡◌, ◌≢◌, ◌<◌, List, [], ◌∷◌, OnOk, length};
 ghost use Rattle.hid_items.specs.Spelling.{prefix_of, data_of, unsigned_of};
 ghost use Rattle.hid_items.specs.Reading.{IsShort};
-ghost use Rattle.hid_descriptor.specs.Items.{Item as Spelled, PUSH, POP, REPORT_ID};
+ghost use Rattle.hid_descriptor.specs.Items.{Spelled, PUSH, POP, REPORT_ID};
 ghost use Rattle.std.specs.Bool.{OnTrue, OnFalse};
 
 use crate::prefix;

@@ -1,7 +1,7 @@
 //! The fields that a report descriptor lists, or why it is refused (HID 1.11, 6.2.2).
 
 ghost use Rattle.std.specs.Prelude.{List, IfOk, IfErr};
-ghost use Rattle.hid_descriptor.specs.Items.{Item as Spelled};
+ghost use Rattle.hid_descriptor.specs.Items.{Spelled};
 ghost use Rattle.hid_descriptor.specs.Faults.{Accepts, Explains};
 ghost use Rattle.hid_descriptor.specs.Parser.{StandsAt};
 ghost use Rattle.hid_descriptor.specs.Listing.{ListsFields};

@@ -4,7 +4,7 @@ ghost use Rattle.std.specs.Prelude.{◌≡◌, List, [], ◌∷◌, ◌++◌, tr
 ghost use Rattle.std.specs.Option.{option_map};
 ghost use Rattle.hid_items.specs.Spelling.{prefix_of};
 ghost use Rattle.hid_items.specs.Reading.{IsShort};
-ghost use Rattle.hid_descriptor.specs.Items.{Item as Spelled, is_main};
+ghost use Rattle.hid_descriptor.specs.Items.{Spelled, is_main};
 ghost use Rattle.hid_descriptor.specs.Usages.{to_list};
 ghost use Rattle.hid_descriptor.specs.Locals.{entry_on_page};
 

@@ -1,7 +1,7 @@
 //! The parser behind all items of a descriptor.
 
 ghost use Rattle.std.specs.Prelude.{◌≡◌, List, [], ◌≤◌, length, IfOk, IfErr, OnOk};
-ghost use Rattle.hid_descriptor.specs.Items.{Item as Spelled};
+ghost use Rattle.hid_descriptor.specs.Items.{Spelled};
 ghost use Rattle.hid_descriptor.specs.Faults.{Reaches, Explains};
 ghost use Rattle.hid_descriptor.specs.Parser.{StandsAt, told_place, place_of};
 

@@ -3,7 +3,7 @@
 ghost use Rattle.std.specs.Prelude.{◌≡◌, ℕ, List, [], true, map, IfOk};
 ghost use Rattle.hid_items.specs.Spelling.{prefix_of, IsSpelling};
 ghost use Rattle.hid_items.specs.Reading.{IsShort, kind_of as spelled_kind};
-ghost use Rattle.hid_descriptor.specs.Items.{Item as Spelled, is_field, COLLECTION, END_COLLECTION, PUSH, POP, REPORT_ID};
+ghost use Rattle.hid_descriptor.specs.Items.{Spelled, is_field, COLLECTION, END_COLLECTION, PUSH, POP, REPORT_ID};
 ghost use Rattle.hid_descriptor.specs.Fields.{kind_of};
 ghost use Rattle.hid_descriptor.specs.Locals.{entry_on_page};
 

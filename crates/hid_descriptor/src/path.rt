@@ -4,7 +4,7 @@ ghost use Rattle.std.specs.Prelude.{◌≡◌, ◌<◌, List, [], ◌∷◌, map
 ghost use Rattle.std.specs.Bool.{OnTrue, OnFalse};
 ghost use Rattle.hid_items.specs.Spelling.{prefix_of};
 ghost use Rattle.hid_items.specs.Reading.{IsShort};
-ghost use Rattle.hid_descriptor.specs.Items.{Item as Spelled, COLLECTION, END_COLLECTION};
+ghost use Rattle.hid_descriptor.specs.Items.{Spelled, COLLECTION, END_COLLECTION};
 ghost use Rattle.hid_descriptor.specs.Usages.{usage_list, entries};
 ghost use Rattle.hid_descriptor.specs.Path.{path};
 ghost use Rattle.hid_descriptor.specs.Locals.{entry_on_page};

@@ -40,10 +40,10 @@ is_memory cause.Memory = true
 is_memory _ = false
 
 -- the code, and the place of a cause that has one
-abbrev pub fault_text : DeviceCause → ℕ → List ℕ
-fault_text (Layout found) at =
+abbrev pub device_fault_text : DeviceCause → ℕ → List ℕ
+device_fault_text (Layout found) at =
     if is_memory found then layout_code found else layout_code found ++ codes " at " ++ decimal at
-fault_text BadConfig at = code_of BadConfig
-fault_text NoEmptyCode at = code_of NoEmptyCode
-fault_text RelativeWithoutZero at = code_of RelativeWithoutZero
-fault_text Memory at = code_of Memory
+device_fault_text BadConfig at = code_of BadConfig
+device_fault_text NoEmptyCode at = code_of NoEmptyCode
+device_fault_text RelativeWithoutZero at = code_of RelativeWithoutZero
+device_fault_text Memory at = code_of Memory

@@ -2,7 +2,7 @@
 
 ghost use Rattle.std.specs.Prelude.{◌≡◌, Some};
 ghost use Rattle.hid_device.specs.declared.fault.DeviceCause.TheVariants.{Layout, Memory};
-ghost use Rattle.hid_device.specs.Fault.{layout_code, code_of, fault_text};
+ghost use Rattle.hid_device.specs.Fault.{layout_code, code_of, device_fault_text};
 
 use hid_cells::MemoryFault;
 use hid_layout::{Cause, LayoutFault};
@@ -48,7 +48,7 @@ pub struct DeviceFault {
 }
 
 impl fmt::Display for DeviceFault {
-    ghost output = { λ fault. Some (fault_text fault.cause fault.at) };
+    ghost output = { λ fault. Some (device_fault_text fault.cause fault.at) };
 
     fn fmt<W: fmt::Write>(&self, f: &mut fmt::Formatter<W>) -> fmt::Result {
         let DeviceFault { cause, at } = *self;

@@ -3,5 +3,6 @@
 
 mod idle;
 mod making;
+mod play;
 mod polls;
 mod requests;

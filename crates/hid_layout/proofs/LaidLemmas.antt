@@ -4,7 +4,7 @@ use Rattle.std.specs.List.{list_any}
 use Rattle.hid_layout.specs.declared.main_item.MainItem.{MainItem}
 use Rattle.hid_layout.specs.Layout.{item_of, main_item, layout_of}
 use Rattle.hid_descriptor.specs.declared.listing.ListedFields.{ListedFields}
-use Rattle.hid_descriptor.specs.Items.{Item, is, REPORT_ID}
+use Rattle.hid_descriptor.specs.Items.{Spelled, is, REPORT_ID}
 use Rattle.hid_descriptor.specs.Fields.{Field, fields}
 use Rattle.hid_descriptor.specs.Heads.{head_of}
 use Rattle.hid_descriptor.specs.Listing.{ListsFields}
@@ -14,7 +14,7 @@ map_map : {A B C : Type 0} (g : B → C) (f : A → B) (xs : List A) → map g (
 map_map g f [] = refl
 map_map g f (x ∷ xs) = ap (λ t. g (f x) ∷ t) (map_map g f xs)
 
-pub laid : (before : List Item) (listed : ListedFields) (items : List MainItem) → ListsFields before listed → items ≡ map (item_of listed.reports.items) listed.fields.items
+pub laid : (before : List Spelled) (listed : ListedFields) (items : List MainItem) → ListsFields before listed → items ≡ map (item_of listed.reports.items) listed.fields.items
     → record { reports = listed.reports.items; numbered = listed.numbered; items = items; entries = listed.lists.entries; paths = listed.lists.paths } ≡ layout_of before
 laid before listed items k i =
     let r : listed.reports.items ≡ reports_of (fields before) = k.reports in

@@ -27,7 +27,7 @@ use Rattle.hid_descriptor.proofs.Shares.{same_kind_itself, kinds_equal, some_fie
 use Rattle.hid_descriptor.proofs.FieldFacts.{AreListed, AreSpelled}
 use Rattle.hid_descriptor.proofs.ListedLemmas.{id_of, listed}
 use Rattle.hid_descriptor.proofs.ReportIdLemmas.{one_place, byte_id, fields_unnumbered}
-use Rattle.hid_descriptor.specs.Items.{Item, is, REPORT_ID}
+use Rattle.hid_descriptor.specs.Items.{Spelled, is, REPORT_ID}
 use Rattle.std.proofs.lemmas.List.Elements.{All-nil, All-cons, All-head, All-tail}
 use Rattle.hid_items.specs.Spelling.{IsSpelling}
 
@@ -367,19 +367,19 @@ well_formed fs numbered a unmixed zeros = record {
     one_value e = cc
 
 -- accepted items give a layout
-all_and_last : (items : List Item) (item : Item) → All IsSpelling (items ++ item ∷ []) → All IsSpelling items × IsSpelling item
+all_and_last : (items : List Spelled) (item : Spelled) → All IsSpelling (items ++ item ∷ []) → All IsSpelling items × IsSpelling item
 all_and_last [] item all = (All-nil IsSpelling, All-head IsSpelling item [] all)
 all_and_last (first ∷ items) item all =
     let rest = all_and_last items item (All-tail IsSpelling first (items ++ item ∷ []) all) in
     (All-cons IsSpelling first items (All-head IsSpelling first (items ++ item ∷ []) all) rest.0, rest.1)
 
-spelled_before : (before : List Item) → All IsSpelling (reverse before) → AreSpelled before
+spelled_before : (before : List Spelled) → All IsSpelling (reverse before) → AreSpelled before
 spelled_before [] all = tt
 spelled_before (item ∷ before) all =
     let split = all_and_last (reverse before) item (subst (All IsSpelling) (reverse_more before item) all) in
     (split.1, spelled_before before split.0)
 
-pub layout_of_accepted : (bytes : List ℕ) (before : List Item) → Accepts bytes before → IsLayout (layout_of before)
+pub layout_of_accepted : (bytes : List ℕ) (before : List Spelled) → Accepts bytes before → IsLayout (layout_of before)
 layout_of_accepted bytes before a =
     well_formed (fields before) (list_any (is REPORT_ID) before) (listed before a.reaches.accepted (spelled_before before a.reaches.items.spelled)) (λ n. mixed_not (list_any (is REPORT_ID) before) (list_any (λ f. nat_eq f.id 0) (fields before)) n a.unmixed)
     (λ n. fields_unnumbered before n)

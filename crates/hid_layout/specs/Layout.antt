@@ -4,7 +4,7 @@ use Rattle.std.specs.List.{list_any}
 use Rattle.hid_descriptor.specs.declared.collection.Collection.{Collection}
 use Rattle.hid_descriptor.specs.declared.report.Report.{Report}
 use Rattle.hid_layout.specs.declared.main_item.MainItem.{MainItem}
-use Rattle.hid_descriptor.specs.Items.{Item, is, REPORT_ID}
+use Rattle.hid_descriptor.specs.Items.{Spelled, is, REPORT_ID}
 use Rattle.hid_descriptor.specs.Usages.{Entry}
 use Rattle.hid_descriptor.specs.declared.field.KeptField.{KeptField}
 use Rattle.hid_descriptor.specs.Fields.{Field, fields}
@@ -56,5 +56,5 @@ contents_of fs numbered = record {
 }
 
 -- the layout of these items, the last one first
-abbrev pub layout_of : List Item → Contents
+abbrev pub layout_of : List Spelled → Contents
 layout_of before = contents_of (fields before) (list_any (is REPORT_ID) before)

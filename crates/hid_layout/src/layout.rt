@@ -1,7 +1,7 @@
 //! Layouts, and how they are read.
 
 ghost use Rattle.std.specs.Prelude.{◌≡◌, ◌^◌, false, ◌<◌, ◌≤◌, ℕ, List, length, map, slice_get, IfOk, IfErr, Some};
-ghost use Rattle.hid_descriptor.specs.Items.{Item as Spelled};
+ghost use Rattle.hid_descriptor.specs.Items.{Spelled};
 ghost use Rattle.hid_descriptor.specs.Listing.{ListsFields};
 ghost use Rattle.hid_layout.specs.Reports.{report_bytes, usage_of, element_of, IsLayout};
 ghost use Rattle.hid_descriptor.specs.Usages.{Entry, usage_list, starts_of};
@@ -45,9 +45,22 @@ impl Model for Layout {
 
     ghost Value = { Contents };
 
-    ghost view = { λ l. record { reports = l.reports.items; numbered = l.numbered; items = l.items.items; entries = l.lists.entries; paths = l.lists.paths } };
+    ghost view = { λ l. record {
+      reports = l.reports.items;
+      numbered = l.numbered;
+      items = l.items.items;
+      entries = l.lists.entries;
+      paths = l.lists.paths;
+    } };
 
-    ghost invariant = { λ l. let layout : Contents = record { reports = l.reports.items; numbered = l.numbered; items = l.items.items; entries = l.lists.entries; paths = l.lists.paths } in (length l.lists.paths ≡ length l.items.items) × IsLayout layout × IsIndexed layout l.plans l.codes.items × (length l.items.items ≤ MAX_ITEMS) };
+    ghost invariant = { λ l. let layout : Contents = record {
+      reports = l.reports.items;
+      numbered = l.numbered;
+      items = l.items.items;
+      entries = l.lists.entries;
+      paths = l.lists.paths;
+    } in (length l.lists.paths ≡ length l.items.items) × IsLayout layout
+        × IsIndexed layout l.plans l.codes.items × (length l.items.items ≤ MAX_ITEMS) };
 }
 
 impl Layout {
@@ -135,8 +148,9 @@ impl Layout {
     /// The numbers by which the elements of a listed item tell null, no key, and more keys than there are elements.
     pub fn codes(&self, item: usize) -> Codes
         requires { item < length self.now.items }
-        ensures { (main : MainItem) (es : List Entry) → slice_get self.now.items item ≡ Some main → slice_get self.now.entries item ≡ Some es
-            → is_padding main.shape ≡ false → AreCodes main (usage_list es) result }
+        ensures { (main : MainItem) (es : List Entry) → slice_get self.now.items item ≡ Some main
+            → slice_get self.now.entries item ≡ Some es → is_padding main.shape ≡ false
+            → AreCodes main (usage_list es) result }
     {
         self.codes[item]
     }

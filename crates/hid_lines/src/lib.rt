@@ -23,3 +23,5 @@ mod words;
 
 pub use fault::LineFault;
 pub use line::{HEX_LIMIT, LINE_LIMIT, Line, parse_line};
+pub use numbers::read_number;
+pub use words::words_of_line;

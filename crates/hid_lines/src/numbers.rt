@@ -18,7 +18,7 @@ pub fn read_device(word: &[u8]) -> Option<u8>
 
 /// The number that digits spell, cut at the greatest `u64`.
 #[tactic(auto, unfolding(crate::specs::Numbers::number_of))]
-fn read_number(base: u8, word: &[u8]) -> Option<u64>
+pub fn read_number(base: u8, word: &[u8]) -> Option<u64>
     requires { (2 ≤ base) × (base ≤ 16) }
     ensures { result ≡ option_map (λ n. min n (2 ^ 64 - 1)) (number_of base word.now) }
 {

@@ -30,8 +30,7 @@ use Rattle.hid_cells.specs.Snapshots.{OrFault, unless, motion_in, with_pressed, 
 use Rattle.hid_cells.specs.Views.{motions_told}
 use Rattle.hid_cells.proofs.ItemLemmas.{set_here, set_there}
 use Rattle.hid_cells.proofs.FillLemmas.{set_length}
-use Rattle.hid_lives.specs.Motion.{kept_motions, relative_controls}
-use Rattle.hid_lives.specs.Motion.{given_motion, is_same_control}
+use Rattle.hid_lives.specs.Motion.{kept_motions, relative_controls, given_motion, is_same_control}
 
 -- a cell with room for an item's controls moves as they do
 pub room_moves : (form : Form) (cell : Cell) → HasRoom (head_of form) cell → kept_motions cell ≡ relative_controls form

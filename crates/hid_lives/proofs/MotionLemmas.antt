@@ -23,11 +23,10 @@ use Rattle.hid_cells.proofs.PartLemmas.{by_item_length}
 use Rattle.hid_cells.specs.declared.event.Event.{Event}
 use Rattle.usb_transact.specs.declared.transaction.Fate.{Fate}
 use Rattle.usb_transact.specs.declared.transaction.Fate.TheVariants.{Clean, TokenLost, ReplyLost, AckLost}
-use Rattle.hid_lives.specs.Motion.{Conserves, open_motion, accepted_in, AreBetweenRounds, KeepsThroughLife, given_motion, moved_by_change, moved_motion}
+use Rattle.hid_lives.specs.Motion.{Conserves, open_motion, accepted_in, AreBetweenRounds, KeepsThroughLife, given_motion, moved_by_change, moved_motion, station_motion, is_done, is_accepted, step_if, accepted, are_accepted, KeepsEach, HasMotions, kept_motions, relative_controls, KeepsMotion, KeepsAccepted}
 use Rattle.hid_lives.specs.Rounds.{OwnStep, Changes, Frame, Polls, part_events}
 use Rattle.hid_lives.specs.Standing.{Standing, first_due}
 use Rattle.hid_lives.specs.Stations.{Station, Open, fresh, opened_by, opened, arrived, answered, after, round_events, events_at, events_in, after_all}
-use Rattle.hid_lives.specs.Motion.{station_motion, is_done, is_accepted, step_if, accepted, are_accepted, KeepsEach, HasMotions, kept_motions, relative_controls, KeepsMotion, KeepsAccepted}
 use Rattle.hid_lives.specs.Lives.{Deed, Own, Configures, owns, befallen, befallen_all, told_in}
 use Rattle.hid_lives.proofs.ScheduleLemmas.{own_told, own_stands}
 use Rattle.hid_lives.proofs.ItemMotionLemmas.{blank_moves, room_moves, shown_moves, minus_moves, split_motion, amount_at, ChangesMotion, changed_motion, has_motion_at, given_append, quiet_changes, told_here, told_elsewhere}

@@ -7,10 +7,8 @@ ghost use Rattle.hid_cells.specs.declared.cell.Cell.{Cell};
 ghost use Rattle.hid_cells.specs.Cells.{blank, FitsSnapshot, FitsShown, FitsView};
 ghost use Rattle.hid_lives.specs.Following.{LivesOn, StandsByRounds, course_from};
 ghost use Rattle.hid_lives.specs.Lives.{Deed, happenings, told_from, told_in, befallen_all};
-ghost use Rattle.hid_lives.specs.Motion.{HasMotions, KeepsMotion, KeepsAccepted, KeepsThroughLife};
-ghost use Rattle.hid_lives.specs.Motion.{AreBetweenRounds, are_accepted};
-ghost use Rattle.hid_lives.specs.Rounds.{OwnStep, has_crossed, rounds, events_of, events_of_epoch};
-ghost use Rattle.hid_lives.specs.Rounds.{fresh_course};
+ghost use Rattle.hid_lives.specs.Motion.{HasMotions, KeepsMotion, KeepsAccepted, KeepsThroughLife, AreBetweenRounds, are_accepted};
+ghost use Rattle.hid_lives.specs.Rounds.{OwnStep, has_crossed, rounds, events_of, events_of_epoch, fresh_course};
 ghost use Rattle.hid_lives.specs.Stations.{Station, fresh, after_all, events_in};
 
 /// Over all that befalls a device, from any station without an open round on, what is told is the events of what came

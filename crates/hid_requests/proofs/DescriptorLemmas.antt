@@ -1,12 +1,12 @@
 -- What is read of the descriptors of a device.
-use Rattle.std.proofs.Common.{rules, ◌≡◌, ℕ, ◌+◌, ◌*◌, ◌/◌, ◌%◌, ◌^◌, ◌<◌, ◌≤◌, true, Ok, Result, refl, ap, ◌∙◌, arith}
+use Rattle.std.proofs.Common.{rules, ◌≡◌, ℕ, ◌+◌, ◌*◌, ◌/◌, ◌%◌, ◌^◌, ◌<◌, ◌≤◌, true, Ok, Result, refl, ap, sym, ◌∙◌, arith}
 use Rattle.std.specs.Prelude.{nat_le}
 use Rattle.std.proofs.lemmas.Bool.Decides.{nat_tests}
 use Rattle.usb_control.specs.declared.descriptors.DeviceInfo.{DeviceInfo}
 use Rattle.usb_control.specs.declared.descriptors.ConfigInfo.{ConfigInfo}
 use Rattle.usb_control.specs.declared.fault.InfoFault.{InfoFault}
-use Rattle.usb_control.specs.Descriptors.{config_of, device_info_of}
-use Rattle.hid_requests.specs.Descriptors.{FitsConfig, FitsDevice, IsReadAs, configuration_bytes, configuration_walk, device_bytes}
+use Rattle.usb_control.specs.Descriptors.{ReadsConfig, config_of, device_info_of}
+use Rattle.hid_requests.specs.Descriptors.{FitsConfig, FitsDevice, configuration_bytes, configuration_walk, device_bytes}
 
 -- a word and its two bytes
 word_back : (n : ℕ) → n < 2 ^ 16 → n % 256 + 256 * (n / 256 % 256) ≡ n
@@ -32,10 +32,10 @@ config_is info interval fits =
     rw to_host (ap (λ (x : ℕ). config_with info x ((128 + info.endpoint) % 16)) (word_back info.report_length fits.report_length)
     ∙ ap (λ (x : ℕ). config_with info info.report_length x) number)
 
-pub configuration_read : (info : ConfigInfo) (interval : ℕ) → FitsConfig info → IsReadAs (configuration_bytes info interval) info
-configuration_read info interval fits = record {
-  first = search rules;
-  descriptors = configuration_walk info interval;
-  walk = record { each = search rules; whole = refl };
-  is = config_is info interval fits;
-}
+pub configuration_read : (info : ConfigInfo) (interval : ℕ) → FitsConfig info → ReadsConfig (configuration_bytes info interval) (Ok info)
+configuration_read info interval fits = (
+  configuration_walk info interval,
+  record { each = search rules; whole = refl },
+  search rules,
+  sym (config_is info interval fits),
+)

@@ -1,10 +1,9 @@
 -- The descriptors of a device: what it answers to GET_DESCRIPTOR (USB 2.0, 9.5 and 9.6; HID 1.11, 6.2.1).
-use Rattle.std.specs.Prelude.{◌≡◌, ℕ, ◌+◌, ◌^◌, ◌<◌, ◌≤◌, List, [], ◌∷◌, ◌++◌, length, slice_index, Ok}
+use Rattle.std.specs.Prelude.{ℕ, ◌+◌, ◌^◌, ◌<◌, ◌≤◌, List, [], ◌∷◌, ◌++◌, length}
 use Rattle.std.specs.Int.{w16, to_le_bytes}
 use Rattle.std.specs.List.{concat}
 use Rattle.usb_control.specs.declared.descriptors.DeviceInfo.{DeviceInfo}
 use Rattle.usb_control.specs.declared.descriptors.ConfigInfo.{ConfigInfo}
-use Rattle.usb_control.specs.Descriptors.{IsWalk, config_of}
 
 -- a descriptor begins with its length and its type (9.5)
 abbrev pub descriptor : ℕ → List ℕ → List ℕ
@@ -59,10 +58,3 @@ pub record FitsConfig (info : ConfigInfo) : Type 0 where
 pub record FitsDevice (info : DeviceInfo) : Type 0 where
   pub vendor : info.vendor < 2 ^ 16
   pub product : info.product < 2 ^ 16
-
--- a host that reads the bytes as a configuration reads this of them
-pub record IsReadAs (bytes : List ℕ) (info : ConfigInfo) : Type 0 where
-  pub first : 9 ≤ slice_index bytes 0
-  pub descriptors : List (List ℕ)
-  pub walk : IsWalk bytes descriptors
-  pub is : config_of descriptors ≡ Ok info

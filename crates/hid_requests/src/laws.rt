@@ -1,15 +1,15 @@
 //! What follows for both ends: the requests of a host and the rows of a device, the bytes of one and what the other reads.
-ghost use Rattle.std.specs.Prelude.{◌≡◌, ℕ, Some};
+ghost use Rattle.std.specs.Prelude.{◌≡◌, ℕ, Some, Ok};
 ghost use Rattle.usb_control.specs.declared.setup.Setup.{Setup};
 ghost use Rattle.usb_control.specs.declared.descriptors.ConfigInfo.{ConfigInfo};
 ghost use Rattle.usb_control.specs.declared.descriptors.DeviceInfo.{DeviceInfo};
-ghost use Rattle.usb_control.specs.Descriptors.{IsDevice, device_info_of};
+ghost use Rattle.usb_control.specs.Descriptors.{IsDevice, ReadsConfig, device_info_of};
 ghost use Rattle.hid_requests.specs.declared.asked.Asked.{Asked};
 ghost use Rattle.hid_requests.specs.declared.request.Request.{Request};
 ghost use Rattle.hid_requests.specs.declared.request.Asking.{Asking};
 ghost use Rattle.hid_requests.specs.Asked.{IsSorted, asked_of};
 ghost use Rattle.hid_requests.specs.Asking.{row_of, setup_for};
-ghost use Rattle.hid_requests.specs.Descriptors.{FitsConfig, FitsDevice, IsReadAs, configuration_bytes, device_bytes};
+ghost use Rattle.hid_requests.specs.Descriptors.{FitsConfig, FitsDevice, configuration_bytes, device_bytes};
 
 /// A request reads or writes as its row does, and a write has no data.
 #[tactic(auto, using(crate::proofs::AskedLemmas::sorted))]
@@ -27,7 +27,7 @@ pub fn requests_have_rows()
 /// What a host reads of a configuration is what it was made of.
 pub fn configurations_are_read()
     ensures { (info : ConfigInfo) (interval : ℕ) → FitsConfig info
-        → IsReadAs (configuration_bytes info interval) info }
+        → ReadsConfig (configuration_bytes info interval) (Ok info) }
 {}
 
 /// What a host reads of a device descriptor is what it was made of.

@@ -9,7 +9,7 @@ use Rattle.hid_descriptor.specs.declared.fault.Cause.TheVariants as whys
 use Rattle.hid_descriptor.specs.declared.fault.LayoutFault.{LayoutFault}
 use Rattle.hid_descriptor.specs.declared.usage.Usage.{Usage}
 use Rattle.hid_layout.specs.declared.control.ControlId.{ControlId}
-use Rattle.hid_descriptor.specs.Items.{Item}
+use Rattle.hid_descriptor.specs.Items.{Spelled}
 use Rattle.hid_layout.specs.Layout.{Contents, layout_of}
 use Rattle.hid_layout.specs.Reports.{report_bytes}
 use Rattle.hid_descriptor.specs.Faults.{Accepts, Explains}
@@ -17,8 +17,8 @@ use Rattle.hid_cells.specs.declared.fault.ReportFault.{ReportFault}
 use Rattle.hid_cells.specs.declared.fault.ReportFault.TheVariants.{Short}
 use Rattle.hid_usages.specs.Reading.{first_byte, is_input_with, whole_report, report_named}
 use Rattle.hid_device.specs.declared.config.Boot.{Boot}
-use Rattle.hid_stack.specs.declared.fault.StackFault.{StackFault}
-use Rattle.hid_stack.specs.declared.fault.StackFault.TheVariants as stack
+use Rattle.hid_host.specs.declared.fault.StackFault.{StackFault}
+use Rattle.hid_host.specs.declared.fault.StackFault.TheVariants as stack
 use Rattle.hid_stack.specs.declared.step.Step.{Step}
 use Rattle.hid_stack.specs.declared.step.Step.TheVariants.{Change}
 use Rattle.hid_stack.specs.declared.step.Told.{Told}
@@ -110,7 +110,7 @@ pub layout_refused : (old : Option (List ℕ)) (bytes : List ℕ) (session : Ses
 layout_refused old bytes session fault r next told is = layout_ends old bytes session fault.cause fault.at r next told is
 
 -- a layout that was printed
-pub layout_written : (old new : Option (List ℕ)) (bytes : List ℕ) (session : Session) (layout : Contents) (text : List ℕ) (r : Result (Unit {0}) Cause) → ((items : List Item) × Accepts bytes items × (layout ≡ layout_of items)) → text ≡ layout_text layout
+pub layout_written : (old new : Option (List ℕ)) (bytes : List ℕ) (session : Session) (layout : Contents) (text : List ℕ) (r : Result (Unit {0}) Cause) → ((items : List Spelled) × Accepts bytes items × (layout ≡ layout_of items)) → text ≡ layout_text layout
     → OnOk r (Appends old new text) → IfErr r (λ cause. cause ≡ causes.Write) → AppendsFront old new text → AppendsOnce old new (TellsLayout bytes session) r (record session { layout = Some layout })
 layout_written old new bytes session layout text r told said ok cause front =
     let shown : (accepted text (record session { layout = Some layout })) ≡ lays_out session (layout_of told.0) = rw said (ap (lays_out session) told.2) in

@@ -1,9 +1,9 @@
 -- The line that names a fault, and its codes (our choice: docs/SCRIPT.md).
 use Rattle.std.specs.Prelude.{ℕ, List, [], ◌∷◌, ◌++◌, codes}
 use Rattle.std.specs.Fmt.{decimal}
-use Rattle.hid_descriptor.specs.Codes.{fault_text as layout_fault_text}
+use Rattle.hid_descriptor.specs.Codes.{layout_fault_text}
 use Rattle.hid_usages.specs.Faults.{report_code}
-use Rattle.hid_stack.specs.Faults.{stack_text}
+use Rattle.hid_host.specs.Faults.{stack_text}
 use Rattle.hid_script.specs.declared.fault.StepFault.{StepFault}
 use Rattle.hid_script.specs.declared.fault.StepFault.TheVariants.{Layout, Report, Stack}
 use Rattle.hid_script.specs.declared.fault.Cause.{Cause}

@@ -1,6 +1,6 @@
 -- What the parts of a script tell: layouts, values, devices, and steps of the bus (our choice: docs/SCRIPT.md).
 use Rattle.std.specs.Prelude.{◌≡◌, ◌≢◌, ◌⊎◌, ◌∷◌, ◌++◌, ℕ, ◌+◌, ◌-◌, ◌^◌, min, List, [], length, if◌then◌else◌, Option, None, Some, Result, Ok, Err}
-use Rattle.hid_descriptor.specs.Items.{Item}
+use Rattle.hid_descriptor.specs.Items.{Spelled}
 use Rattle.hid_layout.specs.Layout.{Contents, layout_of}
 use Rattle.hid_descriptor.specs.Faults.{Accepts, Refuses}
 use Rattle.hid_descriptor.specs.declared.fault.LayoutFault.{LayoutFault}
@@ -12,14 +12,14 @@ use Rattle.hid_cells.specs.declared.change.Change.TheVariants as changes
 use Rattle.hid_usages.specs.Reading.{report_named}
 use Rattle.hid_device.specs.declared.config.Boot.{Boot}
 use Rattle.hid_device.specs.declared.config.Config.{Config}
-use Rattle.hid_stack.specs.declared.fault.StackFault.{StackFault}
+use Rattle.hid_host.specs.declared.fault.StackFault.{StackFault}
 use Rattle.hid_stack.specs.declared.step.Step.{Step}
 use Rattle.hid_stack.specs.declared.step.Step.TheVariants.{Change}
 use Rattle.hid_stack.specs.declared.step.Told.{Told}
 use Rattle.hid_stack.specs.Rig.{Member, fresh_member, refusal, bus_after, delivered_at}
 use Rattle.hid_stack.specs.Tells.{Tells}
 use Rattle.hid_stack.specs.declared.rig.TheConstants.{MAX_DEVICES}
-use Rattle.hid_stack.specs.declared.fault.StackFault.TheVariants as stack
+use Rattle.hid_host.specs.declared.fault.StackFault.TheVariants as stack
 use Rattle.hid_stack.specs.Attaching.{Attaches, Finds}
 use Rattle.hid_script.specs.declared.fault.Cause.TheVariants as causes
 use Rattle.hid_script.specs.declared.fault.StepFault.TheVariants as faults
@@ -43,7 +43,7 @@ refuses_layout fault = refused (causes.Step (faults.Layout fault))
 -- the descriptor is accepted, with these items, or it is refused
 abbrev pub TellsLayout : List ℕ → Session → Outcome → Type 0
 TellsLayout bytes session o =
-    ((items : List Item) × (Accepts bytes items × (o ≡ lays_out session (layout_of items))))
+    ((items : List Spelled) × (Accepts bytes items × (o ≡ lays_out session (layout_of items))))
     ⊎ ((fault : LayoutFault) × (Refuses bytes fault.cause fault.at × (o ≡ refuses_layout fault)))
 
 -- the values of a report, or why the bytes are none

@@ -20,9 +20,9 @@ use Rattle.hid_device.specs.declared.fault.DeviceFault.{DeviceFault}
 use Rattle.hid_device.specs.Fault.{is_memory}
 use Rattle.hid_device.specs.Making.{Lays, CanServe}
 use Rattle.hid_device.specs.Making as making
-use Rattle.hid_stack.specs.declared.fault.StackFault.{StackFault}
-use Rattle.hid_stack.specs.declared.fault.StackFault.TheVariants.{NoDevice, NotReady, Refused, BadDescriptor, Report, TooManyDevices, Memory}
-use Rattle.hid_stack.specs.declared.fault.DescriptorFault.TheVariants.{Layout, Device}
+use Rattle.hid_host.specs.declared.fault.StackFault.{StackFault}
+use Rattle.hid_host.specs.declared.fault.StackFault.TheVariants.{NoDevice, NotReady, Refused, Control, BadDescriptor, Report, TooManyDevices, Memory}
+use Rattle.hid_host.specs.declared.fault.DescriptorFault.TheVariants.{Info, ReportLength, Layout, Device}
 use Rattle.hid_stack.specs.declared.step.Step.TheVariants.{Change, Frame, Poll}
 use Rattle.hid_stack.specs.declared.step.Told.{Told}
 use Rattle.hid_stack.specs.Attaching.{Suits, wants_memory, Attaches, IsBefore, IsLeast, Finds}
@@ -30,7 +30,7 @@ use Rattle.hid_stack.specs.Laws.{TellsOneThing, FindsOneControl, AttachesOneDevi
 use Rattle.hid_stack.specs.Rig.{Member, fresh_member, member_at}
 use Rattle.hid_lives.specs.Stations.{Station, Open, opened}
 use Rattle.hid_stack.specs.Tells.{ShowsRound, TellsOpened, TellsPoll, told_by}
-use Rattle.hid_stack.proofs.ReadyLemmas.{refused_unless}
+use Rattle.hid_host.proofs.ReadyLemmas.{refused_unless}
 
 -- ---- polls
 
@@ -124,6 +124,7 @@ found members dev usage (Err (Refused change.NoDirection)) h = absurd h
 found members dev usage (Err (Refused change.MotionFull)) h = absurd h
 found members dev usage (Err (Refused change.ArrayFull)) h = absurd h
 found members dev usage (Err NotReady) h = absurd h
+found members dev usage (Err (Control fault)) h = absurd h
 found members dev usage (Err (BadDescriptor fault)) h = absurd h
 found members dev usage (Err (Report fault)) h = absurd h
 found members dev usage (Err TooManyDevices) h = absurd h
@@ -231,9 +232,12 @@ attached room config descriptor old new (Ok dev) aside (within, number, (layout,
 attached room config descriptor old new (Err TooManyDevices) aside (full, is) = NoRoom full refl is
 attached room config descriptor old new (Err (BadDescriptor (Device fault))) aside (within, none, is) = NoPair within fault refl none.1 none.0 is
 attached room config descriptor old new (Err (BadDescriptor (Layout fault))) aside (within, none, is) = absurd none
+attached room config descriptor old new (Err (BadDescriptor (Info fault))) aside (within, none, is) = absurd none
+attached room config descriptor old new (Err (BadDescriptor ReportLength)) aside (within, none, is) = absurd none
 attached room config descriptor old new (Err Memory) aside h = absurd (aside refl)
 attached room config descriptor old new (Err NoDevice) aside (within, none, is) = absurd none
 attached room config descriptor old new (Err NotReady) aside (within, none, is) = absurd none
+attached room config descriptor old new (Err (Control fault)) aside (within, none, is) = absurd none
 attached room config descriptor old new (Err (Refused fault)) aside (within, none, is) = absurd none
 attached room config descriptor old new (Err (Report fault)) aside (within, none, is) = absurd none
 

@@ -1,4 +1,3 @@
-pub mod ReadyLemmas
 pub mod Isolation
 pub mod PollLemmas
 pub mod StepLemmas

@@ -12,8 +12,8 @@ use Rattle.hid_usages.specs.Snapshots.{changed}
 use Rattle.hid_usages.specs.Snapshots as snapshots
 use Rattle.usb_transact.specs.declared.transaction.Fate.{Fate}
 use Rattle.hid_lives.specs.Rounds.{OwnStep, Polls}
-use Rattle.hid_stack.specs.declared.fault.StackFault.{StackFault}
-use Rattle.hid_stack.specs.declared.fault.StackFault.TheVariants.{NoDevice, Refused, Memory}
+use Rattle.hid_host.specs.declared.fault.StackFault.{StackFault}
+use Rattle.hid_host.specs.declared.fault.StackFault.TheVariants.{NoDevice, Refused, Memory}
 use Rattle.hid_stack.specs.declared.step.Delivered.{Delivered}
 use Rattle.hid_stack.specs.declared.step.Step.TheVariants.{Change as ChangeStep, Poll}
 use Rattle.hid_stack.specs.declared.step.Told.{Told}

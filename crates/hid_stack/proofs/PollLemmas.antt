@@ -31,14 +31,14 @@ use Rattle.hid_device.specs.declared.device.TheConstants.{ENDPOINT}
 use Rattle.hid_lives.specs.Standing.{first_due}
 use Rattle.hid_device.specs.Core.{CoreState, IsSound, IsArmed, AreBytesOf, opened_core_if, opening_of, closed_core}
 use Rattle.hid_device.specs.Device.{DeviceState, passed, polled_device}
-use Rattle.hid_stack.specs.declared.fault.StackFault.{StackFault}
+use Rattle.hid_host.specs.declared.fault.StackFault.{StackFault}
 use Rattle.hid_stack.specs.declared.step.Told.{Told}
 use Rattle.hid_stack.specs.declared.step.Told.TheVariants.{Polled}
-use Rattle.hid_stack.specs.declared.host.HostPhase.TheVariants.{Ready}
-use Rattle.hid_stack.specs.Host.{HostEnd, ready_after}
+use Rattle.hid_host.specs.declared.phase.HostPhase.TheVariants.{Ready}
+use Rattle.hid_host.specs.Host.{HostEnd, ready_after}
 use Rattle.hid_stack.specs.Slot.{joined, member_with, joint, IsEven, ArePaired, IsPair}
 use Rattle.hid_stack.specs.Rig.{Member}
-use Rattle.hid_stack.specs.Ready.{Known, told_of, view_read, events_behind, read_or_refused}
+use Rattle.hid_host.specs.Ready.{Known, told_of, view_read, events_behind, read_or_refused}
 use Rattle.hid_stack.specs.Polls.{Hears, HearsAck, Ends, spelled, told_with}
 use Rattle.hid_lives.specs.Rounds.{part_events}
 use Rattle.hid_lives.specs.Stations.{Station, Open, opened, opened_by, answered, round_events, after}
@@ -102,7 +102,7 @@ abbrev pub sharing : CoreState → Known → Known
 sharing c known = record known { layout = c.layout }
 
 -- a poll whose token arrived, from the device's answer on
-pub record Arrives (fate : Fate) (c : CoreState) (known : Known) (d : DeviceState) (home : ℕ) (packet : Packet)
+pub record Arrives (fate : Fate) (c : CoreState) (known : Known) (d : DeviceState) (home : HostEnd) (packet : Packet)
     (result : Result Told StackFault) (device_then : DeviceState) (host_then : HostEnd) (events : List Event) : Type 0 where
   pub reply : Option Packet
   pub replied : Carries (arrives_under fate) Reply packet reply
@@ -120,13 +120,13 @@ pub record Lands (fate : Fate) (of : Station → Member) (s : Station)
   pub pair : IsPair device_then host_then.phase
 
 -- the two ends after a poll, put together
-abbrev pub ready_with : ℕ → Known → HostEnd
-ready_with home known = record { addr = home; phase = Ready known }
+abbrev pub ready_with : HostEnd → Known → HostEnd
+ready_with home known = record home { phase = Ready known }
 
-pub member_of : (d e : DeviceState) (h : HostEnd) (home : ℕ) (known : Known) → d ≡ e → h ≡ ready_with home known → joint d h ≡ joint e (ready_with home known)
+pub member_of : (d e : DeviceState) (h : HostEnd) (home : HostEnd) (known : Known) → d ≡ e → h ≡ ready_with home known → joint d h ≡ joint e (ready_with home known)
 member_of d e h home known device_is host_is = ap (λ (x : DeviceState). joint x h) device_is ∙ ap (λ (x : HostEnd). joint e x) host_is
 
-pub pair_of : (d e : DeviceState) (h : HostEnd) (home : ℕ) (known : Known) → d ≡ e → h ≡ ready_with home known → ArePaired e known → IsPair d h.phase
+pub pair_of : (d e : DeviceState) (h : HostEnd) (home : HostEnd) (known : Known) → d ≡ e → h ≡ ready_with home known → ArePaired e known → IsPair d h.phase
 pair_of d e h home known device_is host_is pair =
     subst (λ (x : DeviceState). IsPair x h.phase) (sym device_is) (subst (λ (x : HostEnd). IsPair e x.phase) (sym host_is) pair)
 
@@ -178,7 +178,7 @@ seeing known r parts = record known { pipe = record known.pipe { expects = not k
 fresh_told : (known : Known) (r : ℕ) (parts : List Cell) (bytes : List ℕ) → ReadsAsShown known.layout r parts bytes known.view → told_of known.layout (Fresh (payload bytes)) ≡ Ok (Fresh (payload bytes))
 fresh_told known r parts bytes reads = ap (read_or_refused (Fresh (payload bytes))) reads.report
 
-fresh_host : (known : Known) (home r : ℕ) (parts : List Cell) (bytes : List ℕ) → ReadsAsShown known.layout r parts bytes known.view → ready_after home known (Fresh (payload bytes)) ≡ ready_with home (seeing known r parts)
+fresh_host : (known : Known) (home : HostEnd) (r : ℕ) (parts : List Cell) (bytes : List ℕ) → ReadsAsShown known.layout r parts bytes known.view → ready_after home known (Fresh (payload bytes)) ≡ ready_with home (seeing known r parts)
 fresh_host known home r parts bytes reads =
     let read : view_read known.layout bytes known.view ≡ seen (items_of known.layout) r known.view parts
     = ap (λ (o : Result ℕ ReportFault). elim o as (λ _. List Cell) [ Ok n ↦ read_view known.layout n bytes known.view | Err fault ↦ known.view ]) reads.report ∙ reads.view in
@@ -194,7 +194,7 @@ abbrev open_station : CoreState → Known → ℕ → Bool → Station
 open_station c known r same = record { standing = c.standing; current = Some (record { report = r; crossed = not same }); odd = c.toggle; view = known.view }
 
 -- data that reach a host which expects them, where the ACK arrives
-fresh_clean : (c : CoreState) (known : Known) (d : DeviceState) (home r : ℕ) (bytes : List ℕ) (result : Result Told StackFault) (device_then : DeviceState) (host_then : HostEnd) (events : List Event)
+fresh_clean : (c : CoreState) (known : Known) (d : DeviceState) (home : HostEnd) (r : ℕ) (bytes : List ℕ) (result : Result Told StackFault) (device_then : DeviceState) (host_then : HostEnd) (events : List Event)
     → Meets d.addr (record c { current = Some r }) known → ReadsAsShown c.layout r c.standing.fixed bytes known.view → AreBytesOf c.layout c.standing.fixed r bytes
     → beq c.toggle known.pipe.expects ≡ true
     → result ≡ told_with (Some (packets.Data c.toggle (payload bytes))) (told_of c.layout (Fresh (payload bytes)))
@@ -221,7 +221,7 @@ fresh_clean c known d home r bytes result device_then host_then events meets rea
     }
 
 -- where it is lost
-fresh_ack_lost : (c : CoreState) (known : Known) (d : DeviceState) (home r : ℕ) (bytes : List ℕ) (result : Result Told StackFault) (device_then : DeviceState) (host_then : HostEnd) (events : List Event)
+fresh_ack_lost : (c : CoreState) (known : Known) (d : DeviceState) (home : HostEnd) (r : ℕ) (bytes : List ℕ) (result : Result Told StackFault) (device_then : DeviceState) (host_then : HostEnd) (events : List Event)
     → Meets d.addr (record c { current = Some r }) known → ReadsAsShown c.layout r c.standing.fixed bytes known.view → AreBytesOf c.layout c.standing.fixed r bytes
     → beq c.toggle known.pipe.expects ≡ true
     → result ≡ told_with (Some (packets.Data c.toggle (payload bytes))) (told_of c.layout (Fresh (payload bytes)))
@@ -255,7 +255,7 @@ fresh_ack_lost c known d home r bytes result device_then host_then events meets 
     }
 
 -- data that a host took before: where the ACK arrives, and where it is lost
-again_clean : (c : CoreState) (known : Known) (d : DeviceState) (home r : ℕ) (bytes : List ℕ) (result : Result Told StackFault) (device_then : DeviceState) (host_then : HostEnd) (events : List Event)
+again_clean : (c : CoreState) (known : Known) (d : DeviceState) (home : HostEnd) (r : ℕ) (bytes : List ℕ) (result : Result Told StackFault) (device_then : DeviceState) (host_then : HostEnd) (events : List Event)
     → Meets d.addr (record c { current = Some r }) known → AreBytesOf c.layout c.standing.fixed r bytes
     → beq c.toggle known.pipe.expects ≡ false
     → result ≡ Ok (Polled (spelled (Some (packets.Data c.toggle (payload bytes)))) Again)
@@ -280,7 +280,7 @@ again_clean c known d home r bytes result device_then host_then events meets sho
       });
     }
 
-again_ack_lost : (c : CoreState) (known : Known) (d : DeviceState) (home r : ℕ) (bytes : List ℕ) (result : Result Told StackFault) (device_then : DeviceState) (host_then : HostEnd) (events : List Event)
+again_ack_lost : (c : CoreState) (known : Known) (d : DeviceState) (home : HostEnd) (r : ℕ) (bytes : List ℕ) (result : Result Told StackFault) (device_then : DeviceState) (host_then : HostEnd) (events : List Event)
     → Meets d.addr (record c { current = Some r }) known → AreBytesOf c.layout c.standing.fixed r bytes
     → beq c.toggle known.pipe.expects ≡ false
     → result ≡ Ok (Polled (spelled (Some (packets.Data c.toggle (payload bytes)))) Again)
@@ -315,7 +315,7 @@ unread : (known : Known) (c : CoreState) (r : ℕ) → [] ≡ round_events (item
 unread known c r = either_none (not (beq c.toggle known.pipe.expects))
 
 -- where nothing is taken and no round closes, the station stays
-stays : (c : CoreState) (known : Known) (d : DeviceState) (home : ℕ) (current : Option ℕ) (armed : Option (List ℕ))
+stays : (c : CoreState) (known : Known) (d : DeviceState) (home : HostEnd) (current : Option ℕ) (armed : Option (List ℕ))
     (result : Result Told StackFault) (device_then : DeviceState) (host_then : HostEnd) (events : List Event)
     → IsEven c.toggle known.pipe.expects current → Meets d.addr (record c { current = current }) known → IsArmed c.layout c.standing.fixed current armed
     → result ≡ Ok (Polled (spelled (Some (answer_with c.toggle armed))) Silent)
@@ -355,7 +355,7 @@ stays c known d home (Some r) (Some bytes) result device_then host_then events e
 }
 
 -- a reply that is lost
-pub reply_lost : (c : CoreState) (known : Known) (d : DeviceState) (home : ℕ) (current : Option ℕ) (armed : Option (List ℕ)) (packet : Packet)
+pub reply_lost : (c : CoreState) (known : Known) (d : DeviceState) (home : HostEnd) (current : Option ℕ) (armed : Option (List ℕ)) (packet : Packet)
     (result : Result Told StackFault) (device_then : DeviceState) (host_then : HostEnd) (events : List Event)
     → IsEven c.toggle known.pipe.expects current → Meets d.addr (record c { current = current }) known
     → IsArmed c.layout c.standing.fixed current armed → packet ≡ answer_with c.toggle armed
@@ -372,7 +372,7 @@ reply_lost c known d home current armed packet result device_then host_then even
     stays c known d home current armed result device_then host_then events even meets arms told device_is host_is (t.delivers ∙ ap (events_behind (sharing c known)) took)
 
 -- what a poll whose answer reaches the host comes to, by what the host takes
-pub record Comes (fate : Fate) (c : CoreState) (known : Known) (d : DeviceState) (home : ℕ) (packet : Packet) (took : Took)
+pub record Comes (fate : Fate) (c : CoreState) (known : Known) (d : DeviceState) (home : HostEnd) (packet : Packet) (took : Took)
     (result : Result Told StackFault) (device_then : DeviceState) (host_then : HostEnd) (events : List Event) : Type 0 where
   pub told : result ≡ told_with (Some packet) (told_of c.layout took)
   pub host_moved : host_then ≡ ready_after home (sharing c known) took
@@ -380,7 +380,7 @@ pub record Comes (fate : Fate) (c : CoreState) (known : Known) (d : DeviceState)
   pub ended : Ends (arrives_under fate) (told_of c.layout took) (polled_device d c) device_then
 
 -- an answer that reaches the host is taken by its row
-pub comes : (fate : Fate) (c : CoreState) (known : Known) (d : DeviceState) (home : ℕ) (armed : Option (List ℕ)) (packet : Packet)
+pub comes : (fate : Fate) (c : CoreState) (known : Known) (d : DeviceState) (home : HostEnd) (armed : Option (List ℕ)) (packet : Packet)
     (result : Result Told StackFault) (device_then : DeviceState) (host_then : HostEnd) (events : List Event)
     → ((bytes : List ℕ) → arrives_under fate Reply bytes ≡ Some bytes) → packet ≡ answer_with c.toggle armed
     → Arrives fate c known d home packet result device_then host_then events
@@ -398,7 +398,7 @@ comes fate c known d home armed packet result device_then host_then events whole
     }
 
 -- the same where it is known what the host takes
-comes_as : (fate : Fate) (c : CoreState) (known : Known) (d : DeviceState) (home : ℕ) (packet : Packet) (took other : Took)
+comes_as : (fate : Fate) (c : CoreState) (known : Known) (d : DeviceState) (home : HostEnd) (packet : Packet) (took other : Took)
     (result : Result Told StackFault) (device_then : DeviceState) (host_then : HostEnd) (events : List Event)
     → took ≡ other → Comes fate c known d home packet took result device_then host_then events
     → Comes fate c known d home packet other result device_then host_then events
@@ -406,7 +406,7 @@ comes_as fate c known d home packet took other result device_then host_then even
     subst (λ (x : Took). Comes fate c known d home packet x result device_then host_then events) is t
 
 -- a poll at which no round is open and none opens
-nak : (fate : Fate) (c : CoreState) (known : Known) (d : DeviceState) (home : ℕ)
+nak : (fate : Fate) (c : CoreState) (known : Known) (d : DeviceState) (home : HostEnd)
     (result : Result Told StackFault) (device_then : DeviceState) (host_then : HostEnd) (events : List Event)
     → IsEven c.toggle known.pipe.expects None → Meets d.addr (record c { current = None }) known
     → Comes fate (record c { current = None }) known d home packets.Nak Nak result device_then host_then events
@@ -440,7 +440,7 @@ opens_station fate d c known r b result device_then host_then events is lands =
 abbrev row : Bool → List ℕ → Took
 row b bytes = cond b (Fresh (payload bytes)) Again
 
-pub clean : (c : CoreState) (known : Known) (d : DeviceState) (home : ℕ) (current : Option ℕ) (armed : Option (List ℕ))
+pub clean : (c : CoreState) (known : Known) (d : DeviceState) (home : HostEnd) (current : Option ℕ) (armed : Option (List ℕ))
     (result : Result Told StackFault) (device_then : DeviceState) (host_then : HostEnd) (events : List Event)
     → IsEven c.toggle known.pipe.expects current → Meets d.addr (record c { current = current }) known → IsArmed c.layout c.standing.fixed current armed
     → ((r : ℕ) (bytes : List ℕ) → current ≡ Some r → armed ≡ Some bytes → ReadsAsShown c.layout r c.standing.fixed bytes known.view)
@@ -468,7 +468,7 @@ clean c known d home (Some r) (Some bytes) result device_then host_then events e
           (again_clean c known d home r bytes result device_then host_then events meets arms differ f.told f.host_moved f.delivers f.ended)
     ]
 
-pub ack_lost_poll : (c : CoreState) (known : Known) (d : DeviceState) (home : ℕ) (current : Option ℕ) (armed : Option (List ℕ))
+pub ack_lost_poll : (c : CoreState) (known : Known) (d : DeviceState) (home : HostEnd) (current : Option ℕ) (armed : Option (List ℕ))
     (result : Result Told StackFault) (device_then : DeviceState) (host_then : HostEnd) (events : List Event)
     → IsEven c.toggle known.pipe.expects current → Meets d.addr (record c { current = current }) known → IsArmed c.layout c.standing.fixed current armed
     → ((r : ℕ) (bytes : List ℕ) → current ≡ Some r → armed ≡ Some bytes → ReadsAsShown c.layout r c.standing.fixed bytes known.view)

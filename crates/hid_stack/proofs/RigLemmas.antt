@@ -8,7 +8,7 @@ use Rattle.hid_layout.specs.Layout.{Contents}
 use Rattle.hid_device.specs.declared.config.Config.{Config}
 use Rattle.hid_lives.specs.Rounds.{OwnStep, Frame}
 use Rattle.hid_stack.specs.declared.step.Step.TheVariants.{Frame as FrameStep}
-use Rattle.hid_stack.specs.declared.fault.StackFault.{StackFault}
+use Rattle.hid_host.specs.declared.fault.StackFault.{StackFault}
 use Rattle.hid_stack.specs.declared.step.Told.{Told}
 use Rattle.hid_stack.specs.Rig.{Member, member_after, fresh_member}
 use Rattle.hid_stack.specs.Sums.{AllHaveMotions}

@@ -1,8 +1,6 @@
 -- A device and its host as one slot of the bus.
 use Rattle.std.proofs.Common.{◌≡◌, ◌∙◌, ◌≤◌, ℕ, List, Ok, refl, ap, sym, subst}
 use Rattle.hid_layout.specs.Controls.{items_of, max_events}
-use Rattle.hid_descriptor.specs.Faults.{Accepts}
-use Rattle.hid_descriptor.specs.Items.{Item as Spelled}
 use Rattle.hid_descriptor.specs.Laws.{HasOneReading, AcceptsNoRefused}
 use Rattle.hid_layout.specs.Layout.{Contents, layout_of}
 use Rattle.hid_layout.specs.Reports.{IsLayout}
@@ -11,15 +9,17 @@ use Rattle.hid_cells.specs.declared.change.Change.{Change}
 use Rattle.hid_cells.proofs.BlankLemmas.{initial_fits}
 use Rattle.hid_device.specs.declared.config.Config.{Config}
 use Rattle.hid_device.specs.Core.{IsSound}
+use Rattle.hid_device.specs.Laying.{Lays}
 use Rattle.hid_device.specs.Device.{DeviceState, changed_device, configured_device, core_of}
 use Rattle.hid_device.specs.Making.{MakesDevice, new_device}
-use Rattle.hid_stack.specs.declared.fault.StackFault.{StackFault}
-use Rattle.hid_stack.specs.declared.fault.StackFault.TheVariants as faults
-use Rattle.hid_stack.specs.declared.fault.DescriptorFault.TheVariants.{Layout, Device}
+use Rattle.hid_host.specs.declared.fault.StackFault.{StackFault}
+use Rattle.hid_host.specs.declared.fault.StackFault.TheVariants as faults
+use Rattle.hid_host.specs.declared.fault.DescriptorFault.TheVariants.{Info, ReportLength, Layout, Device}
 use Rattle.hid_stack.specs.Attaching.{Suits, IsNoPair}
-use Rattle.hid_stack.specs.Host.{HostEnd, IsNoLayout, ready_host}
-use Rattle.hid_stack.specs.declared.host.HostPhase.{HostPhase}
-use Rattle.hid_stack.specs.declared.host.HostPhase.TheVariants.{Cold, Ready}
+use Rattle.hid_host.specs.Conclusions.{IsNoLayout}
+use Rattle.hid_host.specs.Host.{HostEnd, ready_host}
+use Rattle.hid_host.specs.declared.phase.HostPhase.{HostPhase}
+use Rattle.hid_host.specs.declared.phase.HostPhase.TheVariants.{Cold, Described, Parsed, Ready}
 use Rattle.hid_stack.specs.Slot.{joint, ArePaired, IsPair}
 use Rattle.hid_stack.specs.Rig.{fresh_member}
 
@@ -29,10 +29,13 @@ pub no_pair : (addr : ℕ) (config : Config) (descriptor : List ℕ) (fault : St
 no_pair addr config descriptor (faults.BadDescriptor (Layout f)) made law (fits, (layout, serves, is)) none =
     absurd (law descriptor serves.lays.items f.cause f.at serves.lays.accepted none)
 no_pair addr config descriptor (faults.BadDescriptor (Device f)) made law makes none = absurd none
+no_pair addr config descriptor (faults.BadDescriptor (Info f)) made law makes none = absurd none
+no_pair addr config descriptor (faults.BadDescriptor ReportLength) made law makes none = absurd none
 no_pair addr config descriptor faults.Memory made law makes none = tt
 no_pair addr config descriptor faults.NoDevice made law makes none = absurd none
 no_pair addr config descriptor faults.NotReady made law makes none = absurd none
 no_pair addr config descriptor (faults.Refused f) made law makes none = absurd none
+no_pair addr config descriptor (faults.Control f) made law makes none = absurd none
 no_pair addr config descriptor (faults.Report f) made law makes none = absurd none
 no_pair addr config descriptor faults.TooManyDevices made law makes none = absurd none
 
@@ -46,13 +49,13 @@ pub record Made (addr : ℕ) (config : Config) (descriptor : List ℕ) (device :
 
 pub makes : (addr : ℕ) (config : Config) (descriptor : List ℕ) (made device : DeviceState) (host : HostEnd)
     → HasOneReading → MakesDevice addr config descriptor (Ok made) → device ≡ configured_device made
-    → ((before : List Spelled) × Accepts descriptor before × (host ≡ ready_host addr (layout_of before))) → IsSound (core_of device)
+    → ((other : Contents) × Lays descriptor other × (host ≡ ready_host addr other)) → IsSound (core_of device)
     → Made addr config descriptor device host
-makes addr config descriptor made device host law (fits, (layout, serves, made_is)) device_was (before, accepts, host_was) sound =
-    let same : layout_of before ≡ layout = ap layout_of (law descriptor before serves.lays.items accepts serves.lays.accepted) ∙ sym serves.lays.laid in
+makes addr config descriptor made device host law (fits, (layout, serves, made_is)) device_was (other, lays, host_was) sound =
+    let same : other ≡ layout = lays.laid ∙ ap layout_of (law descriptor lays.items serves.lays.items lays.accepted serves.lays.accepted) ∙ sym serves.lays.laid in
     let device_is : device ≡ configured_device (new_device addr config descriptor layout) = device_was ∙ ap configured_device made_is in
     let host_is : host ≡ ready_host addr layout = host_was ∙ ap (ready_host addr) same in
-    let laid : IsLayout layout = subst IsLayout same (layout_of_accepted descriptor before accepts) in
+    let laid : IsLayout layout = subst IsLayout (sym serves.lays.laid) (layout_of_accepted descriptor serves.lays.items serves.lays.accepted) in
     record {
       layout = layout;
       suits = record { config_fits = fits; serves = serves };
@@ -74,6 +77,8 @@ makes addr config descriptor made device host law (fits, (layout, serves, made_i
 changed_pair_at : (device device_then : DeviceState) (phase : HostPhase) (change : Change) → device_then ≡ changed_device device change → IsSound (core_of device_then)
     → IsPair device phase → IsPair device_then phase
 changed_pair_at device device_then Cold change is sound pair = absurd pair
+changed_pair_at device device_then (Described info) change is sound pair = absurd pair
+changed_pair_at device device_then (Parsed info layout) change is sound pair = absurd pair
 changed_pair_at device device_then (Ready known) change is sound pair =
     let sound_then = subst (λ (d : DeviceState). IsSound (core_of d)) is sound in
     subst (λ (d : DeviceState). ArePaired d known) (sym is) (record {

@@ -28,14 +28,15 @@ use Rattle.hid_lives.specs.Standing.{first_due}
 use Rattle.hid_device.specs.Core.{CoreState, IsSound, IsArmed, IsBelow, opened_core_if, opening_of}
 use Rattle.hid_device.specs.Device.{DeviceState, is_poll, polled_device, AnswersPoll, AnswersIf, control_answer, heard, core_of}
 use Rattle.hid_lives.specs.Rounds.{Polls}
-use Rattle.hid_stack.specs.declared.fault.StackFault.{StackFault}
-use Rattle.hid_stack.specs.declared.host.HostPhase.{HostPhase}
-use Rattle.hid_stack.specs.declared.host.HostPhase.TheVariants.{Cold, Ready}
+use Rattle.hid_host.specs.declared.fault.StackFault.{StackFault}
+use Rattle.hid_host.specs.declared.phase.HostPhase.{HostPhase}
+use Rattle.hid_host.specs.declared.phase.HostPhase.TheVariants.{Cold, Described, Parsed, Ready}
 use Rattle.hid_stack.specs.declared.step.Told.{Told}
 use Rattle.hid_stack.specs.declared.step.Told.TheVariants.{Polled}
-use Rattle.hid_stack.specs.Host.{HostEnd, IfReady, ready_after}
+use Rattle.hid_host.specs.Host.{HostEnd, ready_after}
+use Rattle.hid_host.specs.Phase.{IfReady}
 use Rattle.hid_stack.specs.Slot.{joined, station_of, member_with, joint, IsEven, ArePaired, IsPair}
-use Rattle.hid_stack.specs.Ready.{Known, told_of, events_behind}
+use Rattle.hid_host.specs.Ready.{Known, told_of, events_behind}
 use Rattle.hid_stack.specs.Polls.{Hears, Ends, PollsOver, GoesByPackets, HasBytes, spelled, told_with}
 use Rattle.hid_lives.specs.Stations.{Station, opened, answered, round_events, after, events_at}
 use Rattle.hid_stack.specs.Laws.{PacketsMakePolls}
@@ -129,7 +130,7 @@ tells_none : (layout : Contents) (c : CoreState) (known : Known) (current : Opti
 tells_none layout c known None = refl
 tells_none layout c known (Some r) = either_none _
 
-token_lost : (device : DeviceState) (known : Known) (home : ℕ) (result : Result Told StackFault) (device_then : DeviceState) (host_then : HostEnd) (events : List Event)
+token_lost : (device : DeviceState) (known : Known) (home : HostEnd) (result : Result Told StackFault) (device_then : DeviceState) (host_then : HostEnd) (events : List Event)
     → ArePaired device known → PollsOver (arrives_under TokenLost) device home known result device_then host_then [] events
     → PollsAs TokenLost device (joined (core_of device) known) result device_then host_then events
 token_lost device known home result device_then host_then events pair t =
@@ -163,7 +164,7 @@ answered_by device known None between h stands sound = absurd h
 answered_by device known (Some packet) between (armed, arms, packet_is) stands sound =
     record { packet = packet; armed = armed; is = refl; arms = arms; packet_is = packet_is; stands = stands; sound = sound }
 
-token_came : (fate : Fate) (device : DeviceState) (known : Known) (home : ℕ) (result : Result Told StackFault) (device_then : DeviceState) (host_then : HostEnd) (events : List Event)
+token_came : (fate : Fate) (device : DeviceState) (known : Known) (home : HostEnd) (result : Result Told StackFault) (device_then : DeviceState) (host_then : HostEnd) (events : List Event)
     → ((bytes : List ℕ) → arrives_under fate Token bytes ≡ Some bytes) → ArePaired device known
     → (t : PollsOver (arrives_under fate) device home known result device_then host_then [] events) → Answered device known t.answer t.between
 token_came fate device known home result device_then host_then events whole pair t =
@@ -176,7 +177,7 @@ token_came fate device known home result device_then host_then events whole pair
     stands (subst (λ (d : DeviceState). IfSome t.answer (λ _. IsSound (core_of d))) stands h.2)
 
 -- from there on
-arrives : (fate : Fate) (device : DeviceState) (known : Known) (home : ℕ) (result : Result Told StackFault) (device_then : DeviceState) (host_then : HostEnd) (events : List Event)
+arrives : (fate : Fate) (device : DeviceState) (known : Known) (home : HostEnd) (result : Result Told StackFault) (device_then : DeviceState) (host_then : HostEnd) (events : List Event)
     → ArePaired device known
     → (t : PollsOver (arrives_under fate) device home known result device_then host_then [] events) → (a : Answered device known t.answer t.between)
     → Arrives fate (opening_of (core_of device)) known device home a.packet result device_then host_then events
@@ -222,7 +223,7 @@ told_by_report : (layout : Contents) (s : Station) (fate : Fate) (result : Resul
     → (report : List ℕ) × ShowsRound layout s report × (result ≡ Ok (told_by s fate report)) → TellsSome layout s fate result
 told_by_report layout s fate result (report, shows, is) = (told_by s fate report, is, (report, shows, refl))
 
-pub polls : (fate : Fate) (device : DeviceState) (known : Known) (home : ℕ) (result : Result Told StackFault) (device_then : DeviceState) (host_then : HostEnd) (events : List Event)
+pub polls : (fate : Fate) (device : DeviceState) (known : Known) (home : HostEnd) (result : Result Told StackFault) (device_then : DeviceState) (host_then : HostEnd) (events : List Event)
     → ArePaired device known → PollsOver (arrives_under fate) device home known result device_then host_then [] events
     → PollsAs fate device (joined (core_of device) known) result device_then host_then events
 polls TokenLost device known home result device_then host_then events pair t = token_lost device known home result device_then host_then events pair t
@@ -260,13 +261,15 @@ polls AckLost device known home result device_then host_then events pair t =
     record { member = lands.member; delivered = lands.delivered; told = told_by_report (core_of device).layout (opened (items_of (core_of device).layout) (joined (core_of device) known)) AckLost result lands.told; pair = lands.pair }
 
 -- the same of a host, which is ready
-pub polls_at : (fate : Fate) (device : DeviceState) (addr : ℕ) (phase : HostPhase) (result : Result Told StackFault) (device_then : DeviceState) (host_then : HostEnd) (before events : List Event)
-    → IsPair device phase → before ≡ [] → GoesByPackets (arrives_under fate) device addr phase result device_then host_then before events
+pub polls_at : (fate : Fate) (device : DeviceState) (host : HostEnd) (phase : HostPhase) (result : Result Told StackFault) (device_then : DeviceState) (host_then : HostEnd) (before events : List Event)
+    → IsPair device phase → before ≡ [] → GoesByPackets (arrives_under fate) device host phase result device_then host_then before events
     → PollsAs fate device (station_of (core_of device) phase) result device_then host_then events
-polls_at fate device addr Cold result device_then host_then before events pair none t = absurd pair
-polls_at fate device addr (Ready known) result device_then host_then before events pair none t =
-    polls fate device known addr result device_then host_then events pair
-    (subst (λ (es : List Event). PollsOver (arrives_under fate) device addr known result device_then host_then es events) none t)
+polls_at fate device host Cold result device_then host_then before events pair none t = absurd pair
+polls_at fate device host (Described info) result device_then host_then before events pair none t = absurd pair
+polls_at fate device host (Parsed info layout) result device_then host_then before events pair none t = absurd pair
+polls_at fate device host (Ready known) result device_then host_then before events pair none t =
+    polls fate device known host result device_then host_then events pair
+    (subst (λ (es : List Event). PollsOver (arrives_under fate) device host known result device_then host_then es events) none t)
 
 -- what is told is what was returned
 pub told_is : (layout : Contents) (s : Station) (fate : Fate) (result : Result Told StackFault) (told : Told)
@@ -277,15 +280,19 @@ told_is layout s fate result told is (other, other_is, tells) =
     subst (TellsPoll layout s fate) (sym same) tells
 
 -- the host keeps its device's address
-pub home_stays : (arrivals : Arrivals) (device : DeviceState) (addr : ℕ) (phase : HostPhase) (result : Result Told StackFault) (device_then : DeviceState) (host_then : HostEnd) (before events : List Event)
-    → GoesByPackets arrivals device addr phase result device_then host_then before events → host_then.addr ≡ addr
-home_stays arrivals device addr Cold result device_then host_then before events t = ap (λ (h : HostEnd). h.addr) t.host_stays
-home_stays arrivals device addr (Ready known) result device_then host_then before events t = ap (λ (h : HostEnd). h.addr) t.host_moved
+pub home_stays : (arrivals : Arrivals) (device : DeviceState) (host : HostEnd) (phase : HostPhase) (result : Result Told StackFault) (device_then : DeviceState) (host_then : HostEnd) (before events : List Event)
+    → GoesByPackets arrivals device host phase result device_then host_then before events → host_then.addr ≡ host.addr
+home_stays arrivals device host Cold result device_then host_then before events t = ap (λ (h : HostEnd). h.addr) t.host_stays
+home_stays arrivals device host (Described info) result device_then host_then before events t = ap (λ (h : HostEnd). h.addr) t.host_stays
+home_stays arrivals device host (Parsed info layout) result device_then host_then before events t = ap (λ (h : HostEnd). h.addr) t.host_stays
+home_stays arrivals device host (Ready known) result device_then host_then before events t = ap (λ (h : HostEnd). h.addr) t.host_moved
 
 -- no more is delivered than a report of the device's layout can tell
 pub few_of : (device : DeviceState) (phase : HostPhase) (before events : List Event) → IsPair device phase → before ≡ []
     → IfReady phase (λ (known : Known). length events ≤ length before + max_events (items_of known.layout)) → length events ≤ max_events (items_of (core_of device).layout)
 few_of device Cold before events pair none few = absurd pair
+few_of device (Described info) before events pair none few = absurd pair
+few_of device (Parsed info layout) before events pair none few = absurd pair
 few_of device (Ready known) before events pair none few =
     let same = ap (λ (l : Contents). max_events (items_of l)) pair.layout in
     let zero = ap (λ (es : List Event). length es) none in
@@ -294,5 +301,5 @@ few_of device (Ready known) before events pair none few =
 -- a poll of a pair, by its packets
 pub packets_make_polls : PacketsMakePolls
 packets_make_polls fate device host result device_then host_then events pair t =
-    let done = polls_at fate device host.addr host.phase result device_then host_then [] events pair refl t in
+    let done = polls_at fate device host host.phase result device_then host_then [] events pair refl t in
     record { told = done.told; after = done.member; delivers = done.delivered; pair = done.pair }

@@ -13,9 +13,9 @@ use Rattle.hid_device.specs.Config.{is_config}
 use Rattle.hid_device.specs.Fault.{is_memory}
 use Rattle.hid_device.specs.Making.{CanServe}
 use Rattle.hid_device.specs.Making as making
-use Rattle.hid_stack.specs.declared.fault.StackFault.{StackFault}
-use Rattle.hid_stack.specs.declared.fault.StackFault.TheVariants.{NoDevice, Refused, BadDescriptor, TooManyDevices, Memory}
-use Rattle.hid_stack.specs.declared.fault.DescriptorFault.TheVariants.{Device}
+use Rattle.hid_host.specs.declared.fault.StackFault.{StackFault}
+use Rattle.hid_host.specs.declared.fault.StackFault.TheVariants.{NoDevice, Refused, BadDescriptor, TooManyDevices, Memory}
+use Rattle.hid_host.specs.declared.fault.DescriptorFault.TheVariants.{Device}
 use Rattle.hid_stack.specs.Rig.{Member, fresh_member, member_at}
 
 -- a device of this configuration can have this address and this layout

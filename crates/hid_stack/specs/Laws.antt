@@ -8,13 +8,13 @@ use Rattle.usb_transact.specs.declared.transaction.Fate.{Fate}
 use Rattle.usb_transact.specs.Fate.{arrives_under}
 use Rattle.hid_device.specs.Device.{DeviceState, core_of}
 use Rattle.hid_lives.specs.Rounds.{Polls}
-use Rattle.hid_stack.specs.Host.{HostEnd}
+use Rattle.hid_host.specs.Host.{HostEnd}
 use Rattle.hid_stack.specs.Slot.{IsPair, joint, station_of}
 use Rattle.hid_stack.specs.Polls.{GoesByPackets}
 use Rattle.hid_lives.specs.Stations.{events_at}
 use Rattle.hid_device.specs.declared.config.Config.{Config}
-use Rattle.hid_stack.specs.declared.fault.StackFault.{StackFault}
-use Rattle.hid_stack.specs.declared.fault.StackFault.TheVariants.{Memory}
+use Rattle.hid_host.specs.declared.fault.StackFault.{StackFault}
+use Rattle.hid_host.specs.declared.fault.StackFault.TheVariants.{Memory}
 use Rattle.hid_stack.specs.declared.step.Step.{Step}
 use Rattle.hid_stack.specs.declared.step.Told.{Told}
 use Rattle.hid_stack.specs.Rig.{Member, member_after}
@@ -58,5 +58,5 @@ PacketsMakePolls =
     (fate : Fate) (device : DeviceState) (host : HostEnd) (result : Result Told StackFault)
     (device_then : DeviceState) (host_then : HostEnd) (events : List Event)
     → IsPair device host.phase
-    → GoesByPackets (arrives_under fate) device host.addr host.phase result device_then host_then [] events
+    → GoesByPackets (arrives_under fate) device host host.phase result device_then host_then [] events
     → IsPollOfPair fate device host result device_then host_then events

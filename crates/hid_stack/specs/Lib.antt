@@ -1,6 +1,4 @@
 pub mod Faults
-pub mod Ready
-pub mod Host
 pub mod Rig
 pub mod Slot
 pub mod Polls

@@ -15,14 +15,14 @@ use Rattle.usb_transact.specs.Host.{token_to}
 use Rattle.usb_transact.specs.Taken.{taken}
 use Rattle.hid_device.specs.Core.{IsSound}
 use Rattle.hid_device.specs.Device.{DeviceState, DeviceAnswers, device_after, core_of}
-use Rattle.hid_stack.specs.declared.fault.StackFault.{StackFault}
-use Rattle.hid_stack.specs.declared.fault.StackFault.TheVariants.{NotReady}
-use Rattle.hid_stack.specs.declared.host.HostPhase.{HostPhase}
-use Rattle.hid_stack.specs.declared.host.HostPhase.TheVariants.{Cold, Ready}
+use Rattle.hid_host.specs.declared.fault.StackFault.{StackFault}
+use Rattle.hid_host.specs.declared.fault.StackFault.TheVariants.{NotReady}
+use Rattle.hid_host.specs.declared.phase.HostPhase.{HostPhase}
+use Rattle.hid_host.specs.declared.phase.HostPhase.TheVariants.{Ready}
 use Rattle.hid_stack.specs.declared.step.Told.{Told}
 use Rattle.hid_stack.specs.declared.step.Told.TheVariants.{Polled}
-use Rattle.hid_stack.specs.Host.{HostEnd, ready_after}
-use Rattle.hid_stack.specs.Ready.{Known, told_of, events_behind}
+use Rattle.hid_host.specs.Host.{HostEnd, ready_after}
+use Rattle.hid_host.specs.Ready.{Known, told_of, events_behind}
 
 -- the payload of a packet is bytes
 abbrev pub HasBytes : Packet → Type 0
@@ -68,7 +68,7 @@ told_with answer (Ok took) = Ok (Polled (spelled answer) took)
 told_with answer (Err fault) = Err fault
 
 -- The poll by its packets: the token, the device's answer, what the host reads of it, and the ACK for data.
-pub record PollsOver (arrivals : Arrivals) (device : DeviceState) (addr : ℕ) (known : Known)
+pub record PollsOver (arrivals : Arrivals) (device : DeviceState) (host : HostEnd) (known : Known)
     (result : Result Told StackFault) (device_then : DeviceState) (host_then : HostEnd)
     (before events : List Event) : Type 0 where
   pub token : Option Packet
@@ -80,23 +80,23 @@ pub record PollsOver (arrivals : Arrivals) (device : DeviceState) (addr : ℕ) (
   pub bytes : IfSome answer HasBytes
   pub replied : Replies arrivals Reply answer reply
   pub told : result ≡ told_with answer (told_of known.layout (taken known.pipe.expects reply))
-  pub host_moved : host_then ≡ ready_after addr known (taken known.pipe.expects reply)
+  pub host_moved : host_then ≡ ready_after host known (taken known.pipe.expects reply)
   pub delivers : events ≡ before ++ events_behind known (taken known.pipe.expects reply)
   pub ended : Ends arrivals (told_of known.layout (taken known.pipe.expects reply)) between device_then
 
 -- a host that isn't ready sends nothing, and nothing changes
-pub record SendsNothing (device : DeviceState) (addr : ℕ)
+pub record SendsNothing (device : DeviceState) (host : HostEnd)
     (result : Result Told StackFault) (device_then : DeviceState) (host_then : HostEnd)
     (before events : List Event) : Type 0 where
   pub told : result ≡ Err NotReady
   pub device_stays : device_then ≡ device
-  pub host_stays : host_then ≡ record { addr = addr; phase = Cold }
+  pub host_stays : host_then ≡ host
   pub delivers : events ≡ before
 
--- A poll over a bus, by how far the host at this address has come with its device.
-abbrev pub GoesByPackets : Arrivals → DeviceState → ℕ → HostPhase → Result Told StackFault → DeviceState
+-- A poll over a bus, by how far the host has come with its device.
+abbrev pub GoesByPackets : Arrivals → DeviceState → HostEnd → HostPhase → Result Told StackFault → DeviceState
     → HostEnd → List Event → List Event → Type 0
-GoesByPackets arrivals device addr Cold result device_then host_then before events =
-    SendsNothing device addr result device_then host_then before events
-GoesByPackets arrivals device addr (Ready known) result device_then host_then before events =
-    PollsOver arrivals device addr known result device_then host_then before events
+GoesByPackets arrivals device host (Ready known) result device_then host_then before events =
+    PollsOver arrivals device host known result device_then host_then before events
+GoesByPackets arrivals device host _ result device_then host_then before events =
+    SendsNothing device host result device_then host_then before events

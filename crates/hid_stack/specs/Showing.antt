@@ -3,8 +3,9 @@ use Rattle.std.specs.Prelude.{◌≡◌, ℕ, true, List, Some}
 use Rattle.std.specs.Option.{option_map}
 use Rattle.hid_device.specs.declared.device.TheConstants.{ENDPOINT}
 use Rattle.hid_device.specs.Device.{DeviceState, core_of}
-use Rattle.hid_stack.specs.Host.{HostEnd, IfReady, IsReady}
-use Rattle.hid_stack.specs.Ready.{Known}
+use Rattle.hid_host.specs.Host.{HostEnd}
+use Rattle.hid_host.specs.Phase.{IfReady, IsReady}
+use Rattle.hid_host.specs.Ready.{Known}
 use Rattle.hid_lives.specs.Stations.{expected}
 use Rattle.hid_stack.specs.Rig.{Member, member_at}
 

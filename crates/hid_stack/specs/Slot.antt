@@ -7,10 +7,10 @@ use Rattle.hid_usages.specs.Cells.{blank, FitsView}
 use Rattle.hid_device.specs.declared.device.TheConstants.{ENDPOINT}
 use Rattle.hid_device.specs.Core.{CoreState, IsSound}
 use Rattle.hid_device.specs.Device.{DeviceState, core_of}
-use Rattle.hid_stack.specs.declared.host.HostPhase.{HostPhase}
-use Rattle.hid_stack.specs.declared.host.HostPhase.TheVariants.{Cold, Ready}
-use Rattle.hid_stack.specs.Host.{HostEnd}
-use Rattle.hid_stack.specs.Ready.{Known}
+use Rattle.hid_host.specs.declared.phase.HostPhase.{HostPhase}
+use Rattle.hid_host.specs.declared.phase.HostPhase.TheVariants.{Ready}
+use Rattle.hid_host.specs.Host.{HostEnd}
+use Rattle.hid_host.specs.Ready.{Known}
 use Rattle.hid_lives.specs.Stations.{Station, Open}
 use Rattle.hid_stack.specs.Rig.{Member}
 
@@ -31,7 +31,7 @@ joined core known = record {
 -- a host that isn't ready has the initial view
 abbrev pub station_of : CoreState → HostPhase → Station
 station_of core (Ready known) = joined core known
-station_of core Cold = record {
+station_of core _ = record {
   standing = core.standing;
   current = round_between core.toggle core.toggle core.current;
   odd = core.toggle;
@@ -66,5 +66,5 @@ pub record ArePaired (device : DeviceState) (known : Known) : Type 0 where
 
 -- a device and its host are such a pair where the host is ready
 abbrev pub IsPair : DeviceState → HostPhase → Type 0
-IsPair device Cold = ⊥
 IsPair device (Ready known) = ArePaired device known
+IsPair device _ = ⊥

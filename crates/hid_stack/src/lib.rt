@@ -1,5 +1,4 @@
-//! Hosts of human interface devices, and the rig that joins devices and hosts on one bus (USB 2.0, 8.5.4 and 8.6; HID
-//! 1.11, 5 to 8).
+//! The rig that joins devices and hosts on one bus (USB 2.0, 8.5.4 and 8.6; HID 1.11, 5 to 8).
 //! ```text
 //!   Rig                     bus                              Device                    HostDevice
 //!   Step::Change ---------------------------------------->   change
@@ -23,16 +22,14 @@
 #![tactic(auto)]
 
 mod fault;
-mod host;
 pub mod laws;
 mod polls;
-mod ready;
 mod rig;
 mod slot;
 mod step;
 
-pub use fault::{DescriptorFault, RunFault, StackFault};
-pub use host::HostDevice;
+pub use fault::RunFault;
+pub use hid_host::{DescriptorFault, HostDevice, HostState, StackFault};
 pub use polls::poll;
 pub use rig::{MAX_DEVICES, Rig, Start};
 pub use step::{Delivered, Step, Told};

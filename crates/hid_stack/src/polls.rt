@@ -6,18 +6,17 @@ ghost use Rattle.hid_layout.specs.Controls.{items_of, max_events};
 ghost use Rattle.hid_usages.specs.Encoding.{AreBytes};
 ghost use Rattle.usb_packet.specs.Spelling.{Fits};
 ghost use Rattle.hid_lives.specs.Rounds.{Polls};
-ghost use Rattle.hid_stack.specs.Host.{IfReady};
+ghost use Rattle.hid_host.specs.Phase.{IfReady};
 ghost use Rattle.hid_stack.specs.Slot.{IsPair, joint, station_of};
 ghost use Rattle.hid_stack.specs.Rig.{member_after};
 ghost use Rattle.hid_stack.specs.Polls.{Hears, HasBytes, Acknowledges, GoesByPackets, spelled};
 ghost use Rattle.hid_lives.specs.Stations.{events_at};
 ghost use Rattle.hid_stack.specs.Tells.{TellsPoll};
 
-use crate::fault::StackFault;
-use crate::host::HostDevice;
 use crate::step::Told;
 use arrayvec::ArrayVec;
 use hid_device::Device;
+use hid_host::{HostDevice, StackFault};
 use hid_usages::Event;
 use usb_packet::{Packet, encode};
 use usb_transact::{Bus, Fate, Phase, Took, carried, replied};
@@ -82,7 +81,7 @@ pub fn poll<B: Bus>(
     requires room { IfReady host.old.phase (λ known. vec_len out.old
         + max_events (items_of known.layout) ≤ vec_capacity out.old) }
     // Packet by packet.
-    ensures packets { GoesByPackets (B.arrives bus.now) device.old host.old.addr host.old.phase
+    ensures packets { GoesByPackets (B.arrives bus.now) device.old host.old host.old.phase
         result device.new host.new out.old.items out.new.items }
 
     ensures few { IfReady host.old.phase (λ known. length out.new.items

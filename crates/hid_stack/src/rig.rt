@@ -2,7 +2,7 @@
 ghost use Rattle.std.specs.Prelude.{◌≡◌, ◌≢◌, ◌≤◌, ◌+◌, ◌++◌, ◌<◌, ℕ, List, [], Ok, Err, Some, length, map, take, IfOk, OnOk, IfErr, OnErr, vec_len, vec_capacity};
 ghost use Rattle.hid_layout.specs.declared.control.ControlId.{ControlId as ControlPlace};
 ghost use Rattle.hid_lives.specs.Rounds.{Frame as FrameStep};
-ghost use Rattle.hid_stack.specs.declared.fault.StackFault.{StackFault};
+ghost use Rattle.hid_host.specs.declared.fault.StackFault.{StackFault};
 ghost use Rattle.hid_stack.specs.Attaching.{Attaches, IsAttached, Finds};
 ghost use Rattle.hid_stack.specs.Headline.{DeliversChanges, KeepsToRounds};
 ghost use Rattle.hid_stack.specs.Rig.{member_at, member_after, bus_after, delivered_at, bus_after_all, delivered_in, refusal, IsRefusal, StopsAt, HasRoomFor, most_events, most_in, IsIsolated};
@@ -10,11 +10,11 @@ ghost use Rattle.hid_stack.specs.Showing.{ShowsDevice, ShowsHost, GivesOf};
 ghost use Rattle.hid_stack.specs.Sums.{SumsUp};
 ghost use Rattle.hid_stack.specs.Tells.{Tells};
 
-use crate::fault::{RunFault, StackFault};
-use crate::host::HostDevice;
+use crate::fault::RunFault;
 use crate::slot::Slot;
 use crate::step::{Delivered, Step, Told};
 use hid_device::{Config, Device};
+use hid_host::{HostDevice, StackFault};
 use hid_layout::{ControlId, Usage};
 use hid_usages::ChangeFault;
 use std::alloc::Global;

@@ -16,11 +16,10 @@ ghost use Rattle.hid_stack.specs.Showing.{ShowsDevice, ShowsHost};
 ghost use Rattle.hid_lives.specs.Stations.{events_at};
 ghost use Rattle.hid_stack.specs.Tells.{TellsPoll};
 
-use crate::fault::{DescriptorFault, StackFault};
-use crate::host::HostDevice;
 use crate::polls::poll_pair;
 use crate::step::{Delivered, Told};
 use hid_device::{Config, Device, DeviceCause, DeviceFault};
+use hid_host::{DescriptorFault, HostDevice, StackFault};
 use hid_layout::laws::{accepted_or_refused, one_reading};
 use hid_layout::{Cause, Layout};
 use hid_usages::{Change, ChangeFault, Event};

@@ -4,12 +4,10 @@
 use crate::{
     Delivered, HostDevice, MAX_DEVICES, Rig, RunFault, StackFault, Start, Step, Told, poll,
 };
-use arrayvec::ArrayVec;
 use hid_device::{Boot, Config, Device, KEYBOARD, MOUSE};
 use hid_layout::{ControlId, Usage};
 use hid_usages::{Change, ChangeFault, Event, ReportFault};
 use std::test::Fail;
-use usb_packet::{Packet, TokenKind};
 use usb_transact::{Fate, Took};
 
 fn config(boot: Boot) -> Config {
@@ -262,39 +260,6 @@ fn the_two_ends_show_their_toggles(rt: HostRuntime) -> Result<(), Fail> {
     Ok(())
 }
 
-fn data(one: bool, bytes: &[u8]) -> Option<Packet> {
-    let payload = ArrayVec::try_from(bytes).ok()?;
-    Some(Packet::Data { one, payload })
-}
-
-#[test]
-fn a_short_report_is_refused_and_the_next_is_read(rt: HostRuntime) -> Result<(), Fail> {
-    let key = ControlId { item: 4, index: 4 };
-    let mut host = HostDevice::ready(rt.alloc(), 1, &KEYBOARD)?;
-    let token = Packet::Token {
-        kind: TokenKind::In,
-        addr: 1,
-        endp: 1,
-    };
-    assert_eq!(rt; host.token(), Ok(token));
-
-    let mut out = Vec::with_capacity(rt.alloc(), host.max_events())?;
-    let short = data(false, &[0; 7]);
-    assert_eq!(rt;
-        host.reply(short.as_ref(), &mut out),
-        Err(StackFault::Report(ReportFault::Short))
-    );
-    assert!(rt; host.pipe().expects() && !host.view().held(key) && out.is_empty());
-
-    let mut events = Vec::with_capacity(rt.alloc(), host.max_events())?;
-    let whole = data(true, &[0, 0, 0x04, 0, 0, 0, 0, 0]);
-    let took = host.reply(whole.as_ref(), &mut events)?;
-    assert!(rt; is_verdict(&took, Verdict::Fresh));
-    assert_eq!(rt; events.as_slice(), [event_of(Given::Down(4))].as_slice());
-    assert!(rt; !host.pipe().expects() && host.view().held(key));
-    Ok(())
-}
-
 /// A boot keyboard at address 1 with its key a pressed.
 fn pressed_keyboard(rt: &HostRuntime) -> Result<Device, Fail> {
     let mut device = Device::new(rt.alloc(), 1, &config(Boot::Keyboard), &KEYBOARD)?;
@@ -320,8 +285,7 @@ fn two_ends_are_polled_without_a_rig(rt: HostRuntime) -> Result<(), Fail> {
 #[test]
 fn a_cold_host_polls_nothing(rt: HostRuntime) -> Result<(), Fail> {
     let mut device = pressed_keyboard(&rt)?;
-    let mut host = HostDevice::cold(1);
-    assert_eq!(rt; host.token(), Err(StackFault::NotReady));
+    let mut host = HostDevice::cold(rt.alloc(), 1);
     let mut out = Vec::new(rt.alloc());
     let told = poll(&Fate::Clean, &mut device, &mut host, &mut out);
     assert_eq!(rt; told, Err(StackFault::NotReady));

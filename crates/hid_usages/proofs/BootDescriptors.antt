@@ -2,7 +2,7 @@
 use Rattle.std.proofs.Common.{◌≡◌, List, [], ◌∷◌, reverse, refl, ap, ◌∙◌, lit≤}
 use Rattle.std.proofs.lemmas.List.Elements.{All-from_recursion}
 use Rattle.hid_items.specs.Spelling.{IsSpelling}
-use Rattle.hid_descriptor.specs.Items.{Item}
+use Rattle.hid_descriptor.specs.Items.{Spelled}
 use Rattle.hid_descriptor.specs.Fields.{add_field}
 use Rattle.hid_descriptor.specs.Faults.{Accepts, AreAccepted, field_fault, are_too_many, upward, report_ids}
 use Rattle.hid_layout.specs.Layout.{layout_of}
@@ -12,7 +12,7 @@ use Rattle.hid_layout.specs.declared.boot.TheConstants.{KEYBOARD, MOUSE}
 use Rattle.hid_usages.specs.Boot.{keyboard_layout, mouse_layout, GivesOnly}
 
 -- the items of the boot keyboard's descriptor, the last one first
-abbrev keyboard_items : List Item
+abbrev keyboard_items : List Spelled
 keyboard_items = (0xC0 ∷ []) ∷ (0x81 ∷ 0x00 ∷ []) ∷ (0x29 ∷ 0x65 ∷ []) ∷ (0x19 ∷ 0x00 ∷ []) ∷ (0x05 ∷ 0x07 ∷ []) ∷ (0x25 ∷ 0x65 ∷ []) ∷ (0x15 ∷ 0x00 ∷ []) ∷ (0x75 ∷ 0x08 ∷ []) ∷ (0x95 ∷ 0x06 ∷ []) ∷ (0x91 ∷ 0x01 ∷ []) ∷ (0x75 ∷ 0x03 ∷ []) ∷ (0x95 ∷ 0x01 ∷ []) ∷ (0x91 ∷ 0x02 ∷ []) ∷ (0x29 ∷ 0x05 ∷ []) ∷ (0x19 ∷ 0x01 ∷ []) ∷ (0x05 ∷ 0x08 ∷ []) ∷ (0x75 ∷ 0x01 ∷ []) ∷ (0x95 ∷ 0x05 ∷ []) ∷ (0x81 ∷ 0x01 ∷ []) ∷ (0x75 ∷ 0x08 ∷ []) ∷ (0x95 ∷ 0x01 ∷ []) ∷ (0x81 ∷ 0x02 ∷ []) ∷ (0x95 ∷ 0x08 ∷ []) ∷ (0x75 ∷ 0x01 ∷ []) ∷ (0x25 ∷ 0x01 ∷ []) ∷ (0x15 ∷ 0x00 ∷ []) ∷ (0x29 ∷ 0xE7 ∷ []) ∷ (0x19 ∷ 0xE0 ∷ []) ∷ (0x05 ∷ 0x07 ∷ []) ∷ (0xA1 ∷ 0x01 ∷ []) ∷ (0x09 ∷ 0x06 ∷ []) ∷ (0x05 ∷ 0x01 ∷ []) ∷ []
 
 keyboard_accepted : AreAccepted keyboard_items
@@ -43,7 +43,7 @@ keyboard_given one = record {
 }
 
 -- the items of the boot mouse's descriptor, the last one first
-abbrev mouse_items : List Item
+abbrev mouse_items : List Spelled
 mouse_items = (0xC0 ∷ []) ∷ (0xC0 ∷ []) ∷ (0x81 ∷ 0x06 ∷ []) ∷ (0x95 ∷ 0x02 ∷ []) ∷ (0x75 ∷ 0x08 ∷ []) ∷ (0x25 ∷ 0x7F ∷ []) ∷ (0x15 ∷ 0x81 ∷ []) ∷ (0x09 ∷ 0x31 ∷ []) ∷ (0x09 ∷ 0x30 ∷ []) ∷ (0x05 ∷ 0x01 ∷ []) ∷ (0x81 ∷ 0x01 ∷ []) ∷ (0x75 ∷ 0x05 ∷ []) ∷ (0x95 ∷ 0x01 ∷ []) ∷ (0x81 ∷ 0x02 ∷ []) ∷ (0x75 ∷ 0x01 ∷ []) ∷ (0x95 ∷ 0x03 ∷ []) ∷ (0x25 ∷ 0x01 ∷ []) ∷ (0x15 ∷ 0x00 ∷ []) ∷ (0x29 ∷ 0x03 ∷ []) ∷ (0x19 ∷ 0x01 ∷ []) ∷ (0x05 ∷ 0x09 ∷ []) ∷ (0xA1 ∷ 0x00 ∷ []) ∷ (0x09 ∷ 0x01 ∷ []) ∷ (0xA1 ∷ 0x01 ∷ []) ∷ (0x09 ∷ 0x02 ∷ []) ∷ (0x05 ∷ 0x01 ∷ []) ∷ []
 
 mouse_accepted : AreAccepted mouse_items

@@ -12,7 +12,7 @@ use Rattle.hid_descriptor.specs.declared.shape.Shape.{Shape}
 use Rattle.hid_descriptor.specs.declared.shape.Shape.TheVariants.{Padding, Variable, Array}
 use Rattle.hid_descriptor.specs.declared.report.ReportKind.TheVariants.{Input, Output}
 use Rattle.hid_descriptor.specs.declared.usage.Usage.{Usage}
-use Rattle.hid_descriptor.specs.Items.{Item}
+use Rattle.hid_descriptor.specs.Items.{Spelled}
 use Rattle.hid_descriptor.specs.Usages.{Entry}
 use Rattle.hid_layout.specs.Layout.{Contents, layout_of}
 use Rattle.hid_descriptor.specs.Faults.{Accepts}
@@ -168,8 +168,8 @@ mouse_layout = record {
 
 -- a descriptor is accepted, and this is its only layout
 pub record GivesOnly (descriptor : List ℕ) (layout : Contents) : Type 0 where
-  pub accepted : (before : List Item) × Accepts descriptor before
-  pub only : (before : List Item) → Accepts descriptor before → layout_of before ≡ layout
+  pub accepted : (before : List Spelled) × Accepts descriptor before
+  pub only : (before : List Spelled) → Accepts descriptor before → layout_of before ≡ layout
 
 -- Of these bytes, the control of 07:id is held in the view that is read exactly where the report tells so.
 abbrev pub IsTold : List Cell → KeyboardReport → ℕ → Type 0

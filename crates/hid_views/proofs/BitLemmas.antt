@@ -5,7 +5,7 @@ use Rattle.std.specs.Ordering.{int_eq}
 use Rattle.std.proofs.lemmas.Nat.Bits.{bit_at-lt}
 use Rattle.std.proofs.lemmas.List.{ext_get_or}
 use Rattle.std.proofs.lemmas.Bool.Decides.{nat_tests, Decides-int_eq}
-use Rattle.std.proofs.lemmas.Option.{get_or_from_slice_get}
+use Rattle.std.proofs.lemmas.Option.{get_or_from_slice_get, slice_get_within}
 use Rattle.hid_fields.specs.Field.{bit_of, pattern_of}
 use Rattle.hid_fields.proofs.WordLemmas.{bit_at-pattern_of}
 use Rattle.hid_parts.specs.Numbers.{number_at, numbers_in}
@@ -41,7 +41,6 @@ use Rattle.hid_cells.specs.declared.cell.Cell.{Cell}
 use Rattle.hid_cells.specs.declared.cell.Cell.TheVariants.{Vacant, Pressed, Holding, Moved, RolledOver}
 use Rattle.hid_cells.specs.Cells.{HasRoom}
 use Rattle.hid_cells.proofs.CodeLemmas.{both_true}
-use Rattle.std.proofs.lemmas.Option.{slice_get_within}
 use Rattle.hid_views.proofs.EventLemmas.{no_switch}
 
 -- a field of one bit is that bit

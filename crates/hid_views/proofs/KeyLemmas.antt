@@ -18,8 +18,7 @@ use Rattle.hid_cells.proofs.CodeLemmas.{test_true, true_test, both_true}
 use Rattle.std.specs.Int.Signed.{le_z}
 use Rattle.hid_descriptor.specs.declared.usage.Usage.{Usage}
 use Rattle.hid_descriptor.specs.Usages.{is_rollover}
-use Rattle.hid_cells.specs.Cells.{is_in}
-use Rattle.hid_cells.specs.Cells.{pressed_count}
+use Rattle.hid_cells.specs.Cells.{is_in, pressed_count}
 use Rattle.std.proofs.Math.Seq.{take-length}
 use Rattle.hid_cells.proofs.BlankLemmas.{none_pressed}
 use Rattle.hid_cells.proofs.ListLemmas.{map_at, cons_count, take_at}

@@ -1,8 +1,8 @@
 -- The items of a report that is read.
-use Rattle.std.proofs.Common.{◌≡◌, ℕ, zero, suc, ◌+◌, ◌<◌, ◌≤◌, inl, inr, Bool, true, false, cond, List, [], ◌∷◌, ◌++◌, length, length-append, map, take, drop, get_or, Option, Some, None, ℤ, zero-add, refl, sym, ap, ◌∙◌, subst, arith}
-use Rattle.std.specs.List.{slice_get, slice_set}
+use Rattle.std.proofs.Common.{◌≡◌, ℕ, zero, suc, ◌+◌, ◌<◌, ◌≤◌, inl, inr, Bool, true, false, cond, List, [], ◌∷◌, ◌++◌, length, length-append, map, take, drop, get_or, Option, Some, None, ℤ, zero-add, refl, sym, ap, ◌∙◌, subst, arith, append-nil, ◌==◌, ◌&&◌, not, nat_lt, Result, Ok, Err}
+use Rattle.std.specs.List.{slice_get, slice_set, list_any, position}
 use Rattle.std.proofs.lemmas.List.{length-map, drop_all}
-use Rattle.std.proofs.lemmas.Option.{slice_get_within}
+use Rattle.std.proofs.lemmas.Option.{slice_get_within, slice_get-get_or}
 use Rattle.hid_layout.specs.declared.main_item.MainItem.{MainItem}
 use Rattle.hid_descriptor.specs.declared.shape.Shape.{Shape}
 use Rattle.hid_descriptor.specs.declared.shape.Shape.TheVariants.{Padding, Variable, Array}
@@ -14,41 +14,29 @@ use Rattle.hid_descriptor.specs.Fields.{is_padding}
 use Rattle.hid_layout.specs.Layout.{Contents}
 use Rattle.hid_layout.specs.Reports.{IsLayout, HasElements, first_bit, report_bytes}
 use Rattle.hid_layout.specs.Controls.{Form, NoControls, Elements, Keys, Item, items_of, item_of, form_of, form_at, head_of, array_keys, max_events, Key, has_place, rollover_from, element_kind, least_of, greatest_of, events_in, is_input_report}
-use Rattle.hid_cells.specs.Events.{usages_of, usages_at}
-use Rattle.hid_views.specs.Reading.{keys_of, keys_at}
-use Rattle.hid_views.specs.Taking.{list_at, IsFormOf, read_by_report, told_by_report, read_from, told_from, read_view, read_events, ArePairs}
+use Rattle.hid_cells.specs.Events.{usages_of, usages_at, element_events, key_events, key_usages, change_events}
+use Rattle.hid_views.specs.Reading.{keys_of, keys_at, read_motion, names_rollover, named_from, read_elements, read_named, read_keys, read_cell, motion_elements, motion_cell, is_data_in, item_numbers, first_byte, is_input_with, whole_report, report_named}
+use Rattle.hid_views.specs.Taking.{list_at, IsFormOf, read_by_report, told_by_report, read_from, told_from, read_view, read_events, ArePairs, read_by_numbers, told_by_numbers}
 use Rattle.hid_cells.proofs.PlanLemmas.{Skips}
 use Rattle.hid_cells.specs.declared.cell.Cell.{Cell}
 use Rattle.hid_cells.specs.declared.event.Event.{Event}
-use Rattle.hid_cells.specs.Views.{HasNext}
-use Rattle.std.proofs.lemmas.Option.{slice_get-get_or}
+use Rattle.hid_cells.specs.Views.{HasNext, motions_of, motions_told}
 use Rattle.std.proofs.lemmas.Bool.{cases_eq}
 use Rattle.hid_views.proofs.EventLemmas.{drop_at}
-use Rattle.hid_cells.proofs.FillLemmas.{unfilled_at, fill_next, set_length}
-use Rattle.std.specs.List.{list_any}
-use Rattle.std.proofs.Common.{append-nil, ◌==◌, ◌&&◌, not}
+use Rattle.hid_cells.proofs.FillLemmas.{unfilled_at, fill_next, set_length, length_map_zip}
 use Rattle.hid_layout.specs.declared.control.ControlKind.TheVariants.{Switch, Value, NullValue, Relative}
 use Rattle.hid_cells.specs.declared.cell.Cell.TheVariants.{Vacant, Pressed, Holding, Moved, RolledOver}
 use Rattle.hid_cells.specs.Cells.{blank, blank_cell, pressed_count, HasRoom, InView, Suits}
-use Rattle.hid_cells.specs.Events.{element_events, key_events, key_usages, change_events}
-use Rattle.hid_cells.specs.Views.{motions_of, motions_told}
-use Rattle.hid_views.specs.Reading.{read_motion, names_rollover, named_from, read_elements, read_named, read_keys, read_cell, motion_elements, motion_cell}
-use Rattle.hid_cells.proofs.FillLemmas.{length_map_zip}
 use Rattle.hid_views.proofs.NamedLemmas.{named_length}
 use Rattle.hid_views.proofs.KeyLemmas.{named_count}
 use Rattle.hid_cells.proofs.ListLemmas.{map_at}
 use Rattle.hid_views.proofs.ViewLemmas.{sum_cons, element_few, motions_few, change_few}
 use Rattle.hid_cells.specs.Parts.{IsInput}
 use Rattle.hid_fields.specs.Value.{is_negative}
-use Rattle.hid_views.specs.Reading.{is_data_in, item_numbers}
-use Rattle.hid_views.specs.Taking.{read_by_numbers, told_by_numbers}
 use Rattle.hid_parts.proofs.NumberLemmas.{numbers_in-length}
 use Rattle.hid_parts.proofs.EncodingLemmas.{data_if}
 use Rattle.hid_descriptor.specs.declared.report.Report.{Report}
 use Rattle.hid_descriptor.specs.declared.report.ReportKind.TheVariants.{Input}
-use Rattle.std.specs.List.{position}
-use Rattle.hid_views.specs.Reading.{first_byte, is_input_with, whole_report, report_named}
-use Rattle.std.proofs.Common.{nat_lt, Result, Ok, Err}
 use Rattle.hid_cells.specs.declared.fault.ReportFault.{ReportFault}
 use Rattle.hid_cells.specs.declared.fault.ReportFault.TheVariants.{Short}
 use Rattle.std.proofs.lemmas.List.Quantifiers.{position-Some}

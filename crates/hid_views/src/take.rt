@@ -13,11 +13,9 @@ ghost use Rattle.hid_cells.specs.Parts.{IsInput};
 ghost use Rattle.hid_layout.specs.declared.control.Controls.TheVariants as head;
 ghost use Rattle.hid_cells.specs.Cells.{HasRoom, FitsView};
 ghost use Rattle.hid_cells.specs.Events.{element_events, key_events, switch_events, value_events, HasPlaces};
-ghost use Rattle.hid_cells.specs.Views.{HasNext};
-ghost use Rattle.hid_views.specs.Reading.{array_keys, has_null, read_switch, read_value, read_keys};
-ghost use Rattle.hid_cells.specs.Views.{motions_of};
+ghost use Rattle.hid_cells.specs.Views.{HasNext, motions_of};
+ghost use Rattle.hid_views.specs.Reading.{array_keys, has_null, read_switch, read_value, read_keys, item_numbers};
 ghost use Rattle.hid_views.specs.Bits.{read_bits};
-ghost use Rattle.hid_views.specs.Reading.{item_numbers};
 ghost use Rattle.hid_parts.specs.Encoding.{IsData};
 ghost use Rattle.hid_layout.specs.declared.control.ControlKind.TheVariants as ControlKind;
 

@@ -1,5 +1,5 @@
 -- What the acts of a try need.
-use Rattle.std.proofs.Common.{◌≡◌, ℕ, refl, Bool, true, false, List, Option}
+use Rattle.std.proofs.Common.{◌≡◌, refl, Bool, true, false}
 use Rattle.std.specs.Prelude.{if◌then◌else◌}
 use Rattle.usb_transact.specs.declared.transaction.Fate.{Fate}
 use Rattle.usb_transact.specs.declared.transaction.Fate.TheVariants.{Clean, TokenLost, ReplyLost, AckLost}

@@ -1,5 +1,5 @@
 -- Where what answers requests does so by functions, what a packet brings about and a try are their functions.
-use Rattle.std.proofs.Common.{◌≡◌, ◌↔◌, Bool, true, false, ◌&&◌, Option, Some, None, refl, ap, sym, ◌∙◌, subst}
+use Rattle.std.proofs.Common.{◌≡◌, ◌↔◌, Bool, true, false, ◌&&◌, Option, None, refl, ap, sym, ◌∙◌, subst}
 use Rattle.usb_packet.specs.declared.packet.Packet.{Packet}
 use Rattle.usb_transact.specs.declared.transaction.Fate.{Fate}
 use Rattle.usb_transact.specs.declared.transaction.Fate.TheVariants.{Clean, TokenLost, ReplyLost, AckLost}
@@ -99,7 +99,7 @@ arrives_computed t fate host c =
     let e = effect_reached t host c in
     (control_after t e c.requests, answer_to e, does_computed t e c.requests, refl, acks_computed t (is_acknowledged fate host e) (control_after t e c.requests))
 
-transacts_computed :
+pub transacts_computed :
     {R : Type 0} (t : Table R) (fate : Fate) (host : HostTransferState) (c : DevControlState R)
     → Transacts (PreparesBy t) (AppliesBy t) t.answer_of fate host c (host_tried t fate host c) (control_tried t fate host c)
 transacts_computed t TokenLost host c = (refl, refl)

@@ -1,11 +1,12 @@
 -- Descriptors one after another (USB 2.0, 9.5): where the first one ends, and the first of a kind.
-use Rattle.std.proofs.Common.{◌≡◌, ◌↔◌, ℕ, refl, sym, ◌∙◌, ap, subst, List, [], ◌∷◌, ◌++◌, length, take, suc, true, ◌==◌, arith}
+use Rattle.std.proofs.Common.{◌≡◌, ◌↔◌, ℕ, refl, sym, ◌∙◌, ap, subst, List, [], ◌∷◌, ◌++◌, length, take, suc, true, ◌==◌, ◌<◌, ◌≤◌, Option, Some, None, arith}
 use Rattle.std.proofs.lemmas.List.{append_cancel_left, append-nil}
 use Rattle.std.proofs.lemmas.List.Folds.{concat-append}
 use Rattle.std.proofs.lemmas.Bool.Decides.{nat_tests}
 use Rattle.std.proofs.Math.Seq.{take-append_seam}
 use Rattle.std.specs.List.{concat}
-use Rattle.usb_control.specs.Descriptors.{IsDescriptor, AreDescriptors, IsWalk, HasWalk}
+use Rattle.std.specs.Prelude.{find, slice_index, option_and_then}
+use Rattle.usb_control.specs.Descriptors.{IsDescriptor, AreDescriptors, IsWalk, HasWalk, ReadsConfig, config_of, first_type, info_of, interface_info, interface_part, is_hid, is_hid_interface, is_interrupt_in, report_length}
 
 same_length : (d e xs ys : List ℕ) → IsDescriptor d → IsDescriptor e → d ++ xs ≡ e ++ ys → length d ≡ length e
 same_length [] e xs ys is_d is_e h = absurd is_d
@@ -84,3 +85,36 @@ walk_append xs ys ds es h g = record {
 
 pub walk_of_one : (d : List ℕ) → IsDescriptor d → IsWalk d (d ∷ [])
 walk_of_one d is = record { each = (is, tt); whole = append-nil d }
+
+-- one byte is no descriptor
+one_byte : (x : ℕ) (ds : List (List ℕ)) → ¬ IsWalk (x ∷ []) ds
+one_byte x [] walk = let e = walk.whole in cc
+one_byte x ([] ∷ ds) walk = absurd walk.each.0
+one_byte x ((y ∷ []) ∷ ds) walk = omega (arith, walk.each.0.0, walk.each.0.1)
+one_byte x ((y ∷ z ∷ body) ∷ ds) walk = let e = walk.whole in cc
+
+-- under two bytes are no configuration
+pub no_walk : (bytes : List ℕ) → length bytes < 2 → ¬ (HasWalk bytes × (9 ≤ slice_index bytes 0))
+no_walk [] small (walk, first) = omega (arith, first)
+no_walk (x ∷ []) small ((ds, walk), first) = one_byte x ds walk
+no_walk (x ∷ y ∷ rest) small (walk, first) = omega (arith, small)
+
+-- the type of the whole is the second byte
+pub first_type_is : (bytes : List ℕ) (ds : List (List ℕ)) → IsWalk bytes ds → 9 ≤ slice_index bytes 0 → first_type ds ≡ slice_index bytes 1
+first_type_is bytes [] walk first = subst (λ (xs : List ℕ). 9 ≤ slice_index xs 0 → first_type [] ≡ slice_index xs 1) walk.whole (λ wrong. omega (arith, wrong)) first
+first_type_is bytes ([] ∷ ds) walk first = absurd walk.each.0
+first_type_is bytes ((x ∷ []) ∷ ds) walk first = omega (arith, walk.each.0.0, walk.each.0.1)
+first_type_is bytes ((x ∷ y ∷ body) ∷ ds) walk first = ap (λ (xs : List ℕ). slice_index xs 1) walk.whole
+
+-- what is read of descriptors whose first HID interface was found
+pub config_is : (ds : List (List ℕ)) (interface : List ℕ) → (first_type ds == 2) ≡ true → find is_hid_interface ds ≡ Some interface
+    → config_of ds ≡ info_of interface (option_and_then report_length (find is_hid (interface_part ds))) (find is_interrupt_in (interface_part ds))
+config_is ds interface type found =
+    rw type (ap (λ (o : Option (List ℕ)). interface_info o (interface_part ds)) found)
+
+-- descriptors of which something is read are what a host reads of their bytes
+pub reads_info : (bytes : List ℕ) (ds : List (List ℕ)) (interface : List ℕ) (len : Option ℕ) (endpoint : Option (List ℕ)) → IsWalk bytes ds
+    → 9 ≤ slice_index bytes 0 → config_of ds ≡ info_of interface len endpoint → ReadsConfig bytes (info_of interface len endpoint)
+reads_info bytes ds interface None endpoint walk first is = (ds, walk, first, sym is)
+reads_info bytes ds interface (Some n) None walk first is = (ds, walk, first, sym is)
+reads_info bytes ds interface (Some n) (Some e) walk first is = (ds, walk, first, sym is)

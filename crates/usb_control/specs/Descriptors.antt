@@ -4,7 +4,7 @@ use Rattle.std.specs.List.{concat, before_first, after_first}
 use Rattle.usb_control.specs.declared.descriptors.DeviceInfo.{DeviceInfo}
 use Rattle.usb_control.specs.declared.descriptors.ConfigInfo.{ConfigInfo}
 use Rattle.usb_control.specs.declared.fault.InfoFault.{InfoFault}
-use Rattle.usb_control.specs.declared.fault.InfoFault.TheVariants.{WrongType, NoHidInterface, NoReportDescriptor, NoEndpoint}
+use Rattle.usb_control.specs.declared.fault.InfoFault.TheVariants.{TooShort, WrongType, NoHidInterface, NoReportDescriptor, NoEndpoint}
 use Rattle.usb_control.specs.SetupBytes.{word_at}
 
 -- a device descriptor has type 1 (table 9-5)
@@ -101,3 +101,11 @@ config_of descriptors =
     if first_type descriptors == 2
     then interface_info (find is_hid_interface descriptors) (interface_part descriptors)
     else Err WrongType
+
+-- What a host reads of the bytes of a configuration: of its descriptors one after another. Bytes that aren't that, and
+-- those whose first descriptor has under nine bytes (table 9-10), are too short.
+abbrev pub ReadsConfig : List ℕ → Result ConfigInfo InfoFault → Type 0
+ReadsConfig bytes (Err TooShort) = ¬ (HasWalk bytes × (9 ≤ slice_index bytes 0))
+ReadsConfig bytes result =
+    (descriptors : List (List ℕ)) × IsWalk bytes descriptors × (9 ≤ slice_index bytes 0)
+    × (result ≡ config_of descriptors)

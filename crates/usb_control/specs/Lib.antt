@@ -13,6 +13,7 @@ pub mod Writing
 pub mod Runs
 pub mod Steps
 pub mod Computed
+pub mod Meanwhile
 pub mod Lending
 pub mod Descriptors
 pub mod Search

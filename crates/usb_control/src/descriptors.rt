@@ -1,10 +1,11 @@
 //! The descriptors that a host reads (USB 2.0, 9.5 and 9.6; HID 1.11, 6.2.1).
-ghost use Rattle.std.specs.Prelude.{◌≡◌, ◌<◌, ◌≤◌, Ok, Err, true, List, ℕ, length, slice_index, find, option_and_then};
+ghost use Rattle.std.specs.Prelude.{◌≡◌, ◌<◌, ◌≤◌, Ok, Err, IfOk, true, List, ℕ, length, slice_index, find, option_and_then};
 ghost use Rattle.std.specs.List.{before_first};
-ghost use Rattle.usb_control.specs.Descriptors.{HasWalk, IsDevice, IsWalk, config_of, device_info_of, info_of, is_hid, is_hid_interface, is_interface, is_interrupt_in, report_length};
+ghost use Rattle.usb_control.specs.Descriptors.{HasWalk, IsDevice, IsWalk, ReadsConfig, config_of, device_info_of, info_of, is_hid, is_hid_interface, is_interface, is_interrupt_in, report_length};
 
 use crate::fault::InfoFault;
 use crate::walk::{Wanted, first, is_walk};
+use usb_packet::MAX_ENDPOINT;
 
 /// In bytes, a device descriptor (USB 2.0, table 9-8).
 const DEVICE_LENGTH: usize = 18;
@@ -88,6 +89,10 @@ impl ConfigInfo {
         // The first refusal.
         ensures short { ¬ (HasWalk bytes.now × (9 ≤ slice_index bytes.now 0))
             → result ≡ Err InfoFault.TooShort }
+
+        // One of the two stands; an endpoint has four bits.
+        ensures reads { ReadsConfig bytes.now result }
+        ensures endpoint { IfOk result (λ info. info.endpoint ≤ MAX_ENDPOINT) }
     {
         let [size, kind, ..] = bytes else {
             return Err(InfoFault::TooShort);
@@ -119,9 +124,10 @@ fn stretch(behind: &[u8]) -> &[u8]
 // What is read of an interface of class 03 and the descriptors that belong to it.
 fn config_info(interface: &[u8], stretch: &[u8]) -> Result<ConfigInfo, InfoFault>
     requires { is_hid_interface interface.now ≡ true }
-    ensures { (descriptors : List (List ℕ)) → IsWalk stretch.now descriptors
+    ensures info { (descriptors : List (List ℕ)) → IsWalk stretch.now descriptors
         → result ≡ info_of interface.now
         (option_and_then report_length (find is_hid descriptors)) (find is_interrupt_in descriptors) }
+    ensures endpoint { IfOk result (λ info. info.endpoint ≤ MAX_ENDPOINT) }
 {
     let Some(hid) = first(stretch, Wanted::Hid) else {
         return Err(InfoFault::NoReportDescriptor);

@@ -98,7 +98,13 @@ impl Model for HostTransfer {
 
     ghost Value = { HostTransferState };
 
-    ghost view = { λ t. record { addr = t.addr; setup = t.setup; bytes = t.bytes.items; stage = t.stage; tries = t.tries } };
+    ghost view = { λ t. record {
+      addr = t.addr;
+      setup = t.setup;
+      bytes = t.bytes.items;
+      stage = t.stage;
+      tries = t.tries;
+    } };
 
     ghost invariant = { λ t. (t.addr ≤ MAX_ADDRESS) × (t.setup.length ≤ vec_capacity t.bytes) × IsSpelled t.setup };
 }

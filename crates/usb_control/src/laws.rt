@@ -17,7 +17,8 @@ ghost use Rattle.usb_control.specs.Transfer.{Shape, Decision, Place, answered_by
 ghost use Rattle.usb_control.specs.Standing.{GoesOn, Stands};
 ghost use Rattle.usb_control.specs.Transaction.{Transacts};
 ghost use Rattle.usb_control.specs.Computed.{AppliesBy, PreparesBy, Table, control_tried, host_tried};
-ghost use Rattle.usb_control.specs.Runs.{IsDone, IsOnce};
+ghost use Rattle.usb_control.specs.Meanwhile.{Ends, LeaveAnswers, StandAt, Turn, tries_in, turned_all};
+ghost use Rattle.usb_control.specs.Runs.{IsDone, IsOnce, run};
 ghost use Rattle.usb_control.specs.Steps.{IsAppliedOnce, IsOnceAtMost, Steps};
 
 use crate::requests::Requests;
@@ -139,4 +140,14 @@ pub fn tries_are_computed<R>()
         (host after : HostTransferState) (old new : DevControlState R)
         → Transacts (PreparesBy table) (AppliesBy table) table.answer_of fate host old after new
         ↔ ((after ≡ host_tried table fate host old) × (new ≡ control_tried table fate host old)) }
+{}
+
+/// Whatever comes between the tries of a transfer, as long as it leaves the answer that is fixed: both ends stand at the
+/// place to which the tries lead, each with what a SETUP that arrives in it is decided then.
+#[tactic(auto, using(crate::proofs::MeanwhileLemmas::places_are_run))]
+pub fn places_are_run<R>()
+    ensures { (table : Table R) (sends : List ℕ) (place : Place) (ends : Ends R) (turns : List (Turn R))
+        → IsSpelled ends.host.setup → LeaveAnswers table turns → StandAt table sends place ends
+        → StandAt table sends (run (shape_of ends.host.setup) (tries_in table ends turns) place)
+        (turned_all table ends turns) }
 {}

@@ -7,4 +7,5 @@ mod descriptors;
 mod device;
 mod host;
 mod keyboard;
+mod text;
 mod transfers;

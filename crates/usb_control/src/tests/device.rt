@@ -1,82 +1,81 @@
 //! The device's end against packets of any host.
 use super::keyboard::Keyboard;
+use super::text::{bytes_of, hex, parts};
 use crate::device::DevControl;
 use arrayvec::ArrayVec;
-use std::process::Abort;
+use std::alloc::Global;
+use std::fmt::Write;
+use std::test::Fail;
 use usb_packet::{decode, encode};
 
-const SETUP: &[u8] = &[0x2D, 0x01, 0x00];
-
-const IN: &[u8] = &[0x69, 0x01, 0x00];
-
-const OUT: &[u8] = &[0xE1, 0x01, 0x00];
-
-const ACK: &[u8] = &[0xD2];
-
-const NAK: &[u8] = &[0x5A];
-
-const STALL: &[u8] = &[0x1E];
-
-const NONE: &[u8] = &[];
-
-/// DATA0 and DATA1 without a byte.
-const DATA0: &[u8] = &[0xC3];
-
-const DATA1: &[u8] = &[0x4B];
-
-/// GET_STATUS, of two bytes; its answer; the same of an interface, which an unconfigured device refuses.
-const GET_STATUS: &[u8] = &[0xC3, 0x80, 0x00, 0x00, 0x00, 0x00, 0x00, 0x02, 0x00];
-
-const STATUS: &[u8] = &[0x4B, 0, 0];
-
-const REFUSED: &[u8] = &[0xC3, 0x81, 0x00, 0x00, 0x00, 0x00, 0x00, 0x02, 0x00];
-
-/// GET_DESCRIPTOR for a device, of 18 bytes; the three pieces of its answer.
-const GET_DEVICE: &[u8] = &[0xC3, 0x80, 0x06, 0x00, 0x01, 0x00, 0x00, 0x12, 0x00];
-
-const FIRST: &[u8] = &[0x4B, 0x12, 0x01, 0x00, 0x02, 0x00, 0x00, 0x00, 0x08];
-
-const SECOND: &[u8] = &[0xC3, 0xFF, 0xFE, 0x01, 0x00, 0x00, 0x01, 0x00, 0x00];
-
-const THIRD: &[u8] = &[0x4B, 0x00, 0x01];
-
-/// SET_CONFIGURATION, without data.
-const CONFIGURE: &[u8] = &[0xC3, 0x00, 0x09, 0x01, 0x00, 0x00, 0x00, 0x00, 0x00];
-
-/// SET_REPORT for an output report of two bytes, and of nine.
-const REPORT_2: &[u8] = &[0xC3, 0x21, 0x09, 0x00, 0x02, 0x00, 0x00, 0x02, 0x00];
-
-const REPORT_9: &[u8] = &[0xC3, 0x21, 0x09, 0x00, 0x02, 0x00, 0x00, 0x09, 0x00];
-
-/// Packets that the device hears, each with its answer (nothing: no byte), how often a write took effect in them, and the
-/// output report that is kept then.
+/// Packets that the device hears, each with its answer behind `=` where it has one: what is told is how often a write took
+/// effect in them, and the output report that is kept then. GET_STATUS reads two bytes, GET_STATUS_8 asks for eight; REFUSED is that of an interface,
+/// which an unconfigured device refuses; GET_DEVICE reads a descriptor of 18 bytes in three pieces; CONFIGURE is
+/// SET_CONFIGURATION, without data; REPORT_2 and REPORT_9 are SET_REPORT for an output report of so many bytes.
 #[rattlefmt::skip]
-const HEARD: [(&str, &[(&[u8], &[u8])], u32, &[u8]); 24] = [
-    ("a read",                                      &[(SETUP, NONE), (GET_STATUS, ACK), (IN, STATUS), (ACK, NONE), (OUT, NONE), (DATA1, ACK)], 0, &[]),
-    ("a read in three pieces",                      &[(SETUP, NONE), (GET_DEVICE, ACK), (IN, FIRST), (ACK, NONE), (IN, SECOND), (ACK, NONE), (IN, THIRD), (ACK, NONE), (OUT, NONE), (DATA1, ACK)], 0, &[]),
-    ("data come again until they are acknowledged", &[(SETUP, NONE), (GET_STATUS, ACK), (IN, STATUS), (IN, STATUS), (ACK, NONE)], 0, &[]),
-    ("an ACK that isn't directly behind them",      &[(SETUP, NONE), (GET_STATUS, ACK), (IN, STATUS), (NAK, NONE), (ACK, NONE), (IN, STATUS)], 0, &[]),
-    ("IN after all data",                           &[(SETUP, NONE), (GET_STATUS, ACK), (IN, STATUS), (ACK, NONE), (IN, STALL)], 0, &[]),
-    ("the status again",                            &[(SETUP, NONE), (GET_STATUS, ACK), (IN, STATUS), (ACK, NONE), (OUT, NONE), (DATA1, ACK), (OUT, NONE), (DATA1, ACK)], 0, &[]),
-    ("the status before an ACK to the data",        &[(SETUP, NONE), (GET_STATUS, ACK), (IN, STATUS), (OUT, NONE), (DATA1, ACK)], 0, &[]),
-    ("the status under DATA0",                      &[(SETUP, NONE), (GET_STATUS, ACK), (OUT, NONE), (DATA0, STALL), (IN, STALL)], 0, &[]),
-    ("the status with a byte",                      &[(SETUP, NONE), (GET_STATUS, ACK), (OUT, NONE), (&[0x4B, 0], STALL)], 0, &[]),
-    ("SETUP without its data ends nothing",         &[(SETUP, NONE), (GET_STATUS, ACK), (SETUP, NONE), (IN, STATUS)], 0, &[]),
-    ("SETUP with DATA1, and with seven bytes",      &[(SETUP, NONE), (&[0x4B, 0, 9, 1, 0, 0, 0, 0, 0], NONE), (SETUP, NONE), (&[0xC3, 0, 9, 1, 0, 0, 0, 0], NONE), (IN, STALL)], 0, &[]),
-    ("data without their token",                    &[(GET_STATUS, NONE), (DATA1, NONE), (IN, STALL)], 0, &[]),
-    ("a new SETUP ends what was before",            &[(SETUP, NONE), (GET_DEVICE, ACK), (IN, FIRST), (ACK, NONE), (SETUP, NONE), (GET_STATUS, ACK), (IN, STATUS)], 0, &[]),
-    ("a refused read",                              &[(SETUP, NONE), (REFUSED, ACK), (IN, STALL), (IN, STALL), (OUT, NONE), (DATA1, STALL), (SETUP, NONE), (GET_STATUS, ACK), (IN, STATUS)], 0, &[]),
-    ("a write without data",                        &[(SETUP, NONE), (CONFIGURE, ACK), (IN, DATA1), (IN, DATA1), (ACK, NONE)], 1, &[]),
-    ("a write whose status isn't asked for",        &[(SETUP, NONE), (CONFIGURE, ACK), (OUT, NONE), (DATA0, ACK)], 0, &[]),
-    ("OUT after the first status IN",               &[(SETUP, NONE), (CONFIGURE, ACK), (IN, DATA1), (OUT, NONE), (DATA1, STALL)], 1, &[]),
-    ("a write of two bytes",                        &[(SETUP, NONE), (REPORT_2, ACK), (OUT, NONE), (&[0x4B, 5, 6], ACK), (IN, DATA1), (ACK, NONE)], 1, &[5, 6]),
-    ("its data again",                              &[(SETUP, NONE), (REPORT_2, ACK), (OUT, NONE), (&[0x4B, 5, 6], ACK), (OUT, NONE), (&[0x4B, 5, 6], ACK), (IN, DATA1)], 1, &[5, 6]),
-    ("the status before all bytes came",            &[(SETUP, NONE), (REPORT_2, ACK), (OUT, NONE), (&[0x4B, 5], ACK), (IN, STALL)], 0, &[]),
-    ("more bytes than wLength",                     &[(SETUP, NONE), (REPORT_2, ACK), (OUT, NONE), (&[0x4B, 5, 6, 7], STALL), (IN, STALL)], 0, &[]),
-    ("data behind a short packet",                  &[(SETUP, NONE), (REPORT_2, ACK), (OUT, NONE), (&[0x4B, 5], ACK), (OUT, NONE), (&[0xC3, 6], STALL)], 0, &[]),
-    ("nine bytes in two packets",                   &[(SETUP, NONE), (REPORT_9, ACK), (OUT, NONE), (&[0x4B, 1, 2, 3, 4, 5, 6, 7, 8], ACK), (OUT, NONE), (&[0xC3, 9], ACK), (IN, DATA1)], 1, &[1, 2, 3, 4, 5, 6, 7, 8, 9]),
-    ("nine bytes in a packet",                      &[(SETUP, NONE), (REPORT_9, ACK), (OUT, NONE), (&[0x4B, 1, 2, 3, 4, 5, 6, 7, 8, 9], STALL), (IN, STALL)], 0, &[]),
-];
+const HEARD: &str = "
+    a read:                                      SETUP GET_STATUS=ACK IN=STATUS ACK OUT DATA1=ACK                    > 0
+    a read in three pieces:                      SETUP GET_DEVICE=ACK IN=FIRST ACK IN=SECOND ACK IN=THIRD ACK OUT DATA1=ACK > 0
+    data come again until they are acknowledged: SETUP GET_STATUS=ACK IN=STATUS IN=STATUS ACK                        > 0
+    an ACK that isn't directly behind them:      SETUP GET_STATUS=ACK IN=STATUS NAK ACK IN=STATUS                    > 0
+    IN after all data:                           SETUP GET_STATUS=ACK IN=STATUS ACK IN=STALL                         > 0
+    IN after a short packet:                     SETUP GET_STATUS_8=ACK IN=STATUS ACK IN=STALL                       > 0
+    the status again:                            SETUP GET_STATUS=ACK IN=STATUS ACK OUT DATA1=ACK OUT DATA1=ACK      > 0
+    the status before an ACK to the data:        SETUP GET_STATUS=ACK IN=STATUS OUT DATA1=ACK                        > 0
+    the status under DATA0:                      SETUP GET_STATUS=ACK OUT DATA0=STALL IN=STALL                       > 0
+    the status with a byte:                      SETUP GET_STATUS=ACK OUT 4B00=STALL                                 > 0
+    SETUP without its data ends nothing:         SETUP GET_STATUS=ACK SETUP IN=STATUS                                > 0
+    SETUP with DATA1, and with seven bytes:      SETUP 4B0009010000000000 SETUP C300090100000000 IN=STALL            > 0
+    data without their token:                    GET_STATUS DATA1 IN=STALL                                           > 0
+    a new SETUP ends what was before:            SETUP GET_DEVICE=ACK IN=FIRST ACK SETUP GET_STATUS=ACK IN=STATUS    > 0
+    a refused read:                              SETUP REFUSED=ACK IN=STALL IN=STALL OUT DATA1=STALL SETUP GET_STATUS=ACK IN=STATUS > 0
+    a write without data:                        SETUP CONFIGURE=ACK IN=DATA1 IN=DATA1 ACK                           > 1
+    a write whose status isn't asked for:        SETUP CONFIGURE=ACK OUT DATA0=ACK                                   > 0
+    OUT after the first status IN:               SETUP CONFIGURE=ACK IN=DATA1 OUT DATA1=STALL                        > 1
+    a write of two bytes:                        SETUP REPORT_2=ACK OUT 4B0506=ACK IN=DATA1 ACK                      > 1 05 06
+    its data again:                              SETUP REPORT_2=ACK OUT 4B0506=ACK OUT 4B0506=ACK IN=DATA1           > 1 05 06
+    the status before all bytes came:            SETUP REPORT_2=ACK OUT 4B05=ACK IN=STALL                            > 0
+    more bytes than wLength:                     SETUP REPORT_2=ACK OUT 4B050607=STALL IN=STALL                      > 0
+    data behind a short packet:                  SETUP REPORT_2=ACK OUT 4B05=ACK OUT C306=STALL                      > 0
+    nine bytes in two packets:                   SETUP REPORT_9=ACK OUT 4B0102030405060708=ACK OUT C309=ACK IN=DATA1 > 1 01 02 03 04 05 06 07 08 09
+    nine bytes in a packet:                      SETUP REPORT_9=ACK OUT 4B010203040506070809=STALL IN=STALL          > 0
+";
+
+/// The bytes of a packet by its name.
+fn named(word: &str) -> &'static str {
+    match word {
+        "SETUP" => "2D0100",
+        "IN" => "690100",
+        "OUT" => "E10100",
+        "ACK" => "D2",
+        "NAK" => "5A",
+        "STALL" => "1E",
+        "DATA0" => "C3",
+        "DATA1" => "4B",
+        "GET_STATUS" => "C38000000000000200",
+        "GET_STATUS_8" => "C38000000000000800",
+        "STATUS" => "4B0000",
+        "REFUSED" => "C38100000000000200",
+        "GET_DEVICE" => "C38006000100001200",
+        "FIRST" => "4B1201000200000008",
+        "SECOND" => "C3FFFE010000010000",
+        "THIRD" => "4B0001",
+        "CONFIGURE" => "C30009010000000000",
+        "REPORT_2" => "C32109000200000200",
+        "REPORT_9" => "C32109000200000900",
+        _ => "",
+    }
+}
+
+/// A packet by its name, or by its bytes.
+fn packet_of(word: &str) -> ArrayVec<u8, 65> {
+    let bytes = bytes_of(named(word));
+    if bytes.is_empty() {
+        bytes_of(word)
+    } else {
+        bytes
+    }
+}
 
 /// The bytes that answer a packet in these bytes: none where there is no answer.
 fn answer(control: &mut DevControl<Keyboard>, packet: &[u8]) -> ArrayVec<u8, 65> {
@@ -89,36 +88,51 @@ fn answer(control: &mut DevControl<Keyboard>, packet: &[u8]) -> ArrayVec<u8, 65>
     }
 }
 
-/// The device gives each of these packets its answer.
-fn hears(
-    rt: &impl Abort,
-    control: &mut DevControl<Keyboard>,
-    packets: &[(&[u8], &[u8])],
-    name: &str,
-) {
-    for (packet, wanted) in packets {
-        assert_eq!(rt; answer(control, packet).as_slice(), *wanted, "{name}");
-    }
-}
-
-#[test]
-fn any_packet_is_answered_or_ignored(rt: HostRuntime) {
-    for (name, packets, effects, output) in HEARD {
-        let mut control = DevControl::new(Keyboard::new());
-        hears(&rt, &mut control, packets, name);
-        assert_eq!(rt; control.requests().effects, effects, "{name}");
-        assert_eq!(rt; control.requests().output.as_slice(), output, "{name}");
-    }
-}
-
-#[test]
-fn a_reset_ends_the_request_and_leaves_what_answers(rt: HostRuntime) {
+/// What is told of packets, or the first that has another answer, and that.
+fn heard(alloc: Global, words: &str) -> Result<String, Fail> {
     let mut control = DevControl::new(Keyboard::new());
-    control.requests_mut().configured = true;
-    assert_eq!(rt; answer(&mut control, SETUP).as_slice(), NONE);
-    assert_eq!(rt; answer(&mut control, GET_STATUS).as_slice(), ACK);
-    control.reset();
-    assert_eq!(rt; answer(&mut control, IN).as_slice(), STALL);
-    assert!(rt; control.requests().configured);
-    assert_eq!(rt; control.requests().decisions, 1);
+    for word in words.split_whitespace() {
+        let (packet, wanted) = word.split_once('=').unwrap_or((word, ""));
+        let answer = answer(&mut control, &packet_of(packet));
+        if answer != packet_of(wanted) {
+            let answer = hex(alloc, &answer)?;
+            return Ok(format!(in alloc; "{word}, but {answer}")?);
+        }
+    }
+    let output = hex(alloc, &control.requests().output)?;
+    Ok(format!(in alloc; "{} {output}", control.requests().effects)?)
+}
+
+#[test]
+fn any_packet_is_answered_or_ignored(rt: HostRuntime) -> Result<(), Fail> {
+    for row in HEARD.trim().lines() {
+        let (given, wanted) = parts(row);
+        let told = heard(rt.alloc(), given)?;
+        assert_eq!(rt; told.trim(), wanted, "{row}");
+    }
+    Ok(())
+}
+
+/// A reset ends the request, and leaves what answers: it is configured, and has decided once.
+#[test]
+fn a_reset_ends_the_request_and_leaves_what_answers(rt: HostRuntime) -> Result<(), Fail> {
+    let mut control = DevControl::new(Keyboard::new());
+    let mut told = String::new(rt.alloc());
+    for word in ["SETUP", "configure", "GET_STATUS", "reset", "IN"] {
+        match word {
+            "configure" => control.requests_mut().configured = true, // the token stays heard
+            "reset" => control.reset(),
+            _ => {}
+        }
+        let answer = answer(&mut control, &packet_of(word));
+        told.push_str(&hex(rt.alloc(), &answer)?)?;
+    }
+    let Keyboard {
+        configured,
+        decisions,
+        ..
+    } = control.requests();
+    write!(told, "{configured} {decisions}")?;
+    assert_eq!(rt; told.as_str(), "D2 1E true 1");
+    Ok(())
 }

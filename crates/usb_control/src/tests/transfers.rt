@@ -1,187 +1,159 @@
 //! Whole transfers between both ends, under fates.
-use super::keyboard::{CONFIG, DEVICE, Keyboard, REPORT};
+use super::keyboard::Keyboard;
+use super::text::{begin, outcome, parts, request_of};
 use crate::device::DevControl;
 use crate::fault::ControlFault;
 use crate::host::{HostTransfer, Outcome, Progress};
-use crate::setup::Setup;
-use std::process::Abort;
+use std::alloc::Global;
 use std::test::Fail;
 use usb_transact::Fate;
 
-const LOST: Fate = Fate::TokenLost;
-
-const REPLY: Fate = Fate::ReplyLost;
-
-const LATE: Fate = Fate::AckLost;
-
-const CLEAN: Fate = Fate::Clean;
+/// The fate of a try by its word: the token, the reply or the ACK is lost, or none of them.
+fn fate_of(word: Option<&&str>) -> Fate {
+    match word {
+        Some(&"lost") => Fate::TokenLost,
+        Some(&"reply") => Fate::ReplyLost,
+        Some(&"late") => Fate::AckLost,
+        _ => Fate::Clean,
+    }
+}
 
 /// Plays the fates in turn, and then clean tries until the transfer ends: how many tries it took.
-fn play(transfer: &mut HostTransfer, control: &mut DevControl<Keyboard>, fates: &[Fate]) -> usize {
+fn play(transfer: &mut HostTransfer, control: &mut DevControl<Keyboard>, fates: &[&str]) -> usize {
     for at in 0..100 {
         if transfer.progress() != Progress::Running {
             return at;
         }
-        let fate = fates.get(at).copied().unwrap_or(Fate::Clean);
-        transfer.step(control, fate);
+        transfer.step(control, fate_of(fates.get(at)));
     }
     100
 }
 
-/// Reads, with the fates of their first tries: how many tries they take, how often the device decided, and what they got.
+/// The data of writes, of which each sends the first.
 #[rattlefmt::skip]
-const READS: [(&str, [u8; 8], &[Fate], usize, u32, Outcome<'static>); 22] = [
-    ("the configuration, asked for 255",    [0x80, 0x06, 0x00, 0x02, 0x00, 0x00, 0xFF, 0x00], &[],                              7,  1, Outcome::Done(&CONFIG)),
-    ("the report descriptor",               [0x81, 0x06, 0x00, 0x22, 0x00, 0x00, 0x3F, 0x00], &[],                              10, 1, Outcome::Done(&REPORT)),
-    ("the device, asked for 18",            [0x80, 0x06, 0x00, 0x01, 0x00, 0x00, 0x12, 0x00], &[],                              5,  1, Outcome::Done(&DEVICE)),
-    ("its first 16 bytes",                  [0x80, 0x06, 0x00, 0x01, 0x00, 0x00, 0x10, 0x00], &[],                              4,  1, Outcome::Done(&[0x12, 0x01, 0x00, 0x02, 0x00, 0x00, 0x00, 0x08, 0xFF, 0xFE, 0x01, 0x00, 0x00, 0x01, 0x00, 0x00])),
-    ("its first 8 bytes",                   [0x80, 0x06, 0x00, 0x01, 0x00, 0x00, 0x08, 0x00], &[],                              3,  1, Outcome::Done(&[0x12, 0x01, 0x00, 0x02, 0x00, 0x00, 0x00, 0x08])),
-    ("none of it",                          [0x80, 0x06, 0x00, 0x01, 0x00, 0x00, 0x00, 0x00], &[],                              2,  1, Outcome::Done(&[])),
-    ("a status, asked for 8",               [0x80, 0x00, 0x00, 0x00, 0x00, 0x00, 0x08, 0x00], &[],                              3,  1, Outcome::Done(&[0, 0])),
-    ("SETUP lost",                          [0x80, 0x06, 0x00, 0x01, 0x00, 0x00, 0x12, 0x00], &[LOST],                          6,  1, Outcome::Done(&DEVICE)),
-    ("its ACK lost, so decided again",      [0x80, 0x06, 0x00, 0x01, 0x00, 0x00, 0x12, 0x00], &[REPLY, LATE],                   7,  3, Outcome::Done(&DEVICE)),
-    ("IN lost",                             [0x80, 0x06, 0x00, 0x01, 0x00, 0x00, 0x12, 0x00], &[CLEAN, LOST],                   6,  1, Outcome::Done(&DEVICE)),
-    ("data lost",                           [0x80, 0x06, 0x00, 0x01, 0x00, 0x00, 0x12, 0x00], &[CLEAN, REPLY],                  6,  1, Outcome::Done(&DEVICE)),
-    ("their ACK lost, so thrown away",      [0x80, 0x06, 0x00, 0x01, 0x00, 0x00, 0x12, 0x00], &[CLEAN, LATE],                   6,  1, Outcome::Done(&DEVICE)),
-    ("thrown away twice",                   [0x80, 0x06, 0x00, 0x01, 0x00, 0x00, 0x12, 0x00], &[CLEAN, CLEAN, LATE, LATE],      7,  1, Outcome::Done(&DEVICE)),
-    ("the last ACK lost",                   [0x80, 0x06, 0x00, 0x01, 0x00, 0x00, 0x12, 0x00], &[CLEAN, CLEAN, CLEAN, LATE],     5,  1, Outcome::Done(&DEVICE)),
-    ("the status lost",                     [0x80, 0x00, 0x00, 0x00, 0x00, 0x00, 0x02, 0x00], &[CLEAN, CLEAN, LOST],            4,  1, Outcome::Done(&[0, 0])),
-    ("its ACK lost",                        [0x80, 0x00, 0x00, 0x00, 0x00, 0x00, 0x02, 0x00], &[CLEAN, CLEAN, REPLY, LATE],     5,  1, Outcome::Done(&[0, 0])),
-    ("twice lost in each stage",            [0x80, 0x00, 0x00, 0x00, 0x00, 0x00, 0x02, 0x00], &[LOST, LOST, CLEAN, LOST, REPLY, CLEAN, REPLY, LATE], 9, 1, Outcome::Done(&[0, 0])),
-    ("SETUP lost three times",              [0x80, 0x00, 0x00, 0x00, 0x00, 0x00, 0x02, 0x00], &[LOST, LOST, LOST],              3,  0, Outcome::Failed(ControlFault::BusFault)),
-    ("its ACK lost three times",            [0x80, 0x00, 0x00, 0x00, 0x00, 0x00, 0x02, 0x00], &[REPLY, LATE, REPLY],            3,  3, Outcome::Failed(ControlFault::BusFault)),
-    ("data lost three times",               [0x80, 0x00, 0x00, 0x00, 0x00, 0x00, 0x02, 0x00], &[CLEAN, REPLY, REPLY, LOST],     4,  1, Outcome::Failed(ControlFault::BusFault)),
-    ("a refused request",                   [0x80, 0x06, 0x00, 0x03, 0x00, 0x00, 0xFF, 0x00], &[],                              2,  1, Outcome::Failed(ControlFault::Stalled)),
-    ("its STALL lost, then heard",          [0x80, 0x06, 0x00, 0x03, 0x00, 0x00, 0xFF, 0x00], &[CLEAN, REPLY, LATE],            3,  1, Outcome::Failed(ControlFault::Stalled)),
+const SENDS: [u8; 65] = [
+    0, 1, 2, 3, 4, 5, 6, 7, 8, 9, 10, 11, 12, 13, 14, 15, 16, 17, 18, 19, 20, 21, 22, 23, 24, 25, 26, 27, 28, 29, 30, 31,
+    32, 33, 34, 35, 36, 37, 38, 39, 40, 41, 42, 43, 44, 45, 46, 47, 48, 49, 50, 51, 52, 53, 54, 55, 56, 57, 58, 59, 60, 61,
+    62, 63, 64,
 ];
 
-#[test]
-fn a_read_gets_the_answer_whatever_is_lost(rt: HostRuntime) -> Result<(), Fail> {
-    for (name, request, fates, tries, decisions, outcome) in READS {
-        let setup = Setup::from_bytes(&request);
-        assert!(rt; setup.is_read(), "{name}");
-        let mut control = DevControl::new(Keyboard::new());
-        let mut transfer = HostTransfer::begin(rt.alloc(), 1, setup, &[])?;
-        assert_eq!(rt; play(&mut transfer, &mut control, fates), tries, "{name}");
-        assert_eq!(rt; control.requests().decisions, decisions, "{name}");
-        assert!(rt; transfer.outcome() == outcome, "{name}");
-    }
-    Ok(())
-}
-
-/// SET_REPORT for an output report of these bytes.
-const fn set_report(length: u16) -> Setup {
-    Setup {
-        request_type: 0x21,
-        request: 0x09,
-        value: 0x0200,
-        index: 0,
-        length,
-    }
-}
-
-/// Writes of this many bytes, with the fates of their first tries: how many tries they take, how often they took effect,
-/// and how they end.
+/// Reads and writes, with the fates of their first tries (`lost`, `reply` or `late` names what is lost: token, reply or ACK):
+/// how many tries they take, how often the device decided, how often a write took effect, how many of its data are kept, and
+/// how they end. Writes are SET_CONFIGURATION, and SET_REPORT for an output report of wLength bytes.
 #[rattlefmt::skip]
-const WRITES: [(&str, usize, &[Fate], usize, u32, Outcome<'static>); 17] = [
-    ("no byte",                         0,  &[],                                    2,  1, Outcome::Done(&[])),
-    ("one byte",                        1,  &[],                                    3,  1, Outcome::Done(&[])),
-    ("eight bytes",                     8,  &[],                                    3,  1, Outcome::Done(&[])),
-    ("nine bytes",                      9,  &[],                                    4,  1, Outcome::Done(&[])),
-    ("64 bytes",                        64, &[],                                    10, 1, Outcome::Done(&[])),
-    ("65 bytes are refused",            65, &[],                                    2,  0, Outcome::Failed(ControlFault::Stalled)),
-    ("that, and the STALL is lost",     65, &[CLEAN, LATE, LATE],                   4,  0, Outcome::Failed(ControlFault::Stalled)),
-    ("that, three times",               65, &[CLEAN, LATE, REPLY, LATE],            4,  0, Outcome::Failed(ControlFault::BusFault)),
-    ("replies to data and status lost", 1,  &[CLEAN, REPLY, CLEAN, REPLY],          5,  1, Outcome::Done(&[])),
-    ("data come twice",                 9,  &[CLEAN, LATE, CLEAN, REPLY],           6,  1, Outcome::Done(&[])),
-    ("the ACK to the status lost",      1,  &[CLEAN, CLEAN, LATE],                  3,  1, Outcome::Done(&[])),
-    ("the status asked for twice",      1,  &[CLEAN, CLEAN, REPLY, REPLY],          5,  1, Outcome::Done(&[])),
-    ("the status lost twice",           1,  &[CLEAN, CLEAN, LOST, LOST],            5,  1, Outcome::Done(&[])),
-    ("its reply lost three times",      1,  &[CLEAN, CLEAN, REPLY, REPLY, REPLY],   5,  1, Outcome::Failed(ControlFault::BusFault)),
-    ("the status lost three times",     1,  &[CLEAN, CLEAN, LOST, LOST, LOST],      5,  0, Outcome::Failed(ControlFault::BusFault)),
-    ("data lost three times",           1,  &[CLEAN, LOST, LOST, LOST],             4,  0, Outcome::Failed(ControlFault::BusFault)),
-    ("SETUP lost three times",          1,  &[LOST, LOST, LOST],                    3,  0, Outcome::Failed(ControlFault::BusFault)),
-];
+const TRANSFERS: &str = "
+    the configuration, asked for 255: 800600020000FF00                                             > 7 1 0 0 done CONFIG
+    the report descriptor:            8106002200003F00                                             > 10 1 0 0 done REPORT
+    the device, asked for 18:         8006000100001200                                             > 5 1 0 0 done DEVICE
+    its first 16 bytes:               8006000100001000                                             > 4 1 0 0 done 12 01 00 02 00 00 00 08 FF FE 01 00 00 01 00 00
+    its first 8 bytes:                8006000100000800                                             > 3 1 0 0 done 12 01 00 02 00 00 00 08
+    none of it:                       8006000100000000                                             > 2 1 0 0 done
+    a status, asked for 8:            8000000000000800                                             > 3 1 0 0 done 00 00
+    SETUP lost:                       8006000100001200 lost                                        > 6 1 0 0 done DEVICE
+    its ACK lost, so decided again:   8006000100001200 reply late                                  > 7 3 0 0 done DEVICE
+    IN lost:                          8006000100001200 clean lost                                  > 6 1 0 0 done DEVICE
+    data lost:                        8006000100001200 clean reply                                 > 6 1 0 0 done DEVICE
+    their ACK lost, so thrown away:   8006000100001200 clean late                                  > 6 1 0 0 done DEVICE
+    thrown away twice:                8006000100001200 clean clean late late                       > 7 1 0 0 done DEVICE
+    the last ACK lost:                8006000100001200 clean clean clean late                      > 5 1 0 0 done DEVICE
+    the status lost:                  8000000000000200 clean clean lost                            > 4 1 0 0 done 00 00
+    its ACK lost:                     8000000000000200 clean clean reply late                      > 5 1 0 0 done 00 00
+    twice lost in each stage:         8000000000000200 lost lost clean lost reply clean reply late > 9 1 0 0 done 00 00
+    SETUP lost three times:           8000000000000200 lost lost lost                              > 3 0 0 0 C2
+    its ACK lost three times:         8000000000000200 reply late reply                            > 3 3 0 0 C2
+    data lost three times:            8000000000000200 clean reply reply lost                      > 4 1 0 0 C2
+    a refused request:                800600030000FF00                                             > 2 1 0 0 C1
+    its STALL lost, then heard:       800600030000FF00 clean reply late                            > 3 1 0 0 C1
+    SET_CONFIGURATION:                0009010000000000                                             > 2 1 1 0 done
+    no byte:                          2109000200000000                                             > 2 1 1 0 done
+    one byte:                         2109000200000100                                             > 3 1 1 1 done
+    eight bytes:                      2109000200000800                                             > 3 1 1 8 done
+    nine bytes:                       2109000200000900                                             > 4 1 1 9 done
+    64 bytes:                         2109000200004000                                             > 10 1 1 64 done
+    65 bytes are refused:             2109000200004100                                             > 2 1 0 0 C1
+    that, and the STALL is lost:      2109000200004100 clean late late                             > 4 1 0 0 C1
+    that, three times:                2109000200004100 clean late reply late                       > 4 1 0 0 C2
+    replies to data and status lost:  2109000200000100 clean reply clean reply                     > 5 1 1 1 done
+    data come twice:                  2109000200000900 clean late clean reply                      > 6 1 1 9 done
+    the ACK to the status lost:       2109000200000100 clean clean late                            > 3 1 1 1 done
+    the status asked for twice:       2109000200000100 clean clean reply reply                     > 5 1 1 1 done
+    the status lost twice:            2109000200000100 clean clean lost lost                       > 5 1 1 1 done
+    its reply lost three times:       2109000200000100 clean clean reply reply reply               > 5 1 1 1 C2
+    the status lost three times:      2109000200000100 clean clean lost lost lost                  > 5 1 0 0 C2
+    data lost three times:            2109000200000100 clean lost lost lost                        > 4 1 0 0 C2
+    SETUP lost three times:           2109000200000100 lost lost lost                              > 3 0 0 0 C2
+";
+
+/// A transfer of a request under fates: its tries, and how it ends.
+fn played(
+    alloc: Global,
+    control: &mut DevControl<Keyboard>,
+    words: &str,
+) -> Result<(usize, String), Fail> {
+    let words: Vec<&str> = words.split(' ').collect(alloc)?;
+    let [request, fates @ ..] = words.as_slice() else {
+        return Ok((0, String::new(alloc)));
+    };
+    let mut transfer = begin(alloc, 1, &request_of(request), &SENDS)?;
+    let tries = play(&mut transfer, control, fates);
+    Ok((tries, outcome(alloc, &transfer)?))
+}
+
+/// What is told of a transfer with a new device. What is kept of a write are the first of its data.
+fn told(alloc: Global, words: &str) -> Result<String, Fail> {
+    let mut control = DevControl::new(Keyboard::new());
+    let (tries, ends) = played(alloc, &mut control, words)?;
+    let Keyboard {
+        decisions,
+        effects,
+        output,
+        ..
+    } = control.requests();
+    let kept = output.len();
+    let others = if SENDS.starts_with(output) {
+        ""
+    } else {
+        "of other data "
+    };
+    Ok(format!(in alloc; "{tries} {decisions} {effects} {kept} {others}{ends}")?)
+}
 
 #[test]
-fn a_write_takes_effect_once_whatever_is_lost(rt: HostRuntime) -> Result<(), Fail> {
-    let mut bytes = [0; 65];
-    for (at, byte) in bytes.iter_mut().enumerate() {
-        *byte = at as u8;
-    }
-    for (name, count, fates, tries, effects, outcome) in WRITES {
-        let sends = &bytes[..count.min(65)];
-        let setup = set_report(sends.len() as u16);
-        assert!(rt;
-            !setup.is_read() && usize::from(setup.length) == sends.len(),
-            "{name}"
-        );
-        let mut control = DevControl::new(Keyboard::new());
-        let mut transfer = HostTransfer::begin(rt.alloc(), 1, setup, sends)?;
-        assert_eq!(rt; play(&mut transfer, &mut control, fates), tries, "{name}");
-        assert_eq!(rt; control.requests().effects, effects, "{name}");
-        assert!(rt; transfer.outcome() == outcome, "{name}");
-        if effects > 0 {
-            assert_eq!(rt; control.requests().output.as_slice(), sends, "{name}");
-        }
+fn a_transfer_ends_as_it_should_whatever_is_lost(rt: HostRuntime) -> Result<(), Fail> {
+    for row in TRANSFERS.trim().lines() {
+        let (given, wanted) = parts(row);
+        let told = told(rt.alloc(), given)?;
+        assert_eq!(rt; told.trim(), wanted, "{row}");
     }
     Ok(())
 }
 
 /// GET_STATUS of a device, an interface and an endpoint, and GET_INTERFACE: the answer before SET_CONFIGURATION, and
-/// after it. No bytes: the request is refused with C1.
+/// after it. C1: the request is refused.
 #[rattlefmt::skip]
-const STATES: [(&str, [u8; 8], &[u8], &[u8]); 5] = [
-    ("status of the device",      [0x80, 0x00, 0x00, 0x00, 0x00, 0x00, 0x02, 0x00], &[0, 0], &[0, 0]),
-    ("status of the interface",   [0x81, 0x00, 0x00, 0x00, 0x00, 0x00, 0x02, 0x00], &[],     &[0, 0]),
-    ("status of endpoint 0, IN",  [0x82, 0x00, 0x00, 0x00, 0x80, 0x00, 0x02, 0x00], &[0, 0], &[0, 0]),
-    ("status of endpoint 1, IN",  [0x82, 0x00, 0x00, 0x00, 0x81, 0x00, 0x02, 0x00], &[],     &[0, 0]),
-    ("the interface's setting",   [0x81, 0x0A, 0x00, 0x00, 0x00, 0x00, 0x01, 0x00], &[],     &[0]),
-];
+const STATES: &str = "
+    status of the device:     8000000000000200 > done 00 00, done 00 00
+    status of the interface:  8100000000000200 > C1, done 00 00
+    status of endpoint 0, IN: 8200000080000200 > done 00 00, done 00 00
+    status of endpoint 1, IN: 8200000081000200 > C1, done 00 00
+    the interface's setting:  810A000000000100 > C1, done 00
+";
 
-/// One clean read: its bytes, or C1 where none are wanted.
-fn reads(
-    rt: &impl Abort,
-    transfer: &mut HostTransfer,
-    control: &mut DevControl<Keyboard>,
-    wanted: &[u8],
-    name: &str,
-) {
-    play(transfer, control, &[]);
-    if wanted.is_empty() {
-        assert!(rt;
-            transfer.outcome() == Outcome::Failed(ControlFault::Stalled),
-            "{name}"
-        );
-    } else {
-        assert!(rt; transfer.outcome() == Outcome::Done(wanted), "{name}");
-    }
+/// How a read ends before SET_CONFIGURATION, and after it.
+fn ends(alloc: Global, request: &str) -> Result<String, Fail> {
+    let mut control = DevControl::new(Keyboard::new());
+    let (_, before) = played(alloc, &mut control, request)?;
+    let _ = played(alloc, &mut control, "CONFIGURE")?;
+    let (_, after) = played(alloc, &mut control, request)?;
+    Ok(format!(in alloc; "{}, {}", before.trim(), after.trim())?)
 }
 
 #[test]
 fn some_requests_are_refused_before_set_configuration(rt: HostRuntime) -> Result<(), Fail> {
-    let configure = Setup::from_bytes(&[0x00, 0x09, 0x01, 0x00, 0x00, 0x00, 0x00, 0x00]);
-    for (name, request, before, after) in STATES {
-        let setup = Setup::from_bytes(&request);
-        assert!(rt; setup.is_read() && configure.length == 0, "{name}");
-        let mut control = DevControl::new(Keyboard::new());
-        reads(
-            &rt,
-            &mut HostTransfer::begin(rt.alloc(), 1, setup, &[])?,
-            &mut control,
-            before,
-            name,
-        );
-        let mut write = HostTransfer::begin(rt.alloc(), 1, configure, &[])?;
-        assert_eq!(rt; play(&mut write, &mut control, &[]), 2, "{name}");
-        assert!(rt; write.outcome() == Outcome::Done(&[]), "{name}");
-        reads(
-            &rt,
-            &mut HostTransfer::begin(rt.alloc(), 1, setup, &[])?,
-            &mut control,
-            after,
-            name,
-        );
+    for row in STATES.trim().lines() {
+        let (given, wanted) = parts(row);
+        let told = ends(rt.alloc(), given)?;
+        assert_eq!(rt; told.as_str(), wanted, "{row}");
     }
     Ok(())
 }
@@ -191,19 +163,18 @@ fn some_requests_are_refused_before_set_configuration(rt: HostRuntime) -> Result
 #[test]
 fn want_of_memory_begins_nothing(rt: HostRuntime) {
     let mut control = DevControl::new(Keyboard::new());
-    let setup = Setup::from_bytes(&[0x80, 0x00, 0x00, 0x00, 0x00, 0x00, 0x02, 0x00]);
-    assert!(rt; setup.is_read());
     for _ in 0..3 {
         let before = control.requests().decisions;
-        match HostTransfer::begin(rt.alloc(), 1, setup, &[]) {
+        match begin(rt.alloc(), 1, &request_of("STATUS"), &[]) {
             Ok(mut transfer) => {
-                assert_eq!(rt; play(&mut transfer, &mut control, &[]), 3);
-                assert!(rt; transfer.outcome() == Outcome::Done(&[0, 0]));
-                assert_eq!(rt; control.requests().decisions, before.saturating_add(1));
+                let tries = play(&mut transfer, &mut control, &[]);
+                let decided = control.requests().decisions == before.saturating_add(1);
+                assert!(rt; tries == 3 && decided && transfer.outcome() == Outcome::Done(&[0, 0]));
             }
             Err(fault) => {
-                assert_eq!(rt; fault, ControlFault::Memory);
-                assert_eq!(rt; control.requests().decisions, before);
+                assert!(rt;
+                    fault == ControlFault::Memory && control.requests().decisions == before
+                );
             }
         }
     }

@@ -1,5 +1,4 @@
-use Rattle.std.proofs.Common.{◌≡◌, ◌≤◌, ◌+◌, ◌++◌, length, drop, vec_len, vec_capacity}
-use Rattle.std.proofs.Common.{map}
+use Rattle.std.proofs.Common.{◌≡◌, ◌≤◌, ◌+◌, ◌++◌, length, drop, vec_len, vec_capacity, map}
 use Rattle.hid_views.specs.Reading.{read_motion}
 use Rattle.hid_cells.specs.Events.{usages_at, at, motion_event, motion_events, each}
 use Rattle.hid_views.proofs.differences.motions.Given as goal

@@ -1,6 +1,5 @@
-use Rattle.std.proofs.Common.{◌≡◌}
+use Rattle.std.proofs.Common.{◌≡◌, nat_eq}
 use Rattle.std.specs.Cmp.Lexicographic.{pointwise}
-use Rattle.std.proofs.Common.{nat_eq}
 use Rattle.hid_cells.proofs.WordLemmas.{same_words}
 use Rattle.hid_cells.proofs.flags.Flags.is_same.Goals as goal
 

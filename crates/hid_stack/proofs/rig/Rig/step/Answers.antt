@@ -1,7 +1,7 @@
 use Rattle.std.proofs.Common.{◌≡◌, ◌++◌, ◌+◌, ◌≤◌, ◌∙◌, Err, map, ap, sym, subst, rules, arith, vec_len, vec_capacity}
 use Rattle.std.specs.Prelude.{slice_set, Some, IfOk, IfErr, OnOk, ◌≢◌}
-use Rattle.hid_stack.specs.declared.fault.StackFault.{StackFault}
-use Rattle.hid_stack.specs.declared.fault.StackFault.TheVariants.{Memory}
+use Rattle.hid_host.specs.declared.fault.StackFault.{StackFault}
+use Rattle.hid_host.specs.declared.fault.StackFault.TheVariants.{Memory}
 use Rattle.std.proofs.lemmas.Result.{on_ok_weaker}
 use Rattle.hid_lives.specs.Rounds.{Changes, Frame, Polls}
 use Rattle.hid_stack.specs.declared.rig.TheConstants.{MAX_DEVICES}

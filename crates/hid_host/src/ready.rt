@@ -1,25 +1,21 @@
 //! What a ready host keeps: the layout of the reports, the pipe that it polls, and its view of the controls.
-ghost use Rattle.std.specs.Prelude.{◌≡◌, ◌≤◌, ◌+◌, ◌++◌, length, IfOk, IfErr, vec_len, vec_capacity};
+ghost use Rattle.std.specs.Prelude.{◌≡◌, ◌≤◌, ◌+◌, ◌++◌, length, vec_len, vec_capacity};
 ghost use Rattle.std.specs.Option.{option_copied};
 ghost use Rattle.hid_layout.specs.Controls.{items_of, max_events};
 ghost use Rattle.hid_layout.specs.Reports.{IsLayout};
-ghost use Rattle.hid_usages.specs.Cells.{FitsView};
+ghost use Rattle.hid_usages.specs.Cells.{FitsView, blank};
 ghost use Rattle.usb_packet.specs.Spelling.{Fits};
 ghost use Rattle.usb_transact.specs.Taken.{taken};
 ghost use Rattle.usb_transact.specs.Host.{token_to};
-ghost use Rattle.hid_stack.specs.Ready.{Known, known_at_start, known_behind, told_of, events_behind};
+ghost use Rattle.hid_host.specs.Ready.{Known, known_at_start, known_behind, told_of, events_behind};
 
 use crate::fault::StackFault;
 use hid_fields::WordCodec;
 use hid_layout::Layout;
 use hid_usages::{Event, View};
-use std::alloc::Global;
 use std::marker::Model;
-use usb_packet::{MAX_ADDRESS, Packet};
+use usb_packet::{MAX_ADDRESS, MAX_ENDPOINT, Packet};
 use usb_transact::{HostPipe, Took};
-
-/// The endpoint of a virtual device's Input reports.
-const REPORT_ENDPOINT: u8 = 1;
 
 /// What a ready host keeps. A contract sees it as `layout`, `pipe` and `view`.
 #[derive(Drop)]
@@ -33,7 +29,7 @@ impl Model for ReadyHost {
     ghost use Rattle.hid_layout.specs.Controls.{items_of};
     ghost use Rattle.hid_layout.specs.Reports.{IsLayout};
     ghost use Rattle.hid_usages.specs.Cells.{FitsView};
-    ghost use Rattle.hid_stack.specs.Ready.{Known};
+    ghost use Rattle.hid_host.specs.Ready.{Known};
 
     ghost Value = { Known };
 
@@ -43,21 +39,19 @@ impl Model for ReadyHost {
 }
 
 impl ReadyHost {
-    /// A host freshly given a layout.
-    pub(crate) fn new(alloc: Global, addr: u8, layout: Layout) -> Result<ReadyHost, StackFault>
+    /// A host that polls this endpoint from the initial view on.
+    pub(crate) fn new(addr: u8, endpoint: u8, layout: Layout, view: View) -> ReadyHost
         requires addr { addr ≤ MAX_ADDRESS }
+        requires endpoint { endpoint ≤ MAX_ENDPOINT }
         requires layout { IsLayout layout }
-        ensures new { IfOk result (λ host. host ≡ known_at_start addr layout) }
-        ensures memory { IfErr result (λ fault. fault ≡ StackFault.Memory) }
+        requires view { (view ≡ blank (items_of layout)) × FitsView (items_of layout) view }
+        ensures { result ≡ known_at_start addr endpoint layout }
     {
-        let Ok(view) = View::initial(alloc, &layout) else {
-            return Err(StackFault::Memory);
-        };
-        Ok(ReadyHost {
+        ReadyHost {
             layout,
-            pipe: HostPipe::new(addr, REPORT_ENDPOINT),
+            pipe: HostPipe::new(addr, endpoint),
             view,
-        })
+        }
     }
 
     /// The IN token of a poll.
@@ -69,7 +63,6 @@ impl ReadyHost {
     }
 
     /// How many events a reply gives at most.
-    #[cfg(test)]
     pub(crate) fn max_events(&self) -> usize
         ensures { result ≡ max_events (items_of self.now.layout) }
     {

@@ -1,10 +1,10 @@
 use Rattle.std.proofs.Common.{Vec, Global, length, arith, ap}
 use Rattle.hid_layout.specs.Controls.{items_of, max_events}
 use Rattle.hid_cells.specs.declared.event.Event.{Event}
-use Rattle.hid_stack.specs.Ready.{Known}
-use Rattle.hid_stack.proofs.ReadyLemmas.{taken_few}
-use Rattle.hid_stack.proofs.ready.ReadyHost.reply.Goals as goal
-use Rattle.hid_stack.proofs.ready.ReadyHost.reply.Goals.{in-Fresh+in-Ok, in_default}
+use Rattle.hid_host.specs.Ready.{Known}
+use Rattle.hid_host.proofs.ReadyLemmas.{taken_few}
+use Rattle.hid_host.proofs.ready.ReadyHost.reply.Goals as goal
+use Rattle.hid_host.proofs.ready.ReadyHost.reply.Goals.{in-Fresh+in-Ok, in_default}
 
 pub returns-clause-few : goal.returns-clause-few
 returns-clause-few c = elim c.match-took.branch [

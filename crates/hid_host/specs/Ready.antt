@@ -12,8 +12,8 @@ use Rattle.usb_transact.specs.declared.host.Took.{Took}
 use Rattle.usb_transact.specs.declared.host.Took.TheVariants.{Fresh, Again, Nak, Stall, Silent}
 use Rattle.usb_transact.specs.Host.{HostPipeState, host_at_start}
 use Rattle.usb_transact.specs.Taken.{host_after}
-use Rattle.hid_stack.specs.declared.fault.StackFault.{StackFault}
-use Rattle.hid_stack.specs.declared.fault.StackFault.TheVariants.{Report}
+use Rattle.hid_host.specs.declared.fault.StackFault.{StackFault}
+use Rattle.hid_host.specs.declared.fault.StackFault.TheVariants.{Report}
 
 -- the layout of the reports, the pipe that is polled, and the host's view of the controls
 pub record Known : Type 0 where
@@ -21,14 +21,10 @@ pub record Known : Type 0 where
   pub pipe : HostPipeState
   pub view : List Cell
 
--- reports come from endpoint 1 (our choice: a virtual device has no other)
-abbrev pub report_endpoint : ℕ
-report_endpoint = 1
-
--- a host freshly given a layout: it expects DATA0, and its view is the initial one
-abbrev pub known_at_start : ℕ → Contents → Known
-known_at_start addr layout =
-    record { layout = layout; pipe = host_at_start addr report_endpoint; view = blank (items_of layout) }
+-- a host that was freshly given a layout and polls this endpoint: it expects DATA0, and its view is the initial one
+abbrev pub known_at_start : ℕ → ℕ → Contents → Known
+known_at_start addr endpoint layout =
+    record { layout = layout; pipe = host_at_start addr endpoint; view = blank (items_of layout) }
 
 -- What the host tells of what it took: fresh data that are no Input report are refused.
 abbrev pub read_or_refused : Took → Result ℕ ReportFault → Result Took StackFault

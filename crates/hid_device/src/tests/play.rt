@@ -1,0 +1,206 @@
+//! What is done with a device, in words, and what it answers:
+//! ```text
+//!   press 4 4, release 4 4        a control by its item and index: nothing, or why it can't be
+//!   move 2 0 -200, set 2 0 1
+//!   configure, frame              nothing
+//!   fixed 2 0                     the motion that is fixed of a control
+//!   reset, apply, answer          endpoint 0 is reset, carries out what is pending, or shows the answer that is fixed
+//!   ask 80 06 00 01 00 00 12 00   a host's transfer of these setup data, each try clean: the bytes read, or the fault
+//!   69 81 00                      a packet: its answer
+//! ```
+//! Behind it, where a round is open, `round 0.1`: its report, and 1 where its data go out as DATA1.
+
+use crate::{Boot, Config, Device, DeviceFault, KEYBOARD, MOUSE};
+use arrayvec::ArrayVec;
+use hid_cells::Change;
+use hid_layout::ControlId;
+use std::alloc::Global;
+use std::fmt::Write;
+use std::test::Fail;
+use usb_control::{HostTransfer, Outcome, Requests, Setup};
+use usb_packet::{decode, encode};
+use usb_transact::Fate;
+
+/// A wheel in report 1 and a button in report 2.
+#[rattlefmt::skip]
+const TWO_REPORTS: [u8; 35] = [
+    0x05, 0x01, 0x09, 0x02, 0xA1, 0x01, 0x85, 0x01, 0x09, 0x30, 0x15, 0x81, 0x25, 0x7F, 0x75, 0x08,
+    0x95, 0x01, 0x81, 0x06, 0x85, 0x02, 0x05, 0x09, 0x09, 0x01, 0x15, 0x00, 0x25, 0x01, 0x75, 0x01,
+    0x81, 0x02, 0xC0,
+];
+
+/// A device of vendor FEFF and product 0001, polled each 10 frames, at address 1: `keyboard` and `mouse` are boot devices;
+/// `mouse 127` is a plain mouse at that address.
+fn device_of(alloc: Global, kind: &str) -> Result<Device, DeviceFault> {
+    let descriptor: &[u8] = match kind {
+        "keyboard" | "plain keyboard" => &KEYBOARD,
+        "two reports" => &TWO_REPORTS,
+        _ => &MOUSE,
+    };
+    let addr = if kind == "mouse 127" { 127 } else { 1 };
+    Device::new(alloc, addr, &config(kind, 10), descriptor)
+}
+
+pub fn config(kind: &str, interval: u8) -> Config {
+    Config {
+        vendor: 0xFEFF,
+        product: 0x0001,
+        interval,
+        boot: match kind {
+            "keyboard" => Boot::Keyboard,
+            "mouse" => Boot::Mouse,
+            _ => Boot::No,
+        },
+    }
+}
+
+/// Bytes in hex, a blank behind each.
+fn hex(alloc: Global, bytes: &[u8]) -> Result<String, Fail> {
+    let mut text = String::new(alloc);
+    for byte in bytes {
+        write!(text, "{byte:02X} ")?;
+    }
+    Ok(text)
+}
+
+/// The bytes that are spelled by words, as far as they are read.
+fn bytes_of(words: &[&str]) -> ArrayVec<u8, 65> {
+    let mut bytes = ArrayVec::new();
+    for word in words {
+        if let Ok(byte) = u8::from_str_radix(word, 16) {
+            let _ = bytes.try_push(byte);
+        }
+    }
+    bytes
+}
+
+fn control_of(item: &str, index: &str) -> Result<ControlId, Fail> {
+    Ok(ControlId {
+        item: item.parse()?,
+        index: index.parse()?,
+    })
+}
+
+/// The change that is meant, if one is.
+fn change_of(words: &[&str]) -> Result<Option<Change>, Fail> {
+    Ok(Some(match *words {
+        ["press", item, index] => Change::Press(control_of(item, index)?),
+        ["release", item, index] => Change::Release(control_of(item, index)?),
+        ["move", item, index, by] => Change::Move(control_of(item, index)?, by.parse()?),
+        ["set", item, index, value] => Change::Set(control_of(item, index)?, value.parse()?),
+        _ => return Ok(None),
+    }))
+}
+
+/// The answer to a packet, both as they are spelled; no bytes are none.
+fn given(device: &mut Device, bytes: &[u8]) -> ArrayVec<u8, 65> {
+    match decode(bytes) {
+        Ok(packet) => match device.on_packet(&packet) {
+            Some(answer) => encode(&answer),
+            None => ArrayVec::new(),
+        },
+        Err(_) => ArrayVec::new(),
+    }
+}
+
+/// Tries until the transfer ends.
+fn run(transfer: &mut HostTransfer, device: &mut Device) {
+    for _ in 0..20 {
+        match transfer.outcome() {
+            Outcome::Running => {}
+            Outcome::Done(_) | Outcome::Failed(_) => return,
+        }
+        transfer.step(device.control(), Fate::Clean);
+    }
+}
+
+/// A read, or a write without data, of these setup data.
+fn transferred(alloc: Global, device: &mut Device, request: &[u8; 8]) -> Result<String, Fail> {
+    let setup = Setup::from_bytes(request);
+    if !setup.is_read() && setup.length != 0 {
+        return Ok(format!(in alloc; "data ")?);
+    }
+    let mut transfer = HostTransfer::begin(alloc, 1, setup, &[])?;
+    run(&mut transfer, device);
+    match transfer.outcome() {
+        Outcome::Running => Ok(format!(in alloc; "running ")?),
+        Outcome::Done(bytes) => hex(alloc, bytes),
+        Outcome::Failed(fault) => Ok(format!(in alloc; "{fault} ")?),
+    }
+}
+
+/// What is answered to a packet, or to a transfer of setup data.
+fn answered(alloc: Global, device: &mut Device, words: &[&str]) -> Result<String, Fail> {
+    let bytes = bytes_of(words);
+    match (words.first(), <[u8; 8]>::try_from(bytes.as_slice())) {
+        (Some(&"ask"), Ok(request)) => transferred(alloc, device, &request),
+        _ => hex(alloc, &given(device, &bytes)),
+    }
+}
+
+/// What a change gives: nothing, or why it can't be.
+fn changed(alloc: Global, device: &mut Device, change: Change) -> Result<String, Fail> {
+    match device.change(change) {
+        Ok(()) => Ok(String::new(alloc)),
+        Err(fault) => Ok(format!(in alloc; "{fault} ")?),
+    }
+}
+
+/// Does it, and tells what is answered.
+fn done(alloc: Global, device: &mut Device, act: &str) -> Result<String, Fail> {
+    let words: Vec<&str> = act.split(' ').collect(alloc)?;
+    if let Some(change) = change_of(&words)? {
+        return changed(alloc, device, change);
+    }
+    if let ["fixed", item, index] = *words {
+        let control = control_of(item, index)?;
+        return Ok(format!(in alloc; "{} ", device.fixed().motion(control))?);
+    }
+    match act {
+        "configure" => device.configure(),
+        "frame" => device.frame(),
+        "reset" => device.control().reset(),
+        "apply" => device.control().requests_mut().apply(&[]),
+        "answer" => match device.control().requests().answer() {
+            Some(bytes) => return hex(alloc, bytes),
+            None => return Ok(format!(in alloc; "none ")?),
+        },
+        _ => return answered(alloc, device, &words),
+    }
+    Ok(String::new(alloc))
+}
+
+/// The open round, if one is: its report and its toggle. Something is armed for it.
+pub fn round(alloc: Global, device: &Device) -> Result<String, Fail> {
+    match (device.open_round(), device.pipe().armed()) {
+        (None, None) => Ok(String::new(alloc)),
+        (Some((report, one)), Some(_)) => Ok(format!(in alloc;
+            "round {report}.{}",
+            u8::from(one)
+        )?),
+        _ => Ok(format!(in alloc; "armed without a round, or a round without")?),
+    }
+}
+
+/// Plays rows, a line each: a name, behind `: ` what is done, and behind `>` what is told. It gives the first row of which
+/// something else is told, and that; nothing where there is none.
+pub fn played(alloc: Global, kind: &str, rows: &str) -> Result<String, Fail> {
+    let mut device = device_of(alloc, kind)?;
+    for row in rows.trim().lines() {
+        let (act, wanted) = row.split_once('>').unwrap_or((row, ""));
+        let mut told = done(alloc, &mut device, act_of(act))?;
+        told.push_str(&round(alloc, &device)?)?;
+        if told.trim() != wanted.trim() {
+            return Ok(format!(in alloc; "{row}, but {told}")?);
+        }
+    }
+    Ok(String::new(alloc))
+}
+
+/// What is done, behind the name of a row.
+pub fn act_of(row: &str) -> &str {
+    match row.split_once(": ") {
+        Some((_, act)) => act.trim(),
+        None => row.trim(),
+    }
+}

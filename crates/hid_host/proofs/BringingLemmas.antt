@@ -1,0 +1,148 @@
+-- A control step with a virtual device is a function of both ends, memory aside.
+use Rattle.std.proofs.Common.{◌≡◌, ◌⊎◌, inl, inr, ℕ, true, List, [], length, Option, Some, None, Result, Ok, Err, refl, ap, sym, ◌∙◌, subst}
+use Rattle.std.specs.Prelude.{IfSome, ◌<◌, ◌^◌}
+use Rattle.hid_descriptor.specs.Laws.{HasOneReading, AcceptsNoRefused}
+use Rattle.hid_layout.specs.Layout.{Contents}
+use Rattle.usb_transact.specs.declared.transaction.Fate.{Fate}
+use Rattle.usb_control.specs.declared.descriptors.ConfigInfo.{ConfigInfo}
+use Rattle.usb_control.specs.declared.fault.ControlFault.TheVariants.{NoTransfer}
+use Rattle.usb_control.specs.declared.host.HostStage.{HostStage}
+use Rattle.usb_control.specs.declared.host.HostStage.TheVariants as stages
+use Rattle.usb_control.specs.declared.host.Progress.{Progress}
+use Rattle.usb_control.specs.Computed.{AppliesBy, PreparesBy}
+use Rattle.usb_control.specs.Descriptors.{ReadsConfig}
+use Rattle.usb_control.specs.Device.{DevControlState}
+use Rattle.usb_control.specs.Host.{HostTransferState, IsRunning, progress_of}
+use Rattle.usb_control.specs.Runs.{IsDone}
+use Rattle.usb_control.specs.Transfer.{shape_of}
+use Rattle.usb_control.proofs.ComputedLemmas.{tries_are}
+use Rattle.usb_control.proofs.LawLemmas.{done_is, read_is}
+use Rattle.hid_requests.specs.declared.request.Request.{Request}
+use Rattle.hid_requests.specs.declared.request.Request.TheVariants as requests
+use Rattle.hid_requests.specs.Asking.{setup_for}
+use Rattle.hid_requests.proofs.DescriptorLemmas.{configuration_read}
+use Rattle.hid_device.specs.declared.device.TheConstants.{ENDPOINT}
+use Rattle.hid_device.specs.Core.{CoreState}
+use Rattle.hid_device.specs.Deciding.{core_table, device_info}
+use Rattle.hid_device.specs.Laying.{Lays}
+use Rattle.hid_host.specs.declared.fault.StackFault.{StackFault}
+use Rattle.hid_host.specs.declared.fault.StackFault.TheVariants.{Control, Memory}
+use Rattle.hid_host.specs.declared.host.Transfer.{Transfer}
+use Rattle.hid_host.specs.declared.phase.HostPhase.{HostPhase}
+use Rattle.hid_host.specs.declared.phase.HostPhase.TheVariants.{Cold, Described, Parsed, Ready}
+use Rattle.hid_host.specs.Bringing.{IsComputed, TakesMemory, brought, brought_at, ends_after}
+use Rattle.hid_host.specs.Conclusions.{Configured, Makes, leads_to, phase_made}
+use Rattle.hid_host.specs.Host.{ConcludesAt, ControlSteps, HostEnd, TriesOnce, bytes_got, running, told_made}
+use Rattle.hid_host.specs.Knowing.{Carries, IsBehindSetup, Knows, KnowsAt, info_of}
+use Rattle.hid_host.specs.Phase.{may_begin, state_of}
+use Rattle.hid_host.specs.Ready.{known_at_start}
+use Rattle.hid_host.proofs.HostLemmas.{IsAnswer, config_is, device_is, fits_info, report_is}
+use Rattle.hid_host.proofs.LawLemmas.{answer_is, carried, got_so, knows_on, runs_so}
+
+-- what is made of an answer: the phase to which its request leads, or nothing for want of memory
+abbrev MadeBy : Request → ℕ → CoreState → HostPhase → Result HostPhase StackFault → Type 0
+MadeBy request addr core phase made = (made ≡ Ok (brought request addr core phase)) ⊎ ((made ≡ Err Memory) × TakesMemory request)
+
+report_made : HasOneReading → AcceptsNoRefused → (addr : ℕ) (info : ConfigInfo) (core : CoreState) (bytes : List ℕ) (made : Result HostPhase StackFault) → Lays core.descriptor core.layout
+    → info ≡ info_of core → bytes ≡ core.descriptor → Makes addr requests.Report (Described info) bytes made → MadeBy requests.Report addr core (Described info) made
+report_made one apart addr info core bytes made lays knows is (read, h, leads) =
+    elim (report_is one apart info bytes core.layout read (subst (λ (b : List ℕ). Lays b core.layout) (sym is) lays) (ap (λ (b : List ℕ). length b) is ∙ ap (λ (i : ConfigInfo). i.report_length) (sym knows)) h) [
+      | inl ok ↦ inl (leads ∙ ap (leads_to (Parsed info)) ok ∙ ap (λ (i : ConfigInfo). Ok (Parsed i core.layout)) knows)
+      | inr none ↦ inr (leads ∙ ap (leads_to (Parsed info)) none, tt)
+    ]
+
+configured_made : (addr : ℕ) (info : ConfigInfo) (layout : Contents) (core : CoreState) (made : Result HostPhase StackFault) → info ≡ info_of core → layout ≡ core.layout → Configured addr info layout made
+    → MadeBy requests.Configure addr core (Parsed info layout) made
+configured_made addr info layout core (Ok next) says laid is =
+    inl (ap (λ (p : HostPhase). Ok p) is ∙ ap (λ (i : ConfigInfo). Ok (Ready (known_at_start addr i.endpoint layout))) says ∙ ap (λ (l : Contents). Ok (Ready (known_at_start addr ENDPOINT l))) laid)
+configured_made addr info layout core (Err fault) says laid is = inr (ap (λ (f : StackFault). Err f) is, tt)
+
+made_is : HasOneReading → AcceptsNoRefused → (addr : ℕ) (request : Request) (phase : HostPhase) (core : CoreState) (bytes : List ℕ) (made : Result HostPhase StackFault)
+    → Lays core.descriptor core.layout → length core.descriptor < 2 ^ 16 → KnowsAt phase addr core → may_begin request (state_of phase) ≡ true → IsAnswer request core bytes
+    → Makes addr request phase bytes made → MadeBy request addr core phase made
+made_is one apart addr requests.Device phase core bytes made lays short knows needs answer (read, h, is) = inl (is ∙ ap (leads_to (λ _. phase)) (device_is bytes (device_info core.config) read answer h))
+made_is one apart addr requests.Config phase core bytes made lays short knows needs answer (read, h, is) =
+    let reads : ReadsConfig bytes (Ok (info_of core)) = subst (λ (b : List ℕ). ReadsConfig b (Ok (info_of core))) (sym answer) (configuration_read (info_of core) core.config.interval (fits_info core short)) in
+    inl (is ∙ ap (leads_to Described) (config_is bytes (info_of core) read reads h))
+made_is one apart addr requests.Report (Described info) core bytes made lays short knows needs answer makes = report_made one apart addr info core bytes made lays knows answer makes
+made_is one apart addr requests.Report Cold core bytes made lays short knows needs answer is = absurd (cc)
+made_is one apart addr requests.Report (Parsed info layout) core bytes made lays short knows needs answer is = absurd (cc)
+made_is one apart addr requests.Report (Ready known) core bytes made lays short knows needs answer is = absurd (cc)
+made_is one apart addr requests.Configure (Parsed info layout) core bytes made lays short knows needs answer is = configured_made addr info layout core made knows.0 knows.1 is
+made_is one apart addr requests.Configure Cold core bytes made lays short knows needs answer is = absurd (cc)
+made_is one apart addr requests.Configure (Described info) core bytes made lays short knows needs answer is = absurd (cc)
+made_is one apart addr requests.Configure (Ready known) core bytes made lays short knows needs answer is = absurd (cc)
+made_is one apart addr requests.Status phase core bytes made lays short knows needs answer is = inl is
+made_is one apart addr requests.GetConfiguration phase core bytes made lays short knows needs answer is = inl is
+
+-- what is concluded: on an answer, or nothing, and then the phase stays
+concluded_so : (stage : HostStage) (addr : ℕ) (request : Request) (phase next : HostPhase) (bytes : List ℕ) (result : Result Progress StackFault) → ConcludesAt stage addr request phase bytes result next
+    → ((stage ≡ stages.Done) × ((made : Result HostPhase StackFault) × Makes addr request phase bytes made × (result ≡ told_made made) × (next ≡ phase_made phase made)))
+    ⊎ ((result ≡ Ok (progress_of stage)) × (next ≡ phase) × ((core : CoreState) → brought_at stage request addr core phase ≡ phase))
+concluded_so stages.Done addr request phase next bytes result h = inl (refl, h)
+concluded_so stages.Setup addr request phase next bytes result h = inr (h.0, h.1, λ core. refl)
+concluded_so (stages.DataIn one) addr request phase next bytes result h = inr (h.0, h.1, λ core. refl)
+concluded_so (stages.DataOut sent one) addr request phase next bytes result h = inr (h.0, h.1, λ core. refl)
+concluded_so stages.StatusIn addr request phase next bytes result h = inr (h.0, h.1, λ core. refl)
+concluded_so stages.StatusOut addr request phase next bytes result h = inr (h.0, h.1, λ core. refl)
+concluded_so (stages.Failed fault) addr request phase next bytes result h = inr (h.0, h.1, λ core. refl)
+
+-- the host behind it
+leads_on : (host : HostEnd) (t : Transfer) (ends other : HostTransferState) (next phase : HostPhase) → ends ≡ other → next ≡ phase
+    → record host { phase = next; transfer = Some (record t { ends = ends }) } ≡ record host { phase = phase; transfer = Some (record t { ends = other }) }
+leads_on host t ends other next phase same moves =
+    ap (λ (p : HostPhase). record host { phase = p; transfer = Some (record t { ends = ends }) }) moves
+    ∙ ap (λ (e : HostTransferState). record host { phase = phase; transfer = Some (record t { ends = e }) }) same
+
+once_computed : HasOneReading → AcceptsNoRefused → (fate : Fate) (host after : HostEnd) (t : Transfer) (old new : DevControlState CoreState) (result : Result Progress StackFault)
+    → Lays old.requests.descriptor old.requests.layout → length old.requests.descriptor < 2 ^ 16 → KnowsAt host.phase host.addr old.requests → Carries host.phase t old → IsRunning t.ends.stage
+    → TriesOnce (PreparesBy core_table) (AppliesBy core_table) core_table.answer_of fate host t old result after new → IsComputed fate host t old result after new
+once_computed one apart fate host after t old new result lays short knows c running tr =
+    let e = (tries_are core_table fate t.ends old tr.ends new).0 tr.transacts in
+    let ends : HostTransferState = ends_after fate t old in
+    elim (concluded_so tr.ends.stage host.addr t.request host.phase tr.next (bytes_got tr.ends) result tr.concludes) [
+      | inl (done, (made, makes, told, moves)) ↦
+          let not_running : IsRunning tr.ends.stage → tr.next ≡ host.phase = λ run. let wrong = subst IsRunning done run in absurd (cc) in
+          let tried_so = carried fate host.phase tr.next t tr.ends old new short c running tr.transacts tr.same not_running in
+          let goes = tried_so.goes in
+          let d = tried_so.carries in
+          let is_done : IsDone d.place = (done_is core_table.answer_of (shape_of tr.ends.setup) [] d.place tr.ends new d.stands).0 done in
+          let behind : IsBehindSetup d.place.host = subst IsBehindSetup (sym is_done.1) tt in
+          let answer = answer_is t.request new.requests d.place.decision (bytes_got tr.ends) (d.decided behind)
+          (got_so tr.ends (setup_for t.request (record { report_length = length new.requests.descriptor })) d.place.decision d.asked
+          (λ is_read. read_is core_table.answer_of (shape_of tr.ends.setup) [] d.place tr.ends new d.stands is_done is_read)) in
+          let lays_on : Lays new.requests.descriptor new.requests.layout = subst (λ (x : List ℕ). Lays x new.requests.layout) (sym goes.descriptor) (subst (λ l. Lays old.requests.descriptor l) (sym goes.layout) lays) in
+          let short_on : length new.requests.descriptor < 2 ^ 16 = subst (λ (x : List ℕ). length x < 2 ^ 16) (sym goes.descriptor) short in
+          let stage : ends.stage ≡ stages.Done = ap (λ (x : HostTransferState). x.stage) (sym e.0) ∙ done in
+          record {
+            device_then = e.1;
+            host_then = elim (made_is one apart host.addr t.request host.phase new.requests (bytes_got tr.ends) made lays_on short_on (knows_on host.phase host.addr old.requests new.requests goes knows) (c.needs running) answer makes) [
+              | inl ok ↦ inl (
+                told ∙ ap told_made ok ∙ ap (λ (s : HostStage). Ok (progress_of s)) (sym stage),
+                tr.after ∙ leads_on host t tr.ends ends tr.next _ e.0
+                    (moves ∙ ap (phase_made host.phase) ok ∙ ap (λ (s : HostStage). brought_at s t.request host.addr new.requests host.phase) (sym stage)),
+              )
+              | inr (none, takes) ↦ inr (told ∙ ap told_made none, stage, takes, tr.after ∙ leads_on host t tr.ends ends tr.next host.phase e.0 (moves ∙ ap (phase_made host.phase) none))
+            ];
+          }
+      | inr (told, stays, brings) ↦ record {
+        device_then = e.1;
+        host_then = inl (
+          told ∙ ap (λ (x : HostTransferState). Ok (progress_of x.stage)) e.0,
+          tr.after ∙ leads_on host t tr.ends ends tr.next _ e.0
+              (stays ∙ sym (brings new.requests) ∙ ap (λ (x : HostTransferState). brought_at x.stage t.request host.addr new.requests host.phase) e.0),
+        );
+      }
+    ]
+
+pub steps_computed : HasOneReading → AcceptsNoRefused → (fate : Fate) (host after : HostEnd) (t : Transfer) (old new : DevControlState CoreState) (result : Result Progress StackFault)
+    → Lays old.requests.descriptor old.requests.layout → length old.requests.descriptor < 2 ^ 16 → Knows host old → running host.transfer ≡ Some t
+    → ControlSteps (PreparesBy core_table) (AppliesBy core_table) core_table.answer_of fate host old result after new → IsComputed fate host t old result after new
+steps_computed one apart fate host after t old new result lays short knows is steps =
+    let r = runs_so host.transfer t is in
+    let tries : TriesOnce (PreparesBy core_table) (AppliesBy core_table) core_table.answer_of fate host t old result after new
+    = subst (λ (o : Option Transfer). elim o as (λ _. Type 0) [
+      | None ↦ (result ≡ Err (Control NoTransfer)) × (after ≡ host) × (new ≡ old)
+      | Some x ↦ TriesOnce (PreparesBy core_table) (AppliesBy core_table) core_table.answer_of fate host x old result after new
+    ]) is steps in
+    once_computed one apart fate host after t old new result lays short knows.phase (subst (λ (o : Option Transfer). IfSome o (λ (x : Transfer). Carries host.phase x old)) r.0 knows.transfer) r.1 tries

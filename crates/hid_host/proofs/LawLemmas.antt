@@ -1,0 +1,363 @@
+-- A host knows its virtual device behind whatever befalls the two.
+use Rattle.std.proofs.Common.{◌≡◌, ◌⊎◌, inl, inr, ℕ, Bool, true, false, List, [], ◌∷◌, length, take, suc, zero, Option, Some, None, Result, Ok, Err, refl, ap, sym, ◌∙◌, subst, arith}
+use Rattle.std.specs.Prelude.{IfSome, is_some, ◌<◌, ◌≤◌, ◌^◌, ◌+◌, ◌*◌, ◌/◌, ◌%◌, if◌then◌else◌}
+use Rattle.hid_descriptor.specs.Laws.{HasOneReading, AcceptsNoRefused}
+use Rattle.hid_layout.specs.Layout.{Contents}
+use Rattle.usb_transact.specs.declared.transaction.Fate.{Fate}
+use Rattle.usb_transact.specs.declared.host.Took.{Took}
+use Rattle.usb_transact.specs.declared.host.Took.TheVariants.{Fresh, Again, Nak, Stall, Silent}
+use Rattle.usb_control.specs.declared.setup.Setup.{Setup}
+use Rattle.usb_control.specs.declared.fault.ControlFault.TheVariants.{NoTransfer, Busy}
+use Rattle.usb_control.specs.declared.host.HostStage.{HostStage}
+use Rattle.usb_control.specs.declared.host.HostStage.TheVariants as stages
+use Rattle.usb_control.specs.declared.host.Progress.{Progress}
+use Rattle.usb_control.specs.Computed.{AppliesBy, PreparesBy}
+use Rattle.usb_control.specs.Device.{DevControlState}
+use Rattle.usb_control.specs.Host.{HostTransferState, IsRunning, progress_of}
+use Rattle.usb_control.specs.Runs.{IsDone}
+use Rattle.usb_control.specs.SetupBytes.{IsSpelled, reads}
+use Rattle.usb_control.specs.Standing.{Stands}
+use Rattle.usb_control.specs.Transaction.{Transacts}
+use Rattle.usb_control.specs.Transfer.{Decision, Place, answered_bytes, act_of, shape_of, start, tried}
+use Rattle.usb_control.proofs.LawLemmas.{begins, done_is, kept_is, read_is}
+use Rattle.usb_control.proofs.TryLemmas.{goes_on}
+use Rattle.hid_requests.specs.declared.request.Request.{Request}
+use Rattle.hid_requests.specs.declared.request.Request.TheVariants as requests
+use Rattle.hid_requests.specs.declared.request.Asking.{Asking}
+use Rattle.hid_requests.specs.Asking.{setup_for}
+use Rattle.hid_requests.specs.Descriptors.{configuration_bytes, device_bytes}
+use Rattle.hid_device.specs.Core.{CoreState}
+use Rattle.hid_device.specs.Deciding.{config_info, core_table, device_info}
+use Rattle.hid_device.specs.Laying.{Lays}
+use Rattle.hid_host.specs.declared.fault.StackFault.{StackFault}
+use Rattle.hid_host.specs.declared.fault.StackFault.TheVariants.{NotReady, Control}
+use Rattle.hid_host.specs.declared.host.Transfer.{Transfer}
+use Rattle.hid_host.specs.declared.phase.HostPhase.{HostPhase}
+use Rattle.hid_host.specs.declared.phase.HostPhase.TheVariants.{Cold, Described, Parsed, Ready}
+use Rattle.hid_host.specs.Conclusions.{Makes, phase_made}
+use Rattle.hid_host.specs.Host.{ConcludesAt, ControlSteps, HostEnd, TriesOnce, begin_refusal, begun, bytes_got, ready_after, running, running_at, told_made}
+use Rattle.hid_host.specs.Knowing.{Carries, HasEffect, IsBehindSetup, IsDecided, IsNoRefusal, Knows, KnowsAt, LeavesTransfers, info_of}
+use Rattle.hid_host.specs.Phase.{IfReady, asking_at, may_begin, state_of}
+use Rattle.hid_host.specs.Ready.{Known, known_behind}
+use Rattle.hid_host.proofs.HostLemmas.{IsAnswer, learned}
+use Rattle.hid_host.proofs.KnowingLemmas.{ActsOn, Goes, acts_go, decided_behind, decided_stays, effect_at}
+use Rattle.hid_host.proofs.PlacesLemmas.{open_place, past_applied}
+
+-- ---- the setups of requests
+
+word_back : (n : ℕ) → n < 2 ^ 16 → n % 256 + 256 * (n / 256 % 256) ≡ n
+word_back n small = omega arith
+
+abbrev asks_with : ℕ → Setup
+asks_with n = record { request_type = 0x81; request = 6; value = 0x2200; index = 0; length = n }
+
+spelled_so : (request : Request) (asking : Asking) → asking.report_length < 2 ^ 16 → IsSpelled (setup_for request asking)
+spelled_so requests.Device asking short = refl
+spelled_so requests.Config asking short = refl
+spelled_so requests.Report asking short = ap asks_with (word_back asking.report_length short)
+spelled_so requests.Configure asking short = refl
+spelled_so requests.Status asking short = refl
+spelled_so requests.GetConfiguration asking short = refl
+
+sends_none : (request : Request) (asking : Asking) → length {A = ℕ} [] ≡ (if reads (setup_for request asking) then 0 else (setup_for request asking).length)
+sends_none requests.Device asking = refl
+sends_none requests.Config asking = refl
+sends_none requests.Report asking = refl
+sends_none requests.Configure asking = refl
+sends_none requests.Status asking = refl
+sends_none requests.GetConfiguration asking = refl
+
+-- what the host asks with is what the device has
+asked_with : (request : Request) (phase : HostPhase) (addr : ℕ) (core : CoreState) → KnowsAt phase addr core → may_begin request (state_of phase) ≡ true
+    → setup_for request (asking_at phase) ≡ setup_for request (record { report_length = length core.descriptor })
+asked_with requests.Device phase addr core knows needs = refl
+asked_with requests.Config phase addr core knows needs = refl
+asked_with requests.Report Cold addr core knows needs = absurd (cc)
+asked_with requests.Report (Described info) addr core knows needs = ap (λ i. asks_with i.report_length) knows
+asked_with requests.Report (Parsed info layout) addr core knows needs = absurd (cc)
+asked_with requests.Report (Ready known) addr core knows needs = absurd (cc)
+asked_with requests.Configure phase addr core knows needs = refl
+asked_with requests.Status phase addr core knows needs = refl
+asked_with requests.GetConfiguration phase addr core knows needs = refl
+
+-- ---- what a host knows stays so
+
+info_on : (old new : CoreState) → Goes old new → info_of old ≡ info_of new
+info_on old new goes =
+    ap (λ config. config_info config (length old.descriptor)) (sym goes.config) ∙ ap (λ (d : List ℕ). config_info new.config (length d)) (sym goes.descriptor)
+
+pub knows_on : (phase : HostPhase) (addr : ℕ) (old new : CoreState) → Goes old new → KnowsAt phase addr old → KnowsAt phase addr new
+knows_on Cold addr old new goes h = tt
+knows_on (Described info) addr old new goes h = h ∙ info_on old new goes
+knows_on (Parsed info layout) addr old new goes h = (h.0 ∙ info_on old new goes, h.1 ∙ sym goes.layout)
+knows_on (Ready known) addr old new goes h = (h.0 ∙ sym goes.layout, goes.configured h.1, h.2, h.3)
+
+-- ---- a try of a transfer
+
+-- a take of all
+take_all : (n : ℕ) (xs : List ℕ) → length xs ≤ n → take n xs ≡ xs
+take_all zero [] h = refl
+take_all zero (x ∷ xs) h = absurd (omega (arith, h))
+take_all (suc n) [] h = refl
+take_all (suc n) (x ∷ xs) h = ap (λ (l : List ℕ). x ∷ l) (take_all n xs (omega (arith, h)))
+
+-- the bytes of a read that is done are what the device answered
+pub answer_is : (request : Request) (core : CoreState) (decision : Decision) (bytes : List ℕ) → IsDecided request core decision
+    → (reads (setup_for request (record { report_length = length core.descriptor })) ≡ true → bytes ≡ answered_bytes (shape_of (setup_for request (record { report_length = length core.descriptor }))) decision)
+    → IsAnswer request core bytes
+answer_is requests.Device core decision bytes says got =
+    got refl ∙ ap (answered_bytes (shape_of (setup_for requests.Device (record { report_length = length core.descriptor })))) says ∙ take_all 18 (device_bytes (device_info core.config)) (omega arith)
+answer_is requests.Config core decision bytes says got =
+    got refl ∙ ap (answered_bytes (shape_of (setup_for requests.Config (record { report_length = length core.descriptor })))) says
+    ∙ take_all 255 (configuration_bytes (info_of core) core.config.interval) (omega arith)
+answer_is requests.Report core decision bytes says got =
+    got refl ∙ ap (answered_bytes (shape_of (setup_for requests.Report (record { report_length = length core.descriptor })))) says ∙ take_all (length core.descriptor) core.descriptor (omega arith)
+answer_is requests.Configure core decision bytes says got = tt
+answer_is requests.Status core decision bytes says got = tt
+answer_is requests.GetConfiguration core decision bytes says got = tt
+
+effect_so : (request : Request) (asking : Asking) (setup : Setup) (fate : Fate) (decision : Decision) (place : Place) (old new : CoreState) → setup ≡ setup_for request asking
+    → (IsBehindSetup place.host → IsDecided request old place.decision) → (place.applied ≡ true → HasEffect request old)
+    → ActsOn setup (act_of (shape_of setup) fate decision place) old new → (tried (shape_of setup) fate decision place).applied ≡ true → HasEffect request new
+effect_so requests.Configure asking setup fate decision place old new asks decided effect acts took =
+    effect_at setup fate place.host decision place.decision place old new (ap (λ (s : Setup). reads s) asks) refl refl decided effect acts took
+effect_so requests.Device asking setup fate decision place old new asks decided effect acts took = tt
+effect_so requests.Config asking setup fate decision place old new asks decided effect acts took = tt
+effect_so requests.Report asking setup fate decision place old new asks decided effect acts took = tt
+effect_so requests.Status asking setup fate decision place old new asks decided effect acts took = tt
+effect_so requests.GetConfiguration asking setup fate decision place old new asks decided effect acts took = tt
+
+-- a transfer behind a try of it
+pub record Tried (next : HostPhase) (transfer : Transfer) (old new : DevControlState CoreState) : Type 0 where
+  pub goes : Goes old.requests new.requests
+  pub carries : Carries next transfer new
+
+pub carried : (fate : Fate) (phase next : HostPhase) (t : Transfer) (ends : HostTransferState) (old new : DevControlState CoreState) → length old.requests.descriptor < 2 ^ 16 → Carries phase t old
+    → IsRunning t.ends.stage → Transacts (PreparesBy core_table) (AppliesBy core_table) core_table.answer_of fate t.ends old ends new → ends.setup ≡ t.ends.setup
+    → (IsRunning ends.stage → next ≡ phase) → Tried next (record t { ends = ends }) old new
+carried fate phase next t ends old new short c running transacts same stays =
+    let asking : Asking = record { report_length = length old.requests.descriptor } in
+    let setup : Setup = t.ends.setup in
+    let spelled : IsSpelled setup = subst IsSpelled (sym c.asked) (spelled_so t.request asking short) in
+    let g = goes_on (PreparesBy core_table) (AppliesBy core_table) core_table.answer_of [] fate c.place t.ends old ends new spelled running c.stands transacts in
+    let decision : Decision = g.1.0 in
+    let goes = acts_go setup (act_of (shape_of setup) fate decision c.place) old.requests new.requests g.1.1 in
+    let apart = open_place core_table.answer_of (shape_of setup) [] c.place t.ends old c.stands running in
+    record {
+      goes = goes;
+      carries = record {
+        place = g.0;
+        stands = subst (λ (s : Setup). Stands core_table.answer_of (shape_of s) [] g.0 ends new) (sym same) g.2;
+        asked = same ∙ c.asked ∙ ap (λ (d : List ℕ). setup_for t.request (record { report_length = length d })) (sym goes.descriptor);
+        needs = λ run. subst (λ (p : HostPhase). may_begin t.request (state_of p) ≡ true) (sym (stays run)) (c.needs running);
+        decided = λ behind. subst (λ (p : Place). IsDecided t.request new.requests p.decision) (sym g.1.2)
+            (decided_behind t.request asking setup fate decision c.place.host c.place old.requests new.requests c.asked refl g.1.1 c.decided
+            (subst (λ (p : Place). IsBehindSetup p.host) g.1.2 behind));
+        effect = λ took. effect_so t.request asking setup fate decision c.place old.requests new.requests c.asked c.decided c.effect g.1.1 (sym (ap (λ (p : Place). p.applied) g.1.2) ∙ took);
+        applied = λ done writes. ap (λ (p : Place). p.applied) g.1.2
+            ∙ past_applied (shape_of setup) fate decision c.place.host c.place.decision c.place (ap (λ (s : Setup). reads s) (sym same) ∙ writes) refl apart
+            (sym (ap (λ (p : Place). p.host) g.1.2) ∙ done.1);
+      };
+    }
+
+-- what is concluded: on an answer, or nothing
+concluded_by : (stage : HostStage) (addr : ℕ) (request : Request) (phase next : HostPhase) (bytes : List ℕ) (result : Result Progress StackFault) → ConcludesAt stage addr request phase bytes result next
+    → ((stage ≡ stages.Done) × ((made : Result HostPhase StackFault) × Makes addr request phase bytes made × (result ≡ told_made made) × (next ≡ phase_made phase made)))
+    ⊎ ((result ≡ Ok (progress_of stage)) × (next ≡ phase))
+concluded_by stages.Done addr request phase next bytes result h = inl (refl, h)
+concluded_by stages.Setup addr request phase next bytes result h = inr h
+concluded_by (stages.DataIn one) addr request phase next bytes result h = inr h
+concluded_by (stages.DataOut sent one) addr request phase next bytes result h = inr h
+concluded_by stages.StatusIn addr request phase next bytes result h = inr h
+concluded_by stages.StatusOut addr request phase next bytes result h = inr h
+concluded_by (stages.Failed fault) addr request phase next bytes result h = inr h
+
+-- an effect that is done
+done_by : (request : Request) (asking : Asking) (setup : Setup) (core : CoreState) (applied : Bool) → setup ≡ setup_for request asking → (applied ≡ true → HasEffect request core)
+    → ((shape_of setup).reads ≡ false → applied ≡ true) → HasEffect request core
+done_by requests.Configure asking setup core applied asks effect took = effect (took (ap (λ (s : Setup). reads s) asks))
+done_by requests.Device asking setup core applied asks effect took = tt
+done_by requests.Config asking setup core applied asks effect took = tt
+done_by requests.Report asking setup core applied asks effect took = tt
+done_by requests.Status asking setup core applied asks effect took = tt
+done_by requests.GetConfiguration asking setup core applied asks effect took = tt
+
+-- the bytes of a read that is done
+pub got_so : (ends : HostTransferState) (setup : Setup) (decision : Decision) → ends.setup ≡ setup → (reads ends.setup ≡ true → ends.bytes ≡ answered_bytes (shape_of ends.setup) decision)
+    → reads setup ≡ true → bytes_got ends ≡ answered_bytes (shape_of setup) decision
+got_so ends setup decision is got is_read =
+    let here : reads ends.setup ≡ true = ap (λ (s : Setup). reads s) is ∙ is_read in
+    ap (λ (b : Bool). if b then ends.bytes else []) here ∙ got here ∙ ap (λ (s : Setup). answered_bytes (shape_of s) decision) is
+
+record Behind (host : HostEnd) (result : Result Progress StackFault) (new : DevControlState CoreState) : Type 0 where
+  knows : Knows host new
+  told : IsNoRefusal result
+
+is_told : (p : Progress) (result : Result Progress StackFault) → result ≡ Ok p → IsNoRefusal result
+is_told p result is = subst IsNoRefusal (sym is) tt
+
+once_known : HasOneReading → AcceptsNoRefused → (fate : Fate) (host after : HostEnd) (t : Transfer) (old new : DevControlState CoreState) (result : Result Progress StackFault)
+    → Lays old.requests.descriptor old.requests.layout → length old.requests.descriptor < 2 ^ 16 → KnowsAt host.phase host.addr old.requests → Carries host.phase t old → IsRunning t.ends.stage
+    → TriesOnce (PreparesBy core_table) (AppliesBy core_table) core_table.answer_of fate host t old result after new → Behind after result new
+once_known one apart fate host after t old new result lays short knows c running tr =
+    elim (concluded_by tr.ends.stage host.addr t.request host.phase tr.next (bytes_got tr.ends) result tr.concludes) [
+      | inl (done, (made, makes, told, moves)) ↦
+          let not_running : IsRunning tr.ends.stage → tr.next ≡ host.phase = λ run. let wrong = subst IsRunning done run in absurd (cc) in
+          let tried_so = carried fate host.phase tr.next t tr.ends old new short c running tr.transacts tr.same not_running in
+          let goes = tried_so.goes in
+          let d = tried_so.carries in
+          let is_done : IsDone d.place = (done_is core_table.answer_of (shape_of tr.ends.setup) [] d.place tr.ends new d.stands).0 done in
+          let behind : IsBehindSetup d.place.host = subst IsBehindSetup (sym is_done.1) tt in
+          let answer = answer_is t.request new.requests d.place.decision (bytes_got tr.ends) (d.decided behind)
+          (got_so tr.ends (setup_for t.request (record { report_length = length new.requests.descriptor })) d.place.decision d.asked
+          (λ is_read. read_is core_table.answer_of (shape_of tr.ends.setup) [] d.place tr.ends new d.stands is_done is_read)) in
+          let effect = done_by t.request (record { report_length = length new.requests.descriptor }) tr.ends.setup new.requests d.place.applied d.asked d.effect (d.applied is_done) in
+          let lays_on : Lays new.requests.descriptor new.requests.layout = subst (λ (x : List ℕ). Lays x new.requests.layout) (sym goes.descriptor) (subst (λ l. Lays old.requests.descriptor l) (sym goes.layout) lays) in
+          let short_on : length new.requests.descriptor < 2 ^ 16 = subst (λ (x : List ℕ). length x < 2 ^ 16) (sym goes.descriptor) short in
+          let l = learned one apart host.addr t.request host.phase new.requests (bytes_got tr.ends) made lays_on short_on (knows_on host.phase host.addr old.requests new.requests goes knows) (c.needs running) answer effect makes in
+          record {
+            knows = subst (λ (h : HostEnd). Knows h new) (sym tr.after) (record { phase = subst (λ (p : HostPhase). KnowsAt p host.addr new.requests) (sym moves) l.knows; transfer = d });
+            told = subst IsNoRefusal (sym told) l.told;
+          }
+      | inr (told, stays) ↦
+          let tried_so = carried fate host.phase tr.next t tr.ends old new short c running tr.transacts tr.same (λ run. stays) in
+          record {
+            knows = subst (λ (h : HostEnd). Knows h new) (sym tr.after) (record {
+              phase = subst (λ (p : HostPhase). KnowsAt p host.addr new.requests) (sym stays) (knows_on host.phase host.addr old.requests new.requests tried_so.goes knows);
+              transfer = tried_so.carries;
+            });
+            told = is_told (progress_of tr.ends.stage) result told;
+          }
+    ]
+
+-- the transfer that runs is the one that was begun last
+runs_at : (u t : Transfer) (stage : HostStage) → running_at u stage ≡ Some t → (u ≡ t) × IsRunning stage
+runs_at u t stages.Done h = absurd (cc)
+runs_at u t (stages.Failed fault) h = absurd (cc)
+runs_at u t stages.Setup h = (cc, refl)
+runs_at u t (stages.DataIn one) h = (cc, refl)
+runs_at u t (stages.DataOut sent one) h = (cc, refl)
+runs_at u t stages.StatusIn h = (cc, refl)
+runs_at u t stages.StatusOut h = (cc, refl)
+
+pub runs_so : (o : Option Transfer) (t : Transfer) → running o ≡ Some t → (o ≡ Some t) × IsRunning t.ends.stage
+runs_so None t h = absurd (cc)
+runs_so (Some u) t h =
+    let r = runs_at u t u.ends.stage h in
+    (ap (λ (x : Transfer). Some x) r.0, subst (λ (x : Transfer). IsRunning x.ends.stage) r.0 r.1)
+
+steps_by : HasOneReading → AcceptsNoRefused → (fate : Fate) (host after : HostEnd) (old new : DevControlState CoreState) (result : Result Progress StackFault) (o : Option Transfer)
+    → Lays old.requests.descriptor old.requests.layout → length old.requests.descriptor < 2 ^ 16 → Knows host old → running host.transfer ≡ o
+    → (elim o as (λ _. Type 0) [
+      | None ↦ (result ≡ Err (Control NoTransfer)) × (after ≡ host) × (new ≡ old)
+      | Some t ↦ TriesOnce (PreparesBy core_table) (AppliesBy core_table) core_table.answer_of fate host t old result after new
+    ]) → Behind after result new
+steps_by one apart fate host after old new result None lays short knows is (told, same, stays) = record {
+  knows = subst (λ (h : HostEnd). Knows h new) (sym same) (subst (λ (c : DevControlState CoreState). Knows host c) (sym stays) knows);
+  told = subst IsNoRefusal (sym told) tt;
+}
+steps_by one apart fate host after old new result (Some t) lays short knows is tr =
+    let r = runs_so host.transfer t is in
+    once_known one apart fate host after t old new result lays short knows.phase (subst (λ (o : Option Transfer). IfSome o (λ (x : Transfer). Carries host.phase x old)) r.0 knows.transfer) r.1 tr
+
+pub steps_know : HasOneReading → AcceptsNoRefused → (fate : Fate) (host after : HostEnd) (old new : DevControlState CoreState) (result : Result Progress StackFault)
+    → Lays old.requests.descriptor old.requests.layout → length old.requests.descriptor < 2 ^ 16 → Knows host old
+    → ControlSteps (PreparesBy core_table) (AppliesBy core_table) core_table.answer_of fate host old result after new → Knows after new × IsNoRefusal result
+steps_know one apart fate host after old new result lays short knows steps =
+    let b = steps_by one apart fate host after old new result (running host.transfer) lays short knows refl steps in
+    (b.knows, b.told)
+
+-- ---- a request that begins
+
+may_if : (busy may : Bool) → (if busy then Some (Control Busy) else if may then None else Some NotReady) ≡ None → may ≡ true
+may_if true may h = absurd (cc)
+may_if false true h = refl
+may_if false false h = absurd (cc)
+
+pub begins_know : (host : HostEnd) (request : Request) (control : DevControlState CoreState) → begin_refusal host request ≡ None → Knows host control → Knows (begun host request) control
+begins_know host request control none knows =
+    let needs : may_begin request (state_of host.phase) ≡ true = may_if (is_some (running host.transfer)) (may_begin request (state_of host.phase)) none in
+    record {
+      phase = knows.phase;
+      transfer = record {
+        place = start;
+        stands = begins core_table.answer_of host.addr (setup_for request (asking_at host.phase)) [] control (sends_none request (asking_at host.phase));
+        asked = asked_with request host.phase host.addr control.requests knows.phase needs;
+        needs = λ run. needs;
+        decided = λ behind. absurd behind;
+        effect = λ took. absurd (cc);
+        applied = λ done writes. let wrong = done.1 in absurd (cc);
+      };
+    }
+
+-- ---- what leaves a transfer
+
+leaves_goes : (old new : DevControlState CoreState) → LeavesTransfers old new → Goes old.requests new.requests
+leaves_goes old new l = record { layout = l.layout; config = l.config; descriptor = l.descriptor; configured = l.configured }
+
+effect_goes : (request : Request) (old new : CoreState) → Goes old new → HasEffect request old → HasEffect request new
+effect_goes requests.Configure old new goes h = goes.configured h
+effect_goes requests.Device old new goes h = tt
+effect_goes requests.Config old new goes h = tt
+effect_goes requests.Report old new goes h = tt
+effect_goes requests.Status old new goes h = tt
+effect_goes requests.GetConfiguration old new goes h = tt
+
+carries_on : (phase : HostPhase) (old new : DevControlState CoreState) (o : Option Transfer) → LeavesTransfers old new → IfSome o (λ t. Carries phase t old) → IfSome o (λ t. Carries phase t new)
+carries_on phase old new None l h = tt
+carries_on phase old new (Some t) l c =
+    let goes = leaves_goes old new l in
+    record {
+      place = c.place;
+      stands = kept_is core_table.answer_of (shape_of t.ends.setup) [] c.place t.ends old new c.stands l.answer l.stage;
+      asked = c.asked ∙ ap (λ (d : List ℕ). setup_for t.request (record { report_length = length d })) (sym goes.descriptor);
+      needs = c.needs;
+      decided = λ behind. decided_stays t.request old.requests new.requests c.place.decision goes l.pending (c.decided behind);
+      effect = λ took. effect_goes t.request old.requests new.requests goes (c.effect took);
+      applied = c.applied;
+    }
+
+pub leaves_know : (host : HostEnd) (old new : DevControlState CoreState) → LeavesTransfers old new → Knows host old → Knows host new
+leaves_know host old new l knows = record {
+  phase = knows_on host.phase host.addr old.requests new.requests (leaves_goes old new l) knows.phase;
+  transfer = carries_on host.phase old new host.transfer l knows.transfer;
+}
+
+-- ---- the answer to a poll
+
+knows_behind : (known : Known) (addr : ℕ) (core : CoreState) (took : Took) → KnowsAt (Ready known) addr core → KnowsAt (Ready (known_behind known took)) addr core
+knows_behind known addr core (Fresh payload) h = h
+knows_behind known addr core Again h = h
+knows_behind known addr core Nak h = h
+knows_behind known addr core Stall h = h
+knows_behind known addr core Silent h = h
+
+carries_so : (phase next : HostPhase) (control : DevControlState CoreState) (o : Option Transfer) → state_of next ≡ state_of phase → IfSome o (λ t. Carries phase t control) → IfSome o (λ t. Carries next t control)
+carries_so phase next control None same h = tt
+carries_so phase next control (Some t) same c = record {
+  place = c.place;
+  stands = c.stands;
+  asked = c.asked;
+  needs = λ run. ap (may_begin t.request) same ∙ c.needs run;
+  decided = c.decided;
+  effect = c.effect;
+  applied = c.applied;
+}
+
+replies_at : (phase : HostPhase) (addr : ℕ) (transfer : Option Transfer) (control : DevControlState CoreState) (took : Took) → Knows (record { addr = addr; phase = phase; transfer = transfer }) control
+    → IfReady phase (λ known. Knows (ready_after (record { addr = addr; phase = phase; transfer = transfer }) known took) control)
+replies_at Cold addr transfer control took knows = tt
+replies_at (Described info) addr transfer control took knows = tt
+replies_at (Parsed info layout) addr transfer control took knows = tt
+replies_at (Ready known) addr transfer control took knows = record {
+  phase = knows_behind known addr control.requests took knows.phase;
+  transfer = carries_so (Ready known) (Ready (known_behind known took)) control transfer refl knows.transfer;
+}
+
+pub replies_know : (host : HostEnd) (control : DevControlState CoreState) (took : Took) → Knows host control → IfReady host.phase (λ known. Knows (ready_after host known took) control)
+replies_know host control took knows = replies_at host.phase host.addr host.transfer control took knows
+
+-- ---- a sound device
+
+pub short_so : (descriptor : List ℕ) (layout : Contents) → Lays descriptor layout → length descriptor < 2 ^ 16
+short_so descriptor layout lays = let short = lays.accepted.reaches.short in omega (arith, short)

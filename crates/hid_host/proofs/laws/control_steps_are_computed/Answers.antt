@@ -1,0 +1,8 @@
+use Rattle.hid_host.proofs.BringingLemmas.{steps_computed}
+use Rattle.hid_host.proofs.LawLemmas.{short_so}
+use Rattle.hid_host.proofs.laws.control_steps_are_computed.Goals as goal
+
+pub returns : goal.returns
+returns c = λ fate host after transfer old new result sound knows is steps.
+    steps_computed c.one_reading.ensures c.accepted_or_refused.ensures fate host after transfer old new result sound.lays
+    (short_so old.requests.descriptor old.requests.layout sound.lays) knows is steps

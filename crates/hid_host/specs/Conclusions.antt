@@ -1,0 +1,70 @@
+-- What a host makes of the answer to a request that is done (USB 2.0, 9.1.1.5 and 9.6; HID 1.11, 6.2.1 and 6.2.2;
+-- the phases are our choice).
+use Rattle.std.specs.Prelude.{◌≡◌, ◌≢◌, ℕ, ◌<◌, ◌≤◌, List, length, Result, Ok, Err}
+use Rattle.hid_layout.specs.Layout.{Contents}
+use Rattle.hid_descriptor.specs.Faults.{Refuses}
+use Rattle.usb_control.specs.declared.descriptors.ConfigInfo.{ConfigInfo}
+use Rattle.usb_control.specs.declared.fault.InfoFault.TheVariants.{TooShort, WrongType}
+use Rattle.usb_control.specs.Descriptors.{IsDevice, ReadsConfig}
+use Rattle.hid_requests.specs.declared.request.Request.{Request}
+use Rattle.hid_requests.specs.declared.request.Request.TheVariants as requests
+use Rattle.hid_device.specs.Laying.{Lays}
+use Rattle.hid_host.specs.declared.fault.StackFault.{StackFault}
+use Rattle.hid_host.specs.declared.fault.StackFault.TheVariants.{BadDescriptor, Memory}
+use Rattle.hid_host.specs.declared.fault.DescriptorFault.TheVariants.{Info, ReportLength, Layout}
+use Rattle.hid_host.specs.declared.phase.HostPhase.{HostPhase}
+use Rattle.hid_host.specs.declared.phase.HostPhase.TheVariants.{Described, Parsed, Ready}
+use Rattle.hid_host.specs.Ready.{known_at_start}
+
+-- why a host can't be given a layout: the descriptor is refused, or memory was wanting
+abbrev pub IsNoLayout : List ℕ → StackFault → Type 0
+IsNoLayout bytes (BadDescriptor (Layout fault)) = Refuses bytes fault.cause fault.at
+IsNoLayout bytes Memory = Unit {0}
+IsNoLayout bytes fault = ⊥
+
+-- A device descriptor is read.
+abbrev pub DeviceRead : List ℕ → Result (Unit {0}) StackFault → Type 0
+DeviceRead bytes (Ok done) = (18 ≤ length bytes) × IsDevice bytes
+DeviceRead bytes (Err (BadDescriptor (Info TooShort))) = length bytes < 18
+DeviceRead bytes (Err (BadDescriptor (Info WrongType))) = (18 ≤ length bytes) × ¬ IsDevice bytes
+DeviceRead bytes (Err fault) = ⊥
+
+-- The descriptors of a configuration are read.
+abbrev pub ConfigRead : List ℕ → Result ConfigInfo StackFault → Type 0
+ConfigRead bytes (Ok info) = ReadsConfig bytes (Ok info)
+ConfigRead bytes (Err (BadDescriptor (Info fault))) = ReadsConfig bytes (Err fault)
+ConfigRead bytes (Err fault) = ⊥
+
+-- A report descriptor is laid out, where it is as long as the configuration says.
+abbrev pub ReportRead : ConfigInfo → List ℕ → Result Contents StackFault → Type 0
+ReportRead info bytes (Ok layout) = (length bytes ≡ info.report_length) × Lays bytes layout
+ReportRead info bytes (Err (BadDescriptor ReportLength)) = length bytes ≢ info.report_length
+ReportRead info bytes (Err fault) = (length bytes ≡ info.report_length) × IsNoLayout bytes fault
+
+-- a host polls the endpoint of its device, from DATA0 and the initial view on
+abbrev pub Configured : ℕ → ConfigInfo → Contents → Result HostPhase StackFault → Type 0
+Configured addr info layout (Ok next) = next ≡ Ready (known_at_start addr info.endpoint layout)
+Configured addr info layout (Err fault) = fault ≡ Memory
+
+-- what was read leads to a phase
+abbrev pub leads_to : {A : Type 0} → (A → HostPhase) → Result A StackFault → Result HostPhase StackFault
+leads_to next (Ok read) = Ok (next read)
+leads_to next (Err fault) = Err fault
+
+-- The phase behind a request that is done, or why its answer is refused: nothing is kept of a device descriptor, what a
+-- configuration says and the layout are kept, and a device that is configured is polled.
+abbrev pub Makes : ℕ → Request → HostPhase → List ℕ → Result HostPhase StackFault → Type 0
+Makes addr requests.Device phase bytes made =
+    (read : Result (Unit {0}) StackFault) × DeviceRead bytes read × (made ≡ leads_to (λ _. phase) read)
+Makes addr requests.Config phase bytes made =
+    (read : Result ConfigInfo StackFault) × ConfigRead bytes read × (made ≡ leads_to Described read)
+Makes addr requests.Report (Described info) bytes made =
+    (read : Result Contents StackFault) × ReportRead info bytes read
+    × (made ≡ leads_to (Parsed info) read)
+Makes addr requests.Configure (Parsed info layout) bytes made = Configured addr info layout made
+Makes addr request phase bytes made = made ≡ Ok phase
+
+-- what is refused leaves the phase
+abbrev pub phase_made : HostPhase → Result HostPhase StackFault → HostPhase
+phase_made phase (Ok next) = next
+phase_made phase (Err fault) = phase

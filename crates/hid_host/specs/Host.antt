@@ -1,0 +1,126 @@
+-- The host of one device, and the transfer that it began last (USB 2.0, 8.5.3 and 9.1.1).
+use Rattle.std.specs.Prelude.{◌≡◌, ℕ, if◌then◌else◌, is_some, List, [], Option, Some, None, Result, Ok, Err}
+use Rattle.hid_layout.specs.Layout.{Contents}
+use Rattle.usb_packet.specs.declared.packet.Packet.{Packet}
+use Rattle.usb_transact.specs.declared.host.Took.{Took}
+use Rattle.usb_transact.specs.declared.transaction.Fate.{Fate}
+use Rattle.usb_transact.specs.Fate.{arrives_under}
+use Rattle.usb_transact.specs.Host.{token_to}
+use Rattle.usb_control.specs.declared.fault.ControlFault.TheVariants.{NoTransfer, Busy}
+use Rattle.usb_control.specs.declared.host.HostStage.{HostStage}
+use Rattle.usb_control.specs.declared.host.HostStage.TheVariants.{Done, Failed}
+use Rattle.usb_control.specs.declared.host.Outcome.{Outcome}
+use Rattle.usb_control.specs.declared.host.Progress.{Progress}
+use Rattle.usb_control.specs.declared.host.Progress.TheVariants as progresses
+use Rattle.usb_control.specs.Crossing.{Crosses}
+use Rattle.usb_control.specs.Device.{DevControlState}
+use Rattle.usb_control.specs.Host.{HostTransferState, Shows, at_start, progress_of}
+use Rattle.usb_control.specs.Requests.{PrepareGives, ApplyGives, AnswerOf}
+use Rattle.usb_control.specs.SetupBytes.{reads}
+use Rattle.usb_control.specs.Transaction.{Transacts}
+use Rattle.hid_requests.specs.declared.request.Request.{Request}
+use Rattle.hid_requests.specs.Asking.{setup_for}
+use Rattle.hid_host.specs.declared.fault.StackFault.{StackFault}
+use Rattle.hid_host.specs.declared.fault.StackFault.TheVariants.{NotReady, Control}
+use Rattle.hid_host.specs.declared.host.Transfer.{Transfer}
+use Rattle.hid_host.specs.declared.phase.HostPhase.{HostPhase}
+use Rattle.hid_host.specs.declared.phase.HostPhase.TheVariants.{Cold, Ready}
+use Rattle.hid_host.specs.Conclusions.{Makes, phase_made}
+use Rattle.hid_host.specs.Phase.{asking_at, may_begin, state_of}
+use Rattle.hid_host.specs.Ready.{Known, known_at_start, known_behind}
+
+-- the device's address, how far the host has come with it, and the transfer that it began last
+pub record HostEnd : Type 0 where
+  pub addr : ℕ
+  pub phase : HostPhase
+  pub transfer : Option Transfer
+
+-- a host that knows nothing of its device
+abbrev pub cold_host : ℕ → HostEnd
+cold_host addr = record { addr = addr; phase = Cold; transfer = None }
+
+-- a host that is ready from the start, at this address with this layout: it polls endpoint 1 (our choice: a virtual
+-- device has no other)
+abbrev pub ready_host : ℕ → Contents → HostEnd
+ready_host addr layout = record { addr = addr; phase = Ready (known_at_start addr 1 layout); transfer = None }
+
+-- the token of a poll
+abbrev pub polls_with : HostPhase → Result Packet StackFault
+polls_with (Ready known) = Ok (token_to known.pipe)
+polls_with _ = Err NotReady
+
+-- a ready host after it took what came
+abbrev pub ready_after : HostEnd → Known → Took → HostEnd
+ready_after host known taken = record host { phase = Ready (known_behind known taken) }
+
+-- a transfer at this stage, where it runs
+abbrev pub running_at : Transfer → HostStage → Option Transfer
+running_at transfer Done = None
+running_at transfer (Failed fault) = None
+running_at transfer _ = Some transfer
+
+-- the transfer that runs, where one does
+abbrev pub running : Option Transfer → Option Transfer
+running None = None
+running (Some transfer) = running_at transfer transfer.ends.stage
+
+-- why a request can't begin, memory aside: another transfer runs, or the host is in another state
+abbrev pub begin_refusal : HostEnd → Request → Option StackFault
+begin_refusal host request =
+    if is_some (running host.transfer) then Some (Control Busy)
+    else if may_begin request (state_of host.phase) then None
+    else Some NotReady
+
+-- the host with a transfer that has yet to begin
+abbrev pub begun : HostEnd → Request → HostEnd
+begun host request = record host {
+  transfer = Some (record {
+    request = request;
+    ends = at_start host.addr (setup_for request (asking_at host.phase)) [];
+  });
+}
+
+-- the bytes of a read
+abbrev pub bytes_got : HostTransferState → List ℕ
+bytes_got ends = if reads ends.setup then ends.bytes else []
+
+-- what is told where a request is done, by what is made of its answer
+abbrev pub told_made : Result HostPhase StackFault → Result Progress StackFault
+told_made (Ok next) = Ok progresses.Done
+told_made (Err fault) = Err fault
+
+-- What is concluded where a try leaves a transfer at this stage: on its answer where it is done, else nothing.
+abbrev pub ConcludesAt :
+    HostStage → ℕ → Request → HostPhase → List ℕ → Result Progress StackFault → HostPhase → Type 0
+ConcludesAt Done addr request phase bytes result next =
+    (made : Result HostPhase StackFault) × Makes addr request phase bytes made
+    × (result ≡ told_made made) × (next ≡ phase_made phase made)
+ConcludesAt stage addr request phase bytes result next = (result ≡ Ok (progress_of stage)) × (next ≡ phase)
+
+-- A try of the transfer that runs: what goes over the bus, what each end makes of it, and what the host concludes.
+pub record TriesOnce {R : Type 0} (prepare_gives : PrepareGives R) (apply_gives : ApplyGives R)
+    (answer_of : AnswerOf R) (fate : Fate) (host : HostEnd) (transfer : Transfer) (old : DevControlState R)
+    (result : Result Progress StackFault) (host_then : HostEnd) (new : DevControlState R) : Type 0 where
+  pub ends : HostTransferState
+  pub next : HostPhase
+  pub packets : Crosses prepare_gives apply_gives answer_of (arrives_under fate) transfer.ends old ends new
+  pub transacts : Transacts prepare_gives apply_gives answer_of fate transfer.ends old ends new
+  pub same : ends.setup ≡ transfer.ends.setup
+  pub concludes : ConcludesAt ends.stage host.addr transfer.request host.phase (bytes_got ends) result next
+  pub after : host_then ≡ record host { phase = next; transfer = Some (record transfer { ends = ends }) }
+
+-- One control step: where no transfer runs nothing is sent, and nothing changes.
+abbrev pub ControlSteps :
+    {R : Type 0} → PrepareGives R → ApplyGives R → AnswerOf R → Fate → HostEnd → DevControlState R
+    → Result Progress StackFault → HostEnd → DevControlState R → Type 0
+ControlSteps prepare_gives apply_gives answer_of fate host old result after new =
+    elim (running host.transfer) [
+      | None ↦ (result ≡ Err (Control NoTransfer)) × (after ≡ host) × (new ≡ old)
+      | Some transfer ↦ TriesOnce prepare_gives apply_gives answer_of fate host transfer old result after new
+    ]
+
+-- what is shown of the transfer that was begun last
+abbrev pub ShowsLast : Option Transfer → Result Outcome StackFault → Type 0
+ShowsLast None result = result ≡ Err (Control NoTransfer)
+ShowsLast (Some transfer) (Ok outcome) = Shows outcome transfer.ends.stage (bytes_got transfer.ends)
+ShowsLast (Some transfer) (Err fault) = ⊥

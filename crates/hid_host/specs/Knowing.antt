@@ -1,0 +1,96 @@
+-- A host and the virtual device that it brings up: what it knows is what the device was made with, and a transfer between
+-- the two is the one of a request (USB 2.0, 8.5.3, 9.1.1 and 9.4).
+use Rattle.std.specs.Prelude.{◌≡◌, ℕ, true, false, [], length, Some, Result, Err, IfSome}
+use Rattle.usb_control.specs.declared.descriptors.ConfigInfo.{ConfigInfo}
+use Rattle.usb_control.specs.declared.host.Progress.{Progress}
+use Rattle.usb_control.specs.Device.{DevControlState}
+use Rattle.usb_control.specs.Host.{IsRunning}
+use Rattle.usb_control.specs.Runs.{IsDone}
+use Rattle.usb_control.specs.Standing.{Stands}
+use Rattle.usb_control.specs.Transfer.{Decision, Accepted, Place, Position, Setup, shape_of}
+use Rattle.hid_requests.specs.declared.request.Request.{Request}
+use Rattle.hid_requests.specs.declared.request.Request.TheVariants as requests
+use Rattle.hid_requests.specs.Asking.{setup_for}
+use Rattle.hid_requests.specs.Descriptors.{configuration_bytes, device_bytes}
+use Rattle.hid_device.specs.declared.decisions.Pending.TheVariants.{Configure}
+use Rattle.hid_device.specs.declared.device.TheConstants.{ENDPOINT}
+use Rattle.hid_device.specs.Core.{CoreState}
+use Rattle.hid_device.specs.Deciding.{config_info, core_table, device_info}
+use Rattle.hid_host.specs.declared.fault.StackFault.{StackFault}
+use Rattle.hid_host.specs.declared.fault.StackFault.TheVariants.{BadDescriptor}
+use Rattle.hid_host.specs.declared.host.Transfer.{Transfer}
+use Rattle.hid_host.specs.declared.phase.HostPhase.{HostPhase}
+use Rattle.hid_host.specs.declared.phase.HostPhase.TheVariants.{Cold, Described, Parsed, Ready}
+use Rattle.hid_host.specs.Host.{HostEnd}
+use Rattle.hid_host.specs.Phase.{may_begin, state_of}
+
+-- what a host reads of a device's configuration
+abbrev pub info_of : CoreState → ConfigInfo
+info_of core = config_info core.config (length core.descriptor)
+
+-- What the host knows is so: the configuration says it, the layout is the device's, and a device that is polled is
+-- configured.
+abbrev pub KnowsAt : HostPhase → ℕ → CoreState → Type 0
+KnowsAt Cold addr core = Unit {0}
+KnowsAt (Described info) addr core = info ≡ info_of core
+KnowsAt (Parsed info layout) addr core = (info ≡ info_of core) × (layout ≡ core.layout)
+KnowsAt (Ready known) addr core =
+    (known.layout ≡ core.layout) × (core.is_configured ≡ true) × (known.pipe.addr ≡ addr) × (known.pipe.endp ≡ ENDPOINT)
+
+-- the host has the handshake of SETUP
+abbrev pub IsBehindSetup : Position → Type 0
+IsBehindSetup Setup = ⊥
+IsBehindSetup _ = Unit {0}
+
+-- what a device decides on the requests that bring it up
+abbrev pub IsDecided : Request → CoreState → Decision → Type 0
+IsDecided requests.Device core decision = decision ≡ Accepted (Some (device_bytes (device_info core.config)))
+IsDecided requests.Config core decision =
+    decision ≡ Accepted (Some (configuration_bytes (info_of core) core.config.interval))
+IsDecided requests.Report core decision = decision ≡ Accepted (Some core.descriptor)
+IsDecided requests.Configure core decision = core.pending ≡ Configure
+IsDecided requests.Status core decision = Unit {0}
+IsDecided requests.GetConfiguration core decision = Unit {0}
+
+-- what a write has brought about once it took effect
+abbrev pub HasEffect : Request → CoreState → Type 0
+HasEffect requests.Configure core = core.is_configured ≡ true
+HasEffect _ core = Unit {0}
+
+-- A transfer is the one of its request, and both ends stand somewhere in it.
+pub record Carries (phase : HostPhase) (transfer : Transfer) (control : DevControlState CoreState) : Type 0 where
+  pub place : Place
+  pub stands : Stands core_table.answer_of (shape_of transfer.ends.setup) [] place transfer.ends control
+  pub asked :
+      transfer.ends.setup ≡ setup_for transfer.request (record { report_length = length control.requests.descriptor })
+  -- it began in the state that its request needs
+  pub needs : IsRunning transfer.ends.stage → may_begin transfer.request (state_of phase) ≡ true
+  -- what the device decided behind SETUP, and has done where it took effect, as it has where the write is done
+  pub decided : IsBehindSetup place.host → IsDecided transfer.request control.requests place.decision
+  pub effect : place.applied ≡ true → HasEffect transfer.request control.requests
+  pub applied : IsDone place → (shape_of transfer.ends.setup).reads ≡ false → place.applied ≡ true
+
+-- A host knows its device.
+pub record Knows (host : HostEnd) (control : DevControlState CoreState) : Type 0 where
+  pub phase : KnowsAt host.phase host.addr control.requests
+  pub transfer : IfSome host.transfer (λ transfer. Carries host.phase transfer control)
+
+-- nothing of a virtual device is refused
+abbrev pub IsNoRefusal : Result Progress StackFault → Type 0
+IsNoRefusal (Err (BadDescriptor fault)) = ⊥
+IsNoRefusal result = Unit {0}
+
+-- What befalls a device beside its endpoint 0 leaves what it was made with, its configuration, and the request that was
+-- decided on last.
+pub record LeavesTransfers (old new : DevControlState CoreState) : Type 0 where
+  pub layout : new.requests.layout ≡ old.requests.layout
+  pub config : new.requests.config ≡ old.requests.config
+  pub descriptor : new.requests.descriptor ≡ old.requests.descriptor
+  pub configured : old.requests.is_configured ≡ true → new.requests.is_configured ≡ true
+  pub answer : new.requests.answer ≡ old.requests.answer
+  pub pending : new.requests.pending ≡ old.requests.pending
+  pub stage : new.stage ≡ old.stage
+
+-- endpoint 0 with another inside
+abbrev pub with_core : DevControlState CoreState → CoreState → DevControlState CoreState
+with_core control core = record { requests = core; stage = control.stage; heard = control.heard }

@@ -1,0 +1,7 @@
+pub mod Faults
+pub mod Ready
+pub mod Phase
+pub mod Conclusions
+pub mod Host
+pub mod Knowing
+pub mod Bringing

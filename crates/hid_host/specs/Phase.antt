@@ -1,0 +1,54 @@
+-- How far a host has come with its device, and what it may ask at each phase (USB 2.0, 9.1.1; the phases are our
+-- choice).
+use Rattle.std.specs.Prelude.{◌≤◌, Bool, true, false}
+use Rattle.hid_requests.specs.declared.request.Request.{Request}
+use Rattle.hid_requests.specs.declared.request.Request.TheVariants.{Device, Config, Report, Configure, Status, GetConfiguration}
+use Rattle.hid_requests.specs.declared.request.Asking.{Asking}
+use Rattle.usb_packet.specs.declared.packet.TheConstants.{MAX_ENDPOINT}
+use Rattle.hid_host.specs.declared.phase.HostPhase.{HostPhase}
+use Rattle.hid_host.specs.declared.phase.HostPhase.TheVariants.{Cold, Described, Parsed, Ready}
+use Rattle.hid_host.specs.declared.phase.HostState.{HostState}
+use Rattle.hid_host.specs.declared.phase.HostState.TheVariants as states
+use Rattle.hid_host.specs.Ready.{Known}
+
+-- the phase without what is known there
+abbrev pub state_of : HostPhase → HostState
+state_of Cold = states.Cold
+state_of (Described info) = states.Described
+state_of (Parsed info layout) = states.Parsed
+state_of (Ready known) = states.Ready
+
+-- the state in which a request may begin
+abbrev pub may_begin : Request → HostState → Bool
+may_begin Device state = true
+may_begin Config states.Cold = true
+may_begin Config _ = false
+may_begin Report states.Described = true
+may_begin Report _ = false
+may_begin Configure states.Parsed = true
+may_begin Configure _ = false
+may_begin Status state = true
+may_begin GetConfiguration state = true
+
+-- what a request is asked with: the length of the report descriptor, where the configuration told it
+abbrev pub asking_at : HostPhase → Asking
+asking_at Cold = record { report_length = 0 }
+asking_at (Described info) = record { report_length = info.report_length }
+asking_at (Parsed info layout) = record { report_length = info.report_length }
+asking_at (Ready known) = record { report_length = 0 }
+
+-- the host has configured its device and polls it
+abbrev pub IsReady : HostPhase → Type 0
+IsReady (Ready known) = Unit {0}
+IsReady _ = ⊥
+
+-- where the host is ready, this holds of what it keeps
+abbrev pub IfReady : HostPhase → (Known → Type 0) → Type 0
+IfReady (Ready known) holds = holds known
+IfReady _ holds = Unit {0}
+
+-- the endpoint that a configuration told has a number
+abbrev pub HasEndpoint : HostPhase → Type 0
+HasEndpoint (Described info) = info.endpoint ≤ MAX_ENDPOINT
+HasEndpoint (Parsed info layout) = info.endpoint ≤ MAX_ENDPOINT
+HasEndpoint _ = Unit {0}

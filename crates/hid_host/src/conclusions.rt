@@ -1,0 +1,119 @@
+//! What a host makes of the answer to a request that is done.
+ghost use Rattle.std.specs.Prelude.{◌≡◌, ◌≤◌, ℕ, List, [], Ok, Err, IfOk, IfErr, OnOk, OnErr};
+ghost use Rattle.hid_descriptor.specs.Faults.{Explains};
+ghost use Rattle.usb_packet.specs.declared.packet.TheConstants.{MAX_ENDPOINT};
+ghost use Rattle.hid_device.specs.Laying.{Lays};
+ghost use Rattle.hid_requests.specs.declared.request.Request.TheVariants.{Configure};
+ghost use Rattle.hid_host.specs.Conclusions.{ConfigRead, Configured, DeviceRead, IsNoLayout, Makes, ReportRead};
+ghost use Rattle.hid_host.specs.Phase.{HasEndpoint};
+
+use crate::fault::{DescriptorFault, StackFault};
+use crate::phase::HostPhase;
+use crate::ready::ReadyHost;
+use hid_layout::{Cause, Layout, LayoutFault};
+use hid_requests::Request;
+use hid_usages::View;
+use std::alloc::Global;
+use std::mem;
+use usb_control::{ConfigInfo, DeviceInfo};
+use usb_packet::MAX_ADDRESS;
+
+/// What a want of a layout is told as.
+fn no_layout(fault: LayoutFault) -> StackFault
+    ensures { (bytes : List ℕ) → Explains bytes fault.cause fault.at → IsNoLayout bytes result }
+{
+    match fault.cause {
+        Cause::Memory => StackFault::Memory,
+        _ => StackFault::BadDescriptor(DescriptorFault::Layout(fault)),
+    }
+}
+
+/// The layout of a report descriptor.
+pub(crate) fn layout_of(alloc: Global, descriptor: &[u8]) -> Result<Layout, StackFault>
+    ensures lays { IfOk result (λ layout. Lays descriptor.now layout) }
+    ensures refused { IfErr result (λ fault. IsNoLayout descriptor.now fault) }
+{
+    match Layout::parse(alloc, descriptor) {
+        Ok(layout) => Ok(layout),
+        Err(fault) => Err(no_layout(fault)),
+    }
+}
+
+/// Reads a device descriptor.
+fn read_device(bytes: &[u8]) -> Result<(), StackFault>
+    ensures { DeviceRead bytes.now result }
+{
+    DeviceInfo::read(bytes)?;
+    Ok(())
+}
+
+/// Reads a configuration.
+fn read_config(bytes: &[u8]) -> Result<ConfigInfo, StackFault>
+    ensures reads { ConfigRead bytes.now result }
+    ensures endpoint { IfOk result (λ info. info.endpoint ≤ MAX_ENDPOINT) }
+{
+    Ok(ConfigInfo::read(bytes)?)
+}
+
+/// Reads a report descriptor, which should be as long as the configuration says.
+fn read_report(alloc: Global, info: &ConfigInfo, bytes: &[u8]) -> Result<Layout, StackFault>
+    ensures { ReportRead info.now bytes.now result }
+{
+    if bytes.len() != usize::from(info.report_length) {
+        return Err(StackFault::BadDescriptor(DescriptorFault::ReportLength));
+    }
+    layout_of(alloc, bytes)
+}
+
+/// A host whose device was configured becomes ready. It keeps its layout where no memory is found.
+fn configured(alloc: Global, addr: u8, phase: &mut HostPhase) -> Result<(), StackFault>
+    requires addr { addr ≤ MAX_ADDRESS }
+    requires endpoint { HasEndpoint phase.old }
+    ensures makes { OnOk result (Makes addr Configure phase.old [] (Ok phase.new)) }
+    ensures memory { IfErr result (λ fault. Makes addr Configure phase.old [] (Err fault)) }
+    ensures err { OnErr result (phase.new ≡ phase.old) }
+{
+    let HostPhase::Parsed(info, layout) = &*phase else {
+        return Ok(());
+    };
+    let endpoint = info.endpoint;
+    let view = View::initial(alloc, layout)?;
+    let HostPhase::Parsed(_, layout) = mem::replace(phase, HostPhase::Cold) else {
+        unreachable!()
+    };
+    *phase = HostPhase::Ready(ReadyHost::new(addr, endpoint, layout, view));
+    Ok(())
+}
+
+/// Concludes on the answer to a request that is done: the next phase, or why the answer is refused.
+pub(crate) fn conclude(
+    alloc: Global,
+    addr: u8,
+    request: &Request,
+    bytes: &[u8],
+    phase: &mut HostPhase,
+) -> Result<(), StackFault>
+    requires addr { addr ≤ MAX_ADDRESS }
+    requires endpoint { HasEndpoint phase.old }
+    ensures makes { OnOk result (Makes addr request.now phase.old bytes.now (Ok phase.new)) }
+    ensures refused { IfErr result (λ fault. Makes addr request.now phase.old bytes.now (Err fault)) }
+    ensures err { OnErr result (phase.new ≡ phase.old) }
+    ensures endpoint { HasEndpoint phase.new }
+{
+    match request {
+        Request::Device => read_device(bytes),
+        Request::Config => {
+            *phase = HostPhase::Described(read_config(bytes)?);
+            Ok(())
+        }
+        Request::Report => {
+            if let HostPhase::Described(info) = &*phase {
+                let info = *info;
+                *phase = HostPhase::Parsed(info, read_report(alloc, &info, bytes)?);
+            }
+            Ok(())
+        }
+        Request::Configure => configured(alloc, addr, phase),
+        Request::Status | Request::GetConfiguration => Ok(()),
+    }
+}

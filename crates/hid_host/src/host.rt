@@ -1,0 +1,296 @@
+//! The host of one device: its polls.
+ghost use Rattle.std.specs.Prelude.{◌≡◌, ◌⊎◌, ◌≤◌, ◌<◌, ◌+◌, ◌++◌, length, IfOk, IfErr, vec_len, vec_capacity};
+ghost use Rattle.std.specs.Option.{option_copied};
+ghost use Rattle.hid_layout.specs.Controls.{items_of, max_events};
+ghost use Rattle.hid_layout.specs.Layout.{Contents};
+ghost use Rattle.usb_packet.specs.Spelling.{Fits};
+ghost use Rattle.usb_transact.specs.Taken.{taken};
+ghost use Rattle.hid_device.specs.Laying.{Lays};
+ghost use Rattle.hid_host.specs.Conclusions.{IsNoLayout};
+ghost use Rattle.hid_host.specs.Host.{cold_host, polls_with, ready_host, ready_after};
+ghost use Rattle.hid_host.specs.Phase.{IsReady, IfReady, state_of};
+ghost use Rattle.hid_host.specs.Ready.{told_of, events_behind};
+
+use crate::conclusions::{conclude, layout_of};
+use crate::fault::StackFault;
+use crate::phase::{HostPhase, HostState};
+use crate::ready::ReadyHost;
+use hid_requests::Request;
+use hid_usages::{Event, View};
+use std::alloc::Global;
+use std::marker::Model;
+use usb_control::{ControlFault, DevControl, HostTransfer, Outcome, Progress, Requests};
+use usb_packet::{MAX_ADDRESS, Packet};
+use usb_transact::{Fate, HostPipe, Took};
+
+/// The interrupt-IN endpoint of a virtual device.
+const REPORT_ENDPOINT: u8 = 1;
+
+/// A transfer of a host, and the request that it plays.
+#[derive(Drop)]
+pub(crate) struct Transfer {
+    pub(crate) request: Request,
+    pub(crate) ends: HostTransfer,
+}
+
+/// The host of one device. A contract sees it as `addr`, `phase` and `transfer`, the one that it began last.
+#[derive(Drop)]
+pub struct HostDevice {
+    alloc: Global,
+    addr: u8,
+    phase: HostPhase,
+    transfer: Option<Transfer>,
+}
+
+impl Model for HostDevice {
+    ghost use Rattle.std.specs.Prelude.{◌≤◌, ◌<◌};
+    ghost use Rattle.usb_packet.specs.declared.packet.TheConstants.{MAX_ADDRESS};
+    ghost use Rattle.hid_host.specs.Host.{HostEnd};
+    ghost use Rattle.hid_host.specs.Phase.{HasEndpoint};
+
+    ghost Value = { HostEnd };
+
+    ghost view = { λ h. record { addr = h.addr; phase = h.phase; transfer = h.transfer } };
+
+    ghost invariant = { λ h. (0 < h.addr) × (h.addr ≤ MAX_ADDRESS) × HasEndpoint h.phase };
+}
+
+impl HostDevice {
+    /// A host that knows nothing yet of the device at this address, 1 to [`MAX_ADDRESS`].
+    pub fn cold(alloc: Global, addr: u8) -> HostDevice
+        requires above { 0 < addr }
+        requires addr { addr ≤ MAX_ADDRESS }
+        ensures { result ≡ cold_host addr }
+    {
+        HostDevice {
+            alloc,
+            addr,
+            phase: HostPhase::Cold,
+            transfer: None,
+        }
+    }
+
+    /// A host that is ready from the start: it has the layout of this report descriptor, expects DATA0, and polls endpoint
+    /// 1 of the device at this address, 1 to [`MAX_ADDRESS`].
+    ///
+    /// # Errors
+    /// [`StackFault::BadDescriptor`] with the layout's cause and place, or [`StackFault::Memory`].
+    pub fn ready(alloc: Global, addr: u8, descriptor: &[u8]) -> Result<HostDevice, StackFault>
+        requires above { 0 < addr }
+        requires addr { addr ≤ MAX_ADDRESS }
+        ensures ready { IfOk result (λ host. (layout : Contents) × Lays descriptor.now layout
+            × (host ≡ ready_host addr layout)) }
+        ensures is_ready { IfOk result (λ host. IsReady host.phase) }
+        ensures refused { IfErr result (λ fault. IsNoLayout descriptor.now fault) }
+    {
+        let layout = layout_of(alloc, descriptor)?;
+        let view = View::initial(alloc, &layout)?;
+        let host = ReadyHost::new(addr, REPORT_ENDPOINT, layout, view);
+        Ok(HostDevice {
+            alloc,
+            addr,
+            phase: HostPhase::Ready(host),
+            transfer: None,
+        })
+    }
+
+    /// How far the host has come with its device.
+    pub fn state(&self) -> HostState
+        ensures { result ≡ state_of self.now.phase }
+    {
+        self.phase.state()
+    }
+
+    /// How many events a reply gives at most.
+    pub fn max_events(&self) -> usize
+        requires { IsReady self.now.phase }
+        ensures { IfReady self.now.phase (λ host. result ≡ max_events (items_of host.layout)) }
+    {
+        match &self.phase {
+            HostPhase::Cold | HostPhase::Described(_) | HostPhase::Parsed(..) => unreachable!(),
+            HostPhase::Ready(host) => host.max_events(),
+        }
+    }
+
+    /// The IN token of a poll (USB 2.0, 8.4.1).
+    ///
+    /// # Errors
+    /// [`StackFault::NotReady`] where the host hasn't configured its device.
+    pub fn token(&self) -> Result<Packet, StackFault>
+        ensures token { result ≡ polls_with self.now.phase }
+        ensures fits { IfOk result Fits }
+        ensures is_ready { IfOk result (λ _. IsReady self.now.phase) }
+    {
+        match &self.phase {
+            HostPhase::Cold | HostPhase::Described(_) | HostPhase::Parsed(..) => Err(
+                StackFault::NotReady,
+            ),
+            HostPhase::Ready(host) => Ok(host.token()),
+        }
+    }
+
+    /// Takes what came after the token, if something did (USB 2.0, 8.6). Fresh data are read as an Input report, and
+    /// what changes and moves in the view is appended. There is reserved room for `max_events` more; no memory is taken.
+    ///
+    /// # Errors
+    /// [`StackFault::Report`] where fresh data are no Input report: the toggle has moved on, and the view stays.
+    pub fn reply(
+        &mut self,
+        packet: Option<&Packet>,
+        out: &mut Vec<Event>,
+    ) -> Result<Took, StackFault>
+        requires ready { IsReady self.old.phase }
+        requires room { IfReady self.old.phase (λ host. vec_len out.old
+            + max_events (items_of host.layout) ≤ vec_capacity out.old) }
+        // What is told, what the host keeps, and the events.
+        ensures told { IfReady self.old.phase (λ host. result
+            ≡ told_of host.layout (taken host.pipe.expects (option_copied packet.entry))) }
+        ensures after { IfReady self.old.phase (λ host. self.new
+            ≡ ready_after self.old host
+            (taken host.pipe.expects (option_copied packet.entry))) }
+        ensures events { IfReady self.old.phase (λ host. out.new.items
+            ≡ out.old.items
+            ++ events_behind host (taken host.pipe.expects (option_copied packet.entry))) }
+
+        ensures few { IfReady self.old.phase (λ host. length out.new.items
+            ≤ length out.old.items + max_events (items_of host.layout)) }
+        ensures room { vec_capacity out.new ≡ vec_capacity out.old }
+        ensures is_ready { IsReady self.new.phase }
+    {
+        match &mut self.phase {
+            HostPhase::Cold | HostPhase::Described(_) | HostPhase::Parsed(..) => unreachable!(),
+            HostPhase::Ready(host) => host.reply(packet, out),
+        }
+    }
+
+    /// The pipe that the host polls.
+    pub fn pipe(&self) -> &HostPipe
+        requires { IsReady self.now.phase }
+        ensures { IfReady self.now.phase (λ host. result.now ≡ host.pipe) }
+    {
+        match &self.phase {
+            HostPhase::Cold | HostPhase::Described(_) | HostPhase::Parsed(..) => unreachable!(),
+            HostPhase::Ready(host) => host.pipe(),
+        }
+    }
+
+    /// The host's view of the controls.
+    pub fn view(&self) -> &View
+        requires { IsReady self.now.phase }
+        ensures { IfReady self.now.phase (λ host. result.now ≡ host.view) }
+    {
+        match &self.phase {
+            HostPhase::Cold | HostPhase::Described(_) | HostPhase::Parsed(..) => unreachable!(),
+            HostPhase::Ready(host) => host.view(),
+        }
+    }
+}
+
+impl HostDevice {
+    ghost use Rattle.std.specs.Prelude.{Ok, Err, Some, None, OnOk, OnErr, is_some};
+    ghost use Rattle.hid_host.specs.declared.fault.StackFault.{StackFault as Refusal};
+    ghost use Rattle.hid_host.specs.Host.{ConcludesAt, ControlSteps, ShowsLast, begin_refusal, begun, bytes_got, running};
+
+    /// Whether a transfer runs.
+    fn is_busy(&self) -> bool
+        ensures { result ≡ is_some (running self.now.transfer) }
+    {
+        match &self.transfer {
+            Some(transfer) => matches!(transfer.ends.outcome(), Outcome::Running),
+            None => false,
+        }
+    }
+
+    /// Begins a transfer of a request. Nothing is sent yet, and a call that is refused changes nothing. It takes the memory
+    /// for wLength bytes.
+    ///
+    /// # Errors
+    /// [`StackFault::Control`] with [`ControlFault::Busy`] where another transfer runs; then [`StackFault::NotReady`]
+    /// where the request needs another state, by the table of [`HostState`]; then [`StackFault::Memory`].
+    pub fn begin(&mut self, request: &Request) -> Result<(), StackFault>
+        ensures begun { OnOk result ((begin_refusal self.old request.now ≡ None)
+            × (self.new ≡ begun self.old request.now)) }
+        ensures refused { (e : Refusal) → begin_refusal self.old request.now ≡ Some e → result ≡ Err e }
+        ensures only { IfErr result (λ e. (begin_refusal self.old request.now ≡ Some e)
+            ⊎ ((begin_refusal self.old request.now ≡ None) × (e ≡ Refusal.Memory))) }
+        ensures err { OnErr result (self.new ≡ self.old) }
+    {
+        if self.is_busy() {
+            return Err(StackFault::Control(ControlFault::Busy));
+        }
+        if !self.phase.state().allows(request) {
+            return Err(StackFault::NotReady);
+        }
+        let setup = request.setup(&self.phase.asking());
+        let Ok(ends) = HostTransfer::begin(self.alloc, self.addr, setup, &[]) else {
+            return Err(StackFault::Memory);
+        };
+        self.transfer = Some(Transfer {
+            request: *request,
+            ends,
+        });
+        Ok(())
+    }
+
+    /// One try of the transfer that runs, with the device's endpoint 0; one packet of it may be lost. Where the request is
+    /// done, its answer is read, and the host goes on to the next state, by the table of [`HostState`].
+    ///
+    /// # Errors
+    /// [`StackFault::Control`] with [`ControlFault::NoTransfer`] where none runs: nothing is sent. Where the request is
+    /// done, [`StackFault::BadDescriptor`] where its answer can't be read, and [`StackFault::Memory`] where a layout or a
+    /// view finds none: the transfer is over, and the host is in the state in which it was.
+    pub fn control_step<R: Requests>(
+        &mut self,
+        control: &mut DevControl<R>,
+        fate: Fate,
+    ) -> Result<Progress, StackFault>
+        ensures { ControlSteps R.prepare_gives R.apply_gives R.answer_of fate
+            self.old control.old result self.new control.new }
+    {
+        if !self.is_busy() {
+            return Err(StackFault::Control(ControlFault::NoTransfer));
+        }
+        let Some(mut transfer) = self.transfer.take() else {
+            unreachable!()
+        };
+        transfer.ends.step(control, fate);
+        let told = self.concluded(&transfer);
+        self.transfer = Some(transfer);
+        told
+    }
+
+    /// What is told behind a try of a transfer. Where it is done, the host goes on by its answer.
+    fn concluded(&mut self, transfer: &Transfer) -> Result<Progress, StackFault>
+        ensures concludes { ConcludesAt transfer.now.ends.stage self.old.addr transfer.now.request
+            self.old.phase (bytes_got transfer.now.ends) result self.new.phase }
+        ensures others { self.new ≡ record self.old { phase = self.new.phase } }
+    {
+        match transfer.ends.outcome() {
+            Outcome::Running => Ok(Progress::Running),
+            Outcome::Failed(fault) => Ok(Progress::Failed(fault)),
+            Outcome::Done(bytes) => {
+                conclude(
+                    self.alloc,
+                    self.addr,
+                    &transfer.request,
+                    bytes,
+                    &mut self.phase,
+                )?;
+                Ok(Progress::Done)
+            }
+        }
+    }
+
+    /// How far the transfer has come that was begun last, with the bytes of a read that is done.
+    ///
+    /// # Errors
+    /// [`StackFault::Control`] with [`ControlFault::NoTransfer`] where none was begun.
+    pub fn outcome(&self) -> Result<Outcome<'_>, StackFault>
+        ensures { ShowsLast self.now.transfer result }
+    {
+        match &self.transfer {
+            Some(transfer) => Ok(transfer.ends.outcome()),
+            None => Err(StackFault::Control(ControlFault::NoTransfer)),
+        }
+    }
+}

@@ -1,0 +1,36 @@
+//! The host of one human interface device: how it comes to know the device by transfers of endpoint 0, and what it makes
+//! of the answers to its polls (USB 2.0, 8.5 and 9.1.1; HID 1.11, 5.6 and 7.1).
+//! ```text
+//!   state       begin(Request::..)     what comes of it, where the request is done
+//!   Cold        Config                 the configuration is read         -> Described
+//!   Described   Report                 the report descriptor is laid out -> Parsed
+//!   Parsed      Configure              the device is configured          -> Ready
+//!   Ready       token, reply           Input reports: events
+//! ```
+//! `Device`, `Status` and `GetConfiguration` may be begun in every state. One transfer runs at a time;
+//! [`control_step`](HostDevice::control_step) makes one try of it, and the state moves where it is done.
+//!
+//! The rule to know: an answer that can't be read (B1 to B6, L1 to L16), and a want of memory, end the transfer and leave
+//! the state; the request may be begun again.
+//!
+//! The promise: a request begins exactly where none runs and its state is the one of the table (`refused` and `only` on
+//! [`begin`](HostDevice::begin)), each try goes packet by packet, and the state moves by the table where the request is
+//! done and never else ([`control_step`](HostDevice::control_step)). With a virtual device the host is ready only while
+//! that is configured, and has its layout, whatever is lost ([`laws::hosts_know_their_devices`]). Of polls `told`, `after`
+//! and `events` on [`reply`](HostDevice::reply). Only `ready`, `begin`, and a `control_step` that ends `Report` or
+//! `Configure` take memory.
+#![tactic(auto)]
+
+mod conclusions;
+mod fault;
+mod host;
+pub mod laws;
+mod phase;
+mod ready;
+
+pub use fault::{DescriptorFault, StackFault};
+pub use host::HostDevice;
+pub use phase::HostState;
+
+#[cfg(test)]
+mod tests;

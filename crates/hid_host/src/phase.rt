@@ -1,0 +1,79 @@
+//! How far a host has come with its device.
+ghost use Rattle.std.specs.Prelude.{◌≡◌};
+ghost use Rattle.hid_host.specs.Phase.{asking_at, may_begin, state_of};
+
+use crate::ready::ReadyHost;
+use hid_layout::Layout;
+use hid_requests::{Asking, Request};
+use usb_control::ConfigInfo;
+
+/// How far a host has come with its device (USB 2.0, 9.1.1; the states are our choice).
+///
+/// | state | what is known | what may begin | leads on |
+/// |---|---|---|---|
+/// | `Cold` | nothing | `Config` | a configuration, to `Described` |
+/// | `Described` | what the configuration says | `Report` | a report descriptor, to `Parsed` |
+/// | `Parsed` | the layout of the reports | `Configure` | the status, to `Ready` |
+/// | `Ready` | the pipe and the view of the controls | polls | nothing |
+///
+/// `Device`, `Status` and `GetConfiguration` may begin in each, and lead nowhere. An answer that is refused leads
+/// nowhere either.
+#[derive(Clone, Copy, Debug, PartialEq, Eq)]
+pub enum HostState {
+    /// It knows nothing of the device.
+    Cold,
+    /// It has read the configuration.
+    Described,
+    /// It has read the report descriptor, and laid the reports out.
+    Parsed,
+    /// It has configured the device and polls it.
+    Ready,
+}
+
+/// The state of a host, with what it knows there.
+#[derive(Drop)]
+pub enum HostPhase {
+    Cold,
+    Described(ConfigInfo),
+    Parsed(ConfigInfo, Layout),
+    Ready(ReadyHost),
+}
+
+impl HostPhase {
+    /// The phase without what is known there.
+    pub(crate) fn state(&self) -> HostState
+        ensures { result ≡ state_of self.now }
+    {
+        match self {
+            HostPhase::Cold => HostState::Cold,
+            HostPhase::Described(_) => HostState::Described,
+            HostPhase::Parsed(..) => HostState::Parsed,
+            HostPhase::Ready(_) => HostState::Ready,
+        }
+    }
+
+    /// What a request is asked with.
+    pub(crate) fn asking(&self) -> Asking
+        ensures { result ≡ asking_at self.now }
+    {
+        let report_length = match self {
+            HostPhase::Described(info) | HostPhase::Parsed(info, _) => info.report_length,
+            HostPhase::Cold | HostPhase::Ready(_) => 0,
+        };
+        Asking { report_length }
+    }
+}
+
+impl HostState {
+    /// Whether a request may begin here.
+    pub(crate) fn allows(self, request: &Request) -> bool
+        ensures { result ≡ may_begin request.now self }
+    {
+        match request {
+            Request::Device | Request::Status | Request::GetConfiguration => true,
+            Request::Config => matches!(self, HostState::Cold),
+            Request::Report => matches!(self, HostState::Described),
+            Request::Configure => matches!(self, HostState::Parsed),
+        }
+    }
+}

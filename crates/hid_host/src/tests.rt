@@ -1,0 +1,166 @@
+//! A host that brings a boot keyboard up by transfers, and that reads its reports (USB 2.0, 9.1.1; HID 1.11, 5.6 and
+//! appendix E). The bytes of the configuration are written out from the tables of USB 2.0, 9.6, and of HID 1.11, 6.2.1.
+
+use crate::{DescriptorFault, HostDevice, HostState, StackFault};
+use arrayvec::ArrayVec;
+use hid_device::{Boot, Config, Device, KEYBOARD};
+use hid_layout::{Cause, ControlId, LayoutFault};
+use hid_requests::Request;
+use hid_usages::ReportFault;
+use std::test::Fail;
+use usb_control::{ControlFault, InfoFault, Outcome, Progress};
+use usb_packet::Packet;
+use usb_transact::{Fate, Took};
+
+const KEY: ControlId = ControlId { item: 4, index: 4 };
+
+/// A boot keyboard at address 1 that isn't configured.
+fn keyboard(rt: &HostRuntime) -> Result<Device, Fail> {
+    let config = Config {
+        vendor: 0xFFFF,
+        product: 0x0001,
+        interval: 10,
+        boot: Boot::Keyboard,
+    };
+    Ok(Device::new(rt.alloc(), 1, &config, &KEYBOARD)?)
+}
+
+/// A keyboard's configuration, its interface, its HID descriptor and its endpoint.
+#[rattlefmt::skip]
+const CONFIGURATION: [u8; 34] = [
+    0x09, 0x02, 0x22, 0x00, 0x01, 0x01, 0x00, 0x80, 0x32,
+    0x09, 0x04, 0x00, 0x00, 0x01, 0x03, 0x01, 0x01, 0x00,
+    0x09, 0x21, 0x11, 0x01, 0x00, 0x01, 0x22, 0x3F, 0x00,
+    0x07, 0x05, 0x81, 0x03, 0x40, 0x00, 0x0A,
+];
+
+/// Tries of the transfer that runs, the last of them with this fate, the others clean: what the last one tells.
+fn tried(
+    host: &mut HostDevice,
+    device: &mut Device,
+    clean: usize,
+    last: Fate,
+) -> Result<Progress, StackFault> {
+    for _ in 0..clean {
+        host.control_step(device.control(), Fate::Clean)?;
+    }
+    host.control_step(device.control(), last)
+}
+
+/// A request, how many of its tries are clean before the last one, the fate of that, the bytes that it gives, and the state
+/// behind it.
+type Asks = (Request, usize, Fate, &'static [u8], HostState);
+
+#[rattlefmt::skip]
+const BRINGS_UP: [Asks; 5] = [
+    (Request::GetConfiguration, 2, Fate::Clean,   &[0],           HostState::Cold),
+    (Request::Config,           6, Fate::Clean,   &CONFIGURATION, HostState::Described),
+    (Request::Report,           9, Fate::Clean,   &KEYBOARD,      HostState::Parsed),
+    (Request::Configure,        1, Fate::AckLost, &[],            HostState::Ready),
+    (Request::GetConfiguration, 2, Fate::Clean,   &[1],           HostState::Ready),
+];
+
+#[test]
+fn a_host_brings_its_device_up(rt: HostRuntime) -> Result<(), Fail> {
+    let mut device = keyboard(&rt)?;
+    let mut host = HostDevice::cold(rt.alloc(), 1);
+    for (request, clean, last, bytes, state) in BRINGS_UP {
+        host.begin(&request)?;
+        let told = tried(&mut host, &mut device, clean, last);
+        let is_done = told == Ok(Progress::Done) && host.outcome() == Ok(Outcome::Done(bytes));
+        assert!(rt; is_done && host.state() == state, "{request:?}");
+    }
+    Ok(())
+}
+
+/// What a cold host can't begin yet.
+const REFUSED_WHEN_COLD: [Request; 2] = [Request::Report, Request::Configure];
+
+#[test]
+fn a_request_that_is_refused_changes_nothing(rt: HostRuntime) -> Result<(), Fail> {
+    let mut device = keyboard(&rt)?;
+    let mut host = HostDevice::cold(rt.alloc(), 1);
+    let no_transfer = StackFault::Control(ControlFault::NoTransfer);
+    assert!(rt; host.outcome() == Err(no_transfer), "none was begun");
+    let told = host.control_step(device.control(), Fate::Clean);
+    assert!(rt; told == Err(no_transfer), "nor runs one");
+    for request in REFUSED_WHEN_COLD {
+        let begun = host.begin(&request);
+        assert!(rt; begun == Err(StackFault::NotReady), "{request:?}");
+    }
+    host.begin(&Request::Status)?;
+    let busy = host.begin(&Request::Report);
+    assert!(rt;
+        busy == Err(StackFault::Control(ControlFault::Busy)),
+        "before its state"
+    );
+    Ok(())
+}
+
+#[test]
+fn a_transfer_that_fails_leads_nowhere(rt: HostRuntime) -> Result<(), Fail> {
+    let mut device = keyboard(&rt)?;
+    let mut host = HostDevice::cold(rt.alloc(), 1);
+    host.begin(&Request::Config)?;
+    for wanted in [
+        Progress::Running,
+        Progress::Running,
+        Progress::Failed(ControlFault::BusFault),
+    ] {
+        let told = host.control_step(device.control(), Fate::ReplyLost);
+        assert!(rt; told == Ok(wanted), "{wanted:?}");
+    }
+    assert!(rt; host.state() == HostState::Cold);
+    let told = host.control_step(device.control(), Fate::Clean);
+    assert!(rt; told == Err(StackFault::Control(ControlFault::NoTransfer)));
+    Ok(())
+}
+
+fn data(one: bool, bytes: &[u8]) -> Option<Packet> {
+    let payload = ArrayVec::try_from(bytes).ok()?;
+    Some(Packet::Data { one, payload })
+}
+
+#[test]
+fn a_short_report_is_refused_and_the_next_is_read(rt: HostRuntime) -> Result<(), Fail> {
+    let mut host = HostDevice::ready(rt.alloc(), 1, &KEYBOARD)?;
+    let mut out = Vec::with_capacity(rt.alloc(), host.max_events())?;
+    let short = data(false, &[0; 7]);
+    assert_eq!(rt;
+        host.reply(short.as_ref(), &mut out),
+        Err(StackFault::Report(ReportFault::Short))
+    );
+    assert!(rt; host.pipe().expects() && !host.view().held(KEY) && out.is_empty());
+
+    let mut events = Vec::with_capacity(rt.alloc(), host.max_events())?;
+    let whole = data(true, &[0, 0, 0x04, 0, 0, 0, 0, 0]);
+    let took = host.reply(whole.as_ref(), &mut events)?;
+    assert!(rt; matches!(took, Took::Fresh(_)) && events.len() == 1);
+    assert!(rt; !host.pipe().expects() && host.view().held(KEY));
+    Ok(())
+}
+
+/// Refusals, and what they are printed as.
+#[rattlefmt::skip]
+const PRINTED: [(StackFault, &str); 9] = [
+    (StackFault::NoDevice,                                                        "S1"),
+    (StackFault::NotReady,                                                        "S2"),
+    (StackFault::Control(ControlFault::NoTransfer),                               "S4 C4"),
+    (StackFault::BadDescriptor(DescriptorFault::Info(InfoFault::NoEndpoint)),     "S5 B5"),
+    (StackFault::BadDescriptor(DescriptorFault::ReportLength),                    "S5 B6"),
+    (StackFault::BadDescriptor(DescriptorFault::Layout(LayoutFault { cause: Cause::PopEmpty, at: 4 })), "S5 L3 at 4"),
+    (StackFault::Report(ReportFault::UnknownReport),                              "S6 U9"),
+    (StackFault::TooManyDevices,                                                  "S7"),
+    (StackFault::Memory,                                                          "S8"),
+];
+
+#[test]
+fn refusals_are_printed_as_their_codes(rt: HostRuntime) -> Result<(), Fail> {
+    for (fault, text) in PRINTED {
+        assert!(rt;
+            format!(in rt.alloc(); "{fault}")?.as_str() == text,
+            "{text}"
+        );
+    }
+    Ok(())
+}

@@ -1,0 +1,183 @@
+-- Ends ends stand where the tries of a transfer lead, whatever comes between them.
+use Rattle.std.proofs.Common.{◌≡◌, ◌++◌, ℕ, Bool, true, false, List, [], ◌∷◌, Option, Some, None, refl, ap, sym, ◌∙◌, subst, inl, inr}
+use Rattle.std.specs.Prelude.{if◌then◌else◌, ◌*◌, ◌+◌, nat_lt, nat_le, ◌&&◌, length}
+use Rattle.std.specs.Bool.{beq}
+use Rattle.std.proofs.lemmas.Bool.{cases_Bool}
+use Rattle.usb_packet.specs.declared.packet.Packet.{Packet}
+use Rattle.usb_packet.specs.declared.packet.Packet.TheVariants.{Token, Data, Ack, Nak, Stall}
+use Rattle.usb_transact.specs.declared.transaction.Fate.{Fate}
+use Rattle.usb_transact.specs.declared.transaction.Fate.TheVariants.{Clean, TokenLost, ReplyLost, AckLost}
+use Rattle.usb_control.specs.declared.setup.Setup.{Setup as Request}
+use Rattle.usb_control.specs.declared.fault.ControlFault.{ControlFault}
+use Rattle.usb_control.specs.declared.fault.ControlFault.TheVariants.{BusFault, Overrun}
+use Rattle.usb_control.specs.declared.host.HostStage.{HostStage}
+use Rattle.usb_control.specs.declared.host.HostStage.TheVariants as stages
+use Rattle.usb_control.specs.SetupBytes.{IsSpelled}
+use Rattle.usb_control.specs.Computed.{AppliesBy, PreparesBy, Table, control_tried, host_tried}
+use Rattle.usb_control.specs.Device.{DevControlState}
+use Rattle.usb_control.specs.Host.{HostTransferState, IsRunning, took_at, unanswered, failed, not_taken, handshake, in_answered, setup_answered, data_in, status_in, joined, answered, after_read_piece, after_write_piece}
+use Rattle.usb_control.specs.Pieces.{piece_from}
+use Rattle.usb_control.specs.Transfer.{Shape, shape_of, Decision, decision_of, Position, Setup, Piece, Status, Past, Place, Acts, act_at, comes, tried, tried_at}
+use Rattle.usb_control.specs.Runs.{run, is_open, is_open_at}
+use Rattle.usb_control.specs.Standing.{Stands, StandsWith, host_stage, toggle}
+use Rattle.usb_control.specs.Meanwhile.{Ends, Turn, Tries, Meanwhile, is_running, ends_tried, turned, turned_all, decision_now, tries_in, LeaveAnswers, StandAt}
+use Rattle.usb_control.proofs.TryLemmas.{try_shown}
+use Rattle.usb_control.proofs.LawLemmas.{kept_is}
+use Rattle.usb_control.proofs.ComputedLemmas.{transacts_computed}
+
+-- a transfer runs exactly where its place is open
+runs_data : (b : Bool) (x y : HostStage) → is_running x ≡ true → is_running y ≡ true → is_running (if b then x else y) ≡ true
+runs_data true x y hx hy = hx
+runs_data false x y hx hy = hy
+
+runs_at : (shape : Shape) (p : Position) → is_running (host_stage shape p) ≡ is_open_at None p
+runs_at shape Setup = refl
+runs_at shape (Piece k) = runs_data shape.reads (stages.DataIn (toggle k)) (stages.DataOut (8 * k) (toggle k)) refl refl
+runs_at shape Status = runs_data (comes shape Status) stages.StatusIn stages.StatusOut refl refl
+runs_at shape Past = refl
+
+running_is : {R : Type 0} (answer_of : R → Option (List ℕ)) (shape : Shape) (sends : List ℕ) (place : Place) (host : HostTransferState) (control : DevControlState R)
+    → Stands answer_of shape sends place host control → is_running host.stage ≡ is_open place
+running_is answer_of shape sends place host control u =
+    let by_fault : StandsWith answer_of shape sends place place.fault host control → is_running host.stage ≡ is_open_at place.fault place.host
+    = elim place.fault as (λ (f : Option ControlFault). StandsWith answer_of shape sends place f host control → is_running host.stage ≡ is_open_at f place.host) [
+      | Some fault ↦ λ h. ap is_running h
+      | None ↦ λ b. ap is_running b.sender.stage ∙ runs_at shape place.host
+    ] in by_fault u
+
+is_running_runs : (stage : HostStage) → is_running stage ≡ true → IsRunning stage
+is_running_runs stages.Done h = absurd (cc)
+is_running_runs (stages.Failed fault) h = absurd (cc)
+is_running_runs stages.Setup h = refl
+is_running_runs (stages.DataIn one) h = refl
+is_running_runs (stages.DataOut sent one) h = refl
+is_running_runs stages.StatusIn h = refl
+is_running_runs stages.StatusOut h = refl
+
+-- a try goes by what a SETUP that arrives in it is decided, and by nothing else of that decision
+decides_so : {R : Type 0} (t : Table R) (request : Request) (old new : R) (decision : Decision) (said : Bool) → PreparesBy t old request said new → decision ≡ decision_of said (t.answer_of new)
+    → decision ≡ decision_of (t.accepts old request) (t.answer_of (t.prepared old request))
+decides_so t request old new decision said gives is =
+    is ∙ ap (λ (b : Bool). decision_of b (t.answer_of new)) gives.0 ∙ ap (λ x. decision_of (t.accepts old request) (t.answer_of x)) gives.1
+
+tried_so : {R : Type 0} (t : Table R) (request : Request) (bytes : List ℕ) (shape : Shape) (fate : Fate) (p : Position) (held : Decision) (applied : Bool) (decision : Decision) (place : Place) (old new : R)
+    → Acts (PreparesBy t) (AppliesBy t) t.answer_of request bytes (act_at p shape fate decision held applied) old new
+    → tried_at p shape fate decision place ≡ tried_at p shape fate (decision_of (t.accepts old request) (t.answer_of (t.prepared old request))) place
+tried_so t request bytes shape TokenLost Setup held applied decision place old new acts = refl
+tried_so t request bytes shape Clean Setup held applied decision place old new (said, gives, is) = ap (λ (d : Decision). tried_at Setup shape Clean d place) (decides_so t request old new decision said gives is)
+tried_so t request bytes shape ReplyLost Setup held applied decision place old new (said, gives, is) = ap (λ (d : Decision). tried_at Setup shape ReplyLost d place) (decides_so t request old new decision said gives is)
+tried_so t request bytes shape AckLost Setup held applied decision place old new (said, gives, is) = ap (λ (d : Decision). tried_at Setup shape AckLost d place) (decides_so t request old new decision said gives is)
+tried_so t request bytes shape fate (Piece k) held applied decision place old new acts = refl
+tried_so t request bytes shape fate Status held applied decision place old new acts = refl
+tried_so t request bytes shape fate Past held applied decision place old new acts = refl
+
+-- ---- the request stays
+
+unanswered_keeps : (host : HostTransferState) → (unanswered host).setup ≡ host.setup
+unanswered_keeps host = elim (nat_lt host.tries 2) as (λ (b : Bool). (if b then record host { tries = host.tries + 1 } else failed BusFault host).setup ≡ host.setup) [ true ↦ refl | false ↦ refl ]
+
+not_taken_keeps : (packet : Option Packet) (host : HostTransferState) → (not_taken packet host).setup ≡ host.setup
+not_taken_keeps (Some Nak) host = refl
+not_taken_keeps (Some Stall) host = refl
+not_taken_keeps (Some Ack) host = unanswered_keeps host
+not_taken_keeps (Some (Token kind addr endp)) host = unanswered_keeps host
+not_taken_keeps (Some (Data one payload)) host = unanswered_keeps host
+not_taken_keeps None host = unanswered_keeps host
+
+setup_keeps : (packet : Option Packet) (host : HostTransferState) → (setup_answered packet host).setup ≡ host.setup
+setup_keeps (Some Ack) host = refl
+setup_keeps (Some Nak) host = unanswered_keeps host
+setup_keeps (Some Stall) host = unanswered_keeps host
+setup_keeps (Some (Token kind addr endp)) host = unanswered_keeps host
+setup_keeps (Some (Data one payload)) host = unanswered_keeps host
+setup_keeps None host = unanswered_keeps host
+
+handshake_keeps : (packet : Option Packet) (next : HostStage) (host : HostTransferState) → (handshake packet next host).setup ≡ host.setup
+handshake_keeps (Some Ack) next host = refl
+handshake_keeps (Some Nak) next host = not_taken_keeps (Some Nak) host
+handshake_keeps (Some Stall) next host = not_taken_keeps (Some Stall) host
+handshake_keeps (Some (Token kind addr endp)) next host = unanswered_keeps host
+handshake_keeps (Some (Data one payload)) next host = unanswered_keeps host
+handshake_keeps None next host = unanswered_keeps host
+
+in_keeps : (packet : Option Packet) (taken : Bool → List ℕ → HostTransferState → HostTransferState) (host : HostTransferState)
+    → ((one : Bool) (payload : List ℕ) → (taken one payload host).setup ≡ host.setup) → (in_answered packet taken host).setup ≡ host.setup
+in_keeps (Some (Data one payload)) taken host keeps = keeps one payload.items
+in_keeps (Some Ack) taken host keeps = unanswered_keeps host
+in_keeps (Some Nak) taken host keeps = refl
+in_keeps (Some Stall) taken host keeps = refl
+in_keeps (Some (Token kind addr endp)) taken host keeps = unanswered_keeps host
+in_keeps None taken host keeps = unanswered_keeps host
+
+data_keeps : (expected one : Bool) (payload : List ℕ) (host : HostTransferState) → (data_in expected one payload host).setup ≡ host.setup
+data_keeps expected one payload host =
+    elim (beq one expected) as (λ (b : Bool). (if b then joined one payload host else answered host.stage host).setup ≡ host.setup) [
+      | true ↦ elim (nat_le (length payload) 8 && nat_le (length host.bytes + length payload) host.setup.length)
+          as (λ (b : Bool). (if b then record host { bytes = host.bytes ++ payload; stage = after_read_piece (length host.bytes) (length payload) host.setup.length one; tries = 0 } else failed Overrun host).setup ≡ host.setup)
+          [ true ↦ refl | false ↦ refl ]
+      | false ↦ refl
+    ]
+
+status_keeps : (one : Bool) (payload : List ℕ) (host : HostTransferState) → (status_in one payload host).setup ≡ host.setup
+status_keeps false payload host = refl
+status_keeps true [] host = refl
+status_keeps true (b ∷ payload) host = refl
+
+took_keeps : (stage : HostStage) (packet : Option Packet) (host : HostTransferState) → (took_at stage packet host).setup ≡ host.setup
+took_keeps stages.Setup packet host = setup_keeps packet host
+took_keeps (stages.DataIn one) packet host = in_keeps packet (data_in one) host (λ x payload. data_keeps one x payload host)
+took_keeps (stages.DataOut sent one) packet host = handshake_keeps packet (after_write_piece (sent + length (piece_from host.bytes sent)) (length host.bytes) one) host
+took_keeps stages.StatusIn packet host = in_keeps packet status_in host (λ x payload. status_keeps x payload host)
+took_keeps stages.StatusOut packet host = handshake_keeps packet stages.Done host
+took_keeps stages.Done packet host = refl
+took_keeps (stages.Failed fault) packet host = refl
+
+host_keeps : {R : Type 0} (t : Table R) (fate : Fate) (host : HostTransferState) (c : DevControlState R) → (host_tried t fate host c).setup ≡ host.setup
+host_keeps t TokenLost host c = took_keeps host.stage None host
+host_keeps t Clean host c = took_keeps host.stage _ host
+host_keeps t ReplyLost host c = took_keeps host.stage _ host
+host_keeps t AckLost host c = took_keeps host.stage _ host
+
+-- ---- whole lists
+
+run_closed : (shape : Shape) (tries : List (Fate × Decision)) (place : Place) → is_open place ≡ false → run shape tries place ≡ place
+run_closed shape [] place h = refl
+run_closed shape (x ∷ tries) place h = ap (λ (b : Bool). if b then run shape tries (tried shape x.0 x.1 place) else place) h
+
+-- one try, of a transfer that runs
+try_stands : {R : Type 0} (t : Table R) (sends : List ℕ) (place : Place) (fate : Fate) (m : Ends R) → IsSpelled m.host.setup → IsRunning m.host.stage → StandAt t sends place m
+    → StandAt t sends (tried (shape_of m.host.setup) fate (decision_now t m) place) (ends_tried t fate m)
+try_stands {R} t sends place fate m spelled running stands =
+    let shape = shape_of m.host.setup in
+    let shown = try_shown (PreparesBy t) (AppliesBy t) t.answer_of shape sends fate place m.host m.control (host_tried t fate m.host m.control) (control_tried t fate m.host m.control) spelled running stands (transacts_computed t fate m.host m.control) in
+    let same : tried shape fate shown.0 place ≡ tried shape fate (decision_now t m) place
+    = tried_so t m.host.setup sends shape fate place.host place.decision place.applied shown.0 place m.control.requests (control_tried t fate m.host m.control).requests shown.1 in
+    subst (λ (s : Shape). Stands t.answer_of s sends (tried shape fate (decision_now t m) place) (host_tried t fate m.host m.control) (control_tried t fate m.host m.control)) (sym (ap shape_of (host_keeps t fate m.host m.control)))
+    (subst (λ (p : Place). Stands t.answer_of shape sends p (host_tried t fate m.host m.control) (control_tried t fate m.host m.control)) same shown.2)
+
+pub places_are_run : {R : Type 0} (t : Table R) (sends : List ℕ) (place : Place) (m : Ends R) (xs : List (Turn R)) → IsSpelled m.host.setup → LeaveAnswers t xs → StandAt t sends place m
+    → StandAt t sends (run (shape_of m.host.setup) (tries_in t m xs) place) (turned_all t m xs)
+places_are_run t sends place m [] spelled keep stands = stands
+places_are_run t sends place m (Meanwhile f hears ∷ xs) spelled keep stands =
+    let n : Ends _ = record { control = record m.control { requests = f m.control.requests; heard = hears m.control.heard }; host = m.host } in
+    places_are_run t sends place n xs spelled keep.1 (kept_is t.answer_of (shape_of m.host.setup) sends place m.host m.control n.control stands (keep.0 m.control.requests) refl)
+places_are_run {R} t sends place m (Tries fate ∷ xs) spelled keep stands =
+    let shape = shape_of m.host.setup in
+    let Goal : Ends R → Bool → Type 0 = λ n o. StandAt t sends (if o then run shape (tries_in t n xs) (tried shape fate (decision_now t m) place) else place) (turned_all t n xs) in
+    let opens = running_is t.answer_of shape sends place m.host m.control stands in
+    elim (cases_Bool (is_running m.host.stage)) [
+      | inl runs ↦
+          let n = ends_tried t fate m in
+          let same_setup : n.host.setup ≡ m.host.setup = host_keeps t fate m.host m.control in
+          let next = try_stands t sends place fate m spelled (is_running_runs m.host.stage runs) stands in
+          let rest = places_are_run t sends (tried shape fate (decision_now t m) place) n xs (subst IsSpelled (sym same_setup) spelled) keep next in
+          let rest_here : Goal n true = subst (λ (s : Shape). StandAt t sends (run s (tries_in t n xs) (tried shape fate (decision_now t m) place)) (turned_all t n xs)) (ap shape_of same_setup) rest in
+          let there : ends_tried t fate m ≡ turned t m (Tries fate) = sym (ap (λ (b : Bool). if b then ends_tried t fate m else m) runs) in
+          subst (λ (o : Bool). Goal (turned t m (Tries fate)) o) (sym runs ∙ opens) (subst (λ (x : Ends R). Goal x true) there rest_here)
+      | inr over ↦
+          let closed : is_open place ≡ false = sym opens ∙ over in
+          let rest = places_are_run t sends place m xs spelled keep stands in
+          let rest_here : Goal m false = subst (λ (p : Place). StandAt t sends p (turned_all t m xs)) (run_closed shape (tries_in t m xs) place closed) rest in
+          let there : m ≡ turned t m (Tries fate) = sym (ap (λ (b : Bool). if b then ends_tried t fate m else m) over) in
+          subst (λ (o : Bool). Goal (turned t m (Tries fate)) o) (sym closed) (subst (λ (x : Ends R). Goal x false) there rest_here)
+    ]

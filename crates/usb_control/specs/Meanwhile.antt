@@ -1,0 +1,76 @@
+-- A transfer with other things between its tries: where both ends stand behind a whole list (USB 2.0, 8.5.3).
+use Rattle.std.specs.Prelude.{◌≡◌, ℕ, Bool, true, false, if◌then◌else◌, List, [], ◌∷◌}
+use Rattle.usb_transact.specs.declared.transaction.Fate.{Fate}
+use Rattle.usb_control.specs.declared.device.Heard.{Heard}
+use Rattle.usb_control.specs.declared.host.HostStage.{HostStage}
+use Rattle.usb_control.specs.declared.host.HostStage.TheVariants.{Done, Failed}
+use Rattle.usb_control.specs.Computed.{Table, host_tried, control_tried}
+use Rattle.usb_control.specs.Device.{DevControlState}
+use Rattle.usb_control.specs.Host.{HostTransferState}
+use Rattle.usb_control.specs.Standing.{Stands}
+use Rattle.usb_control.specs.Transfer.{Decision, Place, decision_of, shape_of}
+
+-- the transfer at the host, and endpoint 0 of the device
+pub record Ends (R : Type 0) : Type 0 where
+  pub host : HostTransferState
+  pub control : DevControlState R
+
+-- a try of the transfer, or something else: what answers requests changes, and what endpoint 0 heard last
+pub data Turn (R : Type 0) : Type 0 where
+  Tries : Fate → Turn R
+  Meanwhile : (change : R → R) (hears : Heard → Heard) → Turn R
+
+-- a transfer at this stage has another try to make
+abbrev pub is_running : HostStage → Bool
+is_running Done = false
+is_running (Failed fault) = false
+is_running _ = true
+
+-- both ends after a try
+abbrev pub ends_tried : {R : Type 0} → Table R → Fate → Ends R → Ends R
+ends_tried table fate ends = record {
+  host = host_tried table fate ends.host ends.control;
+  control = control_tried table fate ends.host ends.control;
+}
+
+-- and after a turn: a transfer that is over is tried no more
+abbrev pub turned : {R : Type 0} → Table R → Ends R → Turn R → Ends R
+turned table ends (Tries fate) = if is_running ends.host.stage then ends_tried table fate ends else ends
+turned table ends (Meanwhile change hears) = record {
+  host = ends.host;
+  control = record {
+    requests = change ends.control.requests;
+    stage = ends.control.stage;
+    heard = hears ends.control.heard;
+  };
+}
+
+-- behind a list of turns
+abbrev pub turned_all : {R : Type 0} → Table R → Ends R → List (Turn R) → Ends R
+turned_all table ends [] = ends
+turned_all table ends (turn ∷ turns) = turned_all table (turned table ends turn) turns
+
+-- what a SETUP that arrives now is decided
+abbrev pub decision_now : {R : Type 0} → Table R → Ends R → Decision
+decision_now table ends =
+    decision_of (table.accepts ends.control.requests ends.host.setup)
+    (table.answer_of (table.prepared ends.control.requests ends.host.setup))
+
+-- the tries of a list of turns, each with what a SETUP that arrives in it is decided
+abbrev pub tries_in : {R : Type 0} → Table R → Ends R → List (Turn R) → List (Fate × Decision)
+tries_in table ends [] = []
+tries_in table ends (Tries fate ∷ turns) =
+    (fate, decision_now table ends) ∷ tries_in table (turned table ends (Tries fate)) turns
+tries_in table ends (Meanwhile change hears ∷ turns) =
+    tries_in table (turned table ends (Meanwhile change hears)) turns
+
+-- what else happens leaves the answer that is fixed
+abbrev pub LeaveAnswers : {R : Type 0} → Table R → List (Turn R) → Type 0
+LeaveAnswers table [] = Unit {0}
+LeaveAnswers table (Tries fate ∷ turns) = LeaveAnswers table turns
+LeaveAnswers {R} table (Meanwhile change hears ∷ turns) =
+    ((requests : R) → table.answer_of (change requests) ≡ table.answer_of requests) × LeaveAnswers table turns
+
+-- both ends stand at a place of the transfer
+abbrev pub StandAt : {R : Type 0} → Table R → List ℕ → Place → Ends R → Type 0
+StandAt table sends place ends = Stands table.answer_of (shape_of ends.host.setup) sends place ends.host ends.control
