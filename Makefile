@@ -1,11 +1,15 @@
-# Rulohevian: `make run` and `make test` need nothing but the toolchain (`rt`).
+# Rulohevian: `make run` and `make test` need nothing but the toolchain (`rt`). The C library wants a C compiler too.
 
 HIDRUN := bin/hidrun
+HIDPLAY := bin/hidplay
 SCRIPT ?= examples/layouts/mouse.script
 ARGS ?=
 COUNT ?= 20000
+PREFIX ?= /usr/local
+DESTDIR ?=
+VERSION := 0.2.0
 
-.PHONY: run test try hidrun examples documents memory refusals mutants descriptors clean
+.PHONY: run test try hidrun hidplay examples library library-test library-check library-cost install documents memory refusals mutants descriptors clean
 
 # Runs the mouse example on the proved program.
 run: $(HIDRUN)
@@ -17,7 +21,7 @@ test:
 	rm -rf bin/build/rooms
 	rt ci
 	$(MAKE) --no-print-directory documents
-	$(MAKE) --no-print-directory hidrun examples
+	$(MAKE) --no-print-directory hidrun hidplay examples
 
 # Runs a script without a proof: make try SCRIPT=FILE ARGS=--trace
 try:
@@ -38,12 +42,61 @@ $(HIDRUN): $(BUILT)
 	mkdir -p bin
 	cp $(BUILT) $@
 
-# Holds what examples are to print of layouts and reports against a second reader, and runs each on the proved program,
+# The proved program that plays recordings.
+hidplay: $(HIDPLAY)
+
+PLAYS := crates/hidplay/out/hidplay
+
+$(PLAYS): crates.txt $(SOURCES)
+	tools/build hidplay
+
+$(HIDPLAY): $(PLAYS)
+	mkdir -p bin
+	cp $(PLAYS) $@
+
+# The C library: bin/lib/libhidstack.a and the shared libhidstack.so.$(VERSION), of the proved crate.
+library: bin/lib/libhidstack.a
+
+ARCHIVE := crates/hidstack/out/libhidstack.a
+
+$(ARCHIVE): crates.txt $(SOURCES)
+	tools/build hidstack
+
+bin/lib/libhidstack.a: $(ARCHIVE) tools/library
+	tools/library $(ARCHIVE) bin/lib $(VERSION)
+
+# Holds the header against the exports, and runs the examples in C, C++ and Python and the wrong calls.
+library-test: library
+	tools/check-library
+
+# The same under valgrind and the address sanitizer, and with each allocation of an opening refused in turn.
+library-check: library
+	tools/check-library --memory
+
+# How many instructions an opening and a report take, by callgrind.
+library-cost: library
+	tools/library-cost
+
+# Programs, library, header, pkg-config file and manual pages: make install PREFIX=/usr/local DESTDIR=
+install: $(HIDRUN) $(HIDPLAY) library
+	install -Dm755 $(HIDRUN) $(DESTDIR)$(PREFIX)/bin/hidrun
+	install -Dm755 $(HIDPLAY) $(DESTDIR)$(PREFIX)/bin/hidplay
+	install -Dm644 bin/lib/libhidstack.a $(DESTDIR)$(PREFIX)/lib/libhidstack.a
+	install -Dm755 bin/lib/libhidstack.so.$(VERSION) $(DESTDIR)$(PREFIX)/lib/libhidstack.so.$(VERSION)
+	cp -P bin/lib/libhidstack.so bin/lib/libhidstack.so.0 $(DESTDIR)$(PREFIX)/lib
+	install -Dm644 include/hidstack.h $(DESTDIR)$(PREFIX)/include/hidstack.h
+	install -Dm644 packaging/hidrun.1 $(DESTDIR)$(PREFIX)/share/man/man1/hidrun.1
+	install -Dm644 packaging/hidstack.3 $(DESTDIR)$(PREFIX)/share/man/man3/hidstack.3
+	mkdir -p $(DESTDIR)$(PREFIX)/lib/pkgconfig
+	sed 's|@PREFIX@|$(PREFIX)|; s|@VERSION@|$(VERSION)|' packaging/hidstack.pc.in > $(DESTDIR)$(PREFIX)/lib/pkgconfig/hidstack.pc
+
+# Holds what examples are to print of layouts and reports against a second reader, and runs each on its proved program,
 # and some scripts on a full device.
-examples: $(HIDRUN)
+examples: $(HIDRUN) $(HIDPLAY)
 	tools/second-reader examples/*/*.script
+	tools/check-recordings examples/*/*.hid
 	tools/check-full-device $(HIDRUN)
-	tools/check-examples $(HIDRUN)
+	tools/check-examples $(HIDRUN) $(HIDPLAY)
 
 # Looks whether each file, function, clause, definition and wrong body that documents cite is there, and then whether it
 # tells a wrong name.

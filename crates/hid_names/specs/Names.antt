@@ -1,0 +1,32 @@
+-- What usages are called (HID Usage Tables).
+use Rattle.std.specs.Prelude.{ℕ, ◌==◌, ◌&&◌, not, List, ◌++◌, if◌then◌else◌, Option, Some, codes}
+use Rattle.std.specs.Option.{option_map}
+use Rattle.std.specs.Fmt.{decimal}
+use Rattle.hid_names.specs.declared.names.UsageName.{UsageName}
+use Rattle.hid_names.specs.declared.names.UsageName.TheVariants as kinds
+use Rattle.hid_names.specs.Pages.{in_page}
+
+-- a name of the tables, or the number of a button or of an instance
+pub data Name : Type 0 where
+  Known : List ℕ → Name
+  Button : ℕ → Name
+  Instance : ℕ → Name
+
+-- the name that a value stands for
+abbrev pub named : UsageName → Name
+named (kinds.Known name) = Known name.now
+named (kinds.Button number) = Button number
+named (kinds.Instance number) = Instance number
+
+-- what is printed
+abbrev pub name_text : Name → List ℕ
+name_text (Known name) = name
+name_text (Button number) = codes "Button " ++ decimal number
+name_text (Instance number) = codes "Instance " ++ decimal number
+
+-- buttons and instances are called by their ID, and others as the table of their page says
+unfoldable pub name_of : ℕ → ℕ → Option Name
+name_of page id =
+    if (page == 0x09) && not (id == 0) then Some (Button id)
+    else if (page == 0x0A) && not (id == 0) then Some (Instance id)
+    else option_map Known (in_page page id)

@@ -1,0 +1,151 @@
+-- A flush that fails ends a run at the line where it stood, whatever ended it there.
+use Rattle.std.proofs.Common.{◌≡◌, ℕ, ◌+◌, Bool, true, false, cond, List, [], ◌∷◌, length, refl, sym, ap, ◌∙◌, subst, inl, inr, arith, append-nil, Option, None, Some, Result, Ok, Err, nat_lt}
+use Rattle.std.specs.Prelude.{slice_get}
+use Rattle.std.specs.Str.Lines.{lines}
+use Rattle.std.proofs.KnownBytes.{Appends-nil}
+use Rattle.std.specs.Io.KnownBytes.{Appends, Consumes, Keeps}
+use Rattle.hid_cells.specs.declared.fault.ReportFault.{ReportFault}
+use Rattle.hid_usages.specs.Reading.{report_named}
+use Rattle.hid_recording.specs.declared.fault.Cause.{Cause}
+use Rattle.hid_recording.specs.declared.fault.Cause.TheVariants as causes
+use Rattle.hid_recording.specs.declared.fault.Refusal.{Refusal as Why}
+use Rattle.hid_recording.specs.declared.fault.Options.{Options}
+use Rattle.hid_recording.specs.declared.fault.RecordingFault.{RecordingFault}
+use Rattle.hid_recording.specs.declared.fault.Summary.{Summary}
+use Rattle.hid_recording.specs.Output.{IsFront}
+use Rattle.hid_recording.specs.Session.{Session, Member, Outcome, accepted, refused, at_first}
+use Rattle.hid_recording.specs.Records.{Said, Nothing, Device, Descriptor, Report, record_of}
+use Rattle.hid_recording.specs.Telling.{goes_on, refuses, reads_named, reads_of, known_at, SaidTells, Means, TellsUnless, advanced, LineTells, LineBegins}
+use Rattle.hid_recording.specs.Runs.{Ending, Refusal, Want, Cut, Silence, ending_of, EndsAs, FirstTells, FirstBegins, RunsTo, Stops, line_of, AppendsRecording}
+use Rattle.hid_recording.specs.Place.{Place, Advances, RunsFrom, lines_at}
+use Rattle.hid_recording.proofs.PlaceLemmas.{start, first_begins, broken_run}
+
+-- ---- a line that ends the run prints nothing
+
+-- how a line ended the run: with this text
+abbrev ended_with : List ℕ → Cause → Outcome
+ended_with text cause = record { text = text; end = Err cause }
+
+not_accepted : (text other : List ℕ) (cause : Cause) (session : Session) → ended_with text cause ≡ accepted other session → text ≡ []
+not_accepted text other cause session e =
+    let ends : (let r : Result Session Cause = Err cause in r) ≡ Ok session = ap (λ (o : Outcome). o.end) e in absurd (cc)
+
+no_text : (text : List ℕ) (cause why : Cause) → ended_with text cause ≡ refused why → text ≡ []
+no_text text cause why e = ap (λ (o : Outcome). o.text) e
+
+refusal_text : (strict : Bool) (session : Session) (why : Why) (text : List ℕ) (cause : Cause) → ended_with text cause ≡ cond strict (refused (causes.Refused why)) (goes_on session why) → text ≡ []
+refusal_text true session why text cause e = no_text text cause (causes.Refused why) e
+refusal_text false session why text cause e = not_accepted text _ cause _ e
+
+no_refusal_text : (session : Session) (why : Why) (text : List ℕ) (cause : Cause) → ended_with text cause ≡ refuses session why → text ≡ []
+no_refusal_text session why text cause e = refusal_text session.options.strict session why text cause e
+
+no_report_text : (session : Session) (time bytes text : List ℕ) (cause : Cause) (member : Member) (r : Result ℕ ReportFault) → ended_with text cause ≡ reads_named session time bytes member r → text ≡ []
+no_report_text session time bytes text cause member (Ok report) e = not_accepted text _ cause _ e
+no_report_text session time bytes text cause member (Err fault) e = no_refusal_text session _ text cause e
+
+no_slot_text : (session : Session) (time bytes text : List ℕ) (cause : Cause) (slot : Option Member) → ended_with text cause ≡ reads_of session time bytes slot → text ≡ []
+no_slot_text session time bytes text cause None e = no_refusal_text session _ text cause e
+no_slot_text session time bytes text cause (Some member) e = no_report_text session time bytes text cause member (report_named member.layout bytes) e
+
+no_said_text : (session : Session) (said : Said) (text : List ℕ) (cause : Cause) → SaidTells session said (ended_with text cause) → text ≡ []
+no_said_text session Nothing text cause e = not_accepted text _ cause _ e
+no_said_text session (Device device) text cause e = not_accepted text _ cause _ e
+no_said_text session (Descriptor bytes) text cause (inl h) = not_accepted text _ cause _ h.2
+no_said_text session (Descriptor bytes) text cause (inr h) = no_refusal_text _ _ text cause h.2
+no_said_text session (Report time bytes) text cause e = no_slot_text session time bytes text cause (known_at (slice_get session.devices session.current)) e
+
+no_meant_text : (session : Session) (meant : Result Said Why) (text : List ℕ) (cause : Cause) → Means session meant (ended_with text cause) → text ≡ []
+no_meant_text session (Ok said) text cause h = no_said_text session said text cause h
+no_meant_text session (Err why) text cause e = no_refusal_text session why text cause e
+
+unless_text : (long : Bool) (session : Session) (line text : List ℕ) (cause : Cause) → TellsUnless long session line (ended_with text cause) → text ≡ []
+unless_text true session line text cause e = no_text text cause _ e
+unless_text false session line text cause h = no_meant_text (advanced session) (record_of line) text cause h
+
+line_begins : (session : Session) (bytes text : List ℕ) (cause : Cause) → LineTells session bytes (ended_with text cause) → LineBegins session bytes text
+unfolding LineTells LineBegins
+line_begins session bytes text cause h = inl (unless_text (nat_lt 16384 (length bytes)) session bytes text cause h)
+
+-- ---- a run that stopped may as well have been cut off there
+
+cut_there : (ending : Ending) (session : Session) (recording : List (List ℕ)) (part : List ℕ) (cause : Cause) → EndsAs ending (FirstTells session recording) (FirstBegins session recording) part cause
+    → (text : List ℕ) × FirstBegins session recording text × IsFront part text
+cut_there Refusal session [] part cause h = absurd h
+cut_there Refusal session (bytes ∷ more) part cause h = (part, line_begins session bytes part cause h, ([], sym (append-nil part)))
+cut_there Want session recording part cause h = (part, h, ([], sym (append-nil part)))
+cut_there Cut session recording part cause h = h
+cut_there Silence session recording part cause h = ([], first_begins session recording, rw h ([], refl))
+
+cut_stops : (session : Session) (recording : List (List ℕ)) (before : ℕ) (written : List ℕ) (first fault : RecordingFault) → fault.line ≡ first.line → fault.cause ≡ causes.Write
+    → Stops session recording before written first → Stops session recording before written fault
+unfolding ending_of
+cut_stops session recording before written first fault at is h = record {
+  first = h.first;
+  others = h.others;
+  split = h.split;
+  line = at ∙ h.line;
+  text = h.text;
+  now = h.now;
+  all = h.all;
+  part = h.part;
+  ends = subst (λ c. EndsAs (ending_of c) (FirstTells h.now h.others) (FirstBegins h.now h.others) h.part c) (sym is) (cut_there (ending_of first.cause) h.now h.others h.part first.cause h.ends);
+  whole = h.whole;
+}
+
+-- and behind the last line nothing is told that could be cut
+cut_at_end : (session : Session) (recording : List (List ℕ)) (written : List ℕ) (result : Result Summary RecordingFault) (fault : RecordingFault) → fault.line ≡ line_of result → fault.cause ≡ causes.Write
+    → RunsTo session recording 0 written result → Stops session recording 0 written fault
+unfolding ending_of
+cut_at_end session recording written (Err first) fault at is h = cut_stops session recording 0 written first fault at is h
+cut_at_end session recording written (Ok summary) fault at is h = record {
+  first = recording;
+  others = [];
+  split = sym (append-nil recording);
+  line = omega (arith, at, h.lines);
+  text = written;
+  now = h.last;
+  all = h.all;
+  part = [];
+  ends = subst (λ c. EndsAs (ending_of c) (FirstTells h.last []) (FirstBegins h.last []) [] c) (sym is) ([], refl, ([], refl));
+  whole = sym (append-nil written);
+}
+
+-- ---- what was told is flushed
+
+pub kept_written : (a b c : Option (List ℕ)) (written : List ℕ) → Appends a b written → Keeps b c → Appends a c written
+kept_written None b c written h k = tt
+kept_written (Some x) None c written h k = absurd h
+kept_written (Some x) (Some y) None written h k = absurd k
+kept_written (Some x) (Some y) (Some z) written h k = k ∙ h
+
+pub flushed_run : (options : Options) (a c d e : Option (List ℕ)) (result : Result Summary RecordingFault) → AppendsRecording options a c d result → Keeps d e → AppendsRecording options a c e result
+flushed_run options None c d e result h k = tt
+flushed_run options (Some recording) c d e result h k = (h.0, kept_written c d e h.0 h.1 k, h.2)
+
+-- the last flush failed
+pub never_flushed : (options : Options) (a c d e : Option (List ℕ)) (result : Result Summary RecordingFault) (fault : RecordingFault) → fault.line ≡ line_of result → fault.cause ≡ causes.Write
+    → AppendsRecording options a c d result → Keeps d e → AppendsRecording options a c e (Err fault)
+never_flushed options None c d e result fault at is h k = tt
+never_flushed options (Some recording) c d e result fault at is h k = (h.0, kept_written c d e h.0 h.1 k, cut_at_end (at_first options) (lines recording) h.0 result fault at is h.2)
+
+-- one before a read did
+cut_here : (place : Place) (more : List ℕ) (fault : RecordingFault) → fault.cause ≡ causes.Write → fault.line ≡ place.lines + 1 → RunsFrom place more [] (Err fault)
+unfolding ending_of
+cut_here place more fault is at = record {
+  first = [];
+  others = lines_at place more;
+  split = refl;
+  line = omega (arith, at);
+  text = [];
+  now = place.session;
+  all = (refl, refl);
+  part = [];
+  ends = subst (λ c. EndsAs (ending_of c) (FirstTells place.session (lines_at place more)) (FirstBegins place.session (lines_at place more)) [] c) (sym is) ([], first_begins place.session (lines_at place more), ([], refl));
+  whole = refl;
+}
+
+pub cut_run : (options : Options) (a b c d e : Option (List ℕ)) (read written : List ℕ) (now : Place) (fault : RecordingFault) → Consumes a b read → Appends c d written → Advances (start options) read written now
+    → Keeps d e → fault.cause ≡ causes.Write → fault.line ≡ now.lines + 1 → AppendsRecording options a c e (Err fault)
+cut_run options a b c d e read written now fault from grew taken kept is at =
+    flushed_run options a c d e (Err fault) (broken_run options a b c d d read written [] now (Err fault) from grew taken (Appends-nil d) (λ more. cut_here now more fault is at)) kept

@@ -1,0 +1,5 @@
+pub mod OutputLemmas
+pub mod PlaceLemmas
+pub mod FlushLemmas
+pub mod WordLemmas
+pub mod PlayerLemmas

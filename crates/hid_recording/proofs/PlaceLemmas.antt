@@ -1,0 +1,295 @@
+-- Lines of a recording that comes in pieces, and what a run of them wrote.
+use Rattle.std.proofs.Common.{◌≡◌, ℕ, ◌+◌, ◌-◌, ◌<◌, ◌≤◌, Bool, true, false, List, [], ◌∷◌, ◌++◌, length, length-append, take, drop, take-append-drop, refl, sym, ap, inl, ◌∙◌, arith, append-nil, append_assoc, subst, Result, Ok, Err, Option, None, Some, IfSome, IsErrAnd, cond, nat_eq, get_or}
+use Rattle.std.specs.List.{slice_split, onto_first, All}
+use Rattle.std.specs.Str.Lines.{lines, lines_of_parts, strip_carriage_return}
+use Rattle.std.specs.Io.KnownBytes.{Appends, Consumes, IsAtEnd}
+use Rattle.std.proofs.lemmas.List.Splits.{slice_split_at, slice_split_none, slice_split-cons_no}
+use Rattle.std.proofs.lemmas.List.Elements.{All-head, All-tail, All-push}
+use Rattle.std.proofs.lemmas.List.{length-take-le, drop_more, take_more}
+use Rattle.std.proofs.lemmas.Bool.{cond-false, cond_both, lt-ltb, ne_eqb}
+use Rattle.std.proofs.KnownBytes.{Consumes-trans, Consumes-whole, Appends-trans, Appends-nil}
+use Rattle.hid_recording.specs.declared.fault.Cause.{Cause}
+use Rattle.hid_recording.specs.declared.fault.Cause.TheVariants as causes
+use Rattle.hid_recording.specs.declared.fault.RecordingFault.{RecordingFault}
+use Rattle.hid_recording.specs.declared.fault.Summary.{Summary}
+use Rattle.hid_recording.specs.declared.fault.Options.{Options}
+use Rattle.hid_recording.specs.Session.{Session, accepted, refused, at_first}
+use Rattle.hid_recording.specs.Telling.{LineTells, LineBegins, TellsUnless}
+use Rattle.hid_recording.specs.Player.{summary_of}
+use Rattle.hid_recording.specs.Runs.{Silence, ending_of, EndsAs, Ends, FirstTells, FirstBegins, AllTell, RunsTo, AppendsRecording}
+use Rattle.hid_recording.specs.Place.{Place, IsUnbroken, lines_at, Writes, Advances, RunsFrom, Takes}
+
+-- ---- lines
+
+-- there is a part
+some_part : (p : ℕ → Bool) (xs : List ℕ) → (y : List ℕ) × (ys : List (List ℕ)) × (slice_split p xs ≡ y ∷ ys)
+some_part p [] = ([], [], refl)
+some_part p (x ∷ xs) =
+    let more = some_part p xs in
+    elim (p x) as (λ b. (y : List ℕ) × (ys : List (List ℕ)) × (cond b ([] ∷ slice_split p xs) (onto_first x (slice_split p xs)) ≡ y ∷ ys)) [
+      | true ↦ ([], slice_split p xs, refl)
+      | false ↦ (x ∷ more.0, more.1, ap (onto_first x) more.2)
+    ]
+
+-- what ends with a line feed is a line before the others
+lines_first : (line rest : List ℕ) → IsUnbroken line → lines (line ++ 10 ∷ rest) ≡ strip_carriage_return line ∷ lines rest
+lines_first line rest whole =
+    let more = some_part (λ b. nat_eq b 10) rest in
+    let split = slice_split_at (λ b. nat_eq b 10) line 10 rest whole refl in
+    ap lines_of_parts split ∙ ap (λ parts. lines_of_parts (line ∷ parts)) more.2 ∙ ap (λ parts. strip_carriage_return line ∷ lines_of_parts parts) (sym more.2)
+
+-- what has no line feed is the last line, if it has a byte
+lines_last : (line : List ℕ) → IsUnbroken line → lines line ≡ cond (nat_eq (length line) 0) [] (line ∷ [])
+lines_last line whole = ap lines_of_parts (slice_split_none (λ b. nat_eq b 10) line whole)
+
+-- the first part goes on with what comes before any line feed
+split_front : (p : ℕ → Bool) (front rest y : List ℕ) (ys : List (List ℕ)) → All (λ b. p b ≡ false) front → slice_split p rest ≡ y ∷ ys → slice_split p (front ++ rest) ≡ (front ++ y) ∷ ys
+split_front p [] rest y ys whole e = e
+split_front p (x ∷ front) rest y ys whole e =
+    slice_split-cons_no p x (front ++ rest) (All-head (λ b. p b ≡ false) x front whole) ∙ ap (onto_first x) (split_front p front rest y ys (All-tail (λ b. p b ≡ false) x front whole) e)
+
+strip_long : (line : List ℕ) → 16385 < length line → 16384 < length (strip_carriage_return line)
+strip_long line long = cond_both (nat_eq (get_or line (length line - 1) 0) 13) (take (length line - 1) line) line (λ l. 16384 < length l)
+    (λ _. omega (arith, length-take-le (length line - 1) line (omega arith))) (λ _. omega arith)
+
+long_part : (line : List ℕ) (ys : List (List ℕ)) → 16385 < length line → (l : List ℕ) × (ls : List (List ℕ)) × (lines_of_parts (line ∷ ys) ≡ l ∷ ls) × (16384 < length l)
+long_part line [] long = (line, [], cond-false _ _ _ (ne_eqb (length line) 0 (λ none. omega arith)), omega arith)
+long_part line (y ∷ ys) long = (strip_carriage_return line, lines_of_parts (y ∷ ys), refl, strip_long line long)
+
+-- what begins with more bytes than a line has is a long line, whatever comes then
+long_first : (front rest : List ℕ) → IsUnbroken front → 16385 < length front → (l : List ℕ) × (ls : List (List ℕ)) × (lines (front ++ rest) ≡ l ∷ ls) × (16384 < length l)
+long_first front rest whole long =
+    let part = some_part (λ b. nat_eq b 10) rest in
+    let first = long_part (front ++ part.0) part.1 (omega (arith, length-append front part.0)) in
+    (first.0, first.1, ap lines_of_parts (split_front (λ b. nat_eq b 10) front rest part.0 part.1 whole part.2) ∙ first.2, first.3)
+
+-- ---- what lines tell, one after the other
+
+-- two texts before a third
+after_both : (a b c t u : List ℕ) → t ≡ a ++ b → t ++ u ≡ a ++ (b ++ u)
+after_both a b c t u e = ap (λ l. l ++ u) e ∙ append_assoc a b u
+
+-- lines behind lines
+all_more : (session middle last : Session) (first more : List (List ℕ)) (text rest : List ℕ) → AllTell session first text middle → AllTell middle more rest last → AllTell session (first ++ more) (text ++ rest) last
+all_more session middle last [] more text rest h k =
+    subst (λ (s : Session). AllTell s more (text ++ rest) last) h.1 (subst (λ t. AllTell middle more (t ++ rest) last) (sym h.0) k)
+all_more session middle last (line ∷ first) more text rest h k =
+    (h.0, h.1, h.2 ++ rest, h.3, all_more h.1 middle last first more h.2 rest h.4 k, after_both h.0 h.2 [] text rest h.5)
+
+-- one line
+one_tells : (session next : Session) (line text : List ℕ) → LineTells session line (accepted text next) → AllTell session (line ∷ []) text next
+one_tells session next line text h = (text, next, [], h, (refl, refl), sym (append-nil text))
+
+-- ---- pieces
+
+pub advances_nothing : (p : Place) → Advances p [] [] p
+advances_nothing p = record { ended = []; all = (refl, refl); count = omega arith; split = λ more. refl }
+
+pub advances_more : (p q r : Place) (a b v w : List ℕ) → Advances p a v q → Advances q b w r → Advances p (a ++ b) (v ++ w) r
+advances_more p q r a b v w h k = record {
+  ended = h.ended ++ k.ended;
+  all = all_more p.session q.session r.session h.ended k.ended v w h.all k.all;
+  count = omega (arith, h.count, k.count, length-append h.ended k.ended);
+  split = λ more. ap (lines_at p) (append_assoc a b more) ∙ h.split (b ++ more) ∙ ap (λ l. h.ended ++ l) (k.split more) ∙ sym (append_assoc h.ended k.ended (lines_at r more));
+}
+
+-- a byte that ends no line
+pub advances_byte : (session : Session) (begun : List ℕ) (n b : ℕ) → Advances (record { session = session; begun = begun; lines = n }) (b ∷ []) [] (record { session = session; begun = begun ++ b ∷ []; lines = n })
+advances_byte session begun n b = record { ended = []; all = (refl, refl); count = omega arith; split = λ more. ap lines (sym (append_assoc begun (b ∷ []) more)) }
+
+-- a line feed, where the line was told whole
+pub advances_line : (session next : Session) (begun line : List ℕ) (n : ℕ) (written : List ℕ) → IsUnbroken begun → line ≡ strip_carriage_return begun → LineTells session line (accepted written next)
+    → Advances (record { session = session; begun = begun; lines = n }) (10 ∷ []) written (record { session = next; begun = []; lines = n + 1 })
+advances_line session next begun line n written whole same told = record {
+  ended = line ∷ [];
+  all = one_tells session next line written told;
+  count = omega arith;
+  split = λ more. lines_first begun more whole ∙ ap (λ l. l ∷ lines more) (sym same);
+}
+
+-- ---- ends
+
+-- a run that ended in its first line
+line_stops : (session : Session) (recording others : List (List ℕ)) (before : ℕ) (line part : List ℕ) (cause : Cause) (fault : RecordingFault) → recording ≡ line ∷ others → fault.line ≡ before + 1 → fault.cause ≡ cause
+    → Ends (LineTells session line) (LineBegins session line) part cause → RunsTo session recording before part (Err fault)
+line_stops session recording others before line part cause fault e at is h = record {
+  first = [];
+  others = line ∷ others;
+  split = e;
+  line = omega (arith, at);
+  text = [];
+  now = session;
+  all = (refl, refl);
+  part = part;
+  ends = subst (λ c. Ends (FirstTells session (line ∷ others)) (FirstBegins session (line ∷ others)) part c) (sym is) h;
+  whole = refl;
+}
+
+-- what runs on behind lines that were told
+runs_more : (session middle : Session) (first others : List (List ℕ)) (before after : ℕ) (text rest : List ℕ) (result : Result Summary RecordingFault) → AllTell session first text middle → after ≡ before + length first
+    → RunsTo middle others after rest result → RunsTo session (first ++ others) before (text ++ rest) result
+runs_more session middle first others before after text rest (Ok summary) h at k = record {
+  last = k.last;
+  all = all_more session middle k.last first others text rest h k.all;
+  lines = omega (arith, k.lines, length-append first others);
+  counts = k.counts;
+}
+runs_more session middle first others before after text rest (Err fault) h at k = record {
+  first = first ++ k.first;
+  others = k.others;
+  split = ap (λ l. first ++ l) k.split ∙ sym (append_assoc first k.first k.others);
+  line = omega (arith, k.line, length-append first k.first);
+  text = text ++ k.text;
+  now = k.now;
+  all = all_more session middle k.now first k.first text k.text h k.all;
+  part = k.part;
+  ends = k.ends;
+  whole = ap (λ l. text ++ l) k.whole ∙ sym (append_assoc text k.text k.part);
+}
+
+-- what runs on from a place that was advanced to
+pub runs_after : (p q : Place) (bytes more written text : List ℕ) (result : Result Summary RecordingFault) → Advances p bytes written q → RunsFrom q more text result → RunsFrom p (bytes ++ more) (written ++ text) result
+runs_after p q bytes more written text result h k =
+    subst (λ recording. RunsTo p.session recording p.lines (written ++ text) result) (sym (h.split more))
+    (runs_more p.session q.session h.ended (lines_at q more) p.lines q.lines written text result h.all h.count k)
+
+-- a line that is too long ends the run
+pub long_stops : (place : Place) (b : ℕ) (more : List ℕ) (fault : RecordingFault) → IsUnbroken place.begun → nat_eq b 10 ≡ false → 16385 ≤ length place.begun → fault.line ≡ place.lines + 1 → fault.cause ≡ causes.LineTooLong
+    → RunsFrom place (b ∷ more) [] (Err fault)
+unfolding LineTells ending_of
+long_stops place b more fault whole apart long at is =
+    let first = long_first (place.begun ++ b ∷ []) more (All-push (λ x. nat_eq x 10 ≡ false) place.begun b whole apart) (omega (arith, length-append place.begun (b ∷ []))) in
+    line_stops place.session (lines_at place (b ∷ more)) first.1 place.lines first.0 [] causes.LineTooLong fault (ap lines (sym (append_assoc place.begun (b ∷ []) more)) ∙ first.2) at is
+    (subst (λ long. TellsUnless long place.session first.0 (refused causes.LineTooLong)) (sym (lt-ltb 16384 (length first.0) first.3)) refl)
+
+-- a line that ended the run at its line feed
+pub line_feed_stops : (place : Place) (next : Session) (line more written : List ℕ) (cause : Cause) (fault : RecordingFault) → IsUnbroken place.begun → line ≡ strip_carriage_return place.begun
+    → Writes (LineTells place.session line) (LineBegins place.session line) written (Err cause) next → fault.line ≡ place.lines + 1 → fault.cause ≡ cause → RunsFrom place (10 ∷ more) written (Err fault)
+line_feed_stops place next line more written cause fault whole same told at is =
+    line_stops place.session (lines_at place (10 ∷ more)) (lines more) place.lines line written cause fault (lines_first place.begun more whole ∙ ap (λ l. l ∷ lines more) (sym same)) at is told
+
+-- ---- byte by byte
+
+split_byte : (bytes : List ℕ) (i : ℕ) → i < length bytes → bytes ≡ take i bytes ++ get_or bytes i 0 ∷ drop (i + 1) bytes
+split_byte bytes i below = sym (take-append-drop i bytes) ∙ ap (λ l. take i bytes ++ l) (drop_more bytes i 0 below)
+
+pub takes_byte : (p q r : Place) (bytes v w : List ℕ) (i : ℕ) → i < length bytes → Advances p (take i bytes) v q → Advances q (get_or bytes i 0 ∷ []) w r → Advances p (take (i + 1) bytes) (v ++ w) r
+takes_byte p q r bytes v w i below h k = rw (take_more bytes i 0 below) (advances_more p q r (take i bytes) (get_or bytes i 0 ∷ []) v w h k)
+
+pub stops_at_byte : (p q r : Place) (bytes v w : List ℕ) (i : ℕ) (fault : RecordingFault) (result : Result (Unit {0}) RecordingFault) → i < length bytes → Advances p (take i bytes) v q
+    → ((more : List ℕ) → RunsFrom q (get_or bytes i 0 ∷ more) w (Err fault)) → IsErrAnd result (λ e. e ≡ fault) → Takes p bytes (v ++ w) result r
+stops_at_byte p q r bytes v w i fault (Ok u) below h k is = absurd is
+stops_at_byte p q r bytes v w i fault (Err e) below h k is = λ more.
+    let rest = drop (i + 1) bytes ++ more in
+    let whole : bytes ++ more ≡ take i bytes ++ get_or bytes i 0 ∷ rest = ap (λ l. l ++ more) (split_byte bytes i below) ∙ append_assoc (take i bytes) (get_or bytes i 0 ∷ drop (i + 1) bytes) more in
+    rw is (subst (λ all. RunsFrom p all (v ++ w) (Err fault)) (sym whole) (runs_after p q (take i bytes) (get_or bytes i 0 ∷ rest) v w (Err fault) h (k rest)))
+
+-- ---- whole runs
+
+-- a fault that comes before any text of a line may come at any time
+pub outside_stops : (place : Place) (more : List ℕ) (fault : RecordingFault) → ending_of fault.cause ≡ Silence → fault.line ≡ place.lines + 1 → RunsFrom place more [] (Err fault)
+outside_stops place more fault is at = record {
+  first = [];
+  others = lines_at place more;
+  split = refl;
+  line = omega (arith, at);
+  text = [];
+  now = place.session;
+  all = (refl, refl);
+  part = [];
+  ends = subst (λ e. EndsAs e (FirstTells place.session (lines_at place more)) (FirstBegins place.session (lines_at place more)) [] fault.cause) (sym is) refl;
+  whole = refl;
+}
+
+-- what holds whatever comes holds of what is known
+known_rest : (a b : Option (List ℕ)) (read : List ℕ) (P : List ℕ → Type 0) → Consumes a b read → ((more : List ℕ) → P (read ++ more)) → IfSome a P
+known_rest None b read P h f = tt
+known_rest (Some xs) None read P h f = absurd h
+known_rest (Some xs) (Some ys) read P h f = subst P (sym h) (f ys)
+
+-- the last line, which no line feed ends
+last_line : (place : Place) → IsUnbroken place.begun → 0 < length place.begun → lines_at place [] ≡ place.begun ∷ []
+last_line place whole some = ap lines (append-nil place.begun) ∙ lines_last place.begun whole ∙ cond-false _ _ _ (ne_eqb (length place.begun) 0 (λ none. omega arith))
+
+pub last_line_told : (place : Place) (next : Session) (written : List ℕ) (summary : Summary) → IsUnbroken place.begun → 0 < length place.begun → LineTells place.session place.begun (accepted written next)
+    → summary.lines ≡ place.lines + 1 → summary ≡ summary_of next summary.lines → RunsFrom place [] written (Ok summary)
+last_line_told place next written summary whole some told lines' counts' =
+    rw (last_line place whole some) (record { last = next; all = one_tells place.session next place.begun written told; lines = omega (arith, lines'); counts = counts' })
+
+pub last_line_stops : (place : Place) (next : Session) (written : List ℕ) (cause : Cause) (fault : RecordingFault) → IsUnbroken place.begun → 0 < length place.begun → Writes (LineTells place.session place.begun) (LineBegins place.session place.begun) written (Err cause) next
+    → fault.line ≡ place.lines + 1 → fault.cause ≡ cause → RunsFrom place [] written (Err fault)
+last_line_stops place next written cause fault whole some told at is =
+    line_stops place.session (lines_at place []) [] place.lines place.begun written cause fault (last_line place whole some) at is told
+
+pub no_last_line : (place : Place) (summary : Summary) → place.begun ≡ [] → summary.lines ≡ place.lines → summary ≡ summary_of place.session summary.lines → RunsFrom place [] [] (Ok summary)
+no_last_line place summary none lines' counts' =
+    let all : lines_at place [] ≡ [] = ap (λ bytes. lines (bytes ++ [])) none in
+    rw all (record { last = place.session; all = (refl, refl); lines = omega (arith, lines'); counts = counts' })
+
+-- nothing has come
+abbrev pub start : Options → Place
+start options = record { session = at_first options; begun = []; lines = 0 }
+
+-- all that there was has come
+pub whole_run : (options : Options) (a b c d e f : Option (List ℕ)) (read written text none : List ℕ) (now : Place) (result : Result Summary RecordingFault)
+    → Consumes a b read → Appends c d written → Advances (start options) read written now → Consumes b e none → none ≡ [] → IsAtEnd e → Appends d f text → RunsFrom now [] text result
+    → AppendsRecording options a c f result
+whole_run options a b c d e f read written text none now result from grew taken more nothing end last runs =
+    Consumes-whole a e (read ++ none) _ (Consumes-trans a b e read none from more) end
+    (written ++ text, Appends-trans c d f written text grew last, rw nothing (runs_after (start options) now read [] written text result taken runs))
+
+-- the run broke off
+pub broken_run : (options : Options) (a b c d f : Option (List ℕ)) (read written text : List ℕ) (now : Place) (result : Result Summary RecordingFault)
+    → Consumes a b read → Appends c d written → Advances (start options) read written now → Appends d f text → ((more : List ℕ) → RunsFrom now more text result)
+    → AppendsRecording options a c f result
+broken_run options a b c d f read written text now result from grew taken last stops =
+    known_rest a b read _ from (λ more. (written ++ text, Appends-trans c d f written text grew last, runs_after (start options) now read more written text result taken (stops more)))
+
+-- nothing more is written at a fault from outside
+pub outside_run : (options : Options) (a b c d : Option (List ℕ)) (read written : List ℕ) (now : Place) (fault : RecordingFault) → Consumes a b read → Appends c d written → Advances (start options) read written now
+    → ending_of fault.cause ≡ Silence → fault.line ≡ now.lines + 1 → AppendsRecording options a c d (Err fault)
+outside_run options a b c d read written now fault from grew taken is at =
+    broken_run options a b c d d read written [] now (Err fault) from grew taken (Appends-nil d) (λ more. outside_stops now more fault is at)
+
+-- the piece that was read ended the run
+pub piece_stops : (options : Options) (a b e c d f : Option (List ℕ)) (read written text piece : List ℕ) (now : Place) (fault : RecordingFault) (result : Result Summary RecordingFault)
+    → Consumes a b read → Appends c d written → Advances (start options) read written now → Consumes b e piece → Appends d f text
+    → ((more : List ℕ) → RunsFrom now (piece ++ more) text (Err fault)) → IsErrAnd result (λ x. x ≡ fault) → AppendsRecording options a c f result
+piece_stops options a b e c d f read written text piece now fault (Ok u) from grew taken more last stops is = absurd is
+piece_stops options a b e c d f read written text piece now fault (Err x) from grew taken more last stops is =
+    known_rest a e (read ++ piece) _ (Consumes-trans a b e read piece from more) (λ after. (
+      written ++ text,
+      Appends-trans c d f written text grew last,
+      rw is (subst (λ all. RunsFrom (start options) all (written ++ text) (Err fault)) (sym (append_assoc read piece after))
+          (runs_after (start options) now read (piece ++ after) written text (Err fault) taken (stops after))),
+    ))
+
+-- ---- a run that doesn't begin
+
+pub begins_nothing : (session : Session) (line : List ℕ) → LineBegins session line []
+unfolding LineBegins
+begins_nothing session line = inl refl
+
+pub first_begins : (session : Session) (recording : List (List ℕ)) → FirstBegins session recording []
+first_begins session [] = refl
+first_begins session (line ∷ more) = begins_nothing session line
+
+no_line_run : (options : Options) (recording : List ℕ) (fault : RecordingFault) → fault.line ≡ 1 → fault.cause ≡ causes.Memory → RunsTo (at_first options) (lines recording) 0 [] (Err fault)
+unfolding ending_of
+no_line_run options recording fault at is = record {
+  first = [];
+  others = lines recording;
+  split = refl;
+  line = omega (arith, at);
+  text = [];
+  now = at_first options;
+  all = (refl, refl);
+  part = [];
+  ends = subst (λ c. Ends (FirstTells (at_first options) (lines recording)) (FirstBegins (at_first options) (lines recording)) [] c) (sym is) (first_begins (at_first options) (lines recording));
+  whole = refl;
+}
+
+-- memory for the devices was wanting before the first read
+pub never_begun : (options : Options) (a c : Option (List ℕ)) (fault : RecordingFault) → fault.line ≡ 1 → fault.cause ≡ causes.Memory → AppendsRecording options a c c (Err fault)
+never_begun options None c fault at is = tt
+never_begun options (Some recording) c fault at is = ([], Appends-nil c, no_line_run options recording fault at is)

@@ -1,0 +1,146 @@
+-- What a player gathers of a line, and what it writes.
+use Rattle.std.proofs.Common.{◌≡◌, ℕ, ◌<◌, ◌≤◌, zero, suc, false, List, [], ◌∷◌, ◌++◌, length, refl, sym, ap, ◌∙◌, subst, inr, append_assoc, Option, None, Some, Result, Ok, Err, OnOk, IfErr, IsErrAnd}
+use Rattle.std.specs.Prelude.{slice_get, set}
+use Rattle.std.specs.Io.KnownBytes.{Appends}
+use Rattle.std.proofs.KnownBytes.{Appends-nil}
+use Rattle.std.proofs.lemmas.Bool.{lt-ltb, le-ltb}
+use Rattle.hid_descriptor.specs.declared.fault.Cause as layouts
+use Rattle.hid_descriptor.specs.declared.fault.Cause.TheVariants as whys
+use Rattle.hid_descriptor.specs.declared.fault.LayoutFault.{LayoutFault}
+use Rattle.hid_descriptor.specs.Faults.{Explains, Refuses}
+use Rattle.hid_layout.specs.Layout.{Contents}
+use Rattle.hid_cells.specs.declared.cell.Cell.{Cell}
+use Rattle.hid_cells.specs.declared.event.Event.{Event}
+use Rattle.hid_cells.specs.declared.fault.ReportFault.{ReportFault}
+use Rattle.hid_usages.specs.Reading.{report_named}
+use Rattle.hid_usages.specs.Taking.{read_view, read_events}
+use Rattle.hid_recording.specs.declared.fault.Cause.{Cause}
+use Rattle.hid_recording.specs.declared.fault.Cause.TheVariants as causes
+use Rattle.hid_recording.specs.declared.fault.Options.{Options}
+use Rattle.hid_recording.specs.declared.fault.Refusal.{Refusal as Why}
+use Rattle.hid_recording.specs.declared.fault.Refusal.TheVariants as refusals
+use Rattle.hid_recording.specs.Output.{AppendsFront}
+use Rattle.hid_recording.specs.Refusals.{is_memory}
+use Rattle.hid_recording.specs.Session.{Session, Member, Outcome, accepted, refused, counted}
+use Rattle.hid_recording.specs.Records.{Said, Descriptor, record_of}
+use Rattle.hid_recording.specs.EventLines.{event_lines}
+use Rattle.hid_recording.specs.Telling.{refuses, with_device, TellsDescriptor, values_asked, report_text, reads_named, reads_of, known_at, report_told, Means, TellsUnless, LineTells, LineBegins}
+use Rattle.hid_recording.specs.Gathering.{EndsIn, Gathers}
+use Rattle.hid_recording.specs.Playing.{TakesOne, SlotTakesNone, PlaysAt}
+use Rattle.hid_recording.specs.Runs.{ending_of, Ends}
+use Rattle.hid_recording.specs.Place.{AppendsTold}
+use Rattle.hid_recording.proofs.PlaceLemmas.{begins_nothing}
+
+-- ---- what is gathered
+
+ends_so : (P Q : Outcome → Type 0) (cause : Cause) → ((o : Outcome) → P o → Q o) → EndsIn P cause → EndsIn Q cause
+ends_so P Q causes.Memory f h = tt
+ends_so P Q (causes.Refused why) f h = f (refused (causes.Refused why)) h
+ends_so P Q causes.LineTooLong f h = absurd h
+ends_so P Q causes.Read f h = absurd h
+ends_so P Q causes.Write f h = absurd h
+ends_so P Q causes.TooManyReads f h = absurd h
+
+pub gathers_so : (P Q : Outcome → Type 0) (r : Result (Unit {0}) Cause) (text : List ℕ) (next : Session) → ((o : Outcome) → P o → Q o) → Gathers P r text next → Gathers Q r text next
+gathers_so P Q (Ok u) text next f h = f (accepted text next) h
+gathers_so P Q (Err cause) text next f h = ends_so P Q cause f h
+
+-- ---- descriptors
+
+explained : (why : layouts.Cause) (bytes : List ℕ) (at : ℕ) → is_memory why ≡ false → Explains bytes why at → Refuses bytes why at
+explained whys.Memory bytes at other h = absurd (cc)
+explained why bytes at other h = h
+
+-- a descriptor that is refused for another cause than want of memory
+pub descriptor_refused : (session : Session) (bytes : List ℕ) (fault : LayoutFault) (r : Result (Unit {0}) Cause) (text : List ℕ) (next : Session) → is_memory fault.cause ≡ false → Explains bytes fault.cause fault.at
+    → Gathers (λ o. o ≡ refuses (with_device session None) (refusals.Layout fault)) r text next → Gathers (TellsDescriptor bytes session) r text next
+descriptor_refused session bytes fault r text next other told h =
+    gathers_so (λ o. o ≡ refuses (with_device session None) (refusals.Layout fault)) (TellsDescriptor bytes session) r text next (λ o e. inr (fault, explained fault.cause bytes fault.at other told, e)) h
+
+-- a line that has a descriptor
+pub descriptor_meant : (session : Session) (meant : Result Said Why) (bytes : List ℕ) (r : Result (Unit {0}) Cause) (text : List ℕ) (next : Session) → meant ≡ Ok (Descriptor bytes)
+    → Gathers (TellsDescriptor bytes session) r text next → Gathers (Means session meant) r text next
+descriptor_meant session meant bytes r text next e h = subst (λ m. Gathers (Means session m) r text next) (sym e) h
+
+-- ---- reports
+
+-- a report that was read, with what it tells
+pub report_taken : (options : Options) (time : List ℕ) (device : ℕ) (bytes : List ℕ) (layout : Contents) (cells after : List Cell) (old asked more : List ℕ) (none told : List Event) (events report : ℕ) → report_named layout bytes ≡ Ok report
+    → after ≡ read_view layout report bytes cells → none ≡ [] → told ≡ none ++ read_events layout report bytes cells → events ≡ length told
+    → asked ≡ old ++ values_asked options.values time device layout (report_named layout bytes) bytes → more ≡ asked ++ event_lines time device options.names told
+    → TakesOne options time device bytes (record { layout = layout; cells = cells }) old events (record { layout = layout; cells = after }) more
+unfolding report_text
+report_taken options time device bytes layout cells after old asked more none told events report named read nothing gives count values lines =
+    let asked_of = λ (n : Result ℕ ReportFault). values_asked options.values time device layout n bytes in
+    let shown = λ (l : List Event). event_lines time device options.names l in
+    let all : told ≡ read_events layout report bytes cells = gives ∙ ap (λ l. l ++ read_events layout report bytes cells) nothing in
+    record {
+      report = report;
+      named = named;
+      read = ap (λ c. (let m : Member = record { layout = layout; cells = c } in m)) read;
+      count = count ∙ ap (λ (l : List Event). length l) all;
+      told = lines ∙ ap (λ l. l ++ shown told) values ∙ append_assoc old (asked_of (report_named layout bytes)) (shown told) ∙ ap (λ n. old ++ (asked_of n ++ shown told)) named ∙ ap (λ l. old ++ (asked_of (Ok report) ++ shown l)) all;
+    }
+
+-- what stands at a place, put there, changes nothing
+kept_at : (devices : List (Option Member)) (i : ℕ) → set devices i (known_at (slice_get devices i)) ≡ devices
+kept_at [] i = refl
+kept_at (x ∷ devices) zero = refl
+kept_at (x ∷ devices) (suc i) = ap (λ l. x ∷ l) (kept_at devices i)
+
+unread : (session : Session) (time bytes : List ℕ) (slot : Option Member) (why : Why) (next : Option Member) → SlotTakesNone slot bytes (causes.Refused why) next → (next ≡ slot) × (refuses session why ≡ reads_of session time bytes slot)
+unread session time bytes None why next h = (h.0, ap (refuses session) h.1)
+unread session time bytes (Some member) why next h = (h.0, ap (refuses session) h.3 ∙ sym (ap (reads_named session time bytes member) h.2))
+
+-- a report that is refused
+pub report_refused : (session : Session) (options : Options) (time bytes : List ℕ) (current : ℕ) (devices : List (Option Member)) (why : Why) (before more : List ℕ) (r : Result (Unit {0}) Cause) (text : List ℕ) (next : Session) → current ≡ session.current
+    → PlaysAt options time session.current bytes session.devices before (Err (causes.Refused why)) devices more
+    → Gathers (λ o. o ≡ refuses (record session { current = current; devices = devices }) why) r text next → Gathers (λ o. o ≡ report_told time bytes session) r text next
+report_refused session options time bytes current devices why before more r text next here played h =
+    let slot = known_at (slice_get session.devices session.current) in
+    let left = unread session time bytes slot why played.0 played.1 in
+    let kept : devices ≡ session.devices = played.2 ∙ ap (λ m. set session.devices session.current m) left.0 ∙ kept_at session.devices session.current in
+    let same : (let s : Session = record session { current = current; devices = devices } in s) ≡ session = rw (here, kept) refl in
+    gathers_so (λ o. o ≡ refuses (record session { current = current; devices = devices }) why) (λ o. o ≡ report_told time bytes session) r text next (λ o e. e ∙ ap (λ s. refuses s why) same ∙ left.1) h
+
+-- ---- lines
+
+short_line : (session : Session) (line : List ℕ) (lines' : ℕ) (o : Outcome) → length line ≤ 16384 → lines' ≡ counted session.lines 1 → Means (record session { lines = lines' }) (record_of line) o → LineTells session line o
+unfolding LineTells
+short_line session line lines' o short count h =
+    subst (λ long. TellsUnless long session line o) (sym (le-ltb 16384 (length line) short)) (subst (λ n. Means (record session { lines = n }) (record_of line) o) count h)
+
+-- a line that is too long
+pub long_line_ends : (old : Option (List ℕ)) (session : Session) (line : List ℕ) → 16384 < length line → (x : List ℕ) × Appends old old x × Ends (LineTells session line) (LineBegins session line) x causes.LineTooLong
+unfolding LineTells ending_of
+long_line_ends old session line long = ([], Appends-nil old, subst (λ b. TellsUnless b session line (refused causes.LineTooLong)) (sym (lt-ltb 16384 (length line) long)) refl)
+
+gathered_ends : (session : Session) (line : List ℕ) (lines' : ℕ) (cause : Cause) → length line ≤ 16384 → lines' ≡ counted session.lines 1 → EndsIn (Means (record session { lines = lines' }) (record_of line)) cause → Ends (LineTells session line) (LineBegins session line) [] cause
+unfolding ending_of
+gathered_ends session line lines' causes.Memory short count h = begins_nothing session line
+gathered_ends session line lines' (causes.Refused why) short count h = short_line session line lines' (refused (causes.Refused why)) short count h
+gathered_ends session line lines' causes.LineTooLong short count h = absurd h
+gathered_ends session line lines' causes.Read short count h = absurd h
+gathered_ends session line lines' causes.Write short count h = absurd h
+gathered_ends session line lines' causes.TooManyReads short count h = absurd h
+
+-- nothing was gathered
+pub line_ends : (old : Option (List ℕ)) (session : Session) (line : List ℕ) (lines' : ℕ) (cause : Cause) (r : Result (Unit {0}) Cause) (next : Session) → length line ≤ 16384 → lines' ≡ counted session.lines 1
+    → EndsIn (Means (record session { lines = lines' }) (record_of line)) cause → IsErrAnd r (λ e. e ≡ cause) → AppendsTold old old (LineTells session line) (LineBegins session line) r next
+line_ends old session line lines' cause (Ok u) next short count h is = absurd is
+line_ends old session line lines' cause (Err e) next short count h is =
+    ([], Appends-nil old, subst (λ c. Ends (LineTells session line) (LineBegins session line) [] c) (sym is) (gathered_ends session line lines' cause short count h))
+
+-- what was gathered is written, or a front of it
+pub line_written : (old new : Option (List ℕ)) (session : Session) (line : List ℕ) (lines' : ℕ) (gathered text : List ℕ) (r : Result (Unit {0}) Cause) (next : Session) → length line ≤ 16384 → lines' ≡ counted session.lines 1
+    → Means (record session { lines = lines' }) (record_of line) (accepted gathered next) → text ≡ gathered → OnOk r (Appends old new text) → IfErr r (λ cause. cause ≡ causes.Write) → AppendsFront old new text
+    → AppendsTold old new (LineTells session line) (LineBegins session line) r next
+unfolding LineBegins ending_of
+line_written old new session line lines' gathered text (Ok u) next short count told same ok cause front =
+    (text, ok, short_line session line lines' (accepted text next) short count (subst (λ t. Means (record session { lines = lines' }) (record_of line) (accepted t next)) (sym same) told))
+line_written old new session line lines' gathered text (Err e) next short count told same ok cause front = (
+  front.0,
+  front.2,
+  subst (λ c. Ends (LineTells session line) (LineBegins session line) front.0 c) (sym cause)
+      (text, inr (next, short_line session line lines' (accepted text next) short count (subst (λ t. Means (record session { lines = lines' }) (record_of line) (accepted t next)) (sym same) told)), front.1),
+)

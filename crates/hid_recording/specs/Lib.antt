@@ -1,0 +1,14 @@
+pub mod Words
+pub mod Records
+pub mod Refusals
+pub mod EventLines
+pub mod Session
+pub mod Taking
+pub mod Telling
+pub mod Gathering
+pub mod Playing
+pub mod Player
+pub mod Output
+pub mod Runs
+pub mod Place
+pub mod Recording

@@ -1,0 +1,28 @@
+-- The player, seen as the session that it is in: for proofs (our choice).
+use Rattle.std.specs.Prelude.{ℕ}
+use Rattle.hid_recording.specs.declared.player.Player.{Player}
+use Rattle.hid_recording.specs.declared.fault.Summary.{Summary}
+use Rattle.hid_recording.specs.Session.{Session}
+
+-- the session of a player
+abbrev pub session_of : Player → Session
+session_of p = record {
+  options = p.options;
+  current = p.devices.current;
+  devices = p.devices.slots.items;
+  lines = p.lines;
+  descriptors = p.descriptors;
+  reports = p.reports;
+  events = p.events;
+  refused = p.refused;
+}
+
+-- what is counted of a session, in so many lines
+abbrev pub summary_of : Session → ℕ → Summary
+summary_of session lines = record {
+  lines = lines;
+  descriptors = session.descriptors;
+  reports = session.reports;
+  events = session.events;
+  refused = session.refused;
+}

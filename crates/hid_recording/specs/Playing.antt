@@ -1,0 +1,78 @@
+-- What a report of a device makes of it, and adds to a text: for proofs (our choice).
+use Rattle.std.specs.Prelude.{⊤, ◌≡◌, ℕ, List, ◌++◌, length, set, slice_get, Option, None, Some, Result, Ok, Err}
+use Rattle.hid_cells.specs.declared.fault.ReportFault.{ReportFault}
+use Rattle.hid_usages.specs.Reading.{report_named}
+use Rattle.hid_recording.specs.declared.fault.Options.{Options}
+use Rattle.hid_recording.specs.declared.fault.Cause.{Cause}
+use Rattle.hid_recording.specs.declared.fault.Cause.TheVariants.{Refused, LineTooLong, Read, Write, Memory, TooManyReads}
+use Rattle.hid_recording.specs.declared.fault.Refusal.TheVariants.{NoLayout, Report}
+use Rattle.hid_recording.specs.declared.event_line.Source.{Source}
+use Rattle.hid_recording.specs.Session.{Member}
+use Rattle.hid_recording.specs.Taking.{read_member, member_events}
+use Rattle.hid_recording.specs.Telling.{report_text, known_at}
+
+-- why no report was played: want of memory; or the bytes are none, and the device is as it was
+abbrev pub TakesNone : Member → List ℕ → Cause → Member → Type 0
+TakesNone member bytes Memory after = ⊤
+TakesNone member bytes (Refused refusal) after =
+    (after ≡ member) × (fault : ReportFault) × (report_named member.layout bytes ≡ Err fault) × (refusal ≡ Report fault)
+TakesNone member bytes LineTooLong after = ⊥
+TakesNone member bytes Read after = ⊥
+TakesNone member bytes Write after = ⊥
+TakesNone member bytes TooManyReads after = ⊥
+
+-- a report was read, and what it tells was added
+pub record TakesOne (options : Options) (time : List ℕ) (device : ℕ) (bytes : List ℕ) (member : Member)
+    (text : List ℕ) (events : ℕ) (after : Member) (more : List ℕ) : Type 0 where
+  pub report : ℕ
+  pub named : report_named member.layout bytes ≡ Ok report
+  pub read : after ≡ read_member member report bytes
+  pub count : events ≡ length (member_events member report bytes)
+  pub told : more ≡ text ++ report_text options time device member report bytes
+
+-- a report of a device
+abbrev pub PlaysMember : Options → List ℕ → ℕ → List ℕ → Member → List ℕ → Result ℕ Cause → Member → List ℕ → Type 0
+PlaysMember options time device bytes member text (Ok events) after more =
+    TakesOne options time device bytes member text events after more
+PlaysMember options time device bytes member text (Err cause) after more = TakesNone member bytes cause after
+
+-- why no report was played of a slot
+abbrev pub SlotTakesNone : Option Member → List ℕ → Cause → Option Member → Type 0
+SlotTakesNone slot bytes Memory after = ⊤
+SlotTakesNone None bytes (Refused refusal) after = (after ≡ None) × (refusal ≡ NoLayout)
+SlotTakesNone (Some member) bytes (Refused refusal) after =
+    (after ≡ Some member) × (fault : ReportFault) × (report_named member.layout bytes ≡ Err fault)
+    × (refusal ≡ Report fault)
+SlotTakesNone slot bytes LineTooLong after = ⊥
+SlotTakesNone slot bytes Read after = ⊥
+SlotTakesNone slot bytes Write after = ⊥
+SlotTakesNone slot bytes TooManyReads after = ⊥
+
+-- a report was played of a slot
+pub record SlotTakesOne (options : Options) (time : List ℕ) (device : ℕ) (bytes : List ℕ) (slot : Option Member)
+    (text : List ℕ) (events : ℕ) (after : Option Member) (more : List ℕ) : Type 0 where
+  pub member : Member
+  pub next : Member
+  pub there : slot ≡ Some member
+  pub behind : after ≡ Some next
+  pub took : TakesOne options time device bytes member text events next more
+
+-- a report of the device in a slot
+abbrev pub PlaysSlot : Options → List ℕ → ℕ → List ℕ → Option Member → List ℕ → Result ℕ Cause → Option Member
+    → List ℕ → Type 0
+PlaysSlot options time device bytes slot text (Ok events) after more =
+    SlotTakesOne options time device bytes slot text events after more
+PlaysSlot options time device bytes slot text (Err cause) after more = SlotTakesNone slot bytes cause after
+
+-- the same, by where the report came from
+abbrev pub PlaysReport : Source → List ℕ → Option Member → List ℕ → Result ℕ Cause → Option Member → List ℕ → Type 0
+PlaysReport source bytes slot text result after more =
+    PlaysSlot source.options source.time.now source.device bytes slot text result after more
+
+-- a report of the device at a place
+abbrev pub PlaysAt : Options → List ℕ → ℕ → List ℕ → List (Option Member) → List ℕ → Result ℕ Cause
+    → List (Option Member) → List ℕ → Type 0
+PlaysAt options time device bytes devices text result after more =
+    (next : Option Member)
+    × PlaysSlot options time device bytes (known_at (slice_get devices device)) text result next more
+    × (after ≡ set devices device next)

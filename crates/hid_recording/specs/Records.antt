@@ -1,0 +1,95 @@
+-- What a line of a recording says (our choice: docs/RECORDINGS.md; the letters are those of hid-recorder).
+use Rattle.std.specs.Prelude.{⊤, ◌≡◌, ℕ, ◌==◌, ◌||◌, List, [], ◌∷◌, length, if◌then◌else◌, Option, None, Some, Result, Ok, Err, MatchResult}
+use Rattle.hid_lines.specs.Words.{Word, words_of}
+use Rattle.hid_recording.specs.declared.fault.Cause.{Cause}
+use Rattle.hid_recording.specs.declared.fault.Cause.TheVariants.{Refused, LineTooLong, Read, Write, Memory, TooManyReads}
+use Rattle.hid_recording.specs.declared.fault.Refusal.{Refusal}
+use Rattle.hid_recording.specs.declared.fault.Refusal.TheVariants.{Syntax, BadHex, BadCount, BadDevice, BadTime}
+use Rattle.hid_recording.specs.declared.record.Record.{Record}
+use Rattle.hid_recording.specs.declared.record.Record.TheVariants as records
+use Rattle.hid_recording.specs.Words.{bytes_of, is_count, device_of, time_of}
+
+-- what a line says: nothing; which device the next lines are of; its report descriptor; or a report and when it came
+pub data Said : Type 0 where
+  Nothing : Said
+  Device : ℕ → Said
+  Descriptor : List ℕ → Said
+  Report : List ℕ → List ℕ → Said
+
+-- what a record says
+abbrev pub said_in : Record → Said
+said_in records.Nothing = Nothing
+said_in (records.Device device) = Device device.number
+said_in (records.Descriptor bytes) = Descriptor bytes.items
+said_in (records.Report time bytes) = Report time.now bytes.items
+
+-- bytes that are so many
+abbrev pub if_so_many : Word → Option (List ℕ) → Result (List ℕ) Refusal
+if_so_many count None = Err BadHex
+if_so_many count (Some bytes) = if is_count count (length bytes) then Ok bytes else Err BadCount
+
+-- the bytes that words spell, where they are so many
+abbrev pub counted_bytes : Word → List Word → Result (List ℕ) Refusal
+counted_bytes count hex = if_so_many count (bytes_of hex)
+
+-- what is said of such bytes
+abbrev pub of_bytes : (List ℕ → Said) → Result (List ℕ) Refusal → Result Said Refusal
+of_bytes make (Ok bytes) = Ok (make bytes)
+of_bytes make (Err refusal) = Err refusal
+
+-- a device that there may be
+abbrev pub or_no_device : Option ℕ → Result Said Refusal
+or_no_device None = Err BadDevice
+or_no_device (Some device) = Ok (Device device)
+
+-- DEVICE
+abbrev pub device_said : List Word → Result Said Refusal
+device_said (word ∷ []) = or_no_device (device_of word)
+device_said _ = Err BadDevice
+
+-- COUNT HEX
+abbrev pub descriptor_said : List Word → Result Said Refusal
+descriptor_said (count ∷ hex) = of_bytes Descriptor (counted_bytes count hex)
+descriptor_said [] = Err BadCount
+
+-- what came at a time that there may be
+abbrev pub came_at : Option (List ℕ) → Word → List Word → Result Said Refusal
+came_at None count hex = Err BadTime
+came_at (Some time) count hex = of_bytes (Report time) (counted_bytes count hex)
+
+-- TIME COUNT HEX
+abbrev pub report_said : List Word → Result Said Refusal
+report_said (time ∷ count ∷ hex) = came_at (time_of time) count hex
+report_said _ = Err BadCount
+
+-- what the words behind a letter say: N, P and I name a device, D numbers it, R has its descriptor, E a report
+unfoldable pub said_by : ℕ → List Word → Result Said Refusal
+said_by letter words =
+    if letter == 78 || letter == 80 || letter == 73 then Ok Nothing
+    else if letter == 68 then device_said words
+    else if letter == 82 then descriptor_said words
+    else if letter == 69 then report_said words
+    else Err Syntax
+
+-- a letter with a colon behind it, and words
+abbrev pub lettered : ℕ → List ℕ → Result Said Refusal
+lettered letter [] = Err Syntax
+lettered letter (colon ∷ rest) = if colon == 58 then said_by letter (words_of rest) else Err Syntax
+
+-- an empty line says nothing, nor does one that begins with `#`
+unfoldable pub record_of : List ℕ → Result Said Refusal
+record_of [] = Ok Nothing
+record_of (first ∷ rest) = if first == 35 then Ok Nothing else lettered first rest
+
+-- why nothing was read: want of memory, or the one refusal
+abbrev pub IsNone : {X : Type 0} → Cause → Result X Refusal → Type 0
+IsNone Memory meant = ⊤
+IsNone (Refused refusal) meant = meant ≡ Err refusal
+IsNone LineTooLong meant = ⊥
+IsNone Read meant = ⊥
+IsNone Write meant = ⊥
+IsNone TooManyReads meant = ⊥
+
+-- what was read is what was meant
+abbrev pub ReadsRecord : Result Record Cause → Result Said Refusal → Type 0
+ReadsRecord result meant = MatchResult result (λ record'. meant ≡ Ok (said_in record')) (λ cause. IsNone cause meant)

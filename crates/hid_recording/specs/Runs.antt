@@ -1,0 +1,101 @@
+-- What a run wrote and answered, of what a recording tells (our choice: docs/SCRIPT.md).
+use Rattle.std.specs.Prelude.{◌≡◌, ℕ, ◌+◌, List, [], ◌∷◌, ◌++◌, length, Result, Ok, Err, Option, IfSome}
+use Rattle.std.specs.Str.Lines.{lines}
+use Rattle.std.specs.Io.KnownBytes.{Appends}
+use Rattle.hid_recording.specs.declared.fault.Cause.{Cause}
+use Rattle.hid_recording.specs.declared.fault.Cause.TheVariants.{Refused, LineTooLong, Read, Write, Memory, TooManyReads}
+use Rattle.hid_recording.specs.declared.fault.Options.{Options}
+use Rattle.hid_recording.specs.declared.fault.RecordingFault.{RecordingFault}
+use Rattle.hid_recording.specs.declared.fault.Summary.{Summary}
+use Rattle.hid_recording.specs.Output.{IsFront}
+use Rattle.hid_recording.specs.Player.{summary_of}
+use Rattle.hid_recording.specs.Session.{Session, Outcome, accepted, at_first}
+use Rattle.hid_recording.specs.Telling.{LineTells, LineBegins}
+
+-- How a run ends early: its line is refused; memory was wanting in it; the writer cut its text off; or it wasn't run
+-- at all.
+pub data Ending : Type 0 where
+  Refusal : Ending
+  Want : Ending
+  Cut : Ending
+  Silence : Ending
+
+-- the way in which a cause ends a run
+unfoldable pub ending_of : Cause → Ending
+ending_of (Refused refusal) = Refusal
+ending_of LineTooLong = Refusal
+ending_of Memory = Want
+ending_of Write = Cut
+ending_of Read = Silence
+ending_of TooManyReads = Silence
+
+-- What was written of the line at which the run ended: what it tells up to its refusal; what its first times tell; a
+-- front of that; or nothing.
+abbrev pub EndsAs : Ending → (Outcome → Type 0) → (List ℕ → Type 0) → List ℕ → Cause → Type 0
+EndsAs Refusal Tells Begun written cause = Tells (record { text = written; end = Err cause })
+EndsAs Want Tells Begun written cause = Begun written
+EndsAs Cut Tells Begun written cause = (text : List ℕ) × Begun text × IsFront written text
+EndsAs Silence Tells Begun written cause = written ≡ []
+
+-- the same, by the cause
+abbrev pub Ends : (Outcome → Type 0) → (List ℕ → Type 0) → List ℕ → Cause → Type 0
+Ends Tells Begun written cause = EndsAs (ending_of cause) Tells Begun written cause
+
+-- what the first of these lines tells
+abbrev pub FirstTells : Session → List (List ℕ) → Outcome → Type 0
+FirstTells session [] o = ⊥
+FirstTells session (line ∷ more) o = LineTells session line o
+
+-- what it begins to tell; where there is none, nothing
+abbrev pub FirstBegins : Session → List (List ℕ) → List ℕ → Type 0
+FirstBegins session [] text = text ≡ []
+FirstBegins session (line ∷ more) text = LineBegins session line text
+
+-- these lines are accepted one after the other, and their texts, joined, are this text
+abbrev pub AllTell : Session → List (List ℕ) → List ℕ → Session → Type 0
+AllTell session [] text last = (text ≡ []) × (last ≡ session)
+AllTell session (line ∷ more) text last =
+    (first : List ℕ) × (next : Session) × (rest : List ℕ)
+    × LineTells session line (accepted first next)
+    × AllTell next more rest last
+    × (text ≡ first ++ rest)
+
+-- All these lines were run. So many lines came before them. The counts are those of the session behind them.
+pub record Finishes (session : Session) (recording : List (List ℕ)) (before : ℕ) (written : List ℕ)
+    (summary : Summary) : Type 0 where
+  pub last : Session
+  pub all : AllTell session recording written last
+  pub lines : summary.lines ≡ before + length recording
+  pub counts : summary ≡ summary_of last summary.lines
+
+-- The run ended at the line behind the first ones: the whole text of those was written, and what the end leaves of that
+-- line's.
+pub record Stops (session : Session) (recording : List (List ℕ)) (before : ℕ) (written : List ℕ)
+    (fault : RecordingFault) : Type 0 where
+  pub first : List (List ℕ)
+  pub others : List (List ℕ)
+  pub split : recording ≡ first ++ others
+  pub line : fault.line ≡ before + length first + 1
+  pub text : List ℕ
+  pub now : Session
+  pub all : AllTell session first text now
+  pub part : List ℕ
+  pub ends : Ends (FirstTells now others) (FirstBegins now others) part fault.cause
+  pub whole : written ≡ text ++ part
+
+-- what a run of these lines wrote and answered
+abbrev pub RunsTo : Session → List (List ℕ) → ℕ → List ℕ → Result Summary RecordingFault → Type 0
+RunsTo session recording before written (Ok summary) = Finishes session recording before written summary
+RunsTo session recording before written (Err fault) = Stops session recording before written fault
+
+-- the line at which a run ended: behind the last one, where all were run
+abbrev pub line_of : Result Summary RecordingFault → ℕ
+line_of (Ok summary) = summary.lines + 1
+line_of (Err fault) = fault.line
+
+-- the writer's bytes grew by what a run of the reader's bytes writes, where both tell their bytes
+abbrev pub AppendsRecording : Options → Option (List ℕ) → Option (List ℕ) → Option (List ℕ)
+    → Result Summary RecordingFault → Type 0
+AppendsRecording options reader old new result =
+    IfSome reader (λ recording. (written : List ℕ)
+    × Appends old new written × RunsTo (at_first options) (lines recording) 0 written result)

@@ -1,0 +1,66 @@
+-- What stands between two lines of a recording, and what a line tells: its text, and where it leaves the session (our
+-- choice: docs/RECORDINGS.md).
+use Rattle.std.specs.Prelude.{ℕ, ◌+◌, ◌-◌, ◌^◌, min, List, [], ◌∷◌, Option, None, Result, Ok, Err}
+use Rattle.hid_layout.specs.Layout.{Contents}
+use Rattle.hid_layout.specs.Controls.{items_of}
+use Rattle.hid_cells.specs.declared.cell.Cell.{Cell}
+use Rattle.hid_usages.specs.Cells.{blank}
+use Rattle.hid_recording.specs.declared.fault.Options.{Options}
+use Rattle.hid_recording.specs.declared.fault.Cause.{Cause}
+
+-- a device: its layout, and the view that its reports made
+pub record Member : Type 0 where
+  pub layout : Contents
+  pub cells : List Cell
+
+-- a device of which no report came yet
+abbrev pub fresh_member : Contents → Member
+fresh_member layout = record { layout = layout; cells = blank (items_of layout) }
+
+-- The options, the device of the next lines, the descriptors that were accepted last with what their reports made, and
+-- counts: of lines, of descriptors, of reports, of events, and of lines that were refused.
+pub record Session : Type 0 where
+  pub options : Options
+  pub current : ℕ
+  pub devices : List (Option Member)
+  pub lines : ℕ
+  pub descriptors : ℕ
+  pub reports : ℕ
+  pub events : ℕ
+  pub refused : ℕ
+
+-- sixteen devices, of which nothing is known
+abbrev pub no_devices : List (Option Member)
+no_devices =
+    None ∷ None ∷ None ∷ None ∷ None ∷ None ∷ None ∷ None
+    ∷ None ∷ None ∷ None ∷ None ∷ None ∷ None ∷ None ∷ None ∷ []
+
+-- no line came yet
+abbrev pub at_first : Options → Session
+at_first options = record {
+  options = options;
+  current = 0;
+  devices = no_devices;
+  lines = 0;
+  descriptors = 0;
+  reports = 0;
+  events = 0;
+  refused = 0;
+}
+
+-- a count stops at the greatest number of 64 bits
+abbrev pub counted : ℕ → ℕ → ℕ
+counted count more = min (count + more) (2 ^ 64 - 1)
+
+-- what a line prints, and where it leaves the session, or why it ends the run
+pub record Outcome : Type 0 where
+  pub text : List ℕ
+  pub end : Result Session Cause
+
+-- a line that prints this, and leaves this session
+abbrev pub accepted : List ℕ → Session → Outcome
+accepted text session = record { text = text; end = Ok session }
+
+-- a line that ends the run prints nothing
+abbrev pub refused : Cause → Outcome
+refused cause = record { text = []; end = Err cause }

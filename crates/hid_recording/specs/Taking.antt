@@ -1,0 +1,13 @@
+-- What the bytes of a report make of a device of a recording.
+use Rattle.std.specs.Prelude.{ℕ, List}
+use Rattle.hid_cells.specs.declared.event.Event.{Event}
+use Rattle.hid_usages.specs.Taking.{read_view, read_events}
+use Rattle.hid_recording.specs.Session.{Member}
+
+-- a device behind a report
+abbrev pub read_member : Member → ℕ → List ℕ → Member
+read_member member report bytes = record member { cells = read_view member.layout report bytes member.cells }
+
+-- the events of a report
+abbrev pub member_events : Member → ℕ → List ℕ → List Event
+member_events member report bytes = read_events member.layout report bytes member.cells

@@ -1,0 +1,136 @@
+-- What a line of a recording tells (our choice: docs/RECORDINGS.md).
+use Rattle.std.specs.Prelude.{◌≡◌, ◌⊎◌, ℕ, nat_lt, Bool, true, false, List, [], ◌∷◌, ◌++◌, length, if◌then◌else◌, Option, None, Some, Result, Ok, Err, slice_get, set, codes}
+use Rattle.std.specs.Fmt.{decimal}
+use Rattle.hid_descriptor.specs.Items.{Spelled}
+use Rattle.hid_descriptor.specs.Faults.{Accepts, Refuses}
+use Rattle.hid_descriptor.specs.declared.fault.LayoutFault.{LayoutFault}
+use Rattle.hid_layout.specs.Layout.{Contents, layout_of}
+use Rattle.hid_cells.specs.declared.fault.ReportFault.{ReportFault}
+use Rattle.hid_usages.specs.Reading.{report_named}
+use Rattle.hid_text.specs.LayoutText.{layout_text}
+use Rattle.hid_text.specs.ValuesText.{values_text}
+use Rattle.hid_recording.specs.declared.fault.Cause.TheVariants.{Refused, LineTooLong}
+use Rattle.hid_recording.specs.declared.fault.Options.{Options}
+use Rattle.hid_recording.specs.declared.fault.Refusal.{Refusal}
+use Rattle.hid_recording.specs.declared.fault.Refusal.TheVariants as refusals
+use Rattle.hid_recording.specs.Session.{Session, Member, Outcome, accepted, refused, counted, fresh_member}
+use Rattle.hid_recording.specs.Taking.{read_member, member_events}
+use Rattle.hid_recording.specs.EventLines.{event_lines}
+use Rattle.hid_recording.specs.Refusals.{refusal_line}
+use Rattle.hid_recording.specs.Records.{Said, Nothing, Device, Descriptor, Report, record_of}
+
+-- ---- refusals
+
+-- a line that is refused tells its place and why, and is counted
+abbrev pub goes_on : Session → Refusal → Outcome
+goes_on session refusal =
+    accepted (refusal_line session.lines refusal) (record session { refused = counted session.refused 1 })
+
+-- of a strict run it is the end
+abbrev pub refuses : Session → Refusal → Outcome
+refuses session refusal = if session.options.strict then refused (Refused refusal) else goes_on session refusal
+
+-- ---- descriptors
+
+-- the device is this from now on
+abbrev pub with_device : Session → Option Member → Session
+with_device session member = record session { devices = set session.devices session.current member }
+
+-- with --layout the number of the device, and its layout
+abbrev pub described_text : Options → ℕ → Contents → List ℕ
+described_text options device layout =
+    if options.layout then codes "device " ++ decimal device ++ 10 ∷ layout_text layout else []
+
+-- a device whose descriptor is accepted
+abbrev pub installs : Session → Member → Outcome
+installs session member =
+    accepted (described_text session.options session.current member.layout)
+    (record session {
+      devices = set session.devices session.current (Some member);
+      descriptors = counted session.descriptors 1;
+    })
+
+-- the descriptor is accepted, with these items; or it is refused, and the device has none
+abbrev pub TellsDescriptor : List ℕ → Session → Outcome → Type 0
+TellsDescriptor bytes session o =
+    ((items : List Spelled) × Accepts bytes items × (o ≡ installs session (fresh_member (layout_of items))))
+    ⊎ ((fault : LayoutFault) × Refuses bytes fault.cause fault.at
+    × (o ≡ refuses (with_device session None) (refusals.Layout fault)))
+
+-- ---- reports
+
+-- a line for a report, and one for each of its values
+abbrev pub values_in : List ℕ → ℕ → Contents → Result ℕ ReportFault → List ℕ → List ℕ
+values_in time device layout (Ok report) bytes =
+    time ++ 32 ∷ decimal device ++ codes " report" ++ 10 ∷ values_text layout report bytes
+values_in time device layout (Err fault) bytes = []
+
+-- the same, where it is asked for
+abbrev pub values_asked : Bool → List ℕ → ℕ → Contents → Result ℕ ReportFault → List ℕ → List ℕ
+values_asked asked time device layout named bytes = if asked then values_in time device layout named bytes else []
+
+-- with --values the values of a report, and then its events
+unfoldable pub report_text : Options → List ℕ → ℕ → Member → ℕ → List ℕ → List ℕ
+report_text options time device member report bytes =
+    values_asked options.values time device member.layout (Ok report) bytes
+    ++ event_lines time device options.names (member_events member report bytes)
+
+-- a report is read
+abbrev pub reads : Session → List ℕ → List ℕ → Member → ℕ → Outcome
+reads session time bytes member report =
+    accepted (report_text session.options time session.current member report bytes)
+    (record session {
+      devices = set session.devices session.current (Some (read_member member report bytes));
+      reports = counted session.reports 1;
+      events = counted session.events (length (member_events member report bytes));
+    })
+
+-- a report that the bytes name, or why they are none
+abbrev pub reads_named : Session → List ℕ → List ℕ → Member → Result ℕ ReportFault → Outcome
+reads_named session time bytes member (Ok report) = reads session time bytes member report
+reads_named session time bytes member (Err fault) = refuses session (refusals.Report fault)
+
+-- a report of a device whose descriptor is known
+abbrev pub reads_of : Session → List ℕ → List ℕ → Option Member → Outcome
+reads_of session time bytes None = refuses session refusals.NoLayout
+reads_of session time bytes (Some member) = reads_named session time bytes member (report_named member.layout bytes)
+
+-- what stands at a place that there is
+abbrev pub known_at : Option (Option Member) → Option Member
+known_at None = None
+known_at (Some member) = member
+
+-- a report of the device of these lines
+abbrev pub report_told : List ℕ → List ℕ → Session → Outcome
+report_told time bytes session = reads_of session time bytes (known_at (slice_get session.devices session.current))
+
+-- ---- lines
+
+-- what a record tells
+abbrev pub SaidTells : Session → Said → Outcome → Type 0
+SaidTells session Nothing o = o ≡ accepted [] session
+SaidTells session (Device device) o = o ≡ accepted [] (record session { current = device })
+SaidTells session (Descriptor bytes) o = TellsDescriptor bytes session o
+SaidTells session (Report time bytes) o = o ≡ report_told time bytes session
+
+-- a line tells what it says
+abbrev pub Means : Session → Result Said Refusal → Outcome → Type 0
+Means session (Ok said) o = SaidTells session said o
+Means session (Err refusal) o = o ≡ refuses session refusal
+
+-- the line that is being played is counted
+abbrev pub advanced : Session → Session
+advanced session = record session { lines = counted session.lines 1 }
+
+-- a line of over 16,384 bytes ends the run, and another tells what it means
+abbrev pub TellsUnless : Bool → Session → List ℕ → Outcome → Type 0
+TellsUnless true session line o = o ≡ refused LineTooLong
+TellsUnless false session line o = Means (advanced session) (record_of line) o
+
+-- what a line of these bytes tells
+unfoldable pub LineTells : Session → List ℕ → Outcome → Type 0
+LineTells session line o = TellsUnless (nat_lt 16384 (length line)) session line o
+
+-- what a line begins to tell, which a want of memory or the writer may leave: nothing, or all
+unfoldable pub LineBegins : Session → List ℕ → List ℕ → Type 0
+LineBegins session line text = (text ≡ []) ⊎ ((next : Session) × LineTells session line (accepted text next))

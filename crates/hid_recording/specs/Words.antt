@@ -1,0 +1,67 @@
+-- What the words of a recording's lines say (our choice: docs/RECORDINGS.md).
+use Rattle.std.specs.Prelude.{⊤, ◌≡◌, ℕ, ◌==◌, ◌-◌, ◌+◌, ◌*◌, ◌^◌, Bool, false, ◌&&◌, ◌||◌, nat_le, nat_lt, List, [], ◌∷◌, map, min, is_some, if◌then◌else◌, Option, None, Some}
+use Rattle.std.specs.List.{list_all}
+use Rattle.std.specs.Option.{option_map}
+use Rattle.std.specs.Char.{digit_value}
+use Rattle.hid_lines.specs.Words.{Word}
+use Rattle.hid_lines.specs.Numbers.{number_of}
+use Rattle.hid_recording.specs.declared.fault.Cause.{Cause}
+use Rattle.hid_recording.specs.declared.fault.Cause.TheVariants.{Refused, Memory}
+use Rattle.hid_recording.specs.declared.fault.Refusal.TheVariants.{BadHex}
+
+-- two hex digits, of either case
+abbrev pub byte_of : Word → Option ℕ
+byte_of (high ∷ low ∷ []) =
+    if nat_lt (digit_value high) 16 && nat_lt (digit_value low) 16
+    then Some (digit_value high * 16 + digit_value low) else None
+byte_of _ = None
+
+-- the byte of a word that has one
+abbrev pub byte_in : Option ℕ → ℕ
+byte_in None = 0
+byte_in (Some byte) = byte
+
+-- the bytes that words spell, one each
+unfoldable pub bytes_of : List Word → Option (List ℕ)
+bytes_of words =
+    if list_all (λ word. is_some (byte_of word)) words
+    then Some (map (λ word. byte_in (byte_of word)) words) else None
+
+-- why no bytes were read: want of memory, or a word that is no byte
+abbrev pub IsNoBytes : Cause → Option (List ℕ) → Type 0
+IsNoBytes Memory spelled = ⊤
+IsNoBytes cause spelled = (cause ≡ Refused BadHex) × (spelled ≡ None)
+
+-- the number that decimal digits spell, cut at the greatest of 64 bits
+abbrev pub decimal_of : Word → Option ℕ
+decimal_of word = option_map (λ n. min n (2 ^ 64 - 1)) (number_of 10 word)
+
+-- whether a number that there is, is this count
+abbrev pub is_so_many : Option ℕ → ℕ → Bool
+is_so_many None count = false
+is_so_many (Some n) count = n == count
+
+-- whether a word is this count
+abbrev pub is_count : Word → ℕ → Bool
+is_count word count = is_so_many (decimal_of word) count
+
+-- a number that is a device's
+abbrev pub in_devices : Option ℕ → Option ℕ
+in_devices None = None
+in_devices (Some n) = if nat_le n 15 then Some n else None
+
+-- a device: 0 to 15
+abbrev pub device_of : Word → Option ℕ
+device_of word = in_devices (decimal_of word)
+
+-- a digit or a point
+abbrev pub is_time_byte : ℕ → Bool
+is_time_byte b = (nat_le 48 b && nat_le b 57) || b == 46
+
+-- digits and points
+abbrev pub is_time : Word → Bool
+is_time word = list_all is_time_byte word
+
+-- a time, as it stands
+abbrev pub time_of : Word → Option (List ℕ)
+time_of word = if is_time word then Some word else None

@@ -1,0 +1,97 @@
+//! The devices of a recording.
+
+ghost use Rattle.std.specs.Prelude.{◌≡◌, ◌<◌, length, set, slice_get, string_bytes, IfOk};
+ghost use Rattle.hid_recording.specs.Session.{Member, no_devices};
+ghost use Rattle.hid_recording.specs.Telling.{known_at};
+ghost use Rattle.hid_recording.specs.Playing.{PlaysAt, PlaysReport};
+ghost use Rattle.hid_recording.specs.declared.words.TheConstants.{MAX_DEVICES};
+
+use super::event_line::Source;
+use super::fault::{Cause, Options, Refusal};
+use super::recorded::Recorded;
+use super::words::MAX_DEVICES;
+use std::alloc::{AllocError, Global};
+
+/// What is known of each device, and which one the next lines are of.
+#[derive(Drop)]
+pub struct Devices {
+    slots: Vec<Option<Recorded>>,
+    current: u8,
+    ghost places: { length slots.items ≡ MAX_DEVICES },
+    ghost here: { current < MAX_DEVICES },
+}
+
+impl Devices {
+    /// Nothing is known of any device.
+    pub fn new(alloc: Global) -> Result<Self, AllocError>
+        ensures { IfOk result (λ devices. (devices.slots.items ≡ no_devices)
+            × (devices.current ≡ 0)) }
+    {
+        let slots = [
+            None, None, None, None, None, None, None, None, None, None, None, None, None, None,
+            None, None,
+        ];
+        let slots = Vec::from_array(alloc, slots)?;
+        Ok(Devices { slots, current: 0 })
+    }
+
+    pub fn current(&self) -> u8
+        ensures { result ≡ self.now.current }
+    {
+        self.current
+    }
+
+    /// The next lines are of this device.
+    pub fn select(&mut self, device: u8)
+        requires { device < MAX_DEVICES }
+        ensures { (self.new.current ≡ device) × (self.new.slots.items ≡ self.old.slots.items) }
+    {
+        self.current = device;
+    }
+
+    /// This is known of the device from now on.
+    pub fn put(&mut self, recorded: Option<Recorded>)
+        ensures { (self.new.current ≡ self.old.current)
+            × (self.new.slots.items ≡ set self.old.slots.items self.old.current recorded) }
+    {
+        let i = usize::from(self.current);
+        self.slots[i] = recorded;
+    }
+
+    /// Plays a report of the device, and answers how many events it told.
+    pub fn play(
+        &mut self,
+        text: &mut String,
+        time: &str,
+        options: Options,
+        bytes: &[u8],
+    ) -> Result<u64, Cause>
+        ensures played { PlaysAt options time.now self.old.current bytes.now self.old.slots.items
+            (string_bytes text.old) result self.new.slots.items (string_bytes text.new) }
+        ensures current { self.new.current ≡ self.old.current }
+    {
+        let source = Source {
+            time,
+            device: self.current,
+            options,
+        };
+        let i = usize::from(self.current);
+        play_report(&mut self.slots[i], text, &source, bytes)
+    }
+}
+
+/// Plays a report of the device in a slot.
+fn play_report(
+    slot: &mut Option<Recorded>,
+    text: &mut String,
+    source: &Source<'_>,
+    bytes: &[u8],
+) -> Result<u64, Cause>
+    ensures { PlaysReport source.now bytes.now slot.old (string_bytes text.old) result slot.new
+        (string_bytes text.new) }
+{
+    match slot {
+        None => Err(Cause::Refused(Refusal::NoLayout)),
+        Some(recorded) => recorded.play(text, source, bytes),
+    }
+}

@@ -1,0 +1,78 @@
+//! Events of a report, as they are printed.
+
+ghost use Rattle.std.specs.Prelude.{◌≡◌, ◌++◌, OnOk, string_bytes};
+ghost use Rattle.hid_recording.specs.EventLines.{usage_in, name_words, event_line, event_lines};
+
+use super::fault::Options;
+use hid_layout::Usage;
+use hid_names::usage_name;
+use hid_text::EventText;
+use hid_usages::Event;
+use std::alloc::AllocError;
+
+/// When and of which device a report came, and what is asked for.
+#[derive(Clone, Copy)]
+pub struct Source<'a> {
+    pub time: &'a str,
+    pub device: u8,
+    pub options: Options,
+}
+
+fn usage_in(event: &Event) -> Usage
+    ensures { result ≡ usage_in event.now }
+{
+    match event {
+        Event::Down { usage, .. }
+        | Event::Up { usage, .. }
+        | Event::Value { usage, .. }
+        | Event::Null { usage, .. }
+        | Event::Motion { usage, .. }
+        | Event::Dropped { usage, .. } => *usage,
+    }
+}
+
+/// Adds the name of a usage behind a space, where it has one.
+fn print_name(text: &mut String, usage: Usage) -> Result<(), AllocError>
+    ensures { OnOk result (string_bytes text.new ≡ string_bytes text.old ++ name_words usage) }
+{
+    match usage_name(usage.page, usage.id) {
+        Some(name) => write!(text, " {name}"),
+        None => Ok(()),
+    }
+}
+
+/// Adds the line of an event.
+fn print_event(text: &mut String, source: &Source<'_>, event: &Event) -> Result<(), AllocError>
+    ensures { OnOk result (string_bytes text.new
+        ≡ string_bytes text.old ++ event_line source.now.time.now source.now.device source.now.options.names event.now) }
+{
+    let Source {
+        time,
+        device,
+        options,
+    } = *source;
+    let shown = EventText {
+        dev: device,
+        event: *event,
+    };
+    write!(text, "{time} {shown}")?;
+    if options.names {
+        print_name(text, usage_in(event))?;
+    }
+    text.push_str("\n")
+}
+
+/// Adds a line for each event.
+pub fn print_events(
+    text: &mut String,
+    source: &Source<'_>,
+    events: &[Event],
+) -> Result<(), AllocError>
+    ensures { OnOk result (string_bytes text.new
+        ≡ string_bytes text.old ++ event_lines source.now.time.now source.now.device source.now.options.names events.now) }
+{
+    for event in events {
+        print_event(text, source, event)?;
+    }
+    Ok(())
+}

@@ -1,0 +1,92 @@
+//! What a run counts, what it refuses, and why it ends early.
+
+ghost use Rattle.std.specs.Prelude.{◌≡◌};
+
+use hid_layout::LayoutFault;
+use hid_usages::ReportFault;
+use std::alloc::AllocError;
+use thiserror::Error;
+
+/// What is printed beside the events, and whether what is refused ends the run.
+#[derive(Clone, Copy, Debug, PartialEq, Eq)]
+pub struct Options {
+    /// The layout of each descriptor that is accepted.
+    pub layout: bool,
+    /// The values of each report.
+    pub values: bool,
+    /// The name of each event's usage, where it has one.
+    pub names: bool,
+    /// The first refusal ends the run.
+    pub strict: bool,
+}
+
+/// What was played. Counts stop at the greatest `u64`.
+#[derive(Clone, Copy, Debug, PartialEq, Eq)]
+pub struct Summary {
+    /// All lines, empty ones and comments too.
+    pub lines: u64,
+    /// Descriptors that were accepted.
+    pub descriptors: u64,
+    /// Reports that were read.
+    pub reports: u64,
+    pub events: u64,
+    /// Lines that were refused.
+    pub refused: u64,
+}
+
+/// Why a line is refused. It is printed as its code, and in words.
+#[derive(Clone, Copy, Debug, PartialEq, Eq)]
+pub enum Refusal {
+    /// R1: no line of a recording.
+    Syntax,
+    /// R3: a word that should be a byte isn't two hex digits.
+    BadHex,
+    /// R4: the count isn't that of the bytes.
+    BadCount,
+    /// R5: the device isn't a number from 0 to 15.
+    BadDevice,
+    /// R6: the time isn't digits and points.
+    BadTime,
+    /// R7: a report, where the device has no descriptor that was accepted.
+    NoLayout,
+    /// L1 to L16: the descriptor is refused.
+    Layout(LayoutFault),
+    /// U8, U9: the bytes are no Input report of the device.
+    Report(ReportFault),
+}
+
+/// Why a run ends early.
+#[derive(Clone, Copy, Debug, PartialEq, Eq)]
+pub enum Cause {
+    /// A line of a strict run is refused.
+    Refused(Refusal),
+    /// R2: a line of over 16,384 bytes, without its end.
+    LineTooLong,
+    /// R8: the reader failed.
+    Read,
+    /// R9: the writer failed, or took no byte.
+    Write,
+    /// R10: memory was wanting.
+    Memory,
+    /// R11: the recording wasn't at its end after 1,000,000 reads.
+    TooManyReads,
+}
+
+impl From<AllocError> for Cause {
+    ghost use Rattle.hid_recording.specs.declared.fault.Cause.TheVariants.{Memory};
+
+    ghost from_gives = { λ _ cause. cause ≡ Memory };
+
+    fn from(_error: AllocError) -> Cause {
+        Cause::Memory
+    }
+}
+
+/// Where and why a run ended early.
+#[derive(Clone, Copy, Debug, PartialEq, Eq, Error)]
+#[error("line {line}: {cause}")]
+pub struct RecordingFault {
+    /// The line that was being read or played, from 1.
+    pub line: u64,
+    pub cause: Cause,
+}

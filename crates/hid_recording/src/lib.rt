@@ -1,0 +1,34 @@
+//! Recordings of devices, as hid-recorder writes them, and what a host makes of their reports.
+//! ```text
+//!   reader --> pieces --> lines --read_record--> Record --played--> text --> writer
+//!
+//!   # a mouse                                  nothing, as of lines that begin with N:, P: or I:
+//!   D: 0                                       what follows is of the device 0
+//!   R: 52 05 01 09 02 A1 01 .. C0              its report descriptor
+//!   E: 000000.010000 4 01 05 00 00             000000.010000 0 down 09:01
+//!                                              000000.010000 0 motion 01:30 5
+//!   E: 000000.020000 4 01                      line 5: R4: the count isn't that of the bytes
+//! ```
+//! A line is read whole and played, and its text is written at once. A line that is refused tells its place and why, and
+//! the next ones go on; of a strict run it is the end.
+//! The rule to know: each device has a view of its own, and an event is a change from the view that its reports made
+//! before.
+//! `play` writes exactly the text that the recording tells: the clause on [`play`].
+#![tactic(auto)]
+
+mod devices;
+mod event_line;
+mod fault;
+mod fault_text;
+mod output;
+mod player;
+mod record;
+mod recorded;
+mod recording;
+mod runs;
+#[cfg(test)]
+mod tests;
+mod words;
+
+pub use fault::{Cause, Options, RecordingFault, Refusal, Summary};
+pub use runs::play;

@@ -1,0 +1,25 @@
+//! Bytes to a writer that may take some of them, or none.
+
+ghost use Rattle.std.specs.Prelude.{◌≡◌, [], OnOk, IfErr};
+ghost use Rattle.std.specs.Io.KnownBytes.{Appends};
+ghost use Rattle.hid_recording.specs.Output.{AppendsFront};
+
+use super::fault::Cause;
+use std::io::Write;
+
+/// Writes all the bytes. At a fault, which no text of no bytes has, a front of them is written.
+pub fn write_text<W: Write>(writer: &mut W, text: &[u8]) -> Result<(), Cause>
+    ensures ok { OnOk result (Appends (W.contents writer.old) (W.contents writer.new) text.now) }
+    ensures cause { IfErr result (λ cause. cause ≡ Cause.Write) }
+    ensures nothing { text.now ≡ [] → result ≡ Ok tt }
+    ensures front { AppendsFront (W.contents writer.old) (W.contents writer.new) text.now }
+{
+    let mut rest = text;
+    while !rest.is_empty() {
+        match writer.write(rest) {
+            Ok(0) | Err(_) => return Err(Cause::Write),
+            Ok(n) => rest = &rest[n..],
+        }
+    }
+    Ok(())
+}

@@ -1,0 +1,207 @@
+//! A session: what stands between two lines, and how a line is played.
+
+ghost use Rattle.std.specs.Prelude.{◌≡◌, ◌++◌, None, IfOk, IfErr, OnOk, string_bytes};
+ghost use Rattle.hid_recording.specs.Session.{at_first};
+ghost use Rattle.hid_recording.specs.Records.{record_of};
+ghost use Rattle.hid_recording.specs.Telling.{described_text, LineTells, LineBegins, Means, TellsDescriptor, advanced, with_device, installs, refuses, report_told};
+ghost use Rattle.hid_recording.specs.Player.{summary_of};
+ghost use Rattle.hid_recording.specs.Refusals.{is_memory};
+ghost use Rattle.hid_recording.specs.Gathering.{Gathers};
+ghost use Rattle.hid_recording.specs.declared.fault.Refusal.TheVariants as refusals;
+ghost use Rattle.hid_recording.specs.Place.{AppendsTold};
+
+use super::devices::Devices;
+use super::fault::{Cause, Options, Refusal, Summary};
+use super::output::write_text;
+use super::record::{Record, read_record};
+use super::recorded::Recorded;
+use hid_layout::{Layout, LayoutFault};
+use hid_text::print_layout;
+use std::alloc::{AllocError, Global};
+use std::io::Write;
+
+/// The longest line, without its end (our choice): a descriptor of 4,096 bytes has 12,296.
+pub const LINE_LIMIT: usize = 16_384;
+
+/// The devices with what is known of them, counts, and room for what a line tells.
+#[derive(Drop)]
+pub struct Player {
+    alloc: Global,
+    options: Options,
+    devices: Devices,
+    lines: u64,
+    descriptors: u64,
+    reports: u64,
+    events: u64,
+    refused: u64,
+    text: String,
+}
+
+/// Whether memory was wanting for a descriptor.
+fn wants_memory(cause: hid_layout::Cause) -> bool
+    ensures { result ≡ is_memory cause }
+{
+    match cause {
+        hid_layout::Cause::Memory => true,
+        _ => false,
+    }
+}
+
+/// Adds the number of a device and its layout, where layouts are asked for.
+fn print_described(
+    text: &mut String,
+    options: Options,
+    device: u8,
+    layout: &Layout,
+) -> Result<(), AllocError>
+    ensures { OnOk result (string_bytes text.new
+        ≡ string_bytes text.old ++ described_text options device layout.now) }
+{
+    if !options.layout {
+        return Ok(());
+    }
+    writeln!(text, "device {device}")?;
+    print_layout(text, layout)
+}
+
+impl Player {
+    ghost use Rattle.std.specs.Prelude.{IfOk, IfErr, string_bytes};
+    ghost use Rattle.hid_recording.specs.Player.{session_of};
+
+    pub fn new(alloc: Global, options: Options) -> Result<Self, Cause>
+        ensures new { IfOk result (λ player. session_of player ≡ at_first options) }
+        ensures memory { IfErr result (λ cause. cause ≡ Cause.Memory) }
+    {
+        let devices = Devices::new(alloc)?;
+        Ok(Player {
+            alloc,
+            options,
+            devices,
+            lines: 0,
+            descriptors: 0,
+            reports: 0,
+            events: 0,
+            refused: 0,
+            text: String::new(alloc),
+        })
+    }
+
+    /// What was played, in so many lines.
+    pub fn summary(&self, lines: u64) -> Summary
+        ensures { result ≡ summary_of (session_of self.now) lines }
+    {
+        Summary {
+            lines,
+            descriptors: self.descriptors,
+            reports: self.reports,
+            events: self.events,
+            refused: self.refused,
+        }
+    }
+
+    /// Plays a line, without its end, and writes what it tells.
+    pub fn line<W: Write>(&mut self, line: &[u8], writer: &mut W) -> Result<(), Cause>
+        ensures { AppendsTold (W.contents writer.old) (W.contents writer.new)
+            (LineTells (session_of self.old) line.now)
+            (LineBegins (session_of self.old) line.now) result (session_of self.new) }
+    {
+        if line.len() > LINE_LIMIT {
+            return Err(Cause::LineTooLong);
+        }
+        self.lines = self.lines.saturating_add(1);
+        self.tell(line)?;
+        write_text(writer, self.text.as_bytes())
+    }
+
+    /// Gathers what a line tells, in place of what the one before told.
+    fn tell(&mut self, line: &[u8]) -> Result<(), Cause>
+        ensures { Gathers (Means (session_of self.old) (record_of line.now)) result
+            (string_bytes self.new.text) (session_of self.new) }
+    {
+        match read_record(self.alloc, line) {
+            Ok(Record::Nothing) => {
+                self.text.clear();
+                Ok(())
+            }
+            Ok(Record::Device(device)) => {
+                self.text.clear();
+                self.devices.select(device.number);
+                Ok(())
+            }
+            Ok(Record::Descriptor(bytes)) => self.describe(bytes.as_slice()),
+            Ok(Record::Report { time, bytes }) => self.report(time, bytes.as_slice()),
+            Err(Cause::Refused(refusal)) => self.refuse(refusal),
+            Err(cause) => Err(cause),
+        }
+    }
+
+    /// A line is refused.
+    fn refuse(&mut self, refusal: Refusal) -> Result<(), Cause>
+        ensures { Gathers (λ o. o ≡ refuses (session_of self.old) refusal) result
+            (string_bytes self.new.text) (session_of self.new) }
+    {
+        if self.options.strict {
+            return Err(Cause::Refused(refusal));
+        }
+        let line = self.lines;
+        self.refused = self.refused.saturating_add(1);
+        self.text.clear();
+        writeln!(self.text, "line {line}: {refusal}")?;
+        Ok(())
+    }
+
+    /// The device has this descriptor.
+    fn describe(&mut self, descriptor: &[u8]) -> Result<(), Cause>
+        ensures { Gathers (TellsDescriptor descriptor.now (session_of self.old)) result
+            (string_bytes self.new.text) (session_of self.new) }
+    {
+        match Recorded::new(self.alloc, descriptor) {
+            Ok(recorded) => self.install(recorded),
+            Err(fault) => {
+                if wants_memory(fault.cause) {
+                    return Err(Cause::Memory);
+                }
+                self.forget(fault)
+            }
+        }
+    }
+
+    /// The descriptor of the device is refused.
+    fn forget(&mut self, fault: LayoutFault) -> Result<(), Cause>
+        ensures { Gathers (λ o. o ≡ refuses (with_device (session_of self.old) None) (refusals.Layout fault)) result
+            (string_bytes self.new.text) (session_of self.new) }
+    {
+        self.devices.put(None);
+        self.refuse(Refusal::Layout(fault))
+    }
+
+    /// The device is this one.
+    fn install(&mut self, recorded: Recorded) -> Result<(), Cause>
+        ensures { Gathers (λ o. o ≡ installs (session_of self.old) recorded) result
+            (string_bytes self.new.text) (session_of self.new) }
+    {
+        let device = self.devices.current();
+        self.text.clear();
+        print_described(&mut self.text, self.options, device, recorded.layout())?;
+        self.devices.put(Some(recorded));
+        self.descriptors = self.descriptors.saturating_add(1);
+        Ok(())
+    }
+
+    /// A report of the device.
+    fn report(&mut self, time: &str, bytes: &[u8]) -> Result<(), Cause>
+        ensures { Gathers (λ o. o ≡ report_told time.now bytes.now (session_of self.old)) result
+            (string_bytes self.new.text) (session_of self.new) }
+    {
+        self.text.clear();
+        match self.devices.play(&mut self.text, time, self.options, bytes) {
+            Ok(events) => {
+                self.reports = self.reports.saturating_add(1);
+                self.events = self.events.saturating_add(events);
+                Ok(())
+            }
+            Err(Cause::Refused(refusal)) => self.refuse(refusal),
+            Err(cause) => Err(cause),
+        }
+    }
+}

@@ -1,0 +1,102 @@
+//! What a line of a recording says.
+
+ghost use Rattle.std.specs.Prelude.{◌≡◌, Ok, MatchResult, map};
+ghost use Rattle.hid_recording.specs.Records.{record_of, said_by, device_said, descriptor_said, report_said, counted_bytes, ReadsRecord, IsNone};
+
+use super::fault::{Cause, Refusal};
+use super::words::{DeviceNumber, is_count, read_bytes, read_device, read_time};
+use hid_lines::words_of_line;
+use std::alloc::Global;
+
+/// What a line says.
+#[derive(Drop)]
+pub enum Record<'a> {
+    /// An empty line, `#`, and `N:`, `P:` and `I:`, which name a device.
+    Nothing,
+    /// `D: DEVICE`: what follows is of this device.
+    Device(DeviceNumber),
+    /// `R: COUNT HEX`: the report descriptor of the device.
+    Descriptor(Vec<u8>),
+    /// `E: TIME COUNT HEX`: a report of the device.
+    Report { time: &'a str, bytes: Vec<u8> },
+}
+
+/// Reads one line, without its end.
+#[tactic(auto, unfolding(crate::specs::Records::record_of))]
+pub fn read_record(alloc: Global, line: &[u8]) -> Result<Record<'_>, Cause>
+    ensures { ReadsRecord result (record_of line.now) }
+{
+    match line {
+        [] | [b'#', ..] => Ok(Record::Nothing),
+        [letter, b':', rest @ ..] => {
+            let words = words_of_line(alloc, rest)?;
+            read_words(alloc, *letter, words.as_slice())
+        }
+        _ => Err(Cause::Refused(Refusal::Syntax)),
+    }
+}
+
+/// Reads the words behind the letter.
+#[tactic(auto, unfolding(crate::specs::Records::said_by))]
+fn read_words<'a>(alloc: Global, letter: u8, words: &[&'a [u8]]) -> Result<Record<'a>, Cause>
+    ensures { ReadsRecord result (said_by letter (map (λ word. word.now) words.now)) }
+{
+    match letter {
+        b'N' | b'P' | b'I' => Ok(Record::Nothing),
+        b'D' => read_selection(words),
+        b'R' => read_descriptor(alloc, words),
+        b'E' => read_report(alloc, words),
+        _ => Err(Cause::Refused(Refusal::Syntax)),
+    }
+}
+
+/// `DEVICE`
+fn read_selection<'a>(words: &[&'a [u8]]) -> Result<Record<'a>, Cause>
+    ensures { ReadsRecord result (device_said (map (λ word. word.now) words.now)) }
+{
+    let [word] = words else {
+        return Err(Cause::Refused(Refusal::BadDevice));
+    };
+    match read_device(word) {
+        Some(device) => Ok(Record::Device(device)),
+        None => Err(Cause::Refused(Refusal::BadDevice)),
+    }
+}
+
+/// The bytes that words spell, where they are so many.
+fn read_counted(alloc: Global, count: &[u8], words: &[&[u8]]) -> Result<Vec<u8>, Cause>
+    ensures { MatchResult result
+        (λ bytes. counted_bytes count.now (map (λ word. word.now) words.now) ≡ Ok bytes.items)
+        (λ cause. IsNone cause (counted_bytes count.now (map (λ word. word.now) words.now))) }
+{
+    let bytes = read_bytes(alloc, words)?;
+    if !is_count(count, bytes.len()) {
+        return Err(Cause::Refused(Refusal::BadCount));
+    }
+    Ok(bytes)
+}
+
+/// `COUNT HEX`
+fn read_descriptor<'a>(alloc: Global, words: &[&'a [u8]]) -> Result<Record<'a>, Cause>
+    ensures { ReadsRecord result (descriptor_said (map (λ word. word.now) words.now)) }
+{
+    let [count, hex @ ..] = words else {
+        return Err(Cause::Refused(Refusal::BadCount));
+    };
+    let bytes = read_counted(alloc, count, hex)?;
+    Ok(Record::Descriptor(bytes))
+}
+
+/// `TIME COUNT HEX`
+fn read_report<'a>(alloc: Global, words: &[&'a [u8]]) -> Result<Record<'a>, Cause>
+    ensures { ReadsRecord result (report_said (map (λ word. word.now) words.now)) }
+{
+    let [time, count, hex @ ..] = words else {
+        return Err(Cause::Refused(Refusal::BadCount));
+    };
+    let Some(time) = read_time(time) else {
+        return Err(Cause::Refused(Refusal::BadTime));
+    };
+    let bytes = read_counted(alloc, count, hex)?;
+    Ok(Record::Report { time, bytes })
+}

@@ -1,0 +1,84 @@
+//! A whole recording, from a reader to a writer.
+
+ghost use Rattle.std.specs.Prelude.{◌≡◌, ◌≤◌, ◌*◌, IfOk};
+ghost use Rattle.hid_recording.specs.Runs.{AppendsRecording, line_of};
+
+use super::fault::{Cause, Options, RecordingFault, Summary};
+use super::player::Player;
+use super::recording::Recording;
+use std::alloc::Global;
+use std::io::{ErrorKind, Read, Write};
+
+/// How often the reader is asked at most.
+const READS: u32 = 1_000_000;
+
+/// For how many bytes the reader is asked at most.
+const PIECE: usize = 4096;
+
+/// Runs the recording that the reader gives, and writes what it tells. A read of 0 bytes ends the recording, and so does
+/// the first line that is refused. A read that is interrupted is tried again. What was told is flushed before each read
+/// and at the end, also at a fault, so `writer` may be a buffer.
+///
+/// # Errors
+/// The first fault, at its line. Where the last flush fails, X6 at that line, whatever the fault was: what was told would
+/// else be lost without a word. Of a recording that is accepted the line is the one behind the last.
+pub fn play<R: Read, W: Write>(
+    alloc: Global,
+    reader: &mut R,
+    writer: &mut W,
+    options: Options,
+) -> Result<Summary, RecordingFault>
+    ensures { AppendsRecording options (R.remaining reader.old) (W.contents writer.old)
+        (W.contents writer.new) result }
+{
+    let end = play_lines(alloc, reader, writer, options);
+    match writer.flush() {
+        Ok(()) => end,
+        Err(_) => Err(RecordingFault {
+            line: line_of(&end),
+            cause: Cause::Write,
+        }),
+    }
+}
+
+/// The line at which a run ended: behind the last one, where all were run.
+fn line_of(end: &Result<Summary, RecordingFault>) -> u64
+    requires { IfOk end.now (λ summary. summary.lines ≤ 4096 * 1000000) }
+    ensures { result ≡ line_of end.now }
+{
+    match end {
+        Ok(summary) => summary.lines + 1,
+        Err(fault) => fault.line,
+    }
+}
+
+/// The same, without the last flush.
+fn play_lines<R: Read, W: Write>(
+    alloc: Global,
+    reader: &mut R,
+    writer: &mut W,
+    options: Options,
+) -> Result<Summary, RecordingFault>
+    ensures ran { AppendsRecording options (R.remaining reader.old) (W.contents writer.old)
+        (W.contents writer.new) result }
+    ensures count { IfOk result (λ summary. summary.lines ≤ 4096 * 1000000) }
+{
+    let player = match Player::new(alloc, options) {
+        Ok(player) => player,
+        Err(cause) => return Err(RecordingFault { line: 1, cause }),
+    };
+    let mut recording = Recording::new(player);
+    let mut piece = [0u8; PIECE];
+    for _ in 0..READS {
+        if writer.flush().is_err() {
+            return Err(recording.fault(Cause::Write));
+        }
+        match reader.read(&mut piece) {
+            Ok(0) => return recording.finish(writer),
+            Ok(n) => recording.feed(&piece[..n], writer)?,
+            Err(error) if error.kind() == ErrorKind::Interrupted => {}
+            Err(_) => return Err(recording.fault(Cause::Read)),
+        }
+    }
+    Err(recording.fault(Cause::TooManyReads))
+}

@@ -1,0 +1,77 @@
+//! Recordings over memory, and what they tell.
+//! The mouse is that of HID 1.11, appendix E.10; its reports were worked out by hand from appendix B.2, and every expected
+//! text from docs/RECORDINGS.md.
+
+use crate::{Options, RecordingFault, Summary, play};
+use std::alloc::Global;
+use std::test::Fail;
+
+const PLAIN: Options = Options {
+    layout: false,
+    values: false,
+    names: false,
+    strict: false,
+};
+
+const ALL: Options = Options {
+    layout: true,
+    values: true,
+    names: true,
+    strict: false,
+};
+
+const STRICT: Options = Options {
+    layout: false,
+    values: false,
+    names: false,
+    strict: true,
+};
+
+/// Recordings with what they tell.
+#[rattlefmt::skip]
+const TOLD: [(&str, Options, &str, &str); 8] = [
+    ("a mouse that clicks and moves", PLAIN,
+        "# a mouse\nD: 0\nR: 50 05 01 09 02 A1 01 09 01 A1 00 05 09 19 01 29 03 15 00 25 01 95 03 75 01 81 02 95 01 75 05 81 01 05 01 09 30 09 31 15 81 25 7F 75 08 95 02 81 06 C0 C0\nN: mouse\nI: 3 046d c077\nE: 000000.000000 3 01 05 00\nE: 000000.010000 3 00 00 FF\n",
+        "000000.000000 0 down 09:01\n000000.000000 0 motion 01:30 5\n000000.010000 0 up 09:01\n000000.010000 0 motion 01:31 -1\n"),
+    ("the same with its layout, its values and names", ALL,
+        "R: 50 05 01 09 02 A1 01 09 01 A1 00 05 09 19 01 29 03 15 00 25 01 95 03 75 01 81 02 95 01 75 05 81 01 05 01 09 30 09 31 15 81 25 7F 75 08 95 02 81 06 C0 C0\nE: 000000.000000 3 01 05 00\n",
+        "device 0\nreport input 0 bytes 3\nitem 0 input 0 at 0 1x3 variable 0..1 09:01-09:03 in 1/01:02 0/01:01\nitem 1 input 0 at 3 5x1 padding in 1/01:02 0/01:01\nitem 2 input 0 at 8 8x2 relative -127..127 01:30 01:31 in 1/01:02 0/01:01\n000000.000000 0 report\nvalue 0.0 1 09:01\nvalue 0.1 0 09:02\nvalue 0.2 0 09:03\nvalue 2.0 5 01:30\nvalue 2.1 0 01:31\n000000.000000 0 down 09:01 Button 1\n000000.000000 0 motion 01:30 5 X\n"),
+    ("two devices, each with its view", PLAIN,
+        "D:0\nR: 14 05 09 09 01 15 00 25 01 75 01 95 01 81 02\nD:1\nR: 14 05 09 09 02 15 00 25 01 75 01 95 01 81 02\nE: 1 1 01\nD:0\nE: 2 1 01\nD:1\nE: 3 1 01\nE: 4 1 00\n",
+        "1 1 down 09:02\n2 0 down 09:01\n4 1 up 09:02\n"),
+    ("a descriptor that is refused, and a report of it", PLAIN,
+        "R: 2 05 01 \nE: 1 1 01\nR: 1 05\nE: 2 1 01\n",
+        "line 2: U9: the device has no such Input report\nline 3: L1 at 0: the descriptor ends in the middle of an item\nline 4: R7: the device has no descriptor\n"),
+    ("lines that say nothing known", PLAIN,
+        "X: 1\nD: 16\nD: x\nD:\nR:\nR: 2 05\nR: 1 5\nR: 1 0g\nE: 1\nE: x 1 00\nE: 1 1 00\r\n\r\n\nR 1\n",
+        "line 1: R1: no line of a recording\nline 2: R5: the device isn't a number from 0 to 15\nline 3: R5: the device isn't a number from 0 to 15\nline 4: R5: the device isn't a number from 0 to 15\nline 5: R4: the count isn't that of the bytes\nline 6: R4: the count isn't that of the bytes\nline 7: R3: a byte isn't two hex digits\nline 8: R3: a byte isn't two hex digits\nline 9: R4: the count isn't that of the bytes\nline 10: R6: the time isn't digits and points\nline 11: R7: the device has no descriptor\nline 14: R1: no line of a recording\n"),
+    ("a report that is cut off changes nothing", PLAIN,
+        "R: 14 05 09 09 01 15 00 25 01 75 01 95 09 81 02\nE: 1 2 01 00\nE: 2 1 00\nE: 3 2 00 00",
+        "1 0 down 09:01\nline 3: U8: the report is too short\n3 0 up 09:01\n"),
+    ("no lines", PLAIN, "", ""),
+    ("a strict run of what isn't refused", STRICT,
+        "R: 14 05 09 09 01 15 00 25 01 75 01 95 01 81 02\nE: 1 1 01",
+        "1 0 down 09:01\n"),
+];
+
+fn played(
+    alloc: Global,
+    options: Options,
+    recording: &str,
+    text: &mut Vec<u8>,
+) -> Result<Summary, RecordingFault> {
+    let mut reader = recording.as_bytes();
+    play(alloc, &mut reader, text, options)
+}
+
+#[test]
+fn recordings_tell_their_events(rt: HostRuntime) -> Result<(), Fail> {
+    for (name, options, recording, want) in TOLD {
+        let mut text = Vec::new(rt.alloc());
+        let result = played(rt.alloc(), options, recording, &mut text);
+        assert!(rt; result.is_ok(), "{name}");
+        let text = String::from_utf8(text)?;
+        assert_eq!(rt; text.as_str(), want, "{name}");
+    }
+    Ok(())
+}

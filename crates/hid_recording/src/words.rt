@@ -1,0 +1,91 @@
+//! What a word says by itself: a byte, a count, a device, a time.
+
+ghost use Rattle.std.specs.Prelude.{◌≡◌, ◌+◌, ◌*◌, ◌<◌, Some, MatchResult, map};
+ghost use Rattle.std.specs.Option.{option_map};
+ghost use Rattle.hid_recording.specs.declared.words.TheConstants.{MAX_DEVICES};
+ghost use Rattle.hid_recording.specs.Words.{byte_of, bytes_of, IsNoBytes, is_count, device_of, is_time, time_of};
+
+use super::fault::{Cause, Refusal};
+use hid_lines::read_number;
+use std::alloc::Global;
+
+/// How many devices a recording has room for (our choice).
+pub const MAX_DEVICES: usize = 16;
+
+/// Two hex digits, of either case.
+fn read_byte(word: &[u8]) -> Option<u8>
+    ensures value { result ≡ byte_of word.now }
+{
+    let [high, low] = word else {
+        return None;
+    };
+    let high = char::from(*high).to_digit(16)?;
+    let low = char::from(*low).to_digit(16)?;
+    Some((high * 16 + low) as u8)
+}
+
+/// The bytes that words spell, one each.
+#[tactic(auto, unfolding(crate::specs::Words::bytes_of))]
+pub fn read_bytes(alloc: Global, words: &[&[u8]]) -> Result<Vec<u8>, Cause>
+    ensures { MatchResult result
+        (λ bytes. bytes_of (map (λ word. word.now) words.now) ≡ Some bytes.items)
+        (λ cause. IsNoBytes cause (bytes_of (map (λ word. word.now) words.now))) }
+{
+    let mut bytes = Vec::new(alloc);
+    for word in words {
+        match read_byte(word) {
+            None => return Err(Cause::Refused(Refusal::BadHex)),
+            Some(byte) => {
+                if bytes.push(byte).is_err() {
+                    return Err(Cause::Memory);
+                }
+            }
+        }
+    }
+    Ok(bytes)
+}
+
+/// Whether a word is this count, in decimal digits.
+pub fn is_count(word: &[u8], count: usize) -> bool
+    ensures { result ≡ is_count word.now count }
+{
+    match read_number(10, word) {
+        Some(number) => number == count as u64,
+        None => false,
+    }
+}
+
+/// The number of a device.
+#[derive(Clone, Copy)]
+pub struct DeviceNumber {
+    pub number: u8,
+    ghost small: { number < MAX_DEVICES },
+}
+
+/// A device: decimal digits, 0 to 15.
+pub fn read_device(word: &[u8]) -> Option<DeviceNumber>
+    ensures value { option_map (λ device. device.number) result ≡ device_of word.now }
+{
+    match read_number(10, word)? {
+        device @ 0..=15 => Some(DeviceNumber {
+            number: device as u8,
+        }),
+        _ => None,
+    }
+}
+
+fn is_time(word: &[u8]) -> bool
+    ensures { result ≡ is_time word.now }
+{
+    word.iter().all(|byte| matches!(*byte, b'0'..=b'9' | b'.'))
+}
+
+/// A time: digits and points.
+pub fn read_time(word: &[u8]) -> Option<&str>
+    ensures { option_map (λ time. time.now) result ≡ time_of word.now }
+{
+    if !is_time(word) {
+        return None;
+    }
+    std::str::from_utf8(word).ok()
+}

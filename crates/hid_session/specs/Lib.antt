@@ -1,0 +1,7 @@
+pub mod Causes
+pub mod Events
+pub mod States
+pub mod Sessions
+pub mod Elements
+pub mod Shown
+pub mod Tables

@@ -1,0 +1,9 @@
+-- What is seen of a session.
+use Rattle.std.specs.Prelude.{List}
+use Rattle.hid_layout.specs.Layout.{Contents}
+use Rattle.hid_cells.specs.declared.cell.Cell.{Cell}
+
+-- a device's layout, and what a host has read of it
+pub record State : Type 0 where
+  pub layout : Contents
+  pub view : List Cell

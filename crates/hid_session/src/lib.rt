@@ -1,0 +1,32 @@
+//! A device whose reports a host reads, and what of it is told to C as plain records.
+//! ```text
+//!   descriptor --Session::open--> Session: layout, view, room for the events of a report
+//!
+//!   report     --Session::feed--> events as records: kind, control, usage, value
+//!   a place    --element_at-----> an element: bit, width, sign, range, usage, flags, report
+//! ```
+//! A record is of fixed-width numbers alone, each at its own multiple, so its bytes are the same to each compiler.
+//! The rule to know: places are those of [`hid_layout`], an item among the listed items and an element or a key there.
+//!
+//! A session is opened, fed and shown by the definitions of its layout and view: `ok` and `err` on [`Session::open`],
+//! and the clause on [`Session::feed`].
+#![tactic(auto)]
+
+mod cause;
+mod element;
+mod event;
+mod session;
+mod shown;
+mod table;
+
+pub use cause::{cause_number, cause_with};
+pub use element::{HidElement, element_at, number_in};
+pub use event::{HidEvent, event_of, put_events};
+pub use hid_layout::{Cause, ControlId, LayoutFault};
+pub use hid_usages::ReportFault;
+pub use session::{FeedFault, Session};
+pub use shown::{HidCollection, HidReport, HidUsage, collection_at, report_at, usage_at};
+pub use table::{list_elements, put_elements};
+
+#[cfg(test)]
+mod tests;

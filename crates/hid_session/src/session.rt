@@ -1,0 +1,129 @@
+//! A device whose reports are read: its descriptor once, then one report at a time.
+
+ghost use Rattle.std.specs.Prelude.{◌≡◌, ◌≤◌, length, IfOk, IfErr, vec_capacity};
+ghost use Rattle.hid_descriptor.specs.Faults.{Explains};
+ghost use Rattle.hid_layout.specs.Controls.{items_of, max_events};
+ghost use Rattle.hid_cells.specs.Snapshots.{is_pressed, cell_at};
+ghost use Rattle.hid_cells.specs.Views.{value_in};
+ghost use Rattle.hid_session.specs.Sessions.{IsFirst, Feeds};
+
+use crate::event::{HidEvent, put_events};
+use hid_fields::WordCodec;
+use hid_layout::{Cause, ControlId, Layout, LayoutFault};
+use hid_usages::{Event, ReportFault, View};
+use std::alloc::Global;
+use std::marker::Model;
+
+/// Why a report is not read, in the order in which causes are looked for.
+#[derive(Clone, Copy, Debug, PartialEq, Eq)]
+pub enum FeedFault {
+    /// The table has fewer places than a report can tell events.
+    NoRoom,
+    /// U8 or U9: the bytes are no Input report of the device.
+    Refused(ReportFault),
+}
+
+/// A device's layout, and what a host has read of it.
+#[derive(Drop)]
+pub struct Session {
+    layout: Layout,
+    view: View,
+    /// Room for the events of a report.
+    events: Vec<Event>,
+}
+
+impl Model for Session {
+    ghost use Rattle.std.specs.Prelude.{◌≤◌, vec_capacity};
+    ghost use Rattle.hid_layout.specs.Controls.{items_of, max_events};
+    ghost use Rattle.hid_layout.specs.Reports.{IsLayout};
+    ghost use Rattle.hid_usages.specs.Cells.{FitsView};
+    ghost use Rattle.hid_session.specs.States.{State};
+
+    ghost Value = { State };
+
+    ghost view = { λ s. record { layout = s.layout; view = s.view } };
+
+    ghost invariant = { λ s. IsLayout s.layout × FitsView (items_of s.layout) s.view
+        × (max_events (items_of s.layout) ≤ vec_capacity s.events) };
+}
+
+/// Want of memory, where a descriptor is read.
+fn want() -> LayoutFault
+    ensures { result ≡ record { cause = Cause.Memory; at = 0 } }
+{
+    LayoutFault {
+        cause: Cause::Memory,
+        at: 0,
+    }
+}
+
+impl Session {
+    /// Reads a report descriptor. Nothing is held, and values are those of a blank snapshot.
+    pub fn open(alloc: Global, descriptor: &[u8]) -> Result<Session, LayoutFault>
+        ensures ok { IfOk result (λ session. IsFirst descriptor.now session) }
+        // Memory was wanting, or this is the one refusal.
+        ensures err { IfErr result (λ f. Explains descriptor.now f.cause f.at) }
+    {
+        let layout = Layout::parse(alloc, descriptor)?;
+        let _ = layout.items();
+        let Ok(view) = View::initial(alloc, &layout) else {
+            return Err(want());
+        };
+        let Ok(events) = Vec::with_capacity(alloc, layout.max_events()) else {
+            return Err(want());
+        };
+        Ok(Session {
+            layout,
+            view,
+            events,
+        })
+    }
+
+    /// How many events a report tells at most.
+    pub fn room(&self) -> usize
+        ensures { result ≡ max_events (items_of self.now.layout) }
+    {
+        self.layout.max_events()
+    }
+
+    /// Reads a report, and writes its events over the first places of the table. No memory is taken.
+    pub fn feed(&mut self, report: &[u8], out: &mut [HidEvent]) -> Result<usize, FeedFault>
+        ensures { Feeds self.old report.now out.old result self.new out.new }
+    {
+        if out.len() < self.layout.max_events() {
+            return Err(FeedFault::NoRoom);
+        }
+        self.events.clear();
+        match self
+            .view
+            .take_report::<WordCodec>(&self.layout, report, &mut self.events)
+        {
+            Ok(()) => {
+                put_events(&self.events, out);
+                Ok(self.events.len())
+            }
+            Err(fault) => Err(FeedFault::Refused(fault)),
+        }
+    }
+
+    /// The layout of the descriptor.
+    pub fn layout(&self) -> &Layout
+        ensures { result.now ≡ self.now.layout }
+    {
+        &self.layout
+    }
+
+    /// Whether a switch or a key is held; false for another control, and where there is none.
+    pub fn held(&self, control: ControlId) -> bool
+        ensures { result ≡ is_pressed (cell_at self.now.view control.item) control.index }
+    {
+        self.view.held(control)
+    }
+
+    /// The value of an absolute control; none where it is null, for another control, and where there is none.
+    pub fn value(&self, control: ControlId) -> Option<i64>
+        ensures { result ≡ value_in (cell_at self.now.view control.item) control.index }
+    {
+        self.view.value(control)
+    }
+}

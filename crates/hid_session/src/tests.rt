@@ -1,0 +1,93 @@
+//! The boot mouse of HID 1.11, appendix E.10, and the report of its buttons 1 and 3 with X +127 and Y -127.
+use crate::element::{HidElement, number_in};
+use crate::event::HidEvent;
+use crate::session::{FeedFault, Session};
+use crate::table::list_elements;
+use hid_layout::ControlId;
+use hid_usages::ReportFault;
+
+#[rattlefmt::skip]
+const MOUSE: [u8; 50] = [
+    0x05, 0x01, 0x09, 0x02, 0xA1, 0x01, 0x09, 0x01, 0xA1, 0x00, 0x05, 0x09, 0x19, 0x01, 0x29, 0x03, 0x15, 0x00, 0x25, 0x01,
+    0x95, 0x03, 0x75, 0x01, 0x81, 0x02, 0x95, 0x01, 0x75, 0x05, 0x81, 0x01, 0x05, 0x01, 0x09, 0x30, 0x09, 0x31, 0x15, 0x81,
+    0x25, 0x7F, 0x75, 0x08, 0x95, 0x02, 0x81, 0x06, 0xC0, 0xC0,
+];
+
+const REPORT: [u8; 3] = [0x05, 0x7F, 0x81];
+
+const NO_EVENT: HidEvent = HidEvent {
+    value: 0,
+    item: 0,
+    index: 0,
+    page: 0,
+    id: 0,
+    kind: 0,
+};
+
+#[test]
+fn reports_are_fed(rt: HostRuntime) {
+    let mut session = Session::open(rt.alloc(), &MOUSE).expect(&rt, "the mouse");
+    let mut few = [NO_EVENT; 4];
+    let mut events = [NO_EVENT; 5];
+    assert_eq!(rt; session.room(), 5);
+    assert_eq!(rt; session.feed(&REPORT, &mut few), Err(FeedFault::NoRoom));
+    assert_eq!(rt;
+        session.feed(&REPORT[..2], &mut events),
+        Err(FeedFault::Refused(ReportFault::Short))
+    );
+    assert_eq!(rt; session.feed(&REPORT, &mut events), Ok(4));
+    assert_eq!(rt;
+        events[1],
+        HidEvent {
+            value: 1,
+            item: 0,
+            index: 2,
+            page: 9,
+            id: 3,
+            kind: 1
+        }
+    );
+    assert_eq!(rt;
+        events[3],
+        HidEvent {
+            value: -127,
+            item: 2,
+            index: 1,
+            page: 1,
+            id: 0x31,
+            kind: 4
+        }
+    );
+    assert!(rt;
+        session.held(ControlId { item: 0, index: 2 })
+            && !session.held(ControlId { item: 0, index: 1 })
+    );
+}
+
+#[test]
+fn elements_are_listed(rt: HostRuntime) {
+    let session = Session::open(rt.alloc(), &MOUSE).expect(&rt, "the mouse");
+    let elements = list_elements(rt.alloc(), session.layout()).expect(&rt, "memory");
+    assert_eq!(rt; elements.len(), 5);
+    let y = HidElement {
+        min: -127,
+        max: 127,
+        item: 2,
+        index: 1,
+        collections: 2,
+        bit: 16,
+        width: 8,
+        usages: 2,
+        page: 1,
+        id: 0x31,
+        flags: 6,
+        kind: 0,
+        report: 0,
+        is_signed: 1,
+        is_array: 0,
+        spare: 0,
+    };
+    assert_eq!(rt; elements[4], y);
+    assert_eq!(rt; number_in(&y, &REPORT), Ok(-127));
+    assert_eq!(rt; number_in(&y, &REPORT[..2]), Err(ReportFault::Short));
+}

@@ -1,0 +1,20 @@
+-- The exit status of a run (our choice: docs/RECORDINGS.md).
+use Rattle.std.specs.Prelude.{ℕ, nat_lt, if◌then◌else◌, Result, Ok, Err}
+use Rattle.hid_recording.specs.declared.fault.Summary.{Summary}
+use Rattle.hid_recording.specs.declared.fault.RecordingFault.{RecordingFault}
+use Rattle.hid_recording.specs.declared.fault.Cause.{Cause}
+use Rattle.hid_recording.specs.declared.fault.Cause.TheVariants.{Refused, LineTooLong, Read, Write, Memory, TooManyReads}
+
+-- 1 where a line is refused, 3 where the cause lies outside of the recording
+abbrev pub cause_status : Cause → ℕ
+cause_status (Refused refusal) = 1
+cause_status LineTooLong = 1
+cause_status Read = 3
+cause_status Write = 3
+cause_status Memory = 3
+cause_status TooManyReads = 3
+
+-- 0 where nothing was refused
+abbrev pub status_of : Result Summary RecordingFault → ℕ
+status_of (Ok summary) = if nat_lt 0 summary.refused then 1 else 0
+status_of (Err fault) = cause_status fault.cause

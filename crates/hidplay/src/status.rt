@@ -1,0 +1,39 @@
+//! Exit statuses.
+
+ghost use Rattle.std.specs.Prelude.{◌≡◌, max};
+ghost use Rattle.hidplay.specs.Status.{status_of};
+
+use hid_recording::{Cause, RecordingFault, Summary};
+
+/// Nothing was refused.
+pub const FINE: u8 = 0;
+
+/// A line was refused.
+pub const REFUSED: u8 = 1;
+
+/// The command line is wrong.
+pub const WRONG_USAGE: u8 = 2;
+
+/// A file, standard output or memory failed.
+pub const OUTSIDE: u8 = 3;
+
+/// The exit status of a run.
+pub fn exit_of(end: &Result<Summary, RecordingFault>) -> u8
+    ensures { result ≡ status_of end.now }
+{
+    match end {
+        Ok(summary) if summary.refused > 0 => REFUSED,
+        Ok(_) => FINE,
+        Err(fault) => match fault.cause {
+            Cause::Refused(_) | Cause::LineTooLong => REFUSED,
+            Cause::Read | Cause::Write | Cause::Memory | Cause::TooManyReads => OUTSIDE,
+        },
+    }
+}
+
+/// Of two runs the status of the one that went worse.
+pub fn worse(a: u8, b: u8) -> u8
+    ensures { result ≡ max a b }
+{
+    if a < b { b } else { a }
+}

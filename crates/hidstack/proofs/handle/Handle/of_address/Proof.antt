@@ -1,0 +1,44 @@
+-- `of_address` keeps the pointer, and what lies there goes with it.
+use Rattle.std.proofs.Common.{List, [], ◌∷◌, ◌++◌, refl, sym, subst}
+use mir.Val.{Val}
+use base.Logic.{ent, emp, id⊢}
+use base.Fml.{ftrue, fsep}
+use prog.Wp.{WpFn}
+use contract.Running.{tables}
+use types.Kit.{Item, ‵, raw, ◌⊛◌, ◌$◌, ◌∵◌, !, qed, by, keep, drop, use1, join, split, fsplit, fjoin, suffices, done}
+use types.Part.{whole, sub, agg}
+use types.Run.{stop, fld, no_more, and_then, of_opd, returns, enter}
+use types.ByLocal.{alloc_all, pass_all, free_all, look_at, get, get_in, sets}
+use denote.Exit.{yes}
+use denote.RawPtr.{ptr_val}
+use denote.Signature.{plain}
+use denote.Steps.{nothing}
+use denote.Triple.Walked.{says, Stays, stay_dropped, walk_of, ends_at, Goes-dropped}
+use Rattle.std.specs.Prelude.{Some}
+use Rattle.std.proofs.raw_atomic.Walks.{proved_at}
+use Rattle.core.proofs.atomic.Steps.{Ptr-Good}
+use Rattle.hidstack.specs.Held.{held}
+use Rattle.hidstack.proofs.Steps.{Session, Handle, At, alone, address_good, handle_good, address_out, handle_in}
+use Rattle.hidstack.specs.contracts.handle.Handle.of_address as F
+use Rattle.hidstack.specs.contracts.handle.Handle.of_address.Key.{name as #self}
+use Rattle.hidstack.proofs.handle.Handle.of_address.Statement.{statement}
+use Rattle.hidstack.proofs.handle.Handle.of_address.Code as code
+
+abbrev stayed : Stays (F.ended).signature.params (F.ended).kept
+stayed = (stay_dropped (plain (λ _. At Session)) yes, tt)
+
+pub of_address_spec : {M : Type 1} → statement M
+of_address_spec 𝓤 𝓛 𝓜 𝓡 wired =
+    let c = F.clauses 𝓛 𝓜.mem 𝓡.returns in let 𝓣 = tables 𝓤 𝓛.H 𝓜 𝓡 𝓡.env in
+    proved_at 𝓛 F.ended stayed c 𝓜 𝓡 (Goes-dropped 𝓛 0 (plain (λ _. At Session)) yes (λ κs x f. refl), tt) #self code.function (code.unfolded 𝓤 𝓛.H 𝓜 𝓡 wired) (λ z are.
+    let Post = (walk_of 𝓛 F.ended stayed c).post z in let d = z.0.3.0 in let p = d.at in let w = alone (ptr_val p) in
+    qed 𝓛 ((‵ ftrue ⊛ ‵ (fsep ((At Session).own_val d z.0.4.0) ftrue)) ∷ raw (emp 𝓤) ∷ []) ∵ split ! $ drop ! $ fsplit ! $
+    address_out ! Session d z.0.4.0 (λ ws. use1 𝓛 (‵ (held Session p (Some d.value))) (id⊢ 𝓤 _) $ keep ! (0 ∷ []) $
+    let Γ : List (Item 𝓤) = ‵ (held Session p (Some d.value)) ∷ [] in
+    by ! (subst (λ (us : List Val). ent 𝓤 (types.Kit.⋆ 𝓛 Γ) (WpFn 𝓤 𝓛.H 𝓣.C 𝓣.Λ code.function (us ++ []) Post)) (sym ws)
+    (qed 𝓛 Γ ∵ enter ! 𝓣.C 𝓣.Λ code.function (w ∷ []) Post $ alloc_all ! (λ l. pass_all ! refl (address_good Session p, tt) $
+    sets ! (of_opd ! (get_in ! (fld ! refl (stop !)) (sub ! 0 refl (whole !)))) refl (Ptr-Good p) $ sets ! (of_opd ! (get ! refl)) refl (Ptr-Good p) $
+    sets ! (agg ! (and_then ! (get ! refl) (no_more !))) refl (handle_good p) $ returns ! (look_at ! 0 refl) $ free_all ! refl $
+    handle_in ! p (Some d.value) $
+    suffices ! _ (ends_at 𝓛 F.ended stayed c z w (record { at = p; kept = Some d.value }) (tt, tt) (tt, tt)) $ says ! refl $
+    nothing ! $ nothing ! $ fjoin ! $ join ! $ nothing ! $ join ! $ done !)))))

@@ -1,0 +1,17 @@
+-- What a handle owns: the block of its session where it has one, else nothing, at null (our choice).
+use Rattle.std.specs.Prelude.{Option, Some, None}
+use base.Fml.{Fml, feq}
+use denote.RattleType.{RattleType}
+use denote.RawPtr.{Ptr, null_ptr}
+use mir.Syntax.{Ty}
+use Rattle.std.specs.contracts.impls.GlobalAllocator.TheImpl.{ghosts}
+use Rattle.std.specs.Box.Ownership.{box_owns}
+
+-- the right to free a block of the C library's heap
+abbrev pub block_right : Ty → Ptr → Fml
+block_right = ghosts.dealloc_token (record { memory = record { seal = tt } })
+
+-- what is owned at an address where this may be kept
+abbrev pub held : (R : RattleType) → Ptr → Option R.Denot → Fml
+held R at None = feq Ptr at null_ptr
+held R at (Some x) = box_owns block_right R at x

@@ -1,0 +1,37 @@
+-- What opening a handle makes of it (our choice).
+use Rattle.std.specs.Prelude.{◌≡◌, ℕ, List, length, Option, Some, None}
+use Rattle.hid_descriptor.specs.declared.fault.Cause.{Cause}
+use Rattle.hid_descriptor.specs.Faults.{Explains}
+use Rattle.hid_session.specs.Causes.{cause_number}
+use Rattle.hid_session.specs.Elements.{one_of}
+use Rattle.hid_session.specs.States.{State}
+use Rattle.hid_session.specs.Sessions.{IsFirst, room_of}
+use Rattle.hidstack.specs.declared.session.HidOpened.{HidOpened}
+
+-- what is told of a session that was opened
+abbrev pub opened_as : State → HidOpened
+opened_as s = record {
+  at = 0;
+  room = room_of s;
+  reports = length s.layout.reports;
+  items = length s.layout.items;
+  cause = 0;
+  numbered = one_of s.layout.numbered;
+}
+
+-- what is told of a refusal
+abbrev pub refused_as : ℕ → ℕ → HidOpened
+refused_as cause at = record { at = at; room = 0; reports = 0; items = 0; cause = cause; numbered = 0 }
+
+-- the handle was closed, and has a session of which nothing was read yet
+abbrev pub Opens : Option State → List ℕ → Option State → HidOpened → Type 0
+Opens before bytes after told = (before ≡ None) × (s : State) × (after ≡ Some s) × IsFirst bytes s × (told ≡ opened_as s)
+
+-- the handle was closed and is so, and this is the one refusal, or memory was wanting
+abbrev pub Refuses : Option State → List ℕ → Option State → HidOpened → Type 0
+Refuses before bytes after told =
+    (before ≡ None) × (after ≡ None) × (cause : Cause) × (at : ℕ) × Explains bytes cause at × (told ≡ refused_as (cause_number cause) at)
+
+-- the handle was open, and stays as it was
+abbrev pub IsBusy : Option State → Option State → HidOpened → Type 0
+IsBusy before after told = (s : State) × (before ≡ Some s) × (after ≡ Some s) × (told ≡ refused_as 0 0)

@@ -1,0 +1,60 @@
+-- What a run of a script answers (our choice; what a script tells: hid_script).
+use Rattle.std.specs.Prelude.{◌≡◌, ℕ, ◌/◌, ◌%◌, ◌==◌, ◌<◌, ◌⊎◌, List, [], length, Result, Ok, Err}
+use Rattle.std.specs.Str.Lines.{lines}
+use Rattle.hid_script.specs.declared.fault.Options.{Options}
+use Rattle.hid_script.specs.declared.fault.ScriptFault.{ScriptFault}
+use Rattle.hid_script.specs.declared.fault.Summary.{Summary}
+use Rattle.hid_script.specs.FaultText.{fault_text}
+use Rattle.hid_script.specs.Runs.{RunsTo}
+use Rattle.hid_script.specs.Session.{at_first}
+use Rattle.hidstack.specs.declared.run.HidRan.{HidRan}
+use Rattle.hidstack.specs.declared.status.TheConstants.{OK, REFUSED, NO_ROOM, MEMORY}
+use Rattle.hidstack.specs.Texts.{Written}
+
+-- bit 0: the layout of each device; bit 1: a line for each poll
+abbrev pub options_of : ℕ → Options
+options_of options = record { layout = options % 2 == 1; trace = options / 2 % 2 == 1 }
+
+-- a run from the start wrote this text and ended so
+abbrev pub RunsScript : Options → List ℕ → List ℕ → Result Summary ScriptFault → Type 0
+RunsScript options script written answer = RunsTo (at_first options) (lines script) 0 written answer
+
+-- no other answer comes
+abbrev pub AnswersRun : ℕ → Type 0
+AnswersRun status = (status ≡ OK) ⊎ ((status ≡ REFUSED) ⊎ ((status ≡ NO_ROOM) ⊎ (status ≡ MEMORY)))
+
+-- how the run ended
+abbrev pub ran_as : Result Summary ScriptFault → List ℕ → HidRan
+ran_as (Ok summary) written = record { line = 0; told = length written; fault = 0 }
+ran_as (Err fault) written = record { line = fault.line; told = length written; fault = length (fault_text fault) }
+
+-- the line that names a fault, and nothing where there is none
+abbrev pub fault_told : Result Summary ScriptFault → List ℕ
+fault_told (Ok summary) = []
+fault_told (Err fault) = fault_text fault
+
+-- one of the two texts has too little room
+abbrev pub IsShort : List ℕ → List ℕ → List ℕ → List ℕ → Type 0
+IsShort told out text fault = (length out < length told) ⊎ (length fault < length text)
+
+-- all lines were run, and their text is written
+abbrev pub RunsWhole : Options → List ℕ → List ℕ → List ℕ → List ℕ → List ℕ → HidRan → Type 0
+RunsWhole options script out out' fault fault' ran =
+    (written : List ℕ) × (summary : Summary) × RunsScript options script written (Ok summary)
+    × Written written out out' × (fault' ≡ fault) × (ran ≡ ran_as (Ok summary) written)
+
+-- the run ended early; what it told and the line that names its fault are written
+abbrev pub RunsRefused : Options → List ℕ → List ℕ → List ℕ → List ℕ → List ℕ → HidRan → Type 0
+RunsRefused options script out out' fault fault' ran =
+    (written : List ℕ) × (wrong : ScriptFault) × RunsScript options script written (Err wrong)
+    × Written written out out' × Written (fault_text wrong) fault fault' × (ran ≡ ran_as (Err wrong) written)
+
+-- one of the texts has too little room, and nothing is written
+abbrev pub Misses : Options → List ℕ → List ℕ → List ℕ → List ℕ → List ℕ → HidRan → Type 0
+Misses options script out out' fault fault' ran =
+    (written : List ℕ) × (answer : Result Summary ScriptFault) × RunsScript options script written answer
+    × (out' ≡ out) × (fault' ≡ fault) × (ran ≡ ran_as answer written) × IsShort written out (fault_told answer) fault
+
+-- memory was wanting for the line that names the fault, and nothing is written
+abbrev pub Wants : List ℕ → List ℕ → List ℕ → List ℕ → HidRan → Type 0
+Wants out out' fault fault' ran = (out' ≡ out) × (fault' ≡ fault) × (ran ≡ record { line = 0; told = 0; fault = 0 })

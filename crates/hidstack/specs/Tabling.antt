@@ -1,0 +1,55 @@
+-- A descriptor's elements as a table, and an element's number (our choice; what they are: hid_session).
+use Rattle.std.specs.Prelude.{◌≡◌, ℕ, ◌<◌, ◌≤◌, ◌⊎◌, ℤ, List, ◌++◌, length, drop, Result, Ok, Err}
+use Rattle.hid_descriptor.specs.declared.fault.Cause.{Cause}
+use Rattle.hid_descriptor.specs.Items.{Spelled}
+use Rattle.hid_descriptor.specs.Faults.{Accepts, Explains}
+use Rattle.hid_cells.specs.declared.fault.ReportFault.{ReportFault}
+use Rattle.hid_cells.specs.declared.fault.ReportFault.TheVariants.{Short, UnknownReport}
+use Rattle.hid_layout.specs.Layout.{layout_of}
+use Rattle.hid_session.specs.Causes.{cause_number}
+use Rattle.hid_session.specs.declared.element.HidElement.{HidElement}
+use Rattle.hid_session.specs.Elements.{HoldsNumber}
+use Rattle.hid_session.specs.Tables.{elements_of}
+use Rattle.hidstack.specs.declared.elements.HidTabled.{HidTabled}
+use Rattle.hidstack.specs.declared.status.TheConstants.{OK, REFUSED, NO_ROOM, SHORT, UNKNOWN}
+
+-- the elements of the descriptor's layout, where it is accepted
+abbrev pub HasElements : List ℕ → List HidElement → Type 0
+HasElements bytes elements =
+    (before : List Spelled) × Accepts bytes before
+    × (elements ≡ elements_of (layout_of before) (length (layout_of before).items))
+
+abbrev pub counted : ℕ → HidTabled
+counted n = record { at = 0; elements = n; cause = 0; spare = 0 }
+
+-- the elements stand first in the table
+abbrev pub Tabled : List ℕ → List HidElement → List HidElement → HidTabled → Type 0
+Tabled bytes out out' told =
+    (elements : List HidElement) × HasElements bytes elements × (length elements ≤ length out)
+    × (out' ≡ elements ++ drop (length elements) out) × (told ≡ counted (length elements))
+
+-- the table has fewer places, and stays as it was
+abbrev pub Misses : List ℕ → List HidElement → List HidElement → HidTabled → Type 0
+Misses bytes out out' told =
+    (elements : List HidElement) × HasElements bytes elements × (length out < length elements)
+    × (out' ≡ out) × (told ≡ counted (length elements))
+
+-- this is the one refusal, or memory was wanting, and the table stays as it was
+abbrev pub Refuses : List ℕ → List HidElement → List HidElement → HidTabled → Type 0
+Refuses bytes out out' told =
+    (cause : Cause) × (at : ℕ) × Explains bytes cause at × (out' ≡ out)
+    × (told ≡ record { at = at; elements = 0; cause = cause_number cause; spare = 0 })
+
+-- no other answer comes
+abbrev pub TablesElements : ℕ → Type 0
+TablesElements status = (status ≡ OK) ⊎ ((status ≡ REFUSED) ⊎ (status ≡ NO_ROOM))
+
+-- the number is written, or why there is none is told and nothing changes
+abbrev pub NumberTold : ℤ → ℕ → ℤ → Result ℤ ReportFault → Type 0
+NumberTold old status new (Ok number) = (status ≡ OK) × (new ≡ number)
+NumberTold old status new (Err Short) = (status ≡ SHORT) × (new ≡ old)
+NumberTold old status new (Err UnknownReport) = (status ≡ UNKNOWN) × (new ≡ old)
+
+abbrev pub NumberAnswers : HidElement → List ℕ → ℤ → ℕ → ℤ → Type 0
+NumberAnswers element bytes old status new =
+    (answer : Result ℤ ReportFault) × HoldsNumber element bytes answer × NumberTold old status new answer

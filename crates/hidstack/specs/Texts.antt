@@ -1,0 +1,31 @@
+-- Texts in the caller's room (our choice).
+use Rattle.std.specs.Prelude.{◌≡◌, ℕ, ◌<◌, ◌≤◌, ◌⊎◌, List, ◌++◌, length, drop}
+use Rattle.hid_descriptor.specs.declared.fault.Cause.{Cause}
+use Rattle.hid_descriptor.specs.Codes.{code_of}
+use Rattle.hid_session.specs.Causes.{cause_number}
+use Rattle.hidstack.specs.declared.status.TheConstants.{OK, NO_ROOM, NONE, MEMORY}
+
+-- the text stands first, and what is behind it stays
+abbrev pub Written : List ℕ → List ℕ → List ℕ → Type 0
+Written text out out' = (length text ≤ length out) × (out' ≡ text ++ drop (length text) out)
+
+-- the text is written, or too long and nothing is; its length is told either way
+abbrev pub Tells : List ℕ → List ℕ → ℕ → List ℕ → ℕ → Type 0
+Tells text out status out' told =
+    (told ≡ length text)
+    × (((status ≡ OK) × Written text out out') ⊎ ((status ≡ NO_ROOM) × (length out < length text) × (out' ≡ out)))
+
+-- nothing is written
+abbrev pub Leaves : ℕ → List ℕ → ℕ → List ℕ → ℕ → Type 0
+Leaves why out status out' told = (status ≡ why) × (out' ≡ out) × (told ≡ 0)
+
+-- the code of the cause with this number; none has it, or memory was wanting
+abbrev pub TellsCause : ℕ → List ℕ → ℕ → List ℕ → ℕ → Type 0
+TellsCause number out status out' told =
+    ((cause : Cause) × (cause_number cause ≡ number) × Tells (code_of cause) out status out' told)
+    ⊎ ((((cause : Cause) → cause_number cause ≡ number → ⊥) × Leaves NONE out status out' told)
+    ⊎ Leaves MEMORY out status out' told)
+
+-- the text of a usage, or memory was wanting
+abbrev pub TellsUsage : List ℕ → List ℕ → ℕ → List ℕ → ℕ → Type 0
+TellsUsage text out status out' told = Tells text out status out' told ⊎ Leaves MEMORY out status out' told

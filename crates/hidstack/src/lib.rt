@@ -1,0 +1,26 @@
+//! HID reports for C: `include/hidstack.h` declares what stands here.
+//! ```text
+//!   hidstack_open     a report descriptor --> a handle
+//!   hidstack_feed     a handle and a report --> the report's events, in the caller's table
+//!   hidstack_held ..  a handle and a place --> what stands there, as a plain record
+//!   hidstack_close    a handle --> closed, as it was before
+//!
+//!   hidstack_table    a report descriptor --> all elements, in the caller's table, with no handle
+//!   hidstack_number   an element and a report --> the element's number
+//!   hidstack_run      a script --> its text
+//! ```
+//! A handle is the caller's own variable. One that is closed, or all bytes zero, may be opened; one that is open may be
+//! fed, read and closed. The rule to know: a wrong call is told by its status, and changes nothing.
+//! Each call's contract says what the crates below promise: acceptance and refusal of descriptors, the view and the
+//! events of [`hid_usages::View::take_report`], and the layout's own contents.
+#![tactic(auto)]
+
+mod address;
+pub mod elements;
+pub mod handle;
+pub mod names;
+pub mod reading;
+pub mod run;
+pub mod session;
+pub mod shown;
+pub mod status;

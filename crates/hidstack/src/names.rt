@@ -1,0 +1,71 @@
+//! Causes and usages as text.
+
+ghost use Rattle.std.specs.Prelude.{◌≡◌, ◌≤◌, ◌++◌, length, drop};
+ghost use Rattle.hid_text.specs.Text.{usage_text};
+ghost use Rattle.hidstack.specs.Texts.{Tells, TellsCause, TellsUsage};
+
+use crate::status::{MEMORY, NO_ROOM, NONE, OK};
+use hid_layout::Usage;
+use hid_session::cause_with;
+use hid_text::UsageText;
+use std::alloc::Global;
+
+/// Writes a text over the first bytes of a room.
+pub(crate) fn put_text(text: &[u8], out: &mut [u8])
+    requires { length text.now ≤ length out.old }
+    ensures { out.new ≡ text.now ++ drop (length text.now) out.old }
+{
+    for i in 0..text.len() {
+        out[i] = text[i];
+    }
+}
+
+/// Writes a text where there is room, and tells its length.
+fn tell(text: &[u8], out: &mut [u8], told: &mut u64) -> u32
+    ensures { Tells text.now out.old result out.new told.new }
+{
+    *told = text.len() as u64;
+    if text.len() > out.len() {
+        return NO_ROOM;
+    }
+    put_text(text, out);
+    OK
+}
+
+/// The code of a cause: `L10` of 10.
+#[unsafe(no_mangle)]
+pub extern "C" fn hidstack_cause_text(
+    alloc: Global,
+    cause: u32,
+    out: &mut [u8],
+    told: &mut u64,
+) -> u32
+    ensures { TellsCause cause out.old result out.new told.new }
+{
+    *told = 0;
+    let Some(found) = cause_with(cause) else {
+        return NONE;
+    };
+    match found.to_string(alloc) {
+        Ok(text) => tell(text.as_bytes(), out, told),
+        Err(_) => MEMORY,
+    }
+}
+
+/// A usage, as page and ID in hex: `01:30`.
+#[unsafe(no_mangle)]
+pub extern "C" fn hidstack_usage_text(
+    alloc: Global,
+    page: u16,
+    id: u16,
+    out: &mut [u8],
+    told: &mut u64,
+) -> u32
+    ensures { TellsUsage (usage_text (record { page = page; id = id })) out.old result out.new told.new }
+{
+    *told = 0;
+    match UsageText(Usage { page, id }).to_string(alloc) {
+        Ok(text) => tell(text.as_bytes(), out, told),
+        Err(_) => MEMORY,
+    }
+}

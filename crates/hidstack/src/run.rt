@@ -1,0 +1,112 @@
+//! A whole script, as `hidrun` runs it.
+
+ghost use Rattle.std.specs.Prelude.{◌≡◌, []};
+ghost use Rattle.std.specs.Bool.{OnTrue, OnFalse};
+ghost use Rattle.hidstack.specs.Texts.{Written};
+ghost use Rattle.hidstack.specs.Running.{options_of, RunsScript, AnswersRun, RunsWhole, RunsRefused, Misses, Wants, IsShort};
+
+use crate::names::put_text;
+use crate::status::{MEMORY, NO_ROOM, OK, REFUSED};
+use hid_script::{Options, ScriptFault, Summary, fault_line, run};
+use std::alloc::Global;
+
+/// How a run ended.
+#[repr(C)]
+#[derive(Clone, Copy)]
+pub struct HidRan {
+    /// The line that was refused, from 1; 0 where none was.
+    pub line: u64,
+    /// The bytes of what the script tells.
+    pub told: u64,
+    /// The bytes of the line that names the fault.
+    pub fault: u64,
+}
+
+/// Bit 0: the layout of each device; bit 1: a line for each poll.
+fn options_of(options: u32) -> Options
+    ensures { result ≡ options_of options }
+{
+    Options {
+        layout: options % 2 == 1,
+        trace: options / 2 % 2 == 1,
+    }
+}
+
+/// Runs a script over a text of its own.
+fn run_script(
+    alloc: Global,
+    script: &[u8],
+    options: Options,
+    told: &mut Vec<u8>,
+) -> Result<Summary, ScriptFault>
+    requires { told.old.items ≡ [] }
+    ensures { RunsScript options script.now told.new.items result }
+{
+    let mut reader = script;
+    run(alloc, &mut reader, told, options)
+}
+
+/// Writes both texts, where there is room for both.
+fn put_both(told: &[u8], text: &[u8], out: &mut [u8], fault: &mut [u8]) -> bool
+    ensures done { OnTrue result (Written told.now out.old out.new × Written text.now fault.old fault.new) }
+    ensures missed { OnFalse result ((out.new ≡ out.old) × (fault.new ≡ fault.old)
+        × IsShort told.now out.old text.now fault.old) }
+{
+    if told.len() > out.len() || text.len() > fault.len() {
+        return false;
+    }
+    put_text(told, out);
+    put_text(text, fault);
+    true
+}
+
+/// Runs the script, and writes what it tells over the first bytes of `out`, and the line that names its fault over the
+/// first of `fault`.
+#[unsafe(no_mangle)]
+pub extern "C" fn hidstack_run(
+    alloc: Global,
+    script: &[u8],
+    options: u32,
+    out: &mut [u8],
+    fault: &mut [u8],
+    ran: &mut HidRan,
+) -> u32
+    ensures status { AnswersRun result }
+    ensures whole { result ≡ OK → RunsWhole (options_of options) script.now out.old out.new
+        fault.old fault.new ran.new }
+    ensures refused { result ≡ REFUSED → RunsRefused (options_of options) script.now out.old out.new
+        fault.old fault.new ran.new }
+    ensures missed { result ≡ NO_ROOM → Misses (options_of options) script.now out.old out.new
+        fault.old fault.new ran.new }
+    ensures memory { result ≡ MEMORY → Wants out.old out.new fault.old fault.new ran.new }
+{
+    *ran = HidRan {
+        line: 0,
+        told: 0,
+        fault: 0,
+    };
+    let mut told = Vec::new(alloc);
+    match run_script(alloc, script, options_of(options), &mut told) {
+        Ok(_) => {
+            ran.told = told.len() as u64;
+            if put_both(&told, &[], out, fault) {
+                OK
+            } else {
+                NO_ROOM
+            }
+        }
+        Err(wrong) => match fault_line(alloc, &wrong) {
+            Ok(text) => {
+                ran.line = wrong.line;
+                ran.told = told.len() as u64;
+                ran.fault = text.len() as u64;
+                if put_both(&told, &text, out, fault) {
+                    REFUSED
+                } else {
+                    NO_ROOM
+                }
+            }
+            Err(_) => MEMORY,
+        },
+    }
+}

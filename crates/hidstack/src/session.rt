@@ -1,0 +1,156 @@
+//! A handle is opened, fed and closed.
+
+ghost use Rattle.std.specs.Prelude.{◌≡◌, ◌≤◌, Option, Some, None, Ok, Err, IfOk, IfErr};
+ghost use Rattle.hid_descriptor.specs.Faults.{Explains};
+ghost use Rattle.hid_session.specs.Causes.{cause_number};
+ghost use Rattle.hid_session.specs.Sessions.{IsFirst};
+ghost use Rattle.hidstack.specs.Opening.{Opens, Refuses, IsBusy, opened_as};
+ghost use Rattle.hidstack.specs.Feeding.{FeedsHandle, status_of};
+
+use crate::handle::Handle;
+use crate::status::{BUSY, CLOSED, NO_ROOM, OK, REFUSED, SHORT, UNKNOWN};
+use hid_session::{Cause, FeedFault, HidEvent, LayoutFault, ReportFault, Session, cause_number};
+use std::alloc::Global;
+
+/// What `hidstack_open` tells beside its status.
+#[repr(C)]
+#[derive(Clone, Copy)]
+pub struct HidOpened {
+    /// Where the refused item begins, in bytes from the descriptor's first.
+    pub at: u64,
+    /// The room for events that `hidstack_feed` asks for.
+    pub room: u64,
+    /// How many reports the device has.
+    pub reports: u64,
+    /// How many listed items it has.
+    pub items: u64,
+    /// 1 for L1 to 17 for L17; 0 where nothing was refused.
+    pub cause: u32,
+    /// Whether the bytes of reports begin with their ID: 1, else 0.
+    pub numbered: u32,
+}
+
+fn nothing_opened() -> HidOpened
+    ensures { result ≡ record { at = 0; room = 0; reports = 0; items = 0; cause = 0; numbered = 0 } }
+{
+    HidOpened {
+        at: 0,
+        room: 0,
+        reports: 0,
+        items: 0,
+        cause: 0,
+        numbered: 0,
+    }
+}
+
+/// A session in a block of its own.
+fn open_box(alloc: Global, descriptor: &[u8]) -> Result<Box<Session>, LayoutFault>
+    ensures ok { IfOk result (λ session. IsFirst descriptor.now session.value) }
+    ensures err { IfErr result (λ f. Explains descriptor.now f.cause f.at) }
+{
+    match Box::new(alloc, Session::open(alloc, descriptor)?) {
+        Ok(session) => Ok(session),
+        Err(_) => Err(LayoutFault {
+            cause: Cause::Memory,
+            at: 0,
+        }),
+    }
+}
+
+/// What is told of a session that was opened.
+fn opened_as(session: &Session) -> HidOpened
+    ensures { result ≡ opened_as session.now }
+{
+    let layout = session.layout();
+    HidOpened {
+        at: 0,
+        room: session.room() as u64,
+        reports: layout.reports().len() as u64,
+        items: layout.items().len() as u64,
+        cause: 0,
+        numbered: if layout.numbered() { 1 } else { 0 },
+    }
+}
+
+/// Reads a report descriptor into a closed handle.
+#[unsafe(no_mangle)]
+pub extern "C" fn hidstack_open(
+    alloc: Global,
+    descriptor: &[u8],
+    handle: &mut Handle,
+    opened: &mut HidOpened,
+) -> u32
+    ensures status { result ≤ BUSY }
+    ensures opened { result ≡ OK → Opens handle.old.kept descriptor.now handle.new.kept opened.new }
+    ensures refused { result ≡ REFUSED
+        → Refuses handle.old.kept descriptor.now handle.new.kept opened.new }
+    ensures busy { result ≡ BUSY → IsBusy handle.old.kept handle.new.kept opened.new }
+{
+    *opened = nothing_opened();
+    if let Some(session) = handle.take(alloc) {
+        *handle = Handle::of(session);
+        return BUSY;
+    }
+    match open_box(alloc, descriptor) {
+        Ok(session) => {
+            *opened = opened_as(&session);
+            *handle = Handle::of(session);
+            OK
+        }
+        Err(fault) => {
+            opened.cause = cause_number(fault.cause);
+            opened.at = fault.at as u64;
+            REFUSED
+        }
+    }
+}
+
+fn fault_status(fault: FeedFault) -> u32
+    ensures { result ≡ status_of (Err fault) }
+{
+    match fault {
+        FeedFault::NoRoom => NO_ROOM,
+        FeedFault::Refused(ReportFault::Short) => SHORT,
+        FeedFault::Refused(ReportFault::UnknownReport) => UNKNOWN,
+    }
+}
+
+/// Reads a report, and writes its events over the first places of the table. No memory is taken.
+#[unsafe(no_mangle)]
+pub extern "C" fn hidstack_feed(
+    alloc: Global,
+    handle: &mut Handle,
+    report: &[u8],
+    events: &mut [HidEvent],
+    count: &mut u64,
+) -> u32
+    ensures { FeedsHandle handle.old.kept report.now events.old result handle.new.kept events.new
+        count.new }
+{
+    *count = 0;
+    let Some(mut session) = handle.take(alloc) else {
+        return CLOSED;
+    };
+    let answer = session.feed(report, events);
+    let room = session.room();
+    *handle = Handle::of(session);
+    match answer {
+        Ok(told) => {
+            *count = told as u64;
+            OK
+        }
+        Err(FeedFault::NoRoom) => {
+            *count = room as u64;
+            NO_ROOM
+        }
+        Err(fault) => fault_status(fault),
+    }
+}
+
+/// Gives back what an open handle keeps. A closed one stays as it is.
+#[unsafe(no_mangle)]
+pub extern "C" fn hidstack_close(alloc: Global, handle: &mut Handle)
+    ensures { handle.new.kept ≡ None }
+{
+    drop(handle.take(alloc));
+}

@@ -1,0 +1,28 @@
+//! What calls answer.
+
+/// Done.
+pub const OK: u32 = 0;
+
+/// The descriptor is refused; its cause and place are told.
+pub const REFUSED: u32 = 1;
+
+/// The handle is open already.
+pub const BUSY: u32 = 2;
+
+/// The handle is closed.
+pub const CLOSED: u32 = 3;
+
+/// The caller's table or text is too small; the room that is needed is told.
+pub const NO_ROOM: u32 = 4;
+
+/// U8: fewer bytes than the report has.
+pub const SHORT: u32 = 5;
+
+/// U9: the bytes are of no Input report that the device has, or of another report.
+pub const UNKNOWN: u32 = 6;
+
+/// Nothing stands at that place, or it has no value.
+pub const NONE: u32 = 7;
+
+/// Memory was wanting.
+pub const MEMORY: u32 = 8;

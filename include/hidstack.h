@@ -1,0 +1,244 @@
+/* hidstack: HID report descriptors and reports, read by code that is proved (HID 1.11).
+ *
+ * What each call promises is a contract that was proved of the library's code: docs/C.md names it, call by call. What no
+ * proof can see is what a C program does, so it owes this:
+ *
+ *   - Pointers are to what their types say, and live for the call. None is null, but with a length of 0 one may be.
+ *     Nothing that a call writes overlaps another of its arguments.
+ *   - A `struct hidstack` is all bytes zero before its first call (HIDSTACK_INIT), or was left by a call. While it is
+ *     open it is not copied, and only hidstack_close ends it: what it keeps would else never be given back.
+ *   - No two calls are at work on one `struct hidstack` at once, calls that only read it included. It may go from one
+ *     thread to another, as any variable may. Two handles never share anything, and the calls without a handle share
+ *     nothing: they may run in any threads at once.
+ *   - No call comes from a signal handler. `malloc`, `realloc` and `free` are the C library's own.
+ *
+ * Lengths and places may be any: a wrong one is told by a status. Every call returns.
+ *
+ * Places: an `item` is the place of a listed item, the Input, Output and Feature items of a descriptor that have bits,
+ * from 0 in its order. An `index` is the place of an element in its item, and of a control the place of its element, or
+ * of an array the place of its key in the item's usage list. Bytes and numbers are those of the machine: each struct
+ * has fields of fixed width alone, each at a multiple of its own width.
+ *
+ * It compiles as C99 and as C++. Link with -lhidstack. */
+#ifndef HIDSTACK_H
+#define HIDSTACK_H
+
+#include <stddef.h>
+#include <stdint.h>
+
+#ifdef __cplusplus
+extern "C" {
+#endif
+
+/* What calls answer. A call that doesn't answer HIDSTACK_OK writes nothing but what is said there. */
+enum hidstack_status {
+    HIDSTACK_OK = 0,      /* done */
+    HIDSTACK_REFUSED = 1, /* the descriptor, or a line of the script, is refused: its cause and place are told */
+    HIDSTACK_BUSY = 2,    /* the handle is open already */
+    HIDSTACK_CLOSED = 3,  /* the handle is closed */
+    HIDSTACK_NO_ROOM = 4, /* the table or text is too small: the room that it needs is told */
+    HIDSTACK_SHORT = 5,   /* the report has fewer bytes than it should */
+    HIDSTACK_UNKNOWN = 6, /* no Input report of the device, or another report than the element's */
+    HIDSTACK_NONE = 7,    /* nothing stands at that place, or it has no value */
+    HIDSTACK_MEMORY = 8   /* memory was wanting */
+};
+
+/* The kind of a report. */
+enum hidstack_report_kind {
+    HIDSTACK_INPUT = 0,  /* from the device to the host */
+    HIDSTACK_OUTPUT = 1, /* from the host to the device */
+    HIDSTACK_FEATURE = 2 /* settings, either way */
+};
+
+/* What an event tells of its control. */
+enum hidstack_event_kind {
+    HIDSTACK_UP = 0,     /* a switch or a key that was held is up; value 0 */
+    HIDSTACK_DOWN = 1,   /* a switch or a key that was up is held; value 1 */
+    HIDSTACK_VALUE = 2,  /* an absolute control has this value now */
+    HIDSTACK_NULL = 3,   /* an absolute control has no value now; value 0 */
+    HIDSTACK_MOTION = 4, /* a relative control moved by this value */
+    HIDSTACK_DROPPED = 5 /* a motion that no report could carry; no call tells it today */
+};
+
+/* Bits of the flags of an element (HID 1.11, 6.2.2.5). */
+enum hidstack_flag {
+    HIDSTACK_CONSTANT = 0x001,
+    HIDSTACK_VARIABLE = 0x002,
+    HIDSTACK_RELATIVE = 0x004,
+    HIDSTACK_WRAP = 0x008,
+    HIDSTACK_NONLINEAR = 0x010,
+    HIDSTACK_NO_PREFERRED = 0x020,
+    HIDSTACK_NULL_STATE = 0x040,
+    HIDSTACK_VOLATILE = 0x080,
+    HIDSTACK_BUFFERED_BYTES = 0x100
+};
+
+/* Options of hidstack_run, to be joined by |. */
+enum hidstack_option {
+    HIDSTACK_LAYOUTS = 1, /* the layout of each device that is attached */
+    HIDSTACK_POLLS = 2    /* a line for each poll */
+};
+
+/* A device: its layout, and what was read of it; or nothing, where it is closed. */
+struct hidstack {
+    void *session; /* the library's own; null where the handle is closed */
+};
+
+#define HIDSTACK_INIT {NULL}
+
+/* What hidstack_open tells. */
+struct hidstack_opened {
+    uint64_t at;       /* where the refused item begins, in bytes; else 0 */
+    uint64_t room;     /* how many events a report tells at most: the room that hidstack_feed asks for */
+    uint64_t reports;  /* how many reports the device has, of all kinds */
+    uint64_t items;    /* how many listed items it has */
+    uint32_t cause;    /* 1 for L1 to 17 for L17 of docs/SCRIPT.md, where the descriptor is refused; else 0 */
+    uint32_t numbered; /* 1 where the bytes of reports begin with their ID, else 0 */
+};
+
+/* What happened to one control. */
+struct hidstack_event {
+    int64_t value;  /* in the units of the control */
+    uint64_t item;  /* the control: its item .. */
+    uint64_t index; /* .. and its place there */
+    uint16_t page;  /* the page of its usage .. */
+    uint16_t id;    /* .. and the ID on that page */
+    uint32_t kind;  /* enum hidstack_event_kind */
+};
+
+/* A data element of a report. */
+struct hidstack_element_info {
+    int64_t min;          /* Logical Minimum */
+    int64_t max;          /* Logical Maximum */
+    uint64_t item;        /* the place of its item .. */
+    uint64_t index;       /* .. and its place there */
+    uint64_t collections; /* how many collections are open round it */
+    uint32_t bit;         /* where it begins in the bytes of its report, in bits; a Report ID is counted */
+    uint32_t width;       /* in bits, 1 to 32 */
+    uint32_t usages;      /* how many usages its item lists */
+    uint16_t page;        /* the page of its usage .. */
+    uint16_t id;          /* .. and the ID on that page; both 0 of an array, whose numbers name usages of the list */
+    uint16_t flags;       /* enum hidstack_flag, of its item */
+    uint8_t kind;         /* enum hidstack_report_kind, of its report */
+    uint8_t report;       /* the Report ID, the first byte of the report; 0 where reports have none */
+    uint8_t is_signed;    /* 1 where it is in two's complement, else 0 */
+    uint8_t is_array;     /* 1 where its number names a usage, else 0 */
+    uint16_t spare;       /* 0 */
+};
+
+/* A report that has at least one bit. */
+struct hidstack_report_info {
+    uint64_t bytes; /* with a Report ID */
+    uint32_t bits;  /* of its items, without a Report ID */
+    uint8_t kind;   /* enum hidstack_report_kind */
+    uint8_t id;     /* the Report ID; 0 where reports have none */
+    uint16_t spare; /* 0 */
+};
+
+/* A usage: a page of the usage tables, and an ID on that page. */
+struct hidstack_usage_info {
+    uint16_t page;
+    uint16_t id;
+};
+
+/* A collection that is open round an item. */
+struct hidstack_collection_info {
+    uint8_t kind;      /* 0 Physical, 1 Application, 2 Logical, 3 Report, 4 Named Array, 5 Usage Switch, 6 Usage Modifier;
+                          other numbers as they stand */
+    uint8_t has_usage; /* 1 where it has a usage, else 0 */
+    uint16_t page;     /* the page of its usage, else 0 .. */
+    uint16_t id;       /* .. and the ID, else 0 */
+};
+
+/* What hidstack_table tells. */
+struct hidstack_tabled {
+    uint64_t at;       /* where the refused item begins, in bytes; else 0 */
+    uint64_t elements; /* how many elements the descriptor has; 0 where it is refused */
+    uint32_t cause;    /* 1 for L1 to 17 for L17, where the descriptor is refused; else 0 */
+    uint32_t spare;    /* 0 */
+};
+
+/* What hidstack_run tells. */
+struct hidstack_ran {
+    uint64_t line;  /* the line that was refused, from 1; 0 where none was */
+    uint64_t told;  /* the bytes of what the script tells */
+    uint64_t fault; /* the bytes of the line that names the fault, with its end */
+};
+
+/* ---- A device, a report at a time ---- */
+
+/* Reads a report descriptor of `length` bytes into a closed handle. It takes memory, which hidstack_close gives back.
+ *   OK       the handle is open: nothing is held, values are 0 where 0 is in range; `opened` tells what it has
+ *   REFUSED  the handle is closed still; `opened` tells cause and place. Cause 17 at 0: memory was wanting
+ *   BUSY     the handle was open, and stays as it was */
+uint32_t hidstack_open(const uint8_t *descriptor, size_t length, struct hidstack *handle, struct hidstack_opened *opened);
+
+/* Reads the bytes of an Input report, its ID first where reports have IDs, and writes its events over the first places
+ * of `events`, which has `room` places. Bytes behind the report's are ignored. It takes no memory.
+ *   OK       `count` is how many events there are; the places behind them stay as they were
+ *   NO_ROOM  `room` is less than the `room` of hidstack_open, which `count` tells; whatever the report is
+ *   SHORT, UNKNOWN, CLOSED: `count` is 0
+ * But for OK the view and the table stay as they were. */
+uint32_t hidstack_feed(struct hidstack *handle, const uint8_t *report, size_t length, struct hidstack_event *events, size_t room, uint64_t *count);
+
+/* Closes a handle, and gives back what it kept. A closed one stays as it is. */
+void hidstack_close(struct hidstack *handle);
+
+/* ---- What an open handle shows. NONE and CLOSED write nothing; no call changes the handle. ---- */
+
+/* The report at a place, from 0, Input before Output before Feature and then by ID; NONE past the last. */
+uint32_t hidstack_report(struct hidstack *handle, uint64_t place, struct hidstack_report_info *report);
+
+/* A data element of a listed item; NONE of padding, past the last element and past the last item. */
+uint32_t hidstack_element(struct hidstack *handle, uint64_t item, uint64_t index, struct hidstack_element_info *element);
+
+/* A usage of a listed item's usage list, its ranges written out by rising ID; NONE past the last. */
+uint32_t hidstack_usage(struct hidstack *handle, uint64_t item, uint64_t index, struct hidstack_usage_info *usage);
+
+/* A collection that is open round a listed item, from 0 for the outermost; NONE past the innermost. */
+uint32_t hidstack_collection(struct hidstack *handle, uint64_t item, uint64_t level, struct hidstack_collection_info *collection);
+
+/* Whether a switch or a key is held: 1, else 0; 0 of another control too, and where there is none. */
+uint32_t hidstack_held(struct hidstack *handle, uint64_t item, uint64_t index, uint32_t *held);
+
+/* The value of an absolute control that is no switch; NONE where it is null, of another control, and where there is
+ * none. */
+uint32_t hidstack_value(struct hidstack *handle, uint64_t item, uint64_t index, int64_t *value);
+
+/* ---- Without a handle ---- */
+
+/* Reads a report descriptor, and writes its data elements, item by item, over the first places of `table`, which has
+ * `room` places. What it takes of memory it gives back.
+ *   OK       `tabled` tells how many there are; the places behind them stay as they were
+ *   NO_ROOM  `tabled` tells how many places they need, and the table stays as it was
+ *   REFUSED  `tabled` tells cause and place, and the table stays as it was */
+uint32_t hidstack_table(const uint8_t *descriptor, size_t length, struct hidstack_element_info *table, size_t room, struct hidstack_tabled *tabled);
+
+/* The number of an element in the bytes of a report. Any element will do, also one that no call wrote.
+ *   SHORT    its bits don't lie in the bytes, or its width is 0 or over 32
+ *   UNKNOWN  it has a Report ID, and the bytes don't begin with it
+ * Both leave `value` as it was. */
+uint32_t hidstack_number(const struct hidstack_element_info *element, const uint8_t *report, size_t length, int64_t *value);
+
+/* ---- Scripts and texts. None is ended by a zero byte. ---- */
+
+/* Runs a script of docs/SCRIPT.md, as `hidrun` does, and writes what it tells over the first bytes of `out`.
+ *   OK       all lines were run
+ *   REFUSED  a line was refused: what was told before it is in `out`, the line that names its fault in `fault`
+ *   NO_ROOM  a text is longer than its room: `ran` tells both lengths, and neither is written
+ *   MEMORY   memory was wanting for the line that names the fault; nothing is written, and `ran` is all 0 */
+uint32_t hidstack_run(const uint8_t *script, size_t length, uint32_t options, uint8_t *out, size_t out_room, uint8_t *fault, size_t fault_room, struct hidstack_ran *ran);
+
+/* The code of a cause, `L10` of 10, over the first bytes of `out`; `told` is its length.
+ *   NO_ROOM  `told` is the room that it needs
+ *   NONE, MEMORY: `told` is 0 */
+uint32_t hidstack_cause_text(uint32_t cause, uint8_t *out, size_t room, uint64_t *told);
+
+/* A usage as page and ID in hex, `01:30`, of 5 to 9 bytes; else as hidstack_cause_text. */
+uint32_t hidstack_usage_text(uint16_t page, uint16_t id, uint8_t *out, size_t room, uint64_t *told);
+
+#ifdef __cplusplus
+}
+#endif
+
+#endif

@@ -1,0 +1,282 @@
+/* Wrong calls: each is told by its status, and changes nothing. Run as it is, under valgrind and under the address
+ * sanitizer: rooms are of their exact size, so a step over one of their ends is seen. */
+#include "hidstack.h"
+#include <stdio.h>
+#include <stdlib.h>
+#include <string.h>
+
+static const uint8_t mouse[] = {
+    0x05, 0x01, 0x09, 0x02, 0xA1, 0x01, 0x09, 0x01, 0xA1, 0x00, 0x05, 0x09, 0x19, 0x01, 0x29, 0x03, 0x15,
+    0x00, 0x25, 0x01, 0x95, 0x03, 0x75, 0x01, 0x81, 0x02, 0x95, 0x01, 0x75, 0x05, 0x81, 0x01, 0x05, 0x01,
+    0x09, 0x30, 0x09, 0x31, 0x15, 0x81, 0x25, 0x7F, 0x75, 0x08, 0x95, 0x02, 0x81, 0x06, 0xC0, 0xC0};
+/* two Input reports, with IDs 1 and 2, of one byte each, and a Feature report with ID 3 */
+static const uint8_t numbered[] = {
+    0x05, 0x01, 0x09, 0x30, 0xA1, 0x01, 0x15, 0x00, 0x25, 0x7F, 0x75, 0x08, 0x95, 0x01, 0x85, 0x01, 0x09,
+    0x30, 0x81, 0x02, 0x85, 0x02, 0x09, 0x31, 0x81, 0x02, 0x85, 0x03, 0x09, 0x32, 0xB1, 0x02, 0xC0};
+static int wrong;
+
+static void want(const char *what, uint64_t have, uint64_t wanted)
+{
+    if (have != wanted) {
+        printf("%s: %llu, wanted %llu\n", what, (unsigned long long)have, (unsigned long long)wanted);
+        wrong = 1;
+    }
+}
+
+/* Bytes in a block of their exact length. */
+static uint8_t *copy_of(const uint8_t *bytes, size_t length)
+{
+    uint8_t *made = malloc(length ? length : 1);
+    if (!made)
+        exit(2);
+    memcpy(made, bytes, length);
+    return made;
+}
+
+static void closed_handles(void)
+{
+    struct hidstack device = HIDSTACK_INIT;
+    struct hidstack_event event = {0, 0, 0, 0, 0, 77};
+    struct hidstack_element_info element;
+    struct hidstack_report_info report;
+    struct hidstack_usage_info usage;
+    struct hidstack_collection_info collection;
+    uint64_t count = 9;
+    uint32_t held = 9;
+    int64_t value = 9;
+    want("feed a closed one", hidstack_feed(&device, mouse, 3, &event, 1, &count), HIDSTACK_CLOSED);
+    want("count", count, 0);
+    want("table as it was", event.kind, 77);
+    want("report of a closed one", hidstack_report(&device, 0, &report), HIDSTACK_CLOSED);
+    want("element of a closed one", hidstack_element(&device, 0, 0, &element), HIDSTACK_CLOSED);
+    want("usage of a closed one", hidstack_usage(&device, 0, 0, &usage), HIDSTACK_CLOSED);
+    want("collection of a closed one", hidstack_collection(&device, 0, 0, &collection), HIDSTACK_CLOSED);
+    want("held of a closed one", hidstack_held(&device, 0, 0, &held), HIDSTACK_CLOSED);
+    want("value of a closed one", hidstack_value(&device, 0, 0, &value), HIDSTACK_CLOSED);
+    want("as they were", held == 9 && value == 9, 1);
+    hidstack_close(&device);
+    hidstack_close(&device);
+    want("closed still", device.session == NULL, 1);
+}
+
+static void places(struct hidstack *device)
+{
+    static const uint64_t far[] = {3, 4096, 0x100000000u, UINT64_MAX};
+    struct hidstack_element_info element;
+    struct hidstack_report_info report;
+    struct hidstack_usage_info usage;
+    struct hidstack_collection_info collection;
+    uint32_t held;
+    int64_t value = 5;
+    size_t i;
+    for (i = 0; i < sizeof far / sizeof *far; i++) {
+        want("no report there", hidstack_report(device, far[i], &report), HIDSTACK_NONE);
+        want("no item there", hidstack_element(device, far[i], 0, &element), HIDSTACK_NONE);
+        want("no element there", hidstack_element(device, 0, far[i], &element), HIDSTACK_NONE);
+        want("no usage there", hidstack_usage(device, 0, far[i], &usage), HIDSTACK_NONE);
+        want("no list there", hidstack_usage(device, far[i], 0, &usage), HIDSTACK_NONE);
+        want("no collection there", hidstack_collection(device, 0, far[i], &collection), HIDSTACK_NONE);
+        want("no path there", hidstack_collection(device, far[i], 0, &collection), HIDSTACK_NONE);
+        want("no control there", hidstack_held(device, far[i], far[i], &held), HIDSTACK_OK);
+        want("not held", held, 0);
+        want("no value there", hidstack_value(device, far[i], 0, &value), HIDSTACK_NONE);
+    }
+    want("padding has no element", hidstack_element(device, 1, 0, &element), HIDSTACK_NONE);
+    want("a switch has no value", hidstack_value(device, 0, 0, &value), HIDSTACK_NONE);
+    want("as it was", (uint64_t)value, 5);
+    want("the pointer's collection", hidstack_collection(device, 0, 1, &collection), HIDSTACK_OK);
+    want("its kind", collection.kind, 0);
+    want("its usage", collection.page == 1 && collection.id == 1 && collection.has_usage, 1);
+    want("the third button's usage", hidstack_usage(device, 0, 2, &usage), HIDSTACK_OK);
+    want("its page and ID", usage.page == 9 && usage.id == 3, 1);
+    want("the report", hidstack_report(device, 0, &report), HIDSTACK_OK);
+    want("its bytes", report.bytes == 3 && report.bits == 24 && report.kind == HIDSTACK_INPUT && report.id == 0, 1);
+}
+
+static void lengths(void)
+{
+    struct hidstack device = HIDSTACK_INIT;
+    struct hidstack_opened opened;
+    struct hidstack_event *events = calloc(5, sizeof *events);
+    uint64_t count;
+    size_t length;
+    want("open", hidstack_open(mouse, sizeof mouse, &device, &opened), HIDSTACK_OK);
+    want("what it has", opened.room == 5 && opened.items == 3 && opened.reports == 1 && !opened.numbered, 1);
+    want("open an open one", hidstack_open(mouse, sizeof mouse, &device, &opened), HIDSTACK_BUSY);
+    for (length = 0; length < 3; length++) {
+        uint8_t *report = copy_of(mouse, length);
+        want("cut short", hidstack_feed(&device, report, length, events, 5, &count), HIDSTACK_SHORT);
+        free(report);
+    }
+    want("no bytes at null", hidstack_feed(&device, NULL, 0, events, 5, &count), HIDSTACK_SHORT);
+    want("no places at null", hidstack_feed(&device, mouse, 3, NULL, 0, &count), HIDSTACK_NO_ROOM);
+    want("the room that is needed", count, 5);
+    want("too few places", hidstack_feed(&device, mouse, 3, events, 4, &count), HIDSTACK_NO_ROOM);
+    want("more bytes than it has", hidstack_feed(&device, mouse, sizeof mouse, events, 5, &count), HIDSTACK_OK);
+    places(&device);
+    hidstack_close(&device);
+    free(events);
+    for (length = 0; length < sizeof mouse; length++) {
+        uint8_t *front = copy_of(mouse, length);
+        uint32_t status = hidstack_open(front, length, &device, &opened);
+        want("a front is refused or open", status == HIDSTACK_REFUSED ? opened.cause >= 1 && opened.cause <= 16 && opened.at <= length : status, status == HIDSTACK_REFUSED);
+        hidstack_close(&device);
+        free(front);
+    }
+    want("no descriptor at null", hidstack_open(NULL, 0, &device, &opened), HIDSTACK_OK);
+    want("nothing in it", opened.room + opened.items + opened.reports, 0);
+    want("nothing to feed", hidstack_feed(&device, mouse, 3, NULL, 0, &count), HIDSTACK_UNKNOWN);
+    hidstack_close(&device);
+}
+
+static void reports_with_ids(void)
+{
+    struct hidstack device = HIDSTACK_INIT;
+    struct hidstack_opened opened;
+    struct hidstack_event events[2];
+    struct hidstack_element_info element;
+    struct hidstack_report_info report;
+    uint64_t count;
+    int64_t value;
+    want("open", hidstack_open(numbered, sizeof numbered, &device, &opened), HIDSTACK_OK);
+    want("numbered", opened.numbered == 1 && opened.reports == 3, 1);
+    want("ID 4", hidstack_feed(&device, (const uint8_t[]){4, 9}, 2, events, 2, &count), HIDSTACK_UNKNOWN);
+    want("no byte", hidstack_feed(&device, NULL, 0, events, 2, &count), HIDSTACK_SHORT);
+    want("ID alone", hidstack_feed(&device, (const uint8_t[]){2}, 1, events, 2, &count), HIDSTACK_SHORT);
+    want("ID 2", hidstack_feed(&device, (const uint8_t[]){2, 9}, 2, events, 2, &count), HIDSTACK_OK);
+    want("its event", count == 1 && events[0].kind == HIDSTACK_VALUE && events[0].value == 9 && events[0].item == 1 && events[0].id == 0x31, 1);
+    want("its value", hidstack_value(&device, 1, 0, &value), HIDSTACK_OK);
+    want("is kept", (uint64_t)value, 9);
+    want("the last report", hidstack_report(&device, 2, &report), HIDSTACK_OK);
+    want("is Feature 3", report.kind == HIDSTACK_FEATURE && report.id == 3 && report.bytes == 2, 1);
+    want("its element", hidstack_element(&device, 2, 0, &element), HIDSTACK_OK);
+    want("lies behind the ID", element.bit == 8 && element.report == 3 && element.kind == HIDSTACK_FEATURE, 1);
+    want("its number", hidstack_number(&element, (const uint8_t[]){3, 7}, 2, &value), HIDSTACK_OK);
+    want("is 7", (uint64_t)value, 7);
+    want("another ID", hidstack_number(&element, (const uint8_t[]){2, 7}, 2, &value), HIDSTACK_UNKNOWN);
+    want("too short", hidstack_number(&element, (const uint8_t[]){3}, 1, &value), HIDSTACK_SHORT);
+    want("no bytes at null", hidstack_number(&element, NULL, 0, &value), HIDSTACK_SHORT);
+    want("as it was", (uint64_t)value, 7);
+    hidstack_close(&device);
+}
+
+static void wild_elements(void)
+{
+    uint8_t report[64];
+    uint32_t seed = 1;
+    int64_t value;
+    int i;
+    memset(report, 0xA5, sizeof report);
+    for (i = 0; i < 100000; i++) {
+        struct hidstack_element_info element;
+        uint8_t *byte = (uint8_t *)&element;
+        size_t at, length;
+        for (at = 0; at < sizeof element; at++) {
+            seed = seed * 1664525u + 1013904223u;
+            byte[at] = (uint8_t)(seed >> 24);
+        }
+        if (i % 2) {
+            element.bit %= 520;
+            element.width %= 34;
+            element.report = 0;
+        }
+        length = seed % 65;
+        {
+            uint8_t *bytes = copy_of(report, length);
+            uint32_t status = hidstack_number(&element, bytes, length, &value);
+            int lies = element.width >= 1 && element.width <= 32 && (uint64_t)element.bit + element.width <= 8 * length;
+            want("wild element", status == HIDSTACK_SHORT, !lies);
+            free(bytes);
+        }
+    }
+}
+
+static void tables(void)
+{
+    struct hidstack_element_info *table = calloc(5, sizeof *table);
+    struct hidstack_tabled tabled;
+    want("no places", hidstack_table(mouse, sizeof mouse, NULL, 0, &tabled), HIDSTACK_NO_ROOM);
+    want("five are needed", tabled.elements, 5);
+    want("four places", hidstack_table(mouse, sizeof mouse, table, 4, &tabled), HIDSTACK_NO_ROOM);
+    want("as they were", table[0].width, 0);
+    want("five places", hidstack_table(mouse, sizeof mouse, table, 5, &tabled), HIDSTACK_OK);
+    want("the last one", table[4].bit == 16 && table[4].min == -127 && table[4].is_signed && table[4].flags == (HIDSTACK_VARIABLE | HIDSTACK_RELATIVE) && table[4].collections == 2, 1);
+    want("cut off", hidstack_table(mouse, sizeof mouse - 1, table, 5, &tabled), HIDSTACK_REFUSED);
+    want("L7 at its end", tabled.cause == 7 && tabled.at == sizeof mouse - 1 && tabled.elements == 0, 1);
+    free(table);
+}
+
+static void any_descriptors(void)
+{
+    uint32_t seed = 7;
+    int i;
+    for (i = 0; i < 3000; i++) {
+        struct hidstack device = HIDSTACK_INIT;
+        struct hidstack_opened opened;
+        uint8_t *bytes = copy_of(mouse, sizeof mouse);
+        int n;
+        for (n = 0; n < 3; n++) {
+            seed = seed * 1664525u + 1013904223u;
+            bytes[(seed >> 8) % sizeof mouse] = (uint8_t)(seed >> 24);
+        }
+        if (hidstack_open(bytes, sizeof mouse, &device, &opened) == HIDSTACK_OK) {
+            struct hidstack_event *events = malloc(opened.room ? opened.room * sizeof *events : 1);
+            uint64_t count;
+            hidstack_feed(&device, bytes, sizeof mouse, events, opened.room, &count);
+            want("no more than there is room for", count <= opened.room, 1);
+            free(events);
+        }
+        hidstack_close(&device);
+        free(bytes);
+    }
+}
+
+static void texts(void)
+{
+    uint8_t text[9];
+    uint64_t told;
+    want("L10", hidstack_cause_text(10, text, 3, &told), HIDSTACK_OK);
+    want("its text", told == 3 && memcmp(text, "L10", 3) == 0, 1);
+    want("too little room", hidstack_cause_text(10, text, 2, &told), HIDSTACK_NO_ROOM);
+    want("it needs 3", told, 3);
+    want("no cause 0", hidstack_cause_text(0, text, 9, &told), HIDSTACK_NONE);
+    want("no cause 18", hidstack_cause_text(18, text, 9, &told), HIDSTACK_NONE);
+    want("01:30", hidstack_usage_text(1, 0x30, text, 9, &told), HIDSTACK_OK);
+    want("its text", told == 5 && memcmp(text, "01:30", 5) == 0, 1);
+    want("the longest", hidstack_usage_text(0xFFFF, 0xFFFF, text, 9, &told), HIDSTACK_OK);
+    want("has 9 bytes", told == 9 && memcmp(text, "FFFF:FFFF", 9) == 0, 1);
+    want("no room at null", hidstack_usage_text(1, 2, NULL, 0, &told), HIDSTACK_NO_ROOM);
+}
+
+/*RUN*/
+static void runs(void)
+{
+    static const char script[] = "layout 05 01 09 30 15 81 25 7F 75 08 95 01 81 06\nvalues 81\nnonsense\n";
+    static const char told[] = "report input 0 bytes 1\nitem 0 input 0 at 0 8x1 relative -127..127 01:30\nvalue 0.0 -127 01:30\n";
+    static const char fault[] = "line 3: X1\n";
+    const uint8_t *bytes = (const uint8_t *)script;
+    uint8_t out[sizeof told - 1], line[sizeof fault - 1];
+    struct hidstack_ran ran;
+    want("all but the last line", hidstack_run(bytes, sizeof script - 10, 0, out, sizeof out, NULL, 0, &ran), HIDSTACK_OK);
+    want("its text", ran.told == sizeof out && memcmp(out, told, sizeof out) == 0 && ran.line == 0, 1);
+    want("the whole", hidstack_run(bytes, sizeof script - 1, 0, out, sizeof out, line, sizeof line, &ran), HIDSTACK_REFUSED);
+    want("the line", ran.line == 3 && ran.fault == sizeof line && memcmp(line, fault, sizeof line) == 0, 1);
+    want("too little room", hidstack_run(bytes, sizeof script - 1, 0, out, sizeof out - 1, line, sizeof line, &ran), HIDSTACK_NO_ROOM);
+    want("both are told", ran.told == sizeof out && ran.fault == sizeof line, 1);
+    want("no line", hidstack_run(NULL, 0, 0, NULL, 0, NULL, 0, &ran), HIDSTACK_OK);
+}
+/*END*/
+
+int main(void)
+{
+    closed_handles();
+    lengths();
+    reports_with_ids();
+    wild_elements();
+    tables();
+    any_descriptors();
+    texts();
+    runs();
+    puts(wrong ? "WRONG" : "as wanted");
+    return wrong;
+}
