@@ -15,41 +15,48 @@ use Rattle.hid_stack.specs.declared.step.Delivered.{Delivered}
 use Rattle.hid_stack.specs.Attaching.{Suits, IsAttached}
 use Rattle.hid_stack.specs.Headline.{DeliversChanges, KeepsToRounds}
 use Rattle.hid_host.specs.Host.{HostEnd}
-use Rattle.hid_host.specs.Phase.{IfReady, IsReady}
-use Rattle.hid_stack.specs.Rig.{Member, fresh_member, own, from_device}
-use Rattle.hid_stack.specs.Showing.{ShowsKnown, ShowsHost, GivesOf}
+use Rattle.hid_host.specs.declared.phase.HostState.TheVariants as states
+use Rattle.hid_host.specs.Phase.{IfReady, state_of}
+use Rattle.hid_stack.specs.declared.rig.Start.TheVariants as starts
+use Rattle.hid_stack.specs.Members.{Member, fresh_member}
+use Rattle.hid_stack.specs.Rig.{HasOnlySchedule, own, from_device}
+use Rattle.hid_stack.specs.Showing.{ShowsPhase, ShowsHost, GivesOf}
 use Rattle.hid_client.specs.Playing.{IsPlayed}
 
--- the view of a ready host is its member's
-view_shown : (m : Member) (phase : HostPhase) (view : List Cell) → IsReady phase → IfReady phase (ShowsKnown m) → IfReady phase (λ known. view ≡ known.view) → view ≡ m.station.view
-view_shown m Cold view ready shows is = absurd ready
-view_shown m (Described info) view ready shows is = absurd ready
-view_shown m (Parsed info layout) view ready shows is = absurd ready
-view_shown m (Ready known) view ready shows is = is ∙ shows.view
+-- what a ready host holds is what its member's view holds
+held_shown : (m : Member) (phase : HostPhase) (control : ControlId) (is_held : Bool) → state_of phase ≡ states.Ready → ShowsPhase m phase
+    → IfReady phase (λ known. is_held ≡ is_pressed (cell_at known.view control.item) control.index) → is_held ≡ is_pressed (cell_at m.station.view control.item) control.index
+held_shown m Cold control is_held ready shows is = absurd (cc)
+held_shown m (Described info) control is_held ready shows is = absurd (cc)
+held_shown m (Parsed info layout) control is_held ready shows is = absurd (cc)
+held_shown m (Ready known) control is_held ready shows is = is ∙ ap (λ (v : List Cell). is_pressed (cell_at v control.item) control.index) shows.view
 
 same_member : (m n : Member) → (let o = Some m in o) ≡ Some n → m ≡ n
 same_member m n e = cc
 
 pub played : (config : Config) (descriptor : List ℕ) (steps : List Step) (control : ControlId) (none members after : List Member) (dev : ℕ) (before given : List Delivered) (host : HostEnd)
-    (view : List Cell) (is_held : Bool) → none ≡ [] → IsAttached config descriptor none dev members → before ≡ [] → DeliversChanges members steps before given → KeepsToRounds members steps after
-    → GivesOf ShowsHost after dev host → IfReady host.phase (λ known. view ≡ known.view) → is_held ≡ is_pressed (cell_at view control.item) control.index
+    (is_held : Bool) → none ≡ [] → IsAttached config descriptor starts.Ready none dev members → before ≡ [] → DeliversChanges members steps before given → KeepsToRounds members steps after
+    → GivesOf ShowsHost after dev host → IfReady host.phase (λ known. is_held ≡ is_pressed (cell_at known.view control.item) control.index)
     → IsPlayed config descriptor steps control given is_held
-played config descriptor steps control none members after dev before given host view is_held none_is attached before_is headline keeps shows view_is held_is =
+played config descriptor steps control none members after dev before given host is_held none_is attached before_is headline keeps shows held_is =
     let first : dev ≡ 1 = attached.number ∙ ap (λ (ms : List Member). length ms + 1) none_is in
     let layout = attached.layout in
     let items : List Item = items_of layout in
     let idle : List ℕ = replicate (input_count layout.reports) 0 in
     let m : Member = fresh_member dev config descriptor layout in
-    let stands = keeps dev m attached.fresh refl in
-    let same : shows.0 ≡ (record m { station = stands.0 }) = same_member shows.0 (record m { station = stands.0 }) (sym shows.1 ∙ stands.1) in
-    let seen : view ≡ view_of items (blank items) (crossed_rounds items (blank items) idle (own dev steps))
-    = view_shown shows.0 host.phase view shows.2.is_ready shows.2.known view_is ∙ ap (λ (n : Member). n.station.view) same ∙ stands.2.view in
+    let own_of : HasOnlySchedule 1 steps → HasOnlySchedule dev steps = subst (λ (d : ℕ). HasOnlySchedule d steps) (sym first) in
     record {
       layout = layout;
       suits = subst (λ (d : ℕ). Suits d config descriptor layout) first attached.suits;
-      events = subst (λ (d : ℕ). from_device d given ≡ events_of items (blank items) (crossed_rounds items (blank items) idle (own d steps))) first
-          (headline dev m (blank items) idle attached.fresh refl
+      events = λ only. subst (λ (d : ℕ). from_device d given ≡ events_of items (blank items) (crossed_rounds items (blank items) idle (own d steps))) first
+          (headline dev m (blank items) idle attached.begins (record { host = refl; station = refl }) (own_of only)
           ∙ ap (λ (ds : List Delivered). from_device dev ds ++ events_of items (blank items) (crossed_rounds items (blank items) idle (own dev steps))) before_is);
-      held = held_is ∙ ap (λ (v : List Cell). is_pressed (cell_at v control.item) control.index)
-          (seen ∙ ap (λ (d : ℕ). view_of items (blank items) (crossed_rounds items (blank items) idle (own d steps))) first);
+      held = λ only.
+          let stands = keeps dev m attached.begins refl refl (own_of only) in
+          let same : shows.0 ≡ (record m { station = stands.0 }) = same_member shows.0 (record m { station = stands.0 }) (sym shows.1 ∙ stands.1) in
+          let ready : state_of host.phase ≡ states.Ready = shows.2.state ∙ ap (λ (n : Member). n.host) same in
+          held_shown shows.0 host.phase control is_held ready shows.2.knows held_is
+          ∙ ap (λ (n : Member). is_pressed (cell_at n.station.view control.item) control.index) same
+          ∙ ap (λ (v : List Cell). is_pressed (cell_at v control.item) control.index)
+          (stands.2.view ∙ ap (λ (d : ℕ). view_of items (blank items) (crossed_rounds items (blank items) idle (own d steps))) first);
     }

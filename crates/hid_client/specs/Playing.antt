@@ -14,7 +14,7 @@ use Rattle.hid_lives.specs.Rounds.{Round, crossed_rounds, events_of, view_of}
 use Rattle.hid_stack.specs.declared.step.Step.{Step}
 use Rattle.hid_stack.specs.declared.step.Delivered.{Delivered}
 use Rattle.hid_stack.specs.Attaching.{Suits}
-use Rattle.hid_stack.specs.Rig.{own, from_device}
+use Rattle.hid_stack.specs.Rig.{HasOnlySchedule, own, from_device}
 
 -- The rounds of device 1 that crossed: at first nothing is pressed, nothing has moved, and no idle time
 -- is set.
@@ -33,11 +33,11 @@ abbrev pub view_played : Contents → List Step → List Cell
 view_played layout steps =
     view_of (items_of layout) (blank (items_of layout)) (rounds_played layout steps)
 
--- The device has a layout that suits it, its events are what the rounds that crossed tell, and a control
--- is held exactly where the view that took their parts holds it.
+-- The device has a layout that suits it; where no step is of a transfer, its events are what the rounds that crossed
+-- tell, and a control is held exactly where the view that took their parts holds it.
 pub record IsPlayed (config : Config) (descriptor : List ℕ) (steps : List Step) (control : ControlId)
     (given : List Delivered) (is_held : Bool) : Type 0 where
   pub layout : Contents
   pub suits : Suits 1 config descriptor layout
-  pub events : from_device 1 given ≡ events_played layout steps
-  pub held : is_held ≡ is_pressed (cell_at (view_played layout steps) control.item) control.index
+  pub events : HasOnlySchedule 1 steps → from_device 1 given ≡ events_played layout steps
+  pub held : HasOnlySchedule 1 steps → is_held ≡ is_pressed (cell_at (view_played layout steps) control.item) control.index

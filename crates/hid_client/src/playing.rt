@@ -1,10 +1,12 @@
 //! One device on a bus of its own, and what its host knows of it.
-ghost use Rattle.std.specs.Prelude.{IfOk};
+ghost use Rattle.std.specs.Prelude.{◌≡◌, IfOk};
+ghost use Rattle.hid_usages.specs.Snapshots.{cell_at, is_pressed};
+ghost use Rattle.hid_host.specs.Phase.{IfReady};
 ghost use Rattle.hid_client.specs.Playing.{IsPlayed};
 
 use hid_device::Config;
 use hid_layout::ControlId;
-use hid_stack::{Delivered, Rig, StackFault, Start, Step};
+use hid_stack::{Delivered, HostDevice, HostState, Rig, StackFault, Start, Step};
 use std::alloc::Global;
 
 /// What a device gave over some steps, and whether its host holds a control behind them.
@@ -35,6 +37,17 @@ pub fn play(
         Ok(()) => {}
         Err(stopped) => return Err(stopped.fault),
     }
-    let is_held = rig.host(dev)?.view().held(control);
+    let is_held = holds(rig.host(dev)?, control);
     Ok(Played { events, is_held })
+}
+
+/// Whether a host holds a control in its view. One that isn't ready holds none.
+fn holds(host: &HostDevice, control: ControlId) -> bool
+    ensures { IfReady host.now.phase
+        (λ known. result ≡ is_pressed (cell_at known.view control.item) control.index) }
+{
+    match host.state() {
+        HostState::Ready => host.view().held(control),
+        HostState::Cold | HostState::Described | HostState::Parsed => false,
+    }
 }

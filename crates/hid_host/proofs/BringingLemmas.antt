@@ -30,7 +30,7 @@ use Rattle.hid_host.specs.declared.fault.StackFault.TheVariants.{Control, Memory
 use Rattle.hid_host.specs.declared.host.Transfer.{Transfer}
 use Rattle.hid_host.specs.declared.phase.HostPhase.{HostPhase}
 use Rattle.hid_host.specs.declared.phase.HostPhase.TheVariants.{Cold, Described, Parsed, Ready}
-use Rattle.hid_host.specs.Bringing.{IsComputed, TakesMemory, brought, brought_at, ends_after}
+use Rattle.hid_host.specs.Bringing.{IsComputed, TakesMemory, answering, brought, brought_at, configured_if, configures, ends_after}
 use Rattle.hid_host.specs.Conclusions.{Configured, Makes, leads_to, phase_made}
 use Rattle.hid_host.specs.Host.{ConcludesAt, ControlSteps, HostEnd, TriesOnce, bytes_got, running, told_made}
 use Rattle.hid_host.specs.Knowing.{Carries, IsBehindSetup, Knows, KnowsAt, info_of}
@@ -38,6 +38,7 @@ use Rattle.hid_host.specs.Phase.{may_begin, state_of}
 use Rattle.hid_host.specs.Ready.{known_at_start}
 use Rattle.hid_host.proofs.HostLemmas.{IsAnswer, config_is, device_is, fits_info, report_is}
 use Rattle.hid_host.proofs.LawLemmas.{answer_is, carried, got_so, knows_on, runs_so}
+use Rattle.hid_host.proofs.RoundLemmas.{parsed_by, tried_rounds}
 
 -- what is made of an answer: the phase to which its request leads, or nothing for want of memory
 abbrev MadeBy : Request → ℕ → CoreState → HostPhase → Result HostPhase StackFault → Type 0
@@ -100,6 +101,7 @@ once_computed : HasOneReading → AcceptsNoRefused → (fate : Fate) (host after
 once_computed one apart fate host after t old new result lays short knows c running tr =
     let e = (tries_are core_table fate t.ends old tr.ends new).0 tr.transacts in
     let ends : HostTransferState = ends_after fate t old in
+    let rounds = subst (λ (d : DevControlState CoreState). d.requests ≡ answering (configured_if (configures fate t.ends old) old.requests) d.requests) (sym e.1) (tried_rounds fate t.ends old) in
     elim (concluded_so tr.ends.stage host.addr t.request host.phase tr.next (bytes_got tr.ends) result tr.concludes) [
       | inl (done, (made, makes, told, moves)) ↦
           let not_running : IsRunning tr.ends.stage → tr.next ≡ host.phase = λ run. let wrong = subst IsRunning done run in absurd (cc) in
@@ -124,6 +126,9 @@ once_computed one apart fate host after t old new result lays short knows c runn
               )
               | inr (none, takes) ↦ inr (told ∙ ap told_made none, stage, takes, tr.after ∙ leads_on host t tr.ends ends tr.next host.phase e.0 (moves ∙ ap (phase_made host.phase) none))
             ];
+            needs = c.needs running;
+            rounds = rounds;
+            parsed = λ h. parsed_by fate host.phase t old c running h;
           }
       | inr (told, stays, brings) ↦ record {
         device_then = e.1;
@@ -132,6 +137,9 @@ once_computed one apart fate host after t old new result lays short knows c runn
           tr.after ∙ leads_on host t tr.ends ends tr.next _ e.0
               (stays ∙ sym (brings new.requests) ∙ ap (λ (x : HostTransferState). brought_at x.stage t.request host.addr new.requests host.phase) e.0),
         );
+        needs = c.needs running;
+        rounds = rounds;
+        parsed = λ h. parsed_by fate host.phase t old c running h;
       }
     ]
 

@@ -51,12 +51,12 @@ acts_go setup TakesEffect old new same = subst (λ (c : CoreState). Goes old c) 
 
 row_decided : (request : Request) (core : CoreState)
     → IsDecided request (left_by core (decided_row core (row_of request))) (decision_of (is_accepted (decided_row core (row_of request))) (left_by core (decided_row core (row_of request))).answer)
-row_decided requests.Device core = refl
-row_decided requests.Config core = refl
-row_decided requests.Report core = refl
-row_decided requests.Configure core = refl
-row_decided requests.Status core = tt
-row_decided requests.GetConfiguration core = tt
+row_decided requests.Device core = (refl, refl)
+row_decided requests.Config core = (refl, refl)
+row_decided requests.Report core = (refl, refl)
+row_decided requests.Configure core = (refl, refl)
+row_decided requests.Status core = (refl, refl)
+row_decided requests.GetConfiguration core = ((core.is_configured, refl), refl)
 
 -- what is decided on the setup of a request is what its row says
 decide_is : (request : Request) (asking : Asking) (core : CoreState) → decide core (setup_for request asking) ≡ decided_row core (row_of request)
@@ -92,14 +92,16 @@ quiet_pends setup (Decides decision) old new quiet same = absurd quiet
 quiet_pends setup TakesEffect old new quiet same = ap (λ (c : CoreState). c.pending) same ∙ pends_on old old.pending
 
 pub decided_stays : (request : Request) (old new : CoreState) (decision : Decision) → Goes old new → new.pending ≡ old.pending → IsDecided request old decision → IsDecided request new decision
-decided_stays requests.Device old new decision goes pends h = subst (λ config. decision ≡ Accepted (Some (device_bytes (device_info config)))) (sym goes.config) h
-decided_stays requests.Config old new decision goes pends h =
-    subst (λ config. decision ≡ Accepted (Some (configuration_bytes (config_info config (length new.descriptor)) config.interval))) (sym goes.config)
-    (subst (λ (d : List ℕ). decision ≡ Accepted (Some (configuration_bytes (config_info old.config (length d)) old.config.interval))) (sym goes.descriptor) h)
-decided_stays requests.Report old new decision goes pends h = subst (λ (d : List ℕ). decision ≡ Accepted (Some d)) (sym goes.descriptor) h
-decided_stays requests.Configure old new decision goes pends h = pends ∙ h
-decided_stays requests.Status old new decision goes pends h = tt
-decided_stays requests.GetConfiguration old new decision goes pends h = tt
+decided_stays requests.Device old new decision goes pends h = (subst (λ config. decision ≡ Accepted (Some (device_bytes (device_info config)))) (sym goes.config) h.0, pends ∙ h.1)
+decided_stays requests.Config old new decision goes pends h = (
+  subst (λ config. decision ≡ Accepted (Some (configuration_bytes (config_info config (length new.descriptor)) config.interval))) (sym goes.config)
+      (subst (λ (d : List ℕ). decision ≡ Accepted (Some (configuration_bytes (config_info old.config (length d)) old.config.interval))) (sym goes.descriptor) h.0),
+  pends ∙ h.1,
+)
+decided_stays requests.Report old new decision goes pends h = (subst (λ (d : List ℕ). decision ≡ Accepted (Some d)) (sym goes.descriptor) h.0, pends ∙ h.1)
+decided_stays requests.Configure old new decision goes pends h = (h.0, pends ∙ h.1)
+decided_stays requests.Status old new decision goes pends h = (h.0, pends ∙ h.1)
+decided_stays requests.GetConfiguration old new decision goes pends h = (h.0, pends ∙ h.1)
 
 piece_quiet : (k : ℕ) (shape : Shape) (fate : Fate) (decision q : Decision) (a : Bool) → IsQuiet (act_at (Piece k) shape fate decision q a)
 piece_quiet k shape TokenLost decision q a = tt

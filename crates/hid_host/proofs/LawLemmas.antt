@@ -51,7 +51,7 @@ word_back n small = omega arith
 abbrev asks_with : ℕ → Setup
 asks_with n = record { request_type = 0x81; request = 6; value = 0x2200; index = 0; length = n }
 
-spelled_so : (request : Request) (asking : Asking) → asking.report_length < 2 ^ 16 → IsSpelled (setup_for request asking)
+pub spelled_so : (request : Request) (asking : Asking) → asking.report_length < 2 ^ 16 → IsSpelled (setup_for request asking)
 spelled_so requests.Device asking short = refl
 spelled_so requests.Config asking short = refl
 spelled_so requests.Report asking short = ap asks_with (word_back asking.report_length short)
@@ -59,7 +59,7 @@ spelled_so requests.Configure asking short = refl
 spelled_so requests.Status asking short = refl
 spelled_so requests.GetConfiguration asking short = refl
 
-sends_none : (request : Request) (asking : Asking) → length {A = ℕ} [] ≡ (if reads (setup_for request asking) then 0 else (setup_for request asking).length)
+pub sends_none : (request : Request) (asking : Asking) → length {A = ℕ} [] ≡ (if reads (setup_for request asking) then 0 else (setup_for request asking).length)
 sends_none requests.Device asking = refl
 sends_none requests.Config asking = refl
 sends_none requests.Report asking = refl
@@ -106,12 +106,12 @@ pub answer_is : (request : Request) (core : CoreState) (decision : Decision) (by
     → (reads (setup_for request (record { report_length = length core.descriptor })) ≡ true → bytes ≡ answered_bytes (shape_of (setup_for request (record { report_length = length core.descriptor }))) decision)
     → IsAnswer request core bytes
 answer_is requests.Device core decision bytes says got =
-    got refl ∙ ap (answered_bytes (shape_of (setup_for requests.Device (record { report_length = length core.descriptor })))) says ∙ take_all 18 (device_bytes (device_info core.config)) (omega arith)
+    got refl ∙ ap (answered_bytes (shape_of (setup_for requests.Device (record { report_length = length core.descriptor })))) says.0 ∙ take_all 18 (device_bytes (device_info core.config)) (omega arith)
 answer_is requests.Config core decision bytes says got =
-    got refl ∙ ap (answered_bytes (shape_of (setup_for requests.Config (record { report_length = length core.descriptor })))) says
+    got refl ∙ ap (answered_bytes (shape_of (setup_for requests.Config (record { report_length = length core.descriptor })))) says.0
     ∙ take_all 255 (configuration_bytes (info_of core) core.config.interval) (omega arith)
 answer_is requests.Report core decision bytes says got =
-    got refl ∙ ap (answered_bytes (shape_of (setup_for requests.Report (record { report_length = length core.descriptor })))) says ∙ take_all (length core.descriptor) core.descriptor (omega arith)
+    got refl ∙ ap (answered_bytes (shape_of (setup_for requests.Report (record { report_length = length core.descriptor })))) says.0 ∙ take_all (length core.descriptor) core.descriptor (omega arith)
 answer_is requests.Configure core decision bytes says got = tt
 answer_is requests.Status core decision bytes says got = tt
 answer_is requests.GetConfiguration core decision bytes says got = tt
@@ -120,7 +120,7 @@ effect_so : (request : Request) (asking : Asking) (setup : Setup) (fate : Fate) 
     → (IsBehindSetup place.host → IsDecided request old place.decision) → (place.applied ≡ true → HasEffect request old)
     → ActsOn setup (act_of (shape_of setup) fate decision place) old new → (tried (shape_of setup) fate decision place).applied ≡ true → HasEffect request new
 effect_so requests.Configure asking setup fate decision place old new asks decided effect acts took =
-    effect_at setup fate place.host decision place.decision place old new (ap (λ (s : Setup). reads s) asks) refl refl decided effect acts took
+    effect_at setup fate place.host decision place.decision place old new (ap (λ (s : Setup). reads s) asks) refl refl (λ behind. (decided behind).1) effect acts took
 effect_so requests.Device asking setup fate decision place old new asks decided effect acts took = tt
 effect_so requests.Config asking setup fate decision place old new asks decided effect acts took = tt
 effect_so requests.Report asking setup fate decision place old new asks decided effect acts took = tt

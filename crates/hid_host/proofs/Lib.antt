@@ -4,4 +4,5 @@ pub mod PlacesLemmas
 pub mod KnowingLemmas
 pub mod HostLemmas
 pub mod LawLemmas
+pub mod RoundLemmas
 pub mod BringingLemmas

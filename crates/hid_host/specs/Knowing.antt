@@ -1,6 +1,6 @@
 -- A host and the virtual device that it brings up: what it knows is what the device was made with, and a transfer between
 -- the two is the one of a request (USB 2.0, 8.5.3, 9.1.1 and 9.4).
-use Rattle.std.specs.Prelude.{◌≡◌, ℕ, true, false, [], length, Some, Result, Err, IfSome}
+use Rattle.std.specs.Prelude.{◌≡◌, ℕ, Bool, true, false, [], ◌∷◌, length, Some, None, Result, Err, IfSome}
 use Rattle.usb_control.specs.declared.descriptors.ConfigInfo.{ConfigInfo}
 use Rattle.usb_control.specs.declared.host.Progress.{Progress}
 use Rattle.usb_control.specs.Device.{DevControlState}
@@ -12,10 +12,10 @@ use Rattle.hid_requests.specs.declared.request.Request.{Request}
 use Rattle.hid_requests.specs.declared.request.Request.TheVariants as requests
 use Rattle.hid_requests.specs.Asking.{setup_for}
 use Rattle.hid_requests.specs.Descriptors.{configuration_bytes, device_bytes}
-use Rattle.hid_device.specs.declared.decisions.Pending.TheVariants.{Configure}
+use Rattle.hid_device.specs.declared.decisions.Pending.TheVariants.{Configure, Nothing}
 use Rattle.hid_device.specs.declared.device.TheConstants.{ENDPOINT}
 use Rattle.hid_device.specs.Core.{CoreState}
-use Rattle.hid_device.specs.Deciding.{config_info, core_table, device_info}
+use Rattle.hid_device.specs.Deciding.{config_info, configuration_number, core_table, device_info}
 use Rattle.hid_host.specs.declared.fault.StackFault.{StackFault}
 use Rattle.hid_host.specs.declared.fault.StackFault.TheVariants.{BadDescriptor}
 use Rattle.hid_host.specs.declared.host.Transfer.{Transfer}
@@ -42,15 +42,17 @@ abbrev pub IsBehindSetup : Position → Type 0
 IsBehindSetup Setup = ⊥
 IsBehindSetup _ = Unit {0}
 
--- what a device decides on the requests that bring it up
+-- what a device decides on a request: its answer, and what is to be carried out
 abbrev pub IsDecided : Request → CoreState → Decision → Type 0
-IsDecided requests.Device core decision = decision ≡ Accepted (Some (device_bytes (device_info core.config)))
+IsDecided requests.Device core decision =
+    (decision ≡ Accepted (Some (device_bytes (device_info core.config)))) × (core.pending ≡ Nothing)
 IsDecided requests.Config core decision =
-    decision ≡ Accepted (Some (configuration_bytes (info_of core) core.config.interval))
-IsDecided requests.Report core decision = decision ≡ Accepted (Some core.descriptor)
-IsDecided requests.Configure core decision = core.pending ≡ Configure
-IsDecided requests.Status core decision = Unit {0}
-IsDecided requests.GetConfiguration core decision = Unit {0}
+    (decision ≡ Accepted (Some (configuration_bytes (info_of core) core.config.interval))) × (core.pending ≡ Nothing)
+IsDecided requests.Report core decision = (decision ≡ Accepted (Some core.descriptor)) × (core.pending ≡ Nothing)
+IsDecided requests.Configure core decision = (decision ≡ Accepted None) × (core.pending ≡ Configure)
+IsDecided requests.Status core decision = (decision ≡ Accepted (Some (0 ∷ 0 ∷ []))) × (core.pending ≡ Nothing)
+IsDecided requests.GetConfiguration core decision =
+    ((configured : Bool) × (decision ≡ Accepted (Some (configuration_number configured ∷ [])))) × (core.pending ≡ Nothing)
 
 -- what a write has brought about once it took effect
 abbrev pub HasEffect : Request → CoreState → Type 0

@@ -9,7 +9,7 @@ use hid_requests::Request;
 use hid_usages::ReportFault;
 use std::test::Fail;
 use usb_control::{ControlFault, InfoFault, Outcome, Progress};
-use usb_packet::Packet;
+use usb_packet::{Packet, TokenKind};
 use usb_transact::{Fate, Took};
 
 const KEY: ControlId = ControlId { item: 4, index: 4 };
@@ -70,6 +70,12 @@ fn a_host_brings_its_device_up(rt: HostRuntime) -> Result<(), Fail> {
         let is_done = told == Ok(Progress::Done) && host.outcome() == Ok(Outcome::Done(bytes));
         assert!(rt; is_done && host.state() == state, "{request:?}");
     }
+    let polled = Packet::Token {
+        kind: TokenKind::In,
+        addr: 1,
+        endp: 1,
+    };
+    assert!(rt; host.token() == Ok(polled), "what is up is polled");
     Ok(())
 }
 
@@ -93,6 +99,10 @@ fn a_request_that_is_refused_changes_nothing(rt: HostRuntime) -> Result<(), Fail
     assert!(rt;
         busy == Err(StackFault::Control(ControlFault::Busy)),
         "before its state"
+    );
+    assert!(rt;
+        host.token() == Err(StackFault::NotReady),
+        "a cold host polls nothing"
     );
     Ok(())
 }

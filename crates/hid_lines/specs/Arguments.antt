@@ -6,17 +6,26 @@ use Rattle.usb_transact.specs.declared.transaction.Fate.TheVariants.{Clean, Toke
 use Rattle.hid_device.specs.declared.config.Boot.{Boot}
 use Rattle.hid_device.specs.declared.config.Boot.TheVariants.{No, Keyboard, Mouse}
 use Rattle.hid_stack.specs.declared.rig.Start.{Start}
-use Rattle.hid_stack.specs.declared.rig.Start.TheVariants.{Ready}
+use Rattle.hid_stack.specs.declared.rig.Start.TheVariants.{Ready, Cold}
+use Rattle.hid_requests.specs.declared.request.Request.{Request}
+use Rattle.hid_requests.specs.declared.request.Request.TheVariants as requests
 use Rattle.hid_lines.specs.Words.{Word, look_up}
 use Rattle.hid_lines.specs.Numbers.{device_of, usage_of, count_of, signed_of, amount_of}
 
 -- START
 abbrev pub start_of : Word → Option Start
-start_of = look_up ((codes "ready", Ready) ∷ [])
+start_of = look_up ((codes "ready", Ready) ∷ (codes "cold", Cold) ∷ [])
 
 -- KIND
 abbrev pub boot_of : Word → Option Boot
 boot_of = look_up ((codes "plain", No) ∷ (codes "keyboard", Keyboard) ∷ (codes "mouse", Mouse) ∷ [])
+
+-- REQUEST
+abbrev pub request_of : Word → Option Request
+request_of = look_up (
+    (codes "device", requests.Device) ∷ (codes "config", requests.Config) ∷ (codes "report", requests.Report)
+    ∷ (codes "configure", requests.Configure) ∷ (codes "status", requests.Status)
+    ∷ (codes "get-configuration", requests.GetConfiguration) ∷ [])
 
 -- FATE
 abbrev pub fate_of : Word → Option Fate
@@ -64,3 +73,8 @@ poll_said (dev ∷ []) = three (device_of dev) (Some Clean) (Some 1)
 poll_said (dev ∷ fate ∷ []) = three (device_of dev) (fate_of fate) (Some 1)
 poll_said (dev ∷ fate ∷ count ∷ []) = three (device_of dev) (fate_of fate) (count_of count)
 poll_said _ = None
+
+-- D REQUEST
+unfoldable pub begin_said : List Word → Option (ℕ × Request)
+begin_said (dev ∷ request ∷ []) = two (device_of dev) (request_of request)
+begin_said _ = None

@@ -6,11 +6,11 @@ use Rattle.hid_stack.specs.declared.rig.Start.{Start}
 use Rattle.hid_lines.specs.declared.line.Keyword.{Keyword}
 use Rattle.hid_lines.specs.declared.line.Keyword.TheVariants as keywords
 use Rattle.hid_lines.specs.declared.line.Line.{Line}
-use Rattle.hid_lines.specs.declared.line.Line.TheVariants.{Nothing, Layout, Values, Device, Press, Release, Null, Set, Move, Frame, Poll}
+use Rattle.hid_lines.specs.declared.line.Line.TheVariants.{Nothing, Layout, Values, Device, Press, Release, Null, Set, Move, Frame, Poll, Control, Begin}
 use Rattle.hid_lines.specs.declared.fault.LineFault.{LineFault}
 use Rattle.hid_lines.specs.declared.fault.LineFault.TheVariants.{Syntax, LineTooLong, BadHex, Memory}
 use Rattle.hid_lines.specs.Words.{Word, words_of, look_up, hex_of}
-use Rattle.hid_lines.specs.Arguments.{two, start_of, boot_of, control_said, set_said, move_said, frame_said, poll_said}
+use Rattle.hid_lines.specs.Arguments.{two, start_of, boot_of, control_said, set_said, move_said, frame_said, poll_said, begin_said}
 
 -- the first word of a line
 abbrev pub keyword_of : Word → Option Keyword
@@ -18,7 +18,7 @@ keyword_of = look_up (
     (codes "layout", keywords.Layout) ∷ (codes "values", keywords.Values) ∷ (codes "device", keywords.Device)
     ∷ (codes "press", keywords.Press) ∷ (codes "release", keywords.Release) ∷ (codes "null", keywords.Null)
     ∷ (codes "set", keywords.Set) ∷ (codes "move", keywords.Move) ∷ (codes "frame", keywords.Frame)
-    ∷ (codes "poll", keywords.Poll) ∷ [])
+    ∷ (codes "poll", keywords.Poll) ∷ (codes "control", keywords.Control) ∷ (codes "begin", keywords.Begin) ∷ [])
 
 -- words that are all understood, or no line of the script's
 abbrev pub or_syntax : {A : Type 0} → (A → Line) → Option A → Result Line LineFault
@@ -52,6 +52,8 @@ said_by keywords.Set words = or_syntax (λ said. Set said.0 said.1 said.2) (set_
 said_by keywords.Move words = or_syntax (λ said. Move said.0 said.1 said.2) (move_said words)
 said_by keywords.Frame words = or_syntax Frame (frame_said words)
 said_by keywords.Poll words = or_syntax (λ said. Poll said.0 said.1 said.2) (poll_said words)
+said_by keywords.Control words = or_syntax (λ said. Control said.0 said.1 said.2) (poll_said words)
+said_by keywords.Begin words = or_syntax (λ said. Begin said.0 said.1) (begin_said words)
 
 -- a line that begins with another word is none of the script's
 abbrev pub keyword_said : Option Keyword → List Word → Result Line LineFault

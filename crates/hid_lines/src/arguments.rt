@@ -1,20 +1,20 @@
 //! What the words behind a line's first one say.
 
 ghost use Rattle.std.specs.Prelude.{◌≡◌, map};
-ghost use Rattle.hid_lines.specs.Arguments.{fate_of, boot_of, start_of, control_said, set_said, move_said, frame_said, poll_said};
+ghost use Rattle.hid_lines.specs.Arguments.{fate_of, boot_of, start_of, request_of, control_said, set_said, move_said, frame_said, poll_said, begin_said};
 
 use super::numbers::{read_amount, read_count, read_device, read_signed, read_usage};
 use super::words::look_up;
 use hid_descriptor::Usage;
 use hid_device::Boot;
-use hid_stack::Start;
+use hid_stack::{Request, Start};
 use usb_transact::Fate;
 
 /// START: what the two ends know of each other at first.
 pub fn read_start(word: &[u8]) -> Option<Start>
     ensures { result ≡ start_of word.now }
 {
-    look_up(&[(b"ready", Start::Ready)], word)
+    look_up(&[(b"ready", Start::Ready), (b"cold", Start::Cold)], word)
 }
 
 /// KIND: whether a device's reports are those of the boot protocol.
@@ -26,6 +26,23 @@ pub fn read_boot(word: &[u8]) -> Option<Boot>
             (b"plain", Boot::No),
             (b"keyboard", Boot::Keyboard),
             (b"mouse", Boot::Mouse),
+        ],
+        word,
+    )
+}
+
+/// REQUEST: what a host asks of its device (USB 2.0, 9.4).
+fn read_request(word: &[u8]) -> Option<Request>
+    ensures { result ≡ request_of word.now }
+{
+    look_up(
+        &[
+            (b"device", Request::Device),
+            (b"config", Request::Config),
+            (b"report", Request::Report),
+            (b"configure", Request::Configure),
+            (b"status", Request::Status),
+            (b"get-configuration", Request::GetConfiguration),
         ],
         word,
     )
@@ -99,7 +116,7 @@ pub fn read_frame(words: &[&[u8]]) -> Option<u16>
     }
 }
 
-/// `D [FATE [COUNT]]`: a device, what is lost, and how often it is polled.
+/// `D [FATE [COUNT]]`: a device, what is lost, and how often it is polled, or a transfer tried.
 #[tactic(auto, unfolding(crate::specs::Arguments::poll_said))]
 pub fn read_poll(words: &[&[u8]]) -> Option<(u8, Fate, u16)>
     ensures { result ≡ poll_said (map (λ word. word.now) words.now) }
@@ -111,4 +128,17 @@ pub fn read_poll(words: &[&[u8]]) -> Option<(u8, Fate, u16)>
         _ => return None,
     };
     Some((dev, fate, count))
+}
+
+/// `D REQUEST`: a device, and what its host asks.
+#[tactic(auto, unfolding(crate::specs::Arguments::begin_said))]
+pub fn read_begin(words: &[&[u8]]) -> Option<(u8, Request)>
+    ensures { result ≡ begin_said (map (λ word. word.now) words.now) }
+{
+    let [dev, request] = words else {
+        return None;
+    };
+    let dev = read_device(dev)?;
+    let request = read_request(request)?;
+    Some((dev, request))
 }

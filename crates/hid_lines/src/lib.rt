@@ -5,6 +5,7 @@
 //!
 //!   press 1 07:04                        Press { dev: 1, usage: 07:04 }
 //!   poll 1 ack 2                         Poll { dev: 1, fate: AckLost, count: 2 }
+//!   begin 1 config                       Begin { dev: 1, request: Config }
 //!   values 0a Ff10                       Values { bytes: 0A FF 10 }
 //!   # a comment                          Nothing
 //!   values 0                             BadHex

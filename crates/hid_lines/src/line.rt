@@ -5,14 +5,14 @@ ghost use Rattle.hid_lines.specs.Words.{total_length};
 ghost use Rattle.hid_lines.specs.Line.{Gives, keyword_of, meaning_of, words_said, said_by, device_said};
 
 use super::arguments::{
-    read_boot, read_control, read_frame, read_move, read_poll, read_set, read_start,
+    read_begin, read_boot, read_control, read_frame, read_move, read_poll, read_set, read_start,
 };
 use super::fault::LineFault;
 use super::words::{look_up, read_hex, words_of_line};
 use arrayvec::ArrayVec;
 use hid_descriptor::Usage;
 use hid_device::Boot;
-use hid_stack::Start;
+use hid_stack::{Request, Start};
 use std::alloc::Global;
 use usb_transact::Fate;
 
@@ -78,6 +78,17 @@ pub enum Line {
         fate: Fate,
         count: u16,
     },
+    /// `control D [FATE [COUNT]]`: so many tries of the transfer that runs, 1 to 10,000 (USB 2.0, 8.5.3).
+    Control {
+        dev: u8,
+        fate: Fate,
+        count: u16,
+    },
+    /// `begin D REQUEST`: a request that the host begins (USB 2.0, 9.4).
+    Begin {
+        dev: u8,
+        request: Request,
+    },
 }
 
 #[derive(Clone, Copy, Debug)]
@@ -92,6 +103,8 @@ enum Keyword {
     Move,
     Frame,
     Poll,
+    Control,
+    Begin,
 }
 
 fn read_keyword(word: &[u8]) -> Option<Keyword>
@@ -109,6 +122,8 @@ fn read_keyword(word: &[u8]) -> Option<Keyword>
             (b"move", Keyword::Move),
             (b"frame", Keyword::Frame),
             (b"poll", Keyword::Poll),
+            (b"control", Keyword::Control),
+            (b"begin", Keyword::Begin),
         ],
         word,
     )
@@ -185,6 +200,14 @@ fn read_arguments(keyword: Keyword, words: &[&[u8]]) -> Result<Line, LineFault>
         Keyword::Poll => {
             let (dev, fate, count) = read_poll(words).ok_or(LineFault::Syntax)?;
             Ok(Line::Poll { dev, fate, count })
+        }
+        Keyword::Control => {
+            let (dev, fate, count) = read_poll(words).ok_or(LineFault::Syntax)?;
+            Ok(Line::Control { dev, fate, count })
+        }
+        Keyword::Begin => {
+            let (dev, request) = read_begin(words).ok_or(LineFault::Syntax)?;
+            Ok(Line::Begin { dev, request })
         }
     }
 }

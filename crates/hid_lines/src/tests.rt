@@ -3,7 +3,7 @@
 use crate::{Line, LineFault, parse_line};
 use hid_descriptor::Usage;
 use hid_device::Boot;
-use hid_stack::Start;
+use hid_stack::{Request, Start};
 use std::test::Fail;
 use usb_transact::Fate;
 
@@ -70,15 +70,43 @@ fn a_line_says_its_words(rt: HostRuntime) -> Result<(), Fail> {
     Ok(())
 }
 
+#[test]
+fn a_line_says_its_request(rt: HostRuntime) -> Result<(), Fail> {
+    match parse_line(rt.alloc(), b"device cold plain")? {
+        Line::Device { start, boot, .. } => assert!(rt;
+            start == Start::Cold && boot == Boot::No,
+            "cold"
+        ),
+        _ => assert!(rt; false, "cold"),
+    }
+    match parse_line(rt.alloc(), b"begin 2 get-configuration")? {
+        Line::Begin { dev, request } => assert!(rt;
+            dev == 2 && request == Request::GetConfiguration,
+            "begin"
+        ),
+        _ => assert!(rt; false, "begin"),
+    }
+    match parse_line(rt.alloc(), b"control 1 token 3")? {
+        Line::Control { dev, fate, count } => assert!(rt;
+            dev == 1 && fate == Fate::TokenLost && count == 3,
+            "control"
+        ),
+        _ => assert!(rt; false, "control"),
+    }
+    Ok(())
+}
+
 /// Lines that are none of the script's.
 #[rattlefmt::skip]
-const NO_LINES: [&str; 26] = [
+const NO_LINES: [&str; 34] = [
     "press", "press 1", "press 0 07:04", "press 8 07:04", "press 11 07:04", "press 1 07:04 1",
     "press 1 0704", "press 1 :04", "press 1 07:", "press 1 00007:04", "press 1 07:04:05", "press 1 0G:04",
     "set 1 01:39", "set 1 01:39 -", "set 1 01:39 +1", "set 1 01:39 1234567890123456789",
     "move 1 01:30 2147483648", "move 1 01:30 -2147483649",
     "frame 0", "frame 10001", "frame 1 1", "poll 1 Clean", "poll 1 clean 0", "poll 1 clean 1 1",
-    "device cold keyboard 0G", "device ready pad 0G",
+    "device warm keyboard 0G", "device ready pad 0G", "device cold 0G",
+    "control", "control 8", "control 1 lost", "control 1 clean 1 1",
+    "begin 1", "begin 1 Status", "begin 1 status 1",
 ];
 
 #[test]

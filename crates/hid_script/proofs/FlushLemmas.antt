@@ -1,5 +1,5 @@
 -- A flush that fails ends a run at the line where it stood, whatever ended it there.
-use Rattle.std.proofs.Common.{◌≡◌, ℕ, zero, suc, ◌+◌, ◌≤◌, List, [], ◌∷◌, ◌++◌, length, refl, sym, ap, ◌∙◌, subst, inl, inr, arith, append-nil, Option, None, Some, Result, Ok, Err}
+use Rattle.std.proofs.Common.{◌≡◌, ℕ, zero, suc, ◌+◌, List, [], ◌∷◌, ◌++◌, refl, sym, ap, ◌∙◌, subst, inl, inr, arith, append-nil, Option, None, Some, Result, Ok, Err}
 use Rattle.std.specs.Str.Lines.{lines}
 use Rattle.std.proofs.KnownBytes.{Appends-nil}
 use Rattle.std.specs.Io.KnownBytes.{Appends, Consumes, Keeps}
@@ -10,6 +10,7 @@ use Rattle.hid_cells.specs.declared.fault.ReportFault.{ReportFault}
 use Rattle.hid_usages.specs.Reading.{report_named}
 use Rattle.hid_device.specs.declared.config.Boot.{Boot}
 use Rattle.hid_host.specs.declared.fault.StackFault.{StackFault}
+use Rattle.hid_stack.specs.declared.rig.Start.{Start}
 use Rattle.hid_stack.specs.declared.step.Step.{Step}
 use Rattle.hid_stack.specs.declared.step.Step.TheVariants.{Change}
 use Rattle.hid_stack.specs.declared.step.Step.TheVariants as step
@@ -26,7 +27,7 @@ use Rattle.hid_script.specs.declared.wanted.Wanted.TheVariants as wanted
 use Rattle.hid_lines.specs.Line.{meaning_of}
 use Rattle.hid_script.specs.Output.{IsFront}
 use Rattle.hid_script.specs.Session.{Session, Outcome, accepted, refused, at_first, Repeats}
-use Rattle.hid_script.specs.Steps.{TellsLayout, TellsValues, TellsDevice, TellsStep, TellsFound, TellsChange, valued, read_report, change_of}
+use Rattle.hid_script.specs.Steps.{TellsLayout, TellsDevice, TellsStep, TellsFound, TellsChange, valued, read_report, change_of}
 use Rattle.hid_script.specs.Telling.{Once, times, Means, LineTells, LineBegins, Begins, BeginsMeant}
 use Rattle.hid_script.specs.Runs.{Ending, Refusal, Want, Cut, Silence, ending_of, EndsAs, FirstTells, FirstBegins, RunsTo, Stops, line_of, AppendsScript}
 use Rattle.hid_script.specs.Place.{Place, Advances, RunsFrom, lines_at}
@@ -72,16 +73,16 @@ no_found_text dev wanted (Err fault) session text cause h = no_text text cause _
 no_change_text : (dev : ℕ) (usage : Usage) (wanted : Wanted) → PrintsNothing (TellsChange dev usage wanted)
 no_change_text dev usage wanted session text cause h = no_found_text dev wanted h.0 session text cause h.2
 
-no_device_text : (boot : Boot) (bytes : List ℕ) → PrintsNothing (TellsDevice boot bytes)
-no_device_text boot bytes session text cause (inl h) = not_accepted text _ cause _ h.5
-no_device_text boot bytes session text cause (inr h) = no_text text cause _ h.4
+no_device_text : (start : Start) (boot : Boot) (bytes : List ℕ) → PrintsNothing (TellsDevice start boot bytes)
+no_device_text start boot bytes session text cause (inl h) = not_accepted text _ cause _ h.5
+no_device_text start boot bytes session text cause (inr h) = no_text text cause _ h.4
 
 once_prints_nothing : (said : Line) → PrintsNothing (Once said)
 unfolding Once
 once_prints_nothing line.Nothing session text cause h = not_accepted text [] cause session h
 once_prints_nothing (line.Layout bytes) session text cause h = no_layout_text bytes.items session text cause h
 once_prints_nothing (line.Values bytes) session text cause h = no_values session bytes.items text cause session.layout h
-once_prints_nothing (line.Device start boot bytes) session text cause h = no_device_text boot bytes.items session text cause h
+once_prints_nothing (line.Device start boot bytes) session text cause h = no_device_text start boot bytes.items session text cause h
 once_prints_nothing (line.Press dev usage) session text cause h = no_change_text dev usage wanted.Press session text cause h
 once_prints_nothing (line.Release dev usage) session text cause h = no_change_text dev usage wanted.Release session text cause h
 once_prints_nothing (line.Null dev usage) session text cause h = no_change_text dev usage wanted.Null session text cause h
@@ -89,6 +90,8 @@ once_prints_nothing (line.Set dev usage value) session text cause h = no_change_
 once_prints_nothing (line.Move dev usage by) session text cause h = no_change_text dev usage (wanted.Move by) session text cause h
 once_prints_nothing (line.Frame count) session text cause h = no_step_text step.Frame session text cause h
 once_prints_nothing (line.Poll dev fate count) session text cause h = no_step_text (step.Poll dev fate) session text cause h
+once_prints_nothing (line.Control dev fate count) session text cause h = no_step_text (step.Control dev fate) session text cause h
+once_prints_nothing (line.Begin dev request) session text cause h = no_step_text (step.Begin dev request) session text cause h
 
 -- ---- the text of a refused line is that of its first times
 

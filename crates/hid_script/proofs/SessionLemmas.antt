@@ -17,6 +17,7 @@ use Rattle.hid_cells.specs.declared.fault.ReportFault.{ReportFault}
 use Rattle.hid_cells.specs.declared.fault.ReportFault.TheVariants.{Short}
 use Rattle.hid_usages.specs.Reading.{first_byte, is_input_with, whole_report, report_named}
 use Rattle.hid_device.specs.declared.config.Boot.{Boot}
+use Rattle.hid_device.specs.declared.config.Config.{Config}
 use Rattle.hid_host.specs.declared.fault.StackFault.{StackFault}
 use Rattle.hid_host.specs.declared.fault.StackFault.TheVariants as stack
 use Rattle.hid_stack.specs.declared.step.Step.{Step}
@@ -24,9 +25,12 @@ use Rattle.hid_stack.specs.declared.step.Step.TheVariants.{Change}
 use Rattle.hid_stack.specs.declared.step.Told.{Told}
 use Rattle.hid_stack.specs.declared.step.Delivered.{Delivered}
 use Rattle.hid_stack.specs.declared.rig.TheConstants.{MAX_DEVICES}
-use Rattle.hid_stack.specs.Rig.{Member, fresh_member, member_at, refusal, IsRefusal, bus_after, delivered_at}
+use Rattle.hid_stack.specs.Members.{Member}
+use Rattle.hid_stack.specs.Rig.{member_at, refusal, IsRefusal, bus_after, delivered_at}
 use Rattle.hid_stack.specs.Tells.{Tells}
-use Rattle.hid_stack.specs.Attaching.{Attaches, Finds}
+use Rattle.hid_stack.specs.Attaching.{Attaches, Finds, member_at_start}
+use Rattle.hid_stack.specs.declared.rig.Start.{Start}
+use Rattle.hid_stack.specs.declared.rig.Start.TheVariants.{Ready, Cold}
 use Rattle.hid_script.specs.declared.fault.Cause.{Cause}
 use Rattle.hid_script.specs.declared.fault.Cause.TheVariants as causes
 use Rattle.hid_script.specs.declared.fault.StepFault.TheVariants as faults
@@ -39,7 +43,7 @@ use Rattle.hid_text.specs.LayoutText.{layout_text}
 use Rattle.hid_text.specs.ValuesText.{values_text}
 use Rattle.hid_text.specs.StepText.{step_text}
 use Rattle.hid_script.specs.Session.{Session, Outcome, accepted, refused}
-use Rattle.hid_script.specs.Steps.{TellsLayout, TellsValues, TellsDevice, TellsStep, TellsChange, lays_out, valued, read_report, refuses_step, config_of, attaches, counted, stepped, change_of}
+use Rattle.hid_script.specs.Steps.{TellsLayout, TellsValues, TellsDevice, TellsStep, TellsChange, lays_out, valued, read_report, refuses_step, config_of, attaches, counted, got_by, stepped, change_of}
 use Rattle.hid_script.specs.Telling.{BeginsMeant, LineTells, LineBegins, Means, CarriesOut, line_cause, cause_from, cause_of, stack_cause}
 use Rattle.hid_script.specs.Output.{AppendsFront}
 use Rattle.hid_script.specs.Runs.{Ending, Refusal, Want, Cut, Silence, ending_of, EndsAs, Ends}
@@ -179,14 +183,14 @@ step_refused old session step fault r next (inl e) is = fault_ends old (TellsSte
 step_refused old session step fault r next (inr none) is = fault_ends old (TellsStep step session) fault r next is (inl none.1)
 
 -- a step that is taken
-pub step_written : (old new : Option (List ℕ)) (session : Session) (step : Step) (shown : Told) (answer : Result Told StackFault) (delivered : List Delivered) (members : List Member) (events : ℕ) (text : List ℕ) (r : Result (Unit {0}) Cause)
+pub step_written : (old new : Option (List ℕ)) (session : Session) (step : Step) (shown : Told) (answer : Result Told StackFault) (delivered : List Delivered) (members : List Member) (events : ℕ) (got text : List ℕ) (r : Result (Unit {0}) Cause)
     → ((e : StackFault) → refusal session.members step ≡ Some e → answer ≡ Err e) → answer ≡ Ok shown → Tells session.members step shown
     → members ≡ bus_after session.members step → delivered ≡ delivered_at session.members step
-    → text ≡ step_text session.options.trace step shown delivered → events ≡ counted session.events (length delivered)
+    → got ≡ got_by members step → text ≡ step_text session.options.trace step shown got delivered → events ≡ counted session.events (length delivered)
     → OnOk r (Appends old new text) → IfErr r (λ cause. cause ≡ causes.Write) → AppendsFront old new text
     → AppendsOnce old new (TellsStep step session) r (record session { members = members; events = events })
-step_written old new session step shown answer delivered members events text r refuses is told after gave said counts ok cause front =
-    let outcome : (accepted text (record session { members = members; events = events })) ≡ stepped session step shown = rw (said, counts, after, gave) refl in
+step_written old new session step shown answer delivered members events got text r refuses is told after gave gets said counts ok cause front =
+    let outcome : (accepted text (record session { members = members; events = events })) ≡ stepped session step shown = rw (said, counts, gets, after, gave) refl in
     text_written old new (TellsStep step session) text r (record session { members = members; events = events }) (inl (shown, not_refused (refusal session.members step) answer shown refuses is, told, outcome)) ok cause front
 
 -- ---- changes
@@ -220,15 +224,15 @@ found_written old new session dev usage wanted control r next found h =
 -- ---- devices
 
 -- a device that is refused
-pub device_refused : (old : Option (List ℕ)) (session : Session) (boot : Boot) (bytes : List ℕ) (fault : StackFault) (after : List Member) (r : Result (Unit {0}) Cause) (next : Session) → Attaches MAX_DEVICES (config_of boot) bytes session.members (Err fault) after
-    → IsErrAnd r (λ c. c ≡ stack_cause fault) → AppendsOnce old old (TellsDevice boot bytes session) r next
-device_refused old session boot bytes stack.Memory after r next h is = fault_ends old (TellsDevice boot bytes session) stack.Memory r next is (inl refl)
-device_refused old session boot bytes fault after r next h is = fault_ends old (TellsDevice boot bytes session) fault r next is (inr (inr (fault, after, h, (λ memory. cc), refl)))
+pub device_refused : (old : Option (List ℕ)) (session : Session) (start : Start) (boot : Boot) (bytes : List ℕ) (fault : StackFault) (after : List Member) (r : Result (Unit {0}) Cause) (next : Session) → Attaches MAX_DEVICES (config_of boot) bytes start session.members (Err fault) after
+    → IsErrAnd r (λ c. c ≡ stack_cause fault) → AppendsOnce old old (TellsDevice start boot bytes session) r next
+device_refused old session start boot bytes stack.Memory after r next h is = fault_ends old (TellsDevice start boot bytes session) stack.Memory r next is (inl refl)
+device_refused old session start boot bytes fault after r next h is = fault_ends old (TellsDevice start boot bytes session) fault r next is (inr (inr (fault, after, h, (λ memory. cc), refl)))
 
 -- a device that is attached, where no layout is asked for
-pub device_quiet : (old : Option (List ℕ)) (session : Session) (boot : Boot) (bytes : List ℕ) (dev : ℕ) (after : List Member) → session.options.layout ≡ false → Attaches MAX_DEVICES (config_of boot) bytes session.members (Ok dev) after
-    → AppendsOnce old old (TellsDevice boot bytes session) (Ok tt) (record session { members = after })
-device_quiet old session boot bytes dev after quiet h =
+pub device_quiet : (old : Option (List ℕ)) (session : Session) (start : Start) (boot : Boot) (bytes : List ℕ) (dev : ℕ) (after : List Member) → session.options.layout ≡ false → Attaches MAX_DEVICES (config_of boot) bytes start session.members (Ok dev) after
+    → AppendsOnce old old (TellsDevice start boot bytes session) (Ok tt) (record session { members = after })
+device_quiet old session start boot bytes dev after quiet h =
     let outcome : (accepted [] (record session { members = after })) ≡ attaches session h.2.0 after = rw quiet refl in
     ([], Appends-nil old, inl (dev, h.2.0, after, h, h.2.2, outcome))
 
@@ -241,24 +245,29 @@ last_member members m =
     let back : length members + 1 - 1 ≡ length members = omega arith in
     cond-false _ _ _ (ne_eqb (length members + 1) 0 (λ none. omega arith)) ∙ ap (slice_get (members ++ m ∷ [])) back ∙ at_last members m
 
--- a device that is attached is there
-device_there : (members after : List Member) (boot : Boot) (bytes : List ℕ) (dev : ℕ) (h : Attaches MAX_DEVICES (config_of boot) bytes members (Ok dev) after) → member_at after dev ≡ Some (fresh_member dev (config_of boot) bytes h.2.0)
-device_there members after boot bytes dev h =
-    subst (λ d. member_at after d ≡ Some (fresh_member dev (config_of boot) bytes h.2.0)) (sym h.1) (subst (λ ms. member_at ms (length members + 1) ≡ Some (fresh_member dev (config_of boot) bytes h.2.0)) (sym h.2.2) (last_member members (fresh_member dev (config_of boot) bytes h.2.0)))
+-- a device begins with its layout, whatever its host knows
+pub layout_at_start : (start : Start) (dev : ℕ) (config : Config) (bytes : List ℕ) (layout : Contents) → (member_at_start start dev config bytes layout).layout ≡ layout
+layout_at_start Ready dev config bytes layout = refl
+layout_at_start Cold dev config bytes layout = refl
 
-pub device_missing : (members after : List Member) (boot : Boot) (bytes : List ℕ) (dev : ℕ) → Attaches MAX_DEVICES (config_of boot) bytes members (Ok dev) after → member_at after dev ≡ None → ⊥
-device_missing members after boot bytes dev h none = let there = device_there members after boot bytes dev h in cc
+-- a device that is attached is there
+device_there : (members after : List Member) (start : Start) (boot : Boot) (bytes : List ℕ) (dev : ℕ) (h : Attaches MAX_DEVICES (config_of boot) bytes start members (Ok dev) after) → member_at after dev ≡ Some (member_at_start start dev (config_of boot) bytes h.2.0)
+device_there members after start boot bytes dev h =
+    subst (λ d. member_at after d ≡ Some (member_at_start start dev (config_of boot) bytes h.2.0)) (sym h.1) (subst (λ ms. member_at ms (length members + 1) ≡ Some (member_at_start start dev (config_of boot) bytes h.2.0)) (sym h.2.2) (last_member members (member_at_start start dev (config_of boot) bytes h.2.0)))
+
+pub device_missing : (members after : List Member) (start : Start) (boot : Boot) (bytes : List ℕ) (dev : ℕ) → Attaches MAX_DEVICES (config_of boot) bytes start members (Ok dev) after → member_at after dev ≡ None → ⊥
+device_missing members after start boot bytes dev h none = let there = device_there members after start boot bytes dev h in cc
 
 -- its layout is printed
-pub device_written : (old new : Option (List ℕ)) (session : Session) (boot : Boot) (bytes : List ℕ) (dev : ℕ) (after : List Member) (layout : Contents) (text : List ℕ) (r : Result (Unit {0}) Cause) → session.options.layout ≡ true
-    → Attaches MAX_DEVICES (config_of boot) bytes session.members (Ok dev) after → (m : Member) → member_at after dev ≡ Some m → layout ≡ m.layout → text ≡ layout_text layout
-    → OnOk r (Appends old new text) → IfErr r (λ cause. cause ≡ causes.Write) → AppendsFront old new text → AppendsOnce old new (TellsDevice boot bytes session) r (record session { members = after })
-device_written old new session boot bytes dev after layout text r asked h m there shows said ok cause front =
-    let found = device_there session.members after boot bytes dev h in
-    let same : m ≡ fresh_member dev (config_of boot) bytes h.2.0 = some_same m (fresh_member dev (config_of boot) bytes h.2.0) (sym there ∙ found) in
-    let laid : layout ≡ h.2.0 = shows ∙ ap (λ (x : Member). x.layout) same in
+pub device_written : (old new : Option (List ℕ)) (session : Session) (start : Start) (boot : Boot) (bytes : List ℕ) (dev : ℕ) (after : List Member) (layout : Contents) (text : List ℕ) (r : Result (Unit {0}) Cause) → session.options.layout ≡ true
+    → Attaches MAX_DEVICES (config_of boot) bytes start session.members (Ok dev) after → (m : Member) → member_at after dev ≡ Some m → layout ≡ m.layout → text ≡ layout_text layout
+    → OnOk r (Appends old new text) → IfErr r (λ cause. cause ≡ causes.Write) → AppendsFront old new text → AppendsOnce old new (TellsDevice start boot bytes session) r (record session { members = after })
+device_written old new session start boot bytes dev after layout text r asked h m there shows said ok cause front =
+    let found = device_there session.members after start boot bytes dev h in
+    let same : m ≡ member_at_start start dev (config_of boot) bytes h.2.0 = some_same m (member_at_start start dev (config_of boot) bytes h.2.0) (sym there ∙ found) in
+    let laid : layout ≡ h.2.0 = shows ∙ ap (λ (x : Member). x.layout) same ∙ layout_at_start start dev (config_of boot) bytes h.2.0 in
     let outcome : (accepted text (record session { members = after })) ≡ attaches session h.2.0 after = rw (asked, said, laid) refl in
-    text_written old new (TellsDevice boot bytes session) text r (record session { members = after }) (inl (dev, h.2.0, after, h, h.2.2, outcome)) ok cause front
+    text_written old new (TellsDevice start boot bytes session) text r (record session { members = after }) (inl (dev, h.2.0, after, h, h.2.2, outcome)) ok cause front
   where
     some_same : (a b : Member) → (let o : Option Member = Some a in o) ≡ Some b → a ≡ b
     some_same a b e = cc

@@ -12,7 +12,9 @@ use Rattle.hid_host.specs.declared.fault.StackFault.{StackFault}
 use Rattle.hid_stack.specs.declared.step.Step.{Step}
 use Rattle.hid_stack.specs.declared.step.Step.TheVariants.{Change}
 use Rattle.hid_stack.specs.declared.step.Step.TheVariants as step
-use Rattle.hid_stack.specs.Rig.{Member, fresh_member}
+use Rattle.hid_stack.specs.Members.{Member}
+use Rattle.hid_stack.specs.Attaching.{member_at_start}
+use Rattle.hid_stack.specs.declared.rig.Start.{Start}
 use Rattle.hid_script.specs.declared.fault.Cause.{Cause}
 use Rattle.hid_script.specs.declared.wanted.Wanted.{Wanted}
 use Rattle.hid_script.specs.declared.wanted.Wanted.TheVariants as wanted
@@ -28,7 +30,7 @@ use Rattle.hid_script.specs.Runs.{AllTell}
 use Rattle.hid_stack.specs.Laws.{TellsOneThing, FindsOneControl, AttachesOneDevice}
 use Rattle.hid_stack.specs.declared.rig.TheConstants.{MAX_DEVICES}
 use Rattle.hid_script.specs.Laws.{LineTellsOneThing, LinesTellOneText, BeginsWithFronts}
-use Rattle.hid_script.proofs.SessionLemmas.{at_last}
+use Rattle.hid_script.proofs.SessionLemmas.{at_last, layout_at_start}
 
 -- the stack answers one thing
 pub record HasOneAnswer : Type 0 where
@@ -71,26 +73,26 @@ one_change one dev usage wanted session o other h k =
 
 -- ---- devices
 
-one_fresh : (members : List Member) (config : Config) (bytes : List ℕ) (dev other : ℕ) (layout next : Contents)
-    → members ++ fresh_member dev config bytes layout ∷ [] ≡ members ++ fresh_member other config bytes next ∷ [] → layout ≡ next
-one_fresh members config bytes dev other layout next e =
-    let first : Member = fresh_member dev config bytes layout in
-    let second : Member = fresh_member other config bytes next in
+one_layout_at_start : (start : Start) (members : List Member) (config : Config) (bytes : List ℕ) (dev other : ℕ) (layout next : Contents)
+    → members ++ member_at_start start dev config bytes layout ∷ [] ≡ members ++ member_at_start start other config bytes next ∷ [] → layout ≡ next
+one_layout_at_start start members config bytes dev other layout next e =
+    let first : Member = member_at_start start dev config bytes layout in
+    let second : Member = member_at_start start other config bytes next in
     let same : (let a : Option Member = Some first in a) ≡ Some second = sym (at_last members first) ∙ ap (λ ms. slice_get ms (length members)) e ∙ at_last members second in
-    let fresh : first ≡ second = cc in
-    ap (λ (m : Member). m.layout) fresh
+    let begun : first ≡ second = cc in
+    sym (layout_at_start start dev config bytes layout) ∙ ap (λ (m : Member). m.layout) begun ∙ layout_at_start start other config bytes next
 
-one_device : HasOneAnswer → (boot : Boot) (bytes : List ℕ) → IsOne (TellsDevice boot bytes)
-one_device one boot bytes session o other (inl h) (inl k) =
-    let same = one.attaches MAX_DEVICES (config_of boot) bytes session.members h.2 k.2 (Ok h.0) (Ok k.0) h.3 k.3 (λ e. cc) (λ e. cc) in
-    let layout = one_fresh session.members (config_of boot) bytes h.0 k.0 h.1 k.1 (sym h.4 ∙ same.1 ∙ k.4) in
+one_device : HasOneAnswer → (start : Start) (boot : Boot) (bytes : List ℕ) → IsOne (TellsDevice start boot bytes)
+one_device one start boot bytes session o other (inl h) (inl k) =
+    let same = one.attaches MAX_DEVICES (config_of boot) bytes start session.members h.2 k.2 (Ok h.0) (Ok k.0) h.3 k.3 (λ e. cc) (λ e. cc) in
+    let layout = one_layout_at_start start session.members (config_of boot) bytes h.0 k.0 h.1 k.1 (sym h.4 ∙ same.1 ∙ k.4) in
     h.5 ∙ ap (λ l. attaches session l h.2) layout ∙ ap (attaches session k.1) same.1 ∙ sym k.5
-one_device one boot bytes session o other (inl h) (inr k) =
-    let same = (one.attaches MAX_DEVICES (config_of boot) bytes session.members h.2 k.1 (Ok h.0) (Err k.0) h.3 k.2 (λ e. cc) (λ e. k.3 (cc))).0 in absurd (cc)
-one_device one boot bytes session o other (inr h) (inl k) =
-    let same = (one.attaches MAX_DEVICES (config_of boot) bytes session.members h.1 k.2 (Err h.0) (Ok k.0) h.2 k.3 (λ e. h.3 (cc)) (λ e. cc)).0 in absurd (cc)
-one_device one boot bytes session o other (inr h) (inr k) =
-    let same = (one.attaches MAX_DEVICES (config_of boot) bytes session.members h.1 k.1 (Err h.0) (Err k.0) h.2 k.2 (λ e. h.3 (cc)) (λ e. k.3 (cc))).0 in
+one_device one start boot bytes session o other (inl h) (inr k) =
+    let same = (one.attaches MAX_DEVICES (config_of boot) bytes start session.members h.2 k.1 (Ok h.0) (Err k.0) h.3 k.2 (λ e. cc) (λ e. k.3 (cc))).0 in absurd (cc)
+one_device one start boot bytes session o other (inr h) (inl k) =
+    let same = (one.attaches MAX_DEVICES (config_of boot) bytes start session.members h.1 k.2 (Err h.0) (Ok k.0) h.2 k.3 (λ e. h.3 (cc)) (λ e. cc)).0 in absurd (cc)
+one_device one start boot bytes session o other (inr h) (inr k) =
+    let same = (one.attaches MAX_DEVICES (config_of boot) bytes start session.members h.1 k.1 (Err h.0) (Err k.0) h.2 k.2 (λ e. h.3 (cc)) (λ e. k.3 (cc))).0 in
     let fault : h.0 ≡ k.0 = cc in
     h.4 ∙ ap refuses_step fault ∙ sym k.4
 
@@ -101,7 +103,7 @@ unfolding Once
 one_once reading apart cause place one line.Nothing session o other h k = h ∙ sym k
 one_once reading apart cause place one (line.Layout bytes) session o other h k = one_layout reading apart cause place bytes.items session o other h k
 one_once reading apart cause place one (line.Values bytes) session o other h k = h ∙ sym k
-one_once reading apart cause place one (line.Device start boot bytes) session o other h k = one_device one boot bytes.items session o other h k
+one_once reading apart cause place one (line.Device start boot bytes) session o other h k = one_device one start boot bytes.items session o other h k
 one_once reading apart cause place one (line.Press dev usage) session o other h k = one_change one dev usage wanted.Press session o other h k
 one_once reading apart cause place one (line.Release dev usage) session o other h k = one_change one dev usage wanted.Release session o other h k
 one_once reading apart cause place one (line.Null dev usage) session o other h k = one_change one dev usage wanted.Null session o other h k
@@ -109,6 +111,8 @@ one_once reading apart cause place one (line.Set dev usage value) session o othe
 one_once reading apart cause place one (line.Move dev usage by) session o other h k = one_change one dev usage (wanted.Move by) session o other h k
 one_once reading apart cause place one (line.Frame count) session o other h k = one_step one step.Frame session o other h k
 one_once reading apart cause place one (line.Poll dev fate count) session o other h k = one_step one (step.Poll dev fate) session o other h k
+one_once reading apart cause place one (line.Control dev fate count) session o other h k = one_step one (step.Control dev fate) session o other h k
+one_once reading apart cause place one (line.Begin dev request) session o other h k = one_step one (step.Begin dev request) session o other h k
 
 session_in : Session → Result Session Cause → Session
 session_in d (Ok session) = session

@@ -2,7 +2,7 @@
 -- leaves the session (our choice: docs/SCRIPT.md).
 use Rattle.std.specs.Prelude.{◌≡◌, ◌⊎◌, ℕ, zero, suc, List, [], ◌++◌, Option, None, Result, Ok, Err}
 use Rattle.hid_layout.specs.Layout.{Contents}
-use Rattle.hid_stack.specs.Rig.{Member}
+use Rattle.hid_stack.specs.Members.{Member}
 use Rattle.hid_script.specs.declared.fault.Options.{Options}
 use Rattle.hid_script.specs.declared.fault.Cause.{Cause}
 

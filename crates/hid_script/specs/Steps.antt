@@ -14,13 +14,19 @@ use Rattle.hid_device.specs.declared.config.Boot.{Boot}
 use Rattle.hid_device.specs.declared.config.Config.{Config}
 use Rattle.hid_host.specs.declared.fault.StackFault.{StackFault}
 use Rattle.hid_stack.specs.declared.step.Step.{Step}
-use Rattle.hid_stack.specs.declared.step.Step.TheVariants.{Change}
+use Rattle.hid_stack.specs.declared.step.Step.TheVariants.{Change, Control}
 use Rattle.hid_stack.specs.declared.step.Told.{Told}
-use Rattle.hid_stack.specs.Rig.{Member, fresh_member, refusal, bus_after, delivered_at}
+use Rattle.hid_stack.specs.Members.{Member}
+use Rattle.hid_stack.specs.Rig.{member_at, refusal, bus_after, delivered_at}
 use Rattle.hid_stack.specs.Tells.{Tells}
 use Rattle.hid_stack.specs.declared.rig.TheConstants.{MAX_DEVICES}
 use Rattle.hid_host.specs.declared.fault.StackFault.TheVariants as stack
-use Rattle.hid_stack.specs.Attaching.{Attaches, Finds}
+use Rattle.hid_stack.specs.Attaching.{Attaches, Finds, member_at_start}
+use Rattle.hid_stack.specs.declared.rig.Start.{Start}
+use Rattle.usb_control.specs.declared.host.HostStage.{HostStage}
+use Rattle.usb_control.specs.declared.host.HostStage.TheVariants.{Done}
+use Rattle.hid_host.specs.declared.host.Transfer.{Transfer}
+use Rattle.hid_host.specs.Host.{bytes_got}
 use Rattle.hid_script.specs.declared.fault.Cause.TheVariants as causes
 use Rattle.hid_script.specs.declared.fault.StepFault.TheVariants as faults
 use Rattle.hid_script.specs.declared.wanted.Wanted.{Wanted}
@@ -77,14 +83,14 @@ attaches session layout members =
 
 -- The next number is the device's, and its descriptor suits; or there is no such device, and want of memory is no
 -- reason.
-abbrev pub TellsDevice : Boot → List ℕ → Session → Outcome → Type 0
-TellsDevice boot bytes session o =
+abbrev pub TellsDevice : Start → Boot → List ℕ → Session → Outcome → Type 0
+TellsDevice start boot bytes session o =
     ((dev : ℕ) × (layout : Contents) × (after : List Member)
-    × Attaches MAX_DEVICES (config_of boot) bytes session.members (Ok dev) after
-    × (after ≡ session.members ++ fresh_member dev (config_of boot) bytes layout ∷ [])
+    × Attaches MAX_DEVICES (config_of boot) bytes start session.members (Ok dev) after
+    × (after ≡ session.members ++ member_at_start start dev (config_of boot) bytes layout ∷ [])
     × (o ≡ attaches session layout after))
     ⊎ ((fault : StackFault) × (after : List Member)
-    × Attaches MAX_DEVICES (config_of boot) bytes session.members (Err fault) after
+    × Attaches MAX_DEVICES (config_of boot) bytes start session.members (Err fault) after
     × (fault ≢ stack.Memory) × (o ≡ refuses_step fault))
 
 -- ---- steps of the bus
@@ -93,10 +99,27 @@ TellsDevice boot bytes session o =
 abbrev pub counted : ℕ → ℕ → ℕ
 counted events more = min (events + more) (2 ^ 64 - 1)
 
+-- the bytes of a transfer that is done, where it reads
+abbrev pub done_bytes : HostStage → List ℕ → List ℕ
+done_bytes Done bytes = bytes
+done_bytes stage bytes = []
+
+-- and those of the transfer that a host began last
+abbrev pub last_bytes : Option Transfer → List ℕ
+last_bytes None = []
+last_bytes (Some transfer) = done_bytes transfer.ends.stage (bytes_got transfer.ends)
+
+-- the bytes of a read that a step ended, by the bus behind it; none where it ended no read
+unfoldable pub got_by : List Member → Step → List ℕ
+got_by members (Control dev fate) =
+    elim (member_at members dev) [ None ↦ [] | Some m ↦ last_bytes m.transfer ]
+got_by members step = []
+
 -- what a step prints, and the session behind it
 abbrev pub stepped : Session → Step → Told → Outcome
 stepped session step shown = accepted
-    (step_text session.options.trace step shown (delivered_at session.members step))
+    (step_text session.options.trace step shown (got_by (bus_after session.members step) step)
+    (delivered_at session.members step))
     (record session {
       members = bus_after session.members step;
       events = counted session.events (length (delivered_at session.members step));

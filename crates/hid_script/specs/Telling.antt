@@ -23,7 +23,7 @@ unfoldable pub Once : Line → Session → Outcome → Type 0
 Once line.Nothing session o = o ≡ accepted [] session
 Once (line.Layout bytes) session o = TellsLayout bytes.items session o
 Once (line.Values bytes) session o = TellsValues bytes.items session o
-Once (line.Device start kind bytes) session o = TellsDevice kind bytes.items session o
+Once (line.Device start kind bytes) session o = TellsDevice start kind bytes.items session o
 Once (line.Press dev usage) session o = TellsChange dev usage wanted.Press session o
 Once (line.Release dev usage) session o = TellsChange dev usage wanted.Release session o
 Once (line.Null dev usage) session o = TellsChange dev usage wanted.Null session o
@@ -31,11 +31,14 @@ Once (line.Set dev usage value) session o = TellsChange dev usage (wanted.Set va
 Once (line.Move dev usage by) session o = TellsChange dev usage (wanted.Move by) session o
 Once (line.Frame count) session o = TellsStep step.Frame session o
 Once (line.Poll dev fate count) session o = TellsStep (step.Poll dev fate) session o
+Once (line.Control dev fate count) session o = TellsStep (step.Control dev fate) session o
+Once (line.Begin dev request) session o = TellsStep (step.Begin dev request) session o
 
 -- and how many times it is
 unfoldable pub times : Line → ℕ
 times (line.Frame count) = count
 times (line.Poll dev fate count) = count
+times (line.Control dev fate count) = count
 times _ = 1
 
 -- what a line that was understood tells

@@ -14,7 +14,7 @@ use thiserror::Error;
 pub struct Options {
     /// The layout of each device that is attached.
     pub layout: bool,
-    /// A line for each poll.
+    /// A line for each poll, and for each try of a transfer.
     pub trace: bool,
 }
 

@@ -2,7 +2,7 @@
 
 ghost use Rattle.std.specs.Prelude.{◌≡◌};
 ghost use Rattle.hid_script.specs.Session.{at_first};
-ghost use Rattle.hid_script.specs.Steps.{TellsLayout, TellsValues, TellsDevice, TellsStep, TellsChange};
+ghost use Rattle.hid_script.specs.Steps.{TellsLayout, TellsValues, TellsDevice, TellsStep, TellsChange, got_by};
 ghost use Rattle.hid_script.specs.Telling.{Once, times, CarriesOut, Begins, LineTells, LineBegins};
 ghost use Rattle.hid_script.specs.Place.{AppendsTold, AppendsOnce};
 
@@ -17,6 +17,7 @@ use hid_text::{print_layout, print_step, print_values};
 use hid_usages::input_report;
 use std::alloc::Global;
 use std::io::Write;
+use usb_control::Outcome;
 
 /// idVendor of a script's devices (USB 2.0, 9.6.1; our choice).
 const VENDOR: u16 = 0xFFFF;
@@ -48,6 +49,7 @@ fn times(line: &Line) -> u16
     match line {
         Line::Frame { count } => *count,
         Line::Poll { count, .. } => *count,
+        Line::Control { count, .. } => *count,
         Line::Nothing
         | Line::Layout { .. }
         | Line::Values { .. }
@@ -56,7 +58,22 @@ fn times(line: &Line) -> u16
         | Line::Release { .. }
         | Line::Null { .. }
         | Line::Set { .. }
-        | Line::Move { .. } => 1,
+        | Line::Move { .. }
+        | Line::Begin { .. } => 1,
+    }
+}
+
+/// The bytes of a read that a step ended; none where it ended no read.
+#[tactic(auto, unfolding(crate::specs::Steps::got_by))]
+fn got_by<'a>(rig: &'a Rig, step: &Step) -> &'a [u8]
+    ensures { result.now ≡ got_by rig.now step.now }
+{
+    let Step::Control { dev, .. } = *step else {
+        return &[];
+    };
+    match rig.transfer(dev) {
+        Ok(Outcome::Done(bytes)) => bytes,
+        Ok(Outcome::Running) | Ok(Outcome::Failed(_)) | Err(_) => &[],
     }
 }
 
@@ -144,6 +161,14 @@ impl Interpreter {
                 let (dev, fate) = (*dev, *fate);
                 self.step(&Step::Poll { dev, fate }, writer)
             }
+            Line::Control { dev, fate, .. } => {
+                let (dev, fate) = (*dev, *fate);
+                self.step(&Step::Control { dev, fate }, writer)
+            }
+            Line::Begin { dev, request } => {
+                let (dev, request) = (*dev, *request);
+                self.step(&Step::Begin { dev, request }, writer)
+            }
         }
     }
 
@@ -182,7 +207,8 @@ impl Interpreter {
         writer: &mut W,
     ) -> Result<(), Cause>
         ensures { AppendsOnce (W.contents writer.old) (W.contents writer.new)
-            (TellsDevice boot descriptor.now (session_of self.old)) result (session_of self.new) }
+            (TellsDevice start boot descriptor.now (session_of self.old)) result
+            (session_of self.new) }
     {
         let config = Config {
             vendor: VENDOR,
@@ -225,7 +251,15 @@ impl Interpreter {
         let told = self.rig.step(step, &mut self.delivered)?;
         self.text.clear();
         let delivered = self.delivered.as_slice();
-        print_step(&mut self.text, self.options.trace, step, &told, delivered)?;
+        let got = got_by(&self.rig, step);
+        print_step(
+            &mut self.text,
+            self.options.trace,
+            step,
+            &told,
+            got,
+            delivered,
+        )?;
         self.events = self.events.saturating_add(delivered.len() as u64);
         write_text(writer, self.text.as_bytes())
     }

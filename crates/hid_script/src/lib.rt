@@ -8,6 +8,8 @@
 //!   device ready keyboard 05 01 09 06 A1 01 .. C0
 //!   press 1 07:04
 //!   poll 1                                              1 down 07:04
+//!   begin 1 status
+//!   control 1 clean 3                                   1 control done 00 00
 //! ```
 //! A line is read whole, carried out, and its text is written at once, of a line with a count each time: a line that
 //! is refused ends the run, and what stands in the output is what was told before it.
@@ -29,6 +31,8 @@ mod script;
 mod stream_tests;
 #[cfg(test)]
 mod tests;
+#[cfg(test)]
+mod transfer_tests;
 mod wanted;
 
 pub use fault::{Cause, Options, ScriptFault, StepFault, Summary};

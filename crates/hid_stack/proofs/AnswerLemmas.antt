@@ -23,13 +23,17 @@ use Rattle.hid_device.specs.Making as making
 use Rattle.hid_host.specs.declared.fault.StackFault.{StackFault}
 use Rattle.hid_host.specs.declared.fault.StackFault.TheVariants.{NoDevice, NotReady, Refused, Control, BadDescriptor, Report, TooManyDevices, Memory}
 use Rattle.hid_host.specs.declared.fault.DescriptorFault.TheVariants.{Info, ReportLength, Layout, Device}
-use Rattle.hid_stack.specs.declared.step.Step.TheVariants.{Change, Frame, Poll}
+use Rattle.hid_stack.specs.declared.step.Step.TheVariants.{Change, Frame, Poll, Begin, Control}
 use Rattle.hid_stack.specs.declared.step.Told.{Told}
-use Rattle.hid_stack.specs.Attaching.{Suits, wants_memory, Attaches, IsBefore, IsLeast, Finds}
+use Rattle.hid_stack.specs.Attaching.{Suits, wants_memory, Attaches, IsBefore, IsLeast, Finds, member_at_start}
 use Rattle.hid_stack.specs.Laws.{TellsOneThing, FindsOneControl, AttachesOneDevice}
-use Rattle.hid_stack.specs.Rig.{Member, fresh_member, member_at}
+use Rattle.hid_stack.specs.declared.rig.Start.{Start}
+use Rattle.hid_stack.specs.Members.{Member}
+use Rattle.hid_stack.specs.Rig.{member_at}
+use Rattle.hid_host.specs.declared.host.Transfer.{Transfer}
+use Rattle.hid_host.specs.Host.{running}
 use Rattle.hid_lives.specs.Stations.{Station, Open, opened}
-use Rattle.hid_stack.specs.Tells.{ShowsRound, TellsOpened, TellsPoll, told_by}
+use Rattle.hid_stack.specs.Tells.{ShowsRound, TellsOpened, TellsPoll, TellsTry, told_by}
 use Rattle.hid_host.proofs.ReadyLemmas.{refused_unless}
 
 -- ---- polls
@@ -67,10 +71,23 @@ one_of_found : (found : Option Member) (fate : Fate) (told other : Told) → Pol
 one_of_found None fate told other h k = absurd h
 one_of_found (Some m) fate told other h k = one_poll m.layout m.station fate told other h k
 
+try_of : (fate : Fate) (m : Member) (o : Option Transfer) (told other : Told) → TellsTry fate m o told → TellsTry fate m o other → told ≡ other
+try_of fate m None told other h k = absurd h
+try_of fate m (Some t) told other h k = h ∙ sym k
+
+abbrev TryTells : Option Member → Fate → Told → Type 0
+TryTells found fate told = elim found [ None ↦ ⊥ | Some m ↦ TellsTry fate m (running m.transfer) told ]
+
+one_try : (found : Option Member) (fate : Fate) (told other : Told) → TryTells found fate told → TryTells found fate other → told ≡ other
+one_try None fate told other h k = absurd h
+one_try (Some m) fate told other h k = try_of fate m (running m.transfer) told other h k
+
 pub tells_one : TellsOneThing
 tells_one members (Change dev change) told other h k = h ∙ sym k
 tells_one members Frame told other h k = h ∙ sym k
 tells_one members (Poll dev fate) told other h k = one_of_found (member_at members dev) fate told other h k
+tells_one members (Begin dev request) told other h k = h ∙ sym k
+tells_one members (Control dev fate) told other h k = one_try (member_at members dev) fate told other h k
 
 -- ---- controls
 
@@ -218,51 +235,51 @@ serves_or_refused one addr config descriptor layout causes.RelativeWithoutZero a
     clash suits.serves.zeros (ap (λ l. has_zeros (items_of l)) (one_layout one.reading descriptor layout other suits.serves.lays lays) ∙ lacks)
 
 -- what attaching a device comes to, want of memory aside: a member more, no room, or a refusal
-data Attached (room : ℕ) (config : Config) (descriptor : List ℕ) (old : List Member) (r : Result ℕ StackFault) (new : List Member) : Type 0 where
+data Attached (room : ℕ) (config : Config) (descriptor : List ℕ) (start : Start) (old : List Member) (r : Result ℕ StackFault) (new : List Member) : Type 0 where
   OneMore : length old < room → r ≡ Ok (length old + 1) → (layout : Contents) → Suits (length old + 1) config descriptor layout
-      → new ≡ old ++ fresh_member (length old + 1) config descriptor layout ∷ [] → Attached room config descriptor old r new
-  NoRoom : room ≤ length old → r ≡ Err TooManyDevices → new ≡ old → Attached room config descriptor old r new
+      → new ≡ old ++ member_at_start start (length old + 1) config descriptor layout ∷ [] → Attached room config descriptor start old r new
+  NoRoom : room ≤ length old → r ≡ Err TooManyDevices → new ≡ old → Attached room config descriptor start old r new
   NoPair : length old < room → (fault : DeviceFault) → r ≡ Err (BadDescriptor (Device fault)) → wants_memory fault.cause ≡ false
-      → making.Refuses (length old + 1) config descriptor fault.cause fault.at → new ≡ old → Attached room config descriptor old r new
+      → making.Refuses (length old + 1) config descriptor fault.cause fault.at → new ≡ old → Attached room config descriptor start old r new
 
-attached : (room : ℕ) (config : Config) (descriptor : List ℕ) (old new : List Member) (r : Result ℕ StackFault)
-    → r ≢ Err Memory → Attaches room config descriptor old r new → Attached room config descriptor old r new
-attached room config descriptor old new (Ok dev) aside (within, number, (layout, suits, is)) =
-    OneMore within (ap Ok number) layout (subst (λ n. Suits n config descriptor layout) number suits) (is ∙ ap (λ n. old ++ fresh_member n config descriptor layout ∷ []) number)
-attached room config descriptor old new (Err TooManyDevices) aside (full, is) = NoRoom full refl is
-attached room config descriptor old new (Err (BadDescriptor (Device fault))) aside (within, none, is) = NoPair within fault refl none.1 none.0 is
-attached room config descriptor old new (Err (BadDescriptor (Layout fault))) aside (within, none, is) = absurd none
-attached room config descriptor old new (Err (BadDescriptor (Info fault))) aside (within, none, is) = absurd none
-attached room config descriptor old new (Err (BadDescriptor ReportLength)) aside (within, none, is) = absurd none
-attached room config descriptor old new (Err Memory) aside h = absurd (aside refl)
-attached room config descriptor old new (Err NoDevice) aside (within, none, is) = absurd none
-attached room config descriptor old new (Err NotReady) aside (within, none, is) = absurd none
-attached room config descriptor old new (Err (Control fault)) aside (within, none, is) = absurd none
-attached room config descriptor old new (Err (Refused fault)) aside (within, none, is) = absurd none
-attached room config descriptor old new (Err (Report fault)) aside (within, none, is) = absurd none
+attached : (room : ℕ) (config : Config) (descriptor : List ℕ) (start : Start) (old new : List Member) (r : Result ℕ StackFault)
+    → r ≢ Err Memory → Attaches room config descriptor start old r new → Attached room config descriptor start old r new
+attached room config descriptor start old new (Ok dev) aside (within, number, (layout, suits, is)) =
+    OneMore within (ap Ok number) layout (subst (λ n. Suits n config descriptor layout) number suits) (is ∙ ap (λ n. old ++ member_at_start start n config descriptor layout ∷ []) number)
+attached room config descriptor start old new (Err TooManyDevices) aside (full, is) = NoRoom full refl is
+attached room config descriptor start old new (Err (BadDescriptor (Device fault))) aside (within, none, is) = NoPair within fault refl none.1 none.0 is
+attached room config descriptor start old new (Err (BadDescriptor (Layout fault))) aside (within, none, is) = absurd none
+attached room config descriptor start old new (Err (BadDescriptor (Info fault))) aside (within, none, is) = absurd none
+attached room config descriptor start old new (Err (BadDescriptor ReportLength)) aside (within, none, is) = absurd none
+attached room config descriptor start old new (Err Memory) aside h = absurd (aside refl)
+attached room config descriptor start old new (Err NoDevice) aside (within, none, is) = absurd none
+attached room config descriptor start old new (Err NotReady) aside (within, none, is) = absurd none
+attached room config descriptor start old new (Err (Control fault)) aside (within, none, is) = absurd none
+attached room config descriptor start old new (Err (Refused fault)) aside (within, none, is) = absurd none
+attached room config descriptor start old new (Err (Report fault)) aside (within, none, is) = absurd none
 
 same_fault : (f g : DeviceFault) → f.cause ≡ g.cause → f.at ≡ g.at → f ≡ g
 same_fault f g cause at = ap (λ c. record f { cause = c }) cause ∙ ap (λ a. record g { at = a }) at
 
-one_attached : OneReading → (room : ℕ) (config : Config) (descriptor : List ℕ) (old after others : List Member) (r other : Result ℕ StackFault)
-    → Attached room config descriptor old r after → Attached room config descriptor old other others → (r ≡ other) × (after ≡ others)
-one_attached one room config descriptor old after others r other (OneMore within is layout suits stands) (OneMore within' is' layout' suits' stands') =
+one_attached : OneReading → (room : ℕ) (config : Config) (descriptor : List ℕ) (start : Start) (old after others : List Member) (r other : Result ℕ StackFault)
+    → Attached room config descriptor start old r after → Attached room config descriptor start old other others → (r ≡ other) × (after ≡ others)
+one_attached one room config descriptor start old after others r other (OneMore within is layout suits stands) (OneMore within' is' layout' suits' stands') =
     let same = one_layout one.reading descriptor layout layout' suits.serves.lays suits'.serves.lays in
-    (is ∙ sym is', stands ∙ ap (λ l. old ++ fresh_member (length old + 1) config descriptor l ∷ []) same ∙ sym stands')
-one_attached one room config descriptor old after others r other (OneMore within is layout suits stands) (NoRoom full is' stands') = absurd (omega arith)
-one_attached one room config descriptor old after others r other (OneMore within is layout suits stands) (NoPair within' fault is' aside refused stands') =
+    (is ∙ sym is', stands ∙ ap (λ l. old ++ member_at_start start (length old + 1) config descriptor l ∷ []) same ∙ sym stands')
+one_attached one room config descriptor start old after others r other (OneMore within is layout suits stands) (NoRoom full is' stands') = absurd (omega arith)
+one_attached one room config descriptor start old after others r other (OneMore within is layout suits stands) (NoPair within' fault is' aside refused stands') =
     absurd (serves_or_refused one (length old + 1) config descriptor layout fault.cause fault.at aside suits refused)
-one_attached one room config descriptor old after others r other (NoRoom full is stands) (OneMore within is' layout suits stands') = absurd (omega arith)
-one_attached one room config descriptor old after others r other (NoRoom full is stands) (NoRoom full' is' stands') = (is ∙ sym is', stands ∙ sym stands')
-one_attached one room config descriptor old after others r other (NoRoom full is stands) (NoPair within fault is' aside refused stands') = absurd (omega arith)
-one_attached one room config descriptor old after others r other (NoPair within fault is aside refused stands) (OneMore within' is' layout suits stands') =
+one_attached one room config descriptor start old after others r other (NoRoom full is stands) (OneMore within is' layout suits stands') = absurd (omega arith)
+one_attached one room config descriptor start old after others r other (NoRoom full is stands) (NoRoom full' is' stands') = (is ∙ sym is', stands ∙ sym stands')
+one_attached one room config descriptor start old after others r other (NoRoom full is stands) (NoPair within fault is' aside refused stands') = absurd (omega arith)
+one_attached one room config descriptor start old after others r other (NoPair within fault is aside refused stands) (OneMore within' is' layout suits stands') =
     absurd (serves_or_refused one (length old + 1) config descriptor layout fault.cause fault.at aside suits refused)
-one_attached one room config descriptor old after others r other (NoPair within fault is aside refused stands) (NoRoom full is' stands') = absurd (omega arith)
-one_attached one room config descriptor old after others r other (NoPair within fault is aside refused stands) (NoPair within' fault' is' aside' refused' stands') =
+one_attached one room config descriptor start old after others r other (NoPair within fault is aside refused stands) (NoRoom full is' stands') = absurd (omega arith)
+one_attached one room config descriptor start old after others r other (NoPair within fault is aside refused stands) (NoPair within' fault' is' aside' refused' stands') =
     let same = one_refusal one (length old + 1) config descriptor fault.cause fault'.cause fault.at fault'.at aside aside' refused refused' in
     (is ∙ ap (λ f. Err (BadDescriptor (Device f))) (same_fault fault fault' same.0 same.1) ∙ sym is', stands ∙ sym stands')
 
 pub attaches_one : HasOneReading → AcceptsNoRefused → HasOneCause → HasOnePlace → AttachesOneDevice
-attaches_one reading apart cause place room config descriptor old after others r other h k aside other_aside =
-    one_attached (record { reading = reading; apart = apart; cause = cause; place = place }) room config descriptor old after others r other
-    (attached room config descriptor old after r aside h) (attached room config descriptor old others other other_aside k)
+attaches_one reading apart cause place room config descriptor start old after others r other h k aside other_aside =
+    one_attached (record { reading = reading; apart = apart; cause = cause; place = place }) room config descriptor start old after others r other
+    (attached room config descriptor start old after r aside h) (attached room config descriptor start old others other other_aside k)

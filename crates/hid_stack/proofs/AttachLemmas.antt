@@ -4,8 +4,10 @@ use Rattle.std.specs.List.{slice_get}
 use Rattle.std.proofs.lemmas.Bool.Decides.{nat_tests}
 use Rattle.hid_layout.specs.Layout.{Contents}
 use Rattle.hid_device.specs.declared.config.Config.{Config}
-use Rattle.hid_stack.specs.Attaching.{Suits, IsAttached}
-use Rattle.hid_stack.specs.Rig.{Member, fresh_member, member_at}
+use Rattle.hid_stack.specs.declared.rig.Start.{Start}
+use Rattle.hid_stack.specs.Attaching.{Suits, IsAttached, member_at_start}
+use Rattle.hid_stack.specs.Members.{Member}
+use Rattle.hid_stack.specs.Rig.{member_at}
 use Rattle.hid_stack.proofs.Isolation.{no_zero, at_place}
 
 still_at : (members more : List Member) (i : ℕ) (m : Member) → slice_get members i ≡ Some m → slice_get (members ++ more) i ≡ Some m
@@ -30,12 +32,12 @@ stands_last members m =
     let back : length members + 1 - 1 ≡ length members = omega arith in
     at_place (members ++ m ∷ []) (length members + 1) (some_number (length members)) ∙ ap (slice_get (members ++ m ∷ [])) back ∙ last_at members m
 
-pub is_attached : (config : Config) (descriptor : List ℕ) (members new : List Member) (dev : ℕ) (m : Member) (layout : Contents) → dev ≡ length members + 1
-    → Suits dev config descriptor layout → m ≡ fresh_member dev config descriptor layout → new ≡ members ++ m ∷ [] → IsAttached config descriptor members dev new
-is_attached config descriptor members new dev m layout number suits is new_is = record {
+pub is_attached : (config : Config) (descriptor : List ℕ) (start : Start) (members new : List Member) (dev : ℕ) (m : Member) (layout : Contents) → dev ≡ length members + 1
+    → Suits dev config descriptor layout → m ≡ member_at_start start dev config descriptor layout → new ≡ members ++ m ∷ [] → IsAttached config descriptor start members dev new
+is_attached config descriptor start members new dev m layout number suits is new_is = record {
   number = number;
   layout = layout;
   suits = suits;
-  fresh = ap (λ (ms : List Member). member_at ms dev) new_is ∙ ap (member_at (members ++ m ∷ [])) number ∙ stands_last members m ∙ ap (λ (x : Member). Some x) is;
+  begins = ap (λ (ms : List Member). member_at ms dev) new_is ∙ ap (member_at (members ++ m ∷ [])) number ∙ stands_last members m ∙ ap (λ (x : Member). Some x) is;
   others = λ d k h. ap (λ (ms : List Member). member_at ms d) new_is ∙ stands_still members (m ∷ []) d k h;
 }

@@ -1,5 +1,5 @@
 -- Each device of a bus by itself, and one more step of a run.
-use Rattle.std.proofs.Common.{◌≡◌, ◌++◌, ℕ, ◌+◌, ◌-◌, ◌<◌, Bool, true, false, List, [], ◌∷◌, Option, Some, None, length, cond, get_or, take, map, eqb, refl, sym, ap, ◌∙◌, subst, inl, inr, ◌⊎◌, arith, append_assoc, append-nil}
+use Rattle.std.proofs.Common.{◌≡◌, ◌++◌, ℕ, suc, ◌+◌, ◌-◌, ◌<◌, Bool, true, false, List, [], ◌∷◌, Option, Some, None, length, cond, get_or, not, take, map, eqb, refl, sym, ap, ◌∙◌, subst, inl, inr, ◌⊎◌, arith, append_assoc, append-nil}
 use Rattle.std.specs.Prelude.{slice_get}
 use Rattle.std.specs.List.{cons_option}
 use Rattle.std.specs.Option.{option_map}
@@ -11,15 +11,21 @@ use Rattle.hid_layout.specs.Controls.{items_of}
 use Rattle.hid_layout.specs.Layout.{Contents}
 use Rattle.hid_cells.specs.declared.event.Event.{Event}
 use Rattle.hid_cells.proofs.ItemLemmas.{set_here, set_there}
-use Rattle.hid_lives.specs.Rounds.{OwnStep, Changes, Polls, events_of_epoch}
+use Rattle.hid_lives.specs.Rounds.{OwnStep, Changes, Polls}
 use Rattle.hid_lives.specs.Rounds as own_steps
 use Rattle.hid_stack.specs.declared.step.Step.{Step}
-use Rattle.hid_stack.specs.declared.step.Step.TheVariants.{Change, Frame, Poll}
+use Rattle.hid_stack.specs.declared.step.Step.TheVariants.{Change, Frame, Poll, Begin, Control}
 use Rattle.hid_stack.specs.declared.step.Delivered.{Delivered}
-use Rattle.hid_lives.specs.Stations.{Station, after_all, events_at, events_in}
-use Rattle.hid_stack.specs.Rig.{Member, member_after, member_after_all, member_at, with_member, one_after, bus_after, tagged, one_delivers, delivered_at, bus_after_all, delivered_in, own_step, own, own_event, from_device, IsIsolated}
-use Rattle.hid_stack.specs.Headline.{DeliversChanges, KeepsToRounds}
-use Rattle.hid_lives.proofs.ScheduleLemmas.{delivers_epoch, stands_by_rounds}
+use Rattle.hid_lives.specs.Following.{FollowsLife, course_from}
+use Rattle.hid_lives.specs.Lives.{course_behind, happenings, told_in}
+use Rattle.hid_lives.specs.Stations.{Station, after_all, events_in}
+use Rattle.hid_host.specs.Host.{running}
+use Rattle.hid_stack.specs.Members.{Member, MemberStep, Scheduled, Begins, Controls, deed_at, deeds_in, events_by, member_after, member_after_all}
+use Rattle.hid_stack.specs.Rig.{HasOnlySchedule, member_at, with_member, one_after, bus_after, tagged, one_delivers, delivered_at, bus_after_all, delivered_in, is_scheduled, member_step, member_steps, own_step, own, own_event, from_device, IsIsolated}
+use Rattle.hid_stack.specs.Headline.{DeliversChanges, DevicesLive, KeepsToRounds}
+use Rattle.hid_lives.proofs.LifeLemmas.{lives_on}
+use Rattle.hid_lives.proofs.ScheduleLemmas.{delivers_epoch, own_told as own_told_in, stands_by_rounds}
+use Rattle.hid_stack.proofs.MemberLemmas.{layout_stays, ready_deeds, ready_stands, stations, told_on, tried_quiet}
 
 same_places : (d e : ℕ) → eqb d 0 ≡ false → eqb e 0 ≡ false → d - 1 ≡ e - 1 → d ≡ e
 same_places d e some_d some_e same = grind (arith, nat_tests)
@@ -47,32 +53,32 @@ with_other members d dev m k n ne g h =
     at_place (with_member members d n) dev some ∙ set_there members (d - 1) (dev - 1) n apart ∙ sym (at_place members dev some) ∙ h
 
 -- one step of the bus, at one device
-abbrev after_own : Member → Option OwnStep → Member
+abbrev after_own : Member → Option MemberStep → Member
 after_own m None = m
 after_own m (Some x) = member_after m x
 
-abbrev own_events : Member → Option OwnStep → List Event
+abbrev own_events : Member → Option MemberStep → List Event
 own_events m None = []
-own_events m (Some x) = events_at (items_of m.layout) m.station x
+own_events m (Some x) = events_by (items_of m.layout) m.station (deed_at m x)
 
 same_or_not : (d device : ℕ) → ((d ≡ device) × (eqb d device ≡ true)) ⊎ ((d ≡ device → ⊥) × (eqb d device ≡ false))
 same_or_not d device = grind (arith, nat_tests)
 
-state_same : (device : ℕ) (members : List Member) (m : Member) (y : OwnStep) → member_at members device ≡ Some m → member_at (one_after members device y) device ≡ Some (member_after m y)
+state_same : (device : ℕ) (members : List Member) (m : Member) (y : MemberStep) → member_at members device ≡ Some m → member_at (one_after members device y) device ≡ Some (member_after m y)
 state_same device members m y h =
     ap (λ (o : Option Member). member_at (elim o as (λ _. List Member) [ None ↦ members | Some t ↦ with_member members device (member_after t y) ]) device) h
     ∙ with_same members device m (member_after m y) h
 
-state_other : (d device : ℕ) (members : List Member) (m : Member) (y : OwnStep) → (d ≡ device → ⊥) → member_at members device ≡ Some m → member_at (one_after members d y) device ≡ Some m
+state_other : (d device : ℕ) (members : List Member) (m : Member) (y : MemberStep) → (d ≡ device → ⊥) → member_at members device ≡ Some m → member_at (one_after members d y) device ≡ Some m
 state_other d device members m y ne h =
     elim (member_at members d) as (λ (o : Option Member). member_at members d ≡ o → member_at (elim o as (λ _. List Member) [ None ↦ members | Some t ↦ with_member members d (member_after t y) ]) device ≡ Some m)
     [ None ↦ λ g. h | Some t ↦ λ g. with_other members d device m t (member_after t y) ne g h ] refl
 
 -- a step that names a device
-abbrev if_own : ℕ → ℕ → OwnStep → Option OwnStep
+abbrev if_own : ℕ → ℕ → MemberStep → Option MemberStep
 if_own d device y = cond (eqb d device) (Some y) None
 
-one_state : (d device : ℕ) (members : List Member) (m : Member) (y : OwnStep) → member_at members device ≡ Some m → member_at (one_after members d y) device ≡ Some (after_own m (if_own d device y))
+one_state : (d device : ℕ) (members : List Member) (m : Member) (y : MemberStep) → member_at members device ≡ Some m → member_at (one_after members d y) device ≡ Some (after_own m (if_own d device y))
 one_state d device members m y h = elim (same_or_not d device) [
   | inl same ↦
       let hit : eqb device device ≡ true = subst (λ (n : ℕ). eqb n device ≡ true) same.0 same.1 in
@@ -86,10 +92,12 @@ member_at-map f members device m h =
     let some = no_zero members device m h in
     at_place (map f members) device some ∙ slice_get-map f members (device - 1) ∙ ap (option_map f) (sym (at_place members device some) ∙ h)
 
-step_state : (device : ℕ) (members : List Member) (m : Member) (x : Step) → member_at members device ≡ Some m → member_at (bus_after members x) device ≡ Some (after_own m (own_step device x))
-step_state device members m (Change d change) h = one_state d device members m (Changes change) h
-step_state device members m Frame h = member_at-map (λ (n : Member). member_after n own_steps.Frame) members device m h
-step_state device members m (Poll d fate) h = one_state d device members m (Polls fate) h
+step_state : (device : ℕ) (members : List Member) (m : Member) (x : Step) → member_at members device ≡ Some m → member_at (bus_after members x) device ≡ Some (after_own m (member_step device x))
+step_state device members m (Change d change) h = one_state d device members m (Scheduled (Changes change)) h
+step_state device members m Frame h = member_at-map (λ (n : Member). member_after n (Scheduled own_steps.Frame)) members device m h
+step_state device members m (Poll d fate) h = one_state d device members m (Scheduled (Polls fate)) h
+step_state device members m (Begin d request) h = one_state d device members m (Begins request) h
+step_state device members m (Control d fate) h = one_state d device members m (Controls fate) h
 
 -- what one step delivers of one device
 from_append : (device : ℕ) (xs ys : List Delivered) → from_device device (xs ++ ys) ≡ from_device device xs ++ from_device device ys
@@ -105,17 +113,17 @@ from_tagged_other : (d device : ℕ) (es : List Event) → eqb d device ≡ fals
 from_tagged_other d device [] h = refl
 from_tagged_other d device (e ∷ es) h = rw h (from_tagged_other d device es h)
 
-events_same : (device : ℕ) (members : List Member) (m : Member) (y : OwnStep) → eqb device device ≡ true → member_at members device ≡ Some m → from_device device (one_delivers members device y) ≡ events_at (items_of m.layout) m.station y
+events_same : (device : ℕ) (members : List Member) (m : Member) (y : MemberStep) → eqb device device ≡ true → member_at members device ≡ Some m → from_device device (one_delivers members device y) ≡ events_by (items_of m.layout) m.station (deed_at m y)
 events_same device members m y hit h =
-    ap (λ (o : Option Member). from_device device (elim o as (λ _. List Delivered) [ None ↦ [] | Some t ↦ map (tagged device) (events_at (items_of t.layout) t.station y) ])) h
-    ∙ from_tagged_same device (events_at (items_of m.layout) m.station y) hit
+    ap (λ (o : Option Member). from_device device (elim o as (λ _. List Delivered) [ None ↦ [] | Some t ↦ map (tagged device) (events_by (items_of t.layout) t.station (deed_at t y)) ])) h
+    ∙ from_tagged_same device (events_by (items_of m.layout) m.station (deed_at m y)) hit
 
-events_other : (d device : ℕ) (members : List Member) (y : OwnStep) → eqb d device ≡ false → from_device device (one_delivers members d y) ≡ []
+events_other : (d device : ℕ) (members : List Member) (y : MemberStep) → eqb d device ≡ false → from_device device (one_delivers members d y) ≡ []
 events_other d device members y miss =
-    elim (member_at members d) as (λ (o : Option Member). from_device device (elim o as (λ _. List Delivered) [ None ↦ [] | Some t ↦ map (tagged d) (events_at (items_of t.layout) t.station y) ]) ≡ [])
-    [ None ↦ refl | Some t ↦ from_tagged_other d device (events_at (items_of t.layout) t.station y) miss ]
+    elim (member_at members d) as (λ (o : Option Member). from_device device (elim o as (λ _. List Delivered) [ None ↦ [] | Some t ↦ map (tagged d) (events_by (items_of t.layout) t.station (deed_at t y)) ]) ≡ [])
+    [ None ↦ refl | Some t ↦ from_tagged_other d device (events_by (items_of t.layout) t.station (deed_at t y)) miss ]
 
-one_told : (d device : ℕ) (members : List Member) (m : Member) (y : OwnStep) → member_at members device ≡ Some m → from_device device (one_delivers members d y) ≡ own_events m (if_own d device y)
+one_told : (d device : ℕ) (members : List Member) (m : Member) (y : MemberStep) → member_at members device ≡ Some m → from_device device (one_delivers members d y) ≡ own_events m (if_own d device y)
 one_told d device members m y h = elim (same_or_not d device) [
   | inl same ↦
       let hit : eqb device device ≡ true = subst (λ (n : ℕ). eqb n device ≡ true) same.0 same.1 in
@@ -124,41 +132,53 @@ one_told d device members m y h = elim (same_or_not d device) [
   | inr other ↦ events_other d device members y other.1 ∙ sym (ap (λ (b : Bool). own_events m (cond b (Some y) None)) other.1)
 ]
 
-step_events : (device : ℕ) (members : List Member) (m : Member) (x : Step) → member_at members device ≡ Some m → from_device device (delivered_at members x) ≡ own_events m (own_step device x)
-step_events device members m (Change d change) h = one_told d device members m (Changes change) h
+-- what delivers nothing tells nothing, whosever step it is
+quiet_own : (m : Member) (d device : ℕ) (y : MemberStep) → events_by (items_of m.layout) m.station (deed_at m y) ≡ [] → [] ≡ own_events m (if_own d device y)
+quiet_own m d device y quiet = by_number (eqb d device)
+  where
+    by_number : (b : Bool) → [] ≡ own_events m (cond b (Some y) None)
+    by_number true = sym quiet
+    by_number false = refl
+
+step_events : (device : ℕ) (members : List Member) (m : Member) (x : Step) → member_at members device ≡ Some m → from_device device (delivered_at members x) ≡ own_events m (member_step device x)
+step_events device members m (Change d change) h = quiet_own m d device (Scheduled (Changes change)) refl
 step_events device members m Frame h = refl
-step_events device members m (Poll d fate) h = one_told d device members m (Polls fate) h
+step_events device members m (Poll d fate) h = one_told d device members m (Scheduled (Polls fate)) h
+step_events device members m (Begin d request) h = quiet_own m d device (Begins request) refl
+step_events device members m (Control d fate) h = quiet_own m d device (Controls fate) (tried_quiet (items_of m.layout) m.station fate m (running m.transfer))
 
 -- one more own step
-own_states : (m : Member) (o : Option OwnStep) (steps : List OwnStep) → member_after_all (after_own m o) steps ≡ member_after_all m (cons_option o steps)
+own_states : (m : Member) (o : Option MemberStep) (steps : List MemberStep) → member_after_all (after_own m o) steps ≡ member_after_all m (cons_option o steps)
 own_states m None steps = refl
 own_states m (Some x) steps = refl
 
-own_told : (m : Member) (o : Option OwnStep) (steps : List OwnStep) → own_events m o ++ events_in (items_of m.layout) (after_own m o).station steps ≡ events_in (items_of m.layout) m.station (cons_option o steps)
+own_told : (m : Member) (o : Option MemberStep) (steps : List MemberStep) → own_events m o ++ told_in (items_of m.layout) (after_own m o).station (deeds_in (after_own m o) steps) ≡ told_in (items_of m.layout) m.station (deeds_in m (cons_option o steps))
 own_told m None steps = refl
-own_told m (Some x) steps = refl
+own_told m (Some x) steps = told_on m x steps
 
-after_own-layout : (m : Member) (o : Option OwnStep) → (after_own m o).layout ≡ m.layout
+after_own-layout : (m : Member) (o : Option MemberStep) → (after_own m o).layout ≡ m.layout
 after_own-layout m None = refl
-after_own-layout m (Some x) = refl
+after_own-layout m (Some x) = layout_stays m x
 
 -- whole lists
-states : (steps : List Step) (members : List Member) (device : ℕ) (m : Member) → member_at members device ≡ Some m → member_at (bus_after_all members steps) device ≡ Some (member_after_all m (own device steps))
+pub states : (steps : List Step) (members : List Member) (device : ℕ) (m : Member) → member_at members device ≡ Some m → member_at (bus_after_all members steps) device ≡ Some (member_after_all m (member_steps device steps))
 states [] members device m h = h
 states (x ∷ steps) members device m h =
-    states steps (bus_after members x) device (after_own m (own_step device x)) (step_state device members m x h)
-    ∙ ap (λ (t : Member). Some t) (own_states m (own_step device x) (own device steps))
+    states steps (bus_after members x) device (after_own m (member_step device x)) (step_state device members m x h)
+    ∙ ap (λ (t : Member). Some t) (own_states m (member_step device x) (member_steps device steps))
 
-told : (steps : List Step) (members : List Member) (device : ℕ) (m : Member) → member_at members device ≡ Some m → from_device device (delivered_in members steps) ≡ events_in (items_of m.layout) m.station (own device steps)
+told : (steps : List Step) (members : List Member) (device : ℕ) (m : Member) → member_at members device ≡ Some m
+    → from_device device (delivered_in members steps) ≡ told_in (items_of m.layout) m.station (deeds_in m (member_steps device steps))
 told [] members device m h = refl
 told (x ∷ steps) members device m h =
-    let later : from_device device (delivered_in (bus_after members x) steps) ≡ events_in (items_of (after_own m (own_step device x)).layout) (after_own m (own_step device x)).station (own device steps)
-    = told steps (bus_after members x) device (after_own m (own_step device x)) (step_state device members m x h) in
-    let here = ap (λ (l : Contents). events_in (items_of l) (after_own m (own_step device x)).station (own device steps)) (after_own-layout m (own_step device x)) in
+    let own = after_own m (member_step device x) in
+    let later : from_device device (delivered_in (bus_after members x) steps) ≡ told_in (items_of own.layout) own.station (deeds_in own (member_steps device steps))
+    = told steps (bus_after members x) device own (step_state device members m x h) in
+    let here = ap (λ (l : Contents). told_in (items_of l) own.station (deeds_in own (member_steps device steps))) (after_own-layout m (member_step device x)) in
     from_append device (delivered_at members x) (delivered_in (bus_after members x) steps)
     ∙ ap (λ (es : List Event). es ++ from_device device (delivered_in (bus_after members x) steps)) (step_events device members m x h)
-    ∙ ap (λ (es : List Event). own_events m (own_step device x) ++ es) (later ∙ here)
-    ∙ own_told m (own_step device x) (own device steps)
+    ∙ ap (λ (es : List Event). own_events m (member_step device x) ++ es) (later ∙ here)
+    ∙ own_told m (member_step device x) (member_steps device steps)
 
 pub isolated : (members after : List Member) (steps : List Step) (old new : List Delivered) → after ≡ bus_after_all members steps → new ≡ old ++ delivered_in members steps → IsIsolated members after steps old new
 isolated members after steps old new states_are told_are = record {
@@ -166,22 +186,79 @@ isolated members after steps old new states_are told_are = record {
   events = λ device m h. ap (from_device device) told_are ∙ from_append device old (delivered_in members steps) ∙ ap (λ (es : List Event). from_device device old ++ es) (told steps members device m h);
 }
 
+-- steps of which none is of a transfer of a device are its schedule
+only_step : (device : ℕ) (x : Step) → is_scheduled device x ≡ true → member_step device x ≡ option_map (λ y. Scheduled y) (own_step device x)
+only_step device (Change d change) h = by_number (eqb d device)
+  where
+    by_number : (b : Bool) → cond b (Some (Scheduled (Changes change))) None ≡ option_map (λ y. Scheduled y) (cond b (Some (Changes change)) None)
+    by_number true = refl
+    by_number false = refl
+only_step device Frame h = refl
+only_step device (Poll d fate) h = by_number (eqb d device)
+  where
+    by_number : (b : Bool) → cond b (Some (Scheduled (Polls fate))) None ≡ option_map (λ y. Scheduled y) (cond b (Some (Polls fate)) None)
+    by_number true = refl
+    by_number false = refl
+only_step device (Begin d request) h = by_number (eqb d device) h
+  where
+    by_number : (b : Bool) → not b ≡ true → cond b (Some (Begins request)) None ≡ None
+    by_number true k = absurd (cc)
+    by_number false k = refl
+only_step device (Control d fate) h = by_number (eqb d device) h
+  where
+    by_number : (b : Bool) → not b ≡ true → cond b (Some (Controls fate)) None ≡ None
+    by_number true k = absurd (cc)
+    by_number false k = refl
+
+cons_mapped : (o : Option OwnStep) (xs : List OwnStep) → cons_option (option_map (λ y. Scheduled y) o) (map (λ y. Scheduled y) xs) ≡ map (λ y. Scheduled y) (cons_option o xs)
+cons_mapped None xs = refl
+cons_mapped (Some x) xs = refl
+
+pub only_schedule : (device : ℕ) (steps : List Step) → HasOnlySchedule device steps → member_steps device steps ≡ map (λ y. Scheduled y) (own device steps)
+only_schedule device [] h = refl
+only_schedule device (x ∷ steps) h =
+    ap (λ (o : Option MemberStep). cons_option o (member_steps device steps)) (only_step device x (h 0 x (omega arith)))
+    ∙ ap (cons_option (option_map (λ y. Scheduled y) (own_step device x))) (only_schedule device steps (λ k d lt. h (suc k) d (omega (arith, lt))))
+    ∙ cons_mapped (own_step device x) (own device steps)
+
 -- a device that was just configured delivers the events of its epoch
 pub headline : (members : List Member) (steps : List Step) (old new : List Delivered) → new ≡ old ++ delivered_in members steps → DeliversChanges members steps old new
-headline members steps old new told_are device m snapshot idle h just =
+headline members steps old new told_are device m snapshot idle h just only =
+    let items = items_of m.layout in
     ap (from_device device) told_are ∙ from_append device old (delivered_in members steps)
     ∙ ap (λ (es : List Event). from_device device old ++ es)
-    (told steps members device m h ∙ ap (λ (s : Station). events_in (items_of m.layout) s (own device steps)) just ∙ delivers_epoch (items_of m.layout) snapshot idle (own device steps))
+    (told steps members device m h
+    ∙ ap (λ (xs : List MemberStep). told_in items m.station (deeds_in m xs)) (only_schedule device steps only)
+    ∙ ap (told_in items m.station) (ready_deeds (own device steps) m just.host)
+    ∙ own_told_in items (own device steps) m.station
+    ∙ ap (λ (s : Station). events_in items s (own device steps)) just.station ∙ delivers_epoch items snapshot idle (own device steps))
 
 -- each device without an open round stands by the rounds of its own steps
 pub keeps_to_rounds : (members after : List Member) (steps : List Step) → after ≡ bus_after_all members steps → KeepsToRounds members steps after
-keeps_to_rounds members after steps states_are device m h none_open = (
+keeps_to_rounds members after steps states_are device m h ready none_open only = (
   after_all (items_of m.layout) m.station (own device steps),
-  ap (λ (ms : List Member). member_at ms device) states_are ∙ states steps members device m h,
+  ap (λ (ms : List Member). member_at ms device) states_are ∙ states steps members device m h
+      ∙ ap (λ (xs : List MemberStep). Some (member_after_all m xs)) (only_schedule device steps only)
+      ∙ ap (λ (n : Member). Some n) (ready_stands (own device steps) m ready),
   stands_by_rounds (items_of m.layout) m.station (own device steps) none_open,
 )
 
-pub ruleset by_itself = (isolated, headline, keeps_to_rounds)
+-- and lives on, whatever befalls it
+pub devices_live : (members after : List Member) (steps : List Step) (old new : List Delivered) → after ≡ bus_after_all members steps → new ≡ old ++ delivered_in members steps → DevicesLive members steps after old new
+devices_live members after steps old new states_are told_are device m h none_open =
+    let xs = member_steps device steps in
+    let apart = isolated members after steps old new states_are told_are in
+    let lives = lives_on (items_of m.layout) m.station (deeds_in m xs) none_open in (
+      member_after_all m xs,
+      told_in (items_of m.layout) m.station (deeds_in m xs),
+      apart.states device m h,
+      apart.events device m h,
+      subst (λ (s : Station). FollowsLife (items_of m.layout) m.station.view m.station.odd
+          (happenings (items_of m.layout) (deeds_in m xs) (course_from m.station)) (course_behind (items_of m.layout) (deeds_in m xs) (course_from m.station))
+          (told_in (items_of m.layout) m.station (deeds_in m xs)) s) (sym (stations xs m)) lives,
+    )
+
+pub ruleset by_itself = (isolated, headline, keeps_to_rounds, devices_live)
 
 -- one more step of a run: the bus, and what was delivered
 after_push : (s : List Member) (steps : List Step) (step : Step) → bus_after_all s (steps ++ step ∷ []) ≡ bus_after (bus_after_all s steps) step

@@ -1,7 +1,10 @@
+pub mod MemberLemmas
 pub mod Isolation
 pub mod PollLemmas
 pub mod StepLemmas
 pub mod SlotLemmas
+pub mod TransferLemmas
+pub mod WholeLemmas
 pub mod SumLemmas
 pub mod RoomLemmas
 pub mod RigLemmas

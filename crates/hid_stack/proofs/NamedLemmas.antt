@@ -1,6 +1,6 @@
 -- A step that names a device is a step of the member at its place: what holds of the member alone holds of the bus.
-use Rattle.std.proofs.Common.{◌≡◌, ◌≢◌, ◌<◌, ◌≤◌, ◌+◌, ◌-◌, ◌++◌, ℕ, List, [], length, get_or, map, eqb, cond, Bool, false, Option, Some, None, Result, Ok, Err, refl, ap, sym, subst, ◌∙◌, inl, inr, arith}
-use Rattle.std.specs.Prelude.{slice_get, slice_set, IfOk, IfSome, IfErr, IsOk, OnOk}
+use Rattle.std.proofs.Common.{◌≡◌, ◌≢◌, ◌⊎◌, ◌<◌, ◌≤◌, ◌+◌, ◌-◌, ◌++◌, ℕ, zero, suc, List, [], ◌∷◌, length, get_or, map, eqb, cond, Bool, false, Option, Some, None, Result, Ok, Err, refl, ap, sym, subst, ◌∙◌, inl, inr, arith}
+use Rattle.std.specs.Prelude.{slice_get, slice_set, IfOk, IfSome, IfErr, OnOk, OnErr}
 use Rattle.std.proofs.lemmas.Bool.Decides.{nat_tests}
 use Rattle.std.proofs.lemmas.Option.{slice_get_read}
 use Rattle.std.proofs.lemmas.Result.{IfOk-weaker, on_ok_weaker}
@@ -11,30 +11,44 @@ use Rattle.hid_cells.specs.declared.change.ChangeFault.{ChangeFault}
 use Rattle.hid_usages.specs.Snapshots.{changed}
 use Rattle.hid_usages.specs.Snapshots as snapshots
 use Rattle.usb_transact.specs.declared.transaction.Fate.{Fate}
-use Rattle.hid_lives.specs.Rounds.{OwnStep, Polls}
+use Rattle.usb_control.specs.declared.fault.ControlFault.TheVariants.{NoTransfer}
+use Rattle.usb_control.specs.declared.host.Progress.{Progress}
+use Rattle.usb_control.specs.Host.{progress_of}
+use Rattle.hid_requests.specs.declared.request.Request.{Request}
+use Rattle.hid_lives.specs.Rounds.{Changes, Polls}
+use Rattle.hid_lives.specs.Standing.{Standing}
 use Rattle.hid_host.specs.declared.fault.StackFault.{StackFault}
 use Rattle.hid_host.specs.declared.fault.StackFault.TheVariants.{NoDevice, Refused, Memory}
+use Rattle.hid_host.specs.declared.fault.StackFault.TheVariants as faults
+use Rattle.hid_host.specs.declared.host.Transfer.{Transfer}
+use Rattle.hid_host.specs.Host.{running}
 use Rattle.hid_stack.specs.declared.step.Delivered.{Delivered}
-use Rattle.hid_stack.specs.declared.step.Step.TheVariants.{Change as ChangeStep, Poll}
+use Rattle.hid_stack.specs.declared.step.Step.TheVariants.{Change as ChangeStep, Poll, Begin, Control}
 use Rattle.hid_stack.specs.declared.step.Told.{Told}
 use Rattle.hid_stack.specs.declared.step.Told.TheVariants.{Quiet}
-use Rattle.hid_stack.specs.Rig.{Member, member_at, member_after, with_member, one_after, tagged, delivered_at, change_refusal, refusal, IsRefusal, HasRoomFor, most_events}
-use Rattle.hid_lives.specs.Stations.{events_at}
-use Rattle.hid_stack.specs.Tells.{TellsPoll, Tells}
+use Rattle.hid_stack.specs.declared.step.Told.TheVariants as tellings
+use Rattle.hid_stack.specs.Members.{Member, MemberStep, Scheduled, Controls, begin_refusal_at, deed_at, ends_tried_at, events_by, member_after, tried_of, unconcluded_of}
+use Rattle.hid_stack.specs.Rig.{GivesMore, TakesMemory, member_at, with_member, one_after, one_unconcluded, tagged, delivered_at, change_refusal, control_refusal, poll_refusal, refusal, refused_after, IsRefusal, HasRoomFor, most_events}
+use Rattle.hid_stack.specs.Slot.{TriesTransfer}
+use Rattle.hid_stack.specs.Sums.{ConfiguresBetweenRounds, IsBetween}
+use Rattle.hid_stack.specs.Tells.{TellsPoll, TellsTry, Tells}
+use Rattle.hid_stack.proofs.SumLemmas.{try_between}
 
 -- the member of a number, at its place
 pub record IsNamed (members : List Member) (dev i : ℕ) (m : Member) : Type 0 where
   pub place : dev - 1 ≡ i
+  pub read : slice_get members i ≡ Some m
   pub here : member_at members dev ≡ Some m
 
 pub named : (slots members : List Member) (dev i : ℕ) (m : Member) → slots ≡ members → dev ≡ i + 1 → i < length slots → m ≡ get_or slots i m → IsNamed members dev i m
 named slots members dev i m same number within is =
     let place : dev - 1 ≡ i = omega arith in
     let some : eqb dev 0 ≡ false = grind (arith, nat_tests) in
+    let read : slice_get members i ≡ Some m = subst (λ (ms : List Member). slice_get ms i ≡ Some m) same (slice_get_read slots (length slots) i m refl within is) in
     record {
       place = place;
-      here = ap (λ (b : Bool). cond b None (slice_get members (dev - 1))) some ∙ ap (slice_get members) place
-          ∙ subst (λ (ms : List Member). slice_get ms i ≡ Some m) same (slice_get_read slots (length slots) i m refl within is);
+      read = read;
+      here = ap (λ (b : Bool). cond b None (slice_get members (dev - 1))) some ∙ ap (slice_get members) place ∙ read;
     }
 
 -- what holds anyway holds where a call succeeds
@@ -43,7 +57,7 @@ where_done (Ok told) P holds = holds
 where_done (Err fault) P holds = tt
 
 -- where the bus stands behind its step
-pub leaves : (slots members : List Member) (dev i : ℕ) (m n : Member) (x : OwnStep) → slots ≡ members → IsNamed members dev i m → n ≡ member_after m x
+pub leaves : (slots members : List Member) (dev i : ℕ) (m n : Member) (x : MemberStep) → slots ≡ members → IsNamed members dev i m → n ≡ member_after m x
     → slice_set slots i n ≡ one_after members dev x
 leaves slots members dev i m n x same at_place after =
     let place = at_place.place in
@@ -92,33 +106,34 @@ poll_tells members dev i m fate r at_place tells =
     (λ told h. subst (λ (o : Option Member). elim o as (λ _. Type 0) [ None ↦ ⊥ | Some k ↦ TellsPoll k.layout k.station fate told ]) (sym at_place.here) h) tells
 
 pub poll_delivers : (members : List Member) (dev i : ℕ) (m : Member) (fate : Fate) (r : Result Told StackFault) (old new : List Delivered) → IsNamed members dev i m
-    → OnOk r (new ≡ old ++ map (tagged dev) (events_at (items_of m.layout) m.station (Polls fate))) → OnOk r (new ≡ old ++ delivered_at members (Poll dev fate))
+    → OnOk r (new ≡ old ++ map (tagged dev) (events_by (items_of m.layout) m.station (deed_at m (Scheduled (Polls fate))))) → OnOk r (new ≡ old ++ delivered_at members (Poll dev fate))
 poll_delivers members dev i m fate r old new at_place told =
-    let one : delivered_at members (Poll dev fate) ≡ map (tagged dev) (events_at (items_of m.layout) m.station (Polls fate))
-    = ap (λ (o : Option Member). elim o as (λ _. List Delivered) [ None ↦ [] | Some k ↦ map (tagged dev) (events_at (items_of k.layout) k.station (Polls fate)) ]) at_place.here in
+    let one : delivered_at members (Poll dev fate) ≡ map (tagged dev) (events_by (items_of m.layout) m.station (deed_at m (Scheduled (Polls fate))))
+    = ap (λ (o : Option Member). elim o as (λ _. List Delivered) [ None ↦ [] | Some k ↦ map (tagged dev) (events_by (items_of k.layout) k.station (deed_at k (Scheduled (Polls fate)))) ]) at_place.here in
     on_ok_weaker r (λ h. h ∙ sym (ap (λ (es : List Delivered). old ++ es) one)) told
 
-poll_stands : (members : List Member) (dev i : ℕ) (m : Member) (fate : Fate) → IsNamed members dev i m → refusal members (Poll dev fate) ≡ None
+poll_stands : (members : List Member) (dev i : ℕ) (m : Member) (fate : Fate) → IsNamed members dev i m → refusal members (Poll dev fate) ≡ poll_refusal m.host
 poll_stands members dev i m fate at_place =
-    ap (λ (o : Option Member). elim o as (λ _. Option StackFault) [ None ↦ Some NoDevice | Some k ↦ None ]) at_place.here
+    ap (λ (o : Option Member). elim o as (λ _. Option StackFault) [ None ↦ Some NoDevice | Some k ↦ poll_refusal k.host ]) at_place.here
+
+-- a call that is refused for what stands, or for want of memory
+abbrev pub RefusedBy : {A : Type 0} → Option StackFault → Result A StackFault → Type 0
+RefusedBy stands r = IfErr r (λ e. (stands ≡ Some e) ⊎ ((stands ≡ None) × (e ≡ Memory)))
 
 pub poll_refused : (members : List Member) (dev i : ℕ) (m : Member) (fate : Fate) (r : Result Told StackFault) → IsNamed members dev i m
-    → (e : StackFault) → refusal members (Poll dev fate) ≡ Some e → r ≡ Err e
-poll_refused members dev i m fate r at_place e refused = let wrong : None ≡ Some e = sym (poll_stands members dev i m fate at_place) ∙ refused in cc
+    → ((e : StackFault) → poll_refusal m.host ≡ Some e → r ≡ Err e) → (e : StackFault) → refusal members (Poll dev fate) ≡ Some e → r ≡ Err e
+poll_refused members dev i m fate r at_place refused e stands = refused e (sym (poll_stands members dev i m fate at_place) ∙ stands)
 
 pub poll_only : (members : List Member) (dev i : ℕ) (m : Member) (fate : Fate) (r : Result Told StackFault) → IsNamed members dev i m
-    → IfErr r (λ fault. fault ≡ Memory) → IfErr r (λ e. IsRefusal members (Poll dev fate) e)
-poll_only members dev i m fate (Ok told) at_place memory = tt
-poll_only members dev i m fate (Err fault) at_place memory = inr (poll_stands members dev i m fate at_place, memory, tt)
-
-succeeds : (r : Result Told StackFault) → IsOk r → r ≢ Err Memory
-succeeds (Ok told) ok memory = cc
-succeeds (Err e) ok memory = cc
+    → RefusedBy (poll_refusal m.host) r → IfErr r (λ e. IsRefusal members (Poll dev fate) e)
+poll_only members dev i m fate (Ok told) at_place only = tt
+poll_only members dev i m fate (Err fault) at_place (inl stands) = inl (poll_stands members dev i m fate at_place ∙ stands)
+poll_only members dev i m fate (Err fault) at_place (inr (none, memory)) = inr (poll_stands members dev i m fate at_place ∙ none, memory, tt)
 
 pub poll_has_room : (members : List Member) (dev i : ℕ) (m : Member) (fate : Fate) (r : Result Told StackFault) (used capacity : ℕ) → IsNamed members dev i m
-    → (used + max_events (items_of m.layout) ≤ capacity → IsOk r) → HasRoomFor members (Poll dev fate) used capacity → r ≢ Err Memory
+    → (used + max_events (items_of m.layout) ≤ capacity → r ≢ Err Memory) → HasRoomFor members (Poll dev fate) used capacity → r ≢ Err Memory
 poll_has_room members dev i m fate r used capacity at_place enough room =
-    succeeds r (enough (subst (λ (o : Option Member). IfSome o (λ (k : Member). used + max_events (items_of k.layout) ≤ capacity)) at_place.here room))
+    enough (subst (λ (o : Option Member). IfSome o (λ (k : Member). used + max_events (items_of k.layout) ≤ capacity)) at_place.here room)
 
 pub poll_few : (members : List Member) (dev i : ℕ) (m : Member) (fate : Fate) (used now : ℕ) → IsNamed members dev i m
     → now ≤ used + max_events (items_of m.layout) → now ≤ used + most_events members (Poll dev fate)
@@ -126,3 +141,145 @@ poll_few members dev i m fate used now at_place few =
     let most : most_events members (Poll dev fate) ≡ max_events (items_of m.layout)
     = ap (λ (o : Option Member). elim o as (λ _. ℕ) [ None ↦ 0 | Some k ↦ max_events (items_of k.layout) ]) at_place.here in
     subst (λ (n : ℕ). now ≤ used + n) (sym most) few
+
+-- a request that begins
+abbrev pub begin_told : Result (Unit {0}) StackFault → Result Told StackFault
+begin_told (Ok done) = Ok Quiet
+begin_told (Err fault) = Err fault
+
+begin_stands : (members : List Member) (dev i : ℕ) (m : Member) (request : Request) → IsNamed members dev i m → refusal members (Begin dev request) ≡ begin_refusal_at m request
+begin_stands members dev i m request at_place =
+    ap (λ (o : Option Member). elim o as (λ _. Option StackFault) [ None ↦ Some NoDevice | Some k ↦ begin_refusal_at k request ]) at_place.here
+
+pub begin_tells : (members : List Member) (dev : ℕ) (request : Request) (done : Result (Unit {0}) StackFault) (r : Result Told StackFault) → r ≡ begin_told done → IfOk r (λ told. Tells members (Begin dev request) told)
+begin_tells members dev request (Ok _) r told = subst (λ (o : Result Told StackFault). IfOk o (λ t. Tells members (Begin dev request) t)) (sym told) refl
+begin_tells members dev request (Err fault) r told = subst (λ (o : Result Told StackFault). IfOk o (λ t. Tells members (Begin dev request) t)) (sym told) tt
+
+pub begin_done : (done : Result (Unit {0}) StackFault) (r : Result Told StackFault) (P : Type 0) → r ≡ begin_told done → OnOk done P → OnOk r P
+begin_done (Ok _) r P told holds = subst (λ (o : Result Told StackFault). OnOk o P) (sym told) holds
+begin_done (Err fault) r P told holds = subst (λ (o : Result Told StackFault). OnOk o P) (sym told) tt
+
+pub begin_refused : (members : List Member) (dev i : ℕ) (m : Member) (request : Request) (done : Result (Unit {0}) StackFault) (r : Result Told StackFault) → IsNamed members dev i m → r ≡ begin_told done
+    → ((e : StackFault) → begin_refusal_at m request ≡ Some e → done ≡ Err e) → (e : StackFault) → refusal members (Begin dev request) ≡ Some e → r ≡ Err e
+begin_refused members dev i m request done r at_place told refused e stands = told ∙ ap begin_told (refused e (sym (begin_stands members dev i m request at_place) ∙ stands))
+
+pub begin_only : (members : List Member) (dev i : ℕ) (m : Member) (request : Request) (done : Result (Unit {0}) StackFault) (r : Result Told StackFault) → IsNamed members dev i m → r ≡ begin_told done
+    → RefusedBy (begin_refusal_at m request) done → IfErr r (λ e. IsRefusal members (Begin dev request) e)
+begin_only members dev i m request done r at_place told only = subst (λ (o : Result Told StackFault). IfErr o (λ e. IsRefusal members (Begin dev request) e)) (sym told) (by_done done only)
+  where
+    by_done : (d : Result (Unit {0}) StackFault) → RefusedBy (begin_refusal_at m request) d → IfErr (begin_told d) (λ e. IsRefusal members (Begin dev request) e)
+    by_done (Ok _) h = tt
+    by_done (Err fault) (inl stands) = inl (begin_stands members dev i m request at_place ∙ stands)
+    by_done (Err fault) (inr (none, memory)) = inr (begin_stands members dev i m request at_place ∙ none, memory, tt)
+
+-- what is refused leaves the place as it was
+set_back : (members : List Member) (i : ℕ) (m : Member) → slice_get members i ≡ Some m → slice_set members i m ≡ members
+set_back [] i m h = absurd (cc)
+set_back (x ∷ members) zero m h = ap (λ (k : Member). k ∷ members) (cc)
+set_back (x ∷ members) (suc i) m h = ap (λ (ms : List Member). x ∷ ms) (set_back members i m h)
+
+pub stays : (slots members : List Member) (dev i : ℕ) (m n : Member) → slots ≡ members → IsNamed members dev i m → n ≡ m → slice_set slots i n ≡ members
+stays slots members dev i m n same at_place is =
+    ap (slice_set slots i) is ∙ set_back slots i m (subst (λ (ms : List Member). slice_get ms i ≡ Some m) (sym same) at_place.read) ∙ same
+
+pub begin_err : (slots members : List Member) (dev i : ℕ) (m n : Member) (request : Request) (done : Result (Unit {0}) StackFault) (r : Result Told StackFault) → slots ≡ members → IsNamed members dev i m → r ≡ begin_told done
+    → OnErr done (n ≡ m) → IfErr r (λ e. slice_set slots i n ≡ refused_after members (Begin dev request) e)
+begin_err slots members dev i m n request (Ok _) r same at_place told err = subst (λ (o : Result Told StackFault). IfErr o (λ e. slice_set slots i n ≡ refused_after members (Begin dev request) e)) (sym told) tt
+begin_err slots members dev i m n request (Err fault) r same at_place told err =
+    subst (λ (o : Result Told StackFault). IfErr o (λ e. slice_set slots i n ≡ refused_after members (Begin dev request) e)) (sym told) (stays slots members dev i m n same at_place err)
+
+pub poll_err : (slots members : List Member) (dev i : ℕ) (m n : Member) (fate : Fate) (r : Result Told StackFault) (P : Type 0) → slots ≡ members → IsNamed members dev i m
+    → OnErr r ((n ≡ m) × P) → IfErr r (λ e. slice_set slots i n ≡ refused_after members (Poll dev fate) e)
+poll_err slots members dev i m n fate (Ok told) P same at_place err = tt
+poll_err slots members dev i m n fate (Err fault) P same at_place err = stays slots members dev i m n same at_place err.0
+
+pub change_err : (slots members : List Member) (dev i : ℕ) (m n : Member) (change : Change) (done : Result (Unit {0}) ChangeFault) (r : Result Told StackFault) → slots ≡ members → IsNamed members dev i m → r ≡ change_told done
+    → snapshots.Changes (items_of m.layout) m.station.standing.snapshot change done n.station.standing.snapshot → n ≡ member_after m (Scheduled (Changes change))
+    → IfErr r (λ e. slice_set slots i n ≡ refused_after members (ChangeStep dev change) e)
+change_err slots members dev i m n change (Ok _) r same at_place told changes after = subst (λ (o : Result Told StackFault). IfErr o (λ e. slice_set slots i n ≡ refused_after members (ChangeStep dev change) e)) (sym told) tt
+change_err slots members dev i m n change (Err fault) r same at_place told changes after =
+    let none : member_after m (Scheduled (Changes change)) ≡ m
+    = ap (λ (o : Result (List Cell) ChangeFault). record m {
+      station = record m.station { standing = elim o as (λ _. Standing) [ Ok cells ↦ record m.station.standing { snapshot = cells } | Err f ↦ m.station.standing ] };
+    }) changes.0 in
+    subst (λ (o : Result Told StackFault). IfErr o (λ e. slice_set slots i n ≡ refused_after members (ChangeStep dev change) e)) (sym told) (stays slots members dev i m n same at_place (after ∙ none))
+
+-- a try
+abbrev pub control_told : Result Progress StackFault → Result Told StackFault
+control_told (Ok progress) = Ok (tellings.Transfer progress)
+control_told (Err fault) = Err fault
+
+control_stands : (members : List Member) (dev i : ℕ) (m : Member) (fate : Fate) → IsNamed members dev i m → refusal members (Control dev fate) ≡ control_refusal (running m.transfer)
+control_stands members dev i m fate at_place =
+    ap (λ (o : Option Member). elim o as (λ _. Option StackFault) [ None ↦ Some NoDevice | Some k ↦ control_refusal (running k.transfer) ]) at_place.here
+
+-- what a try of the transfer that runs comes to at the bus
+pub record TriesNamed (slots members : List Member) (dev i : ℕ) (m n : Member) (fate : Fate) (used capacity : ℕ) (r : Result Told StackFault) : Type 0 where
+  pub told : IfOk r (λ told. Tells members (Control dev fate) told)
+  pub after : OnOk r (slice_set slots i n ≡ one_after members dev (Controls fate))
+  pub refused : (e : StackFault) → refusal members (Control dev fate) ≡ Some e → r ≡ Err e
+  pub only : IfErr r (λ e. IsRefusal members (Control dev fate) e)
+  pub err : IfErr r (λ e. slice_set slots i n ≡ refused_after members (Control dev fate) e)
+  pub room : HasRoomFor members (Control dev fate) used capacity → r ≢ Err Memory
+
+tells_named : (members : List Member) (dev i : ℕ) (m : Member) (fate : Fate) (t : Transfer) (told : Told) → IsNamed members dev i m → running m.transfer ≡ Some t → told ≡ tellings.Transfer (progress_of (ends_tried_at fate m t).stage)
+    → Tells members (Control dev fate) told
+tells_named members dev i m fate t told at_place runs is =
+    subst (λ (o : Option Member). elim o as (λ _. Type 0) [ None ↦ ⊥ | Some k ↦ TellsTry fate k (running k.transfer) told ]) (sym at_place.here)
+    (subst (λ (o : Option Transfer). TellsTry fate m o told) (sym runs) is)
+
+unconcluded_at : (slots members : List Member) (dev i : ℕ) (m n : Member) (fate : Fate) → slots ≡ members → IsNamed members dev i m → n ≡ unconcluded_of fate m (running m.transfer)
+    → slice_set slots i n ≡ one_unconcluded members dev fate
+unconcluded_at slots members dev i m n fate same at_place is =
+    let place = at_place.place in
+    let to_one : with_member members dev (unconcluded_of fate m (running m.transfer)) ≡ one_unconcluded members dev fate
+    = sym (ap (λ (o : Option Member). elim o as (λ _. List Member) [ None ↦ members | Some k ↦ with_member members dev (unconcluded_of fate k (running k.transfer)) ]) at_place.here) in
+    let moved : slice_set slots i n ≡ with_member members dev (unconcluded_of fate m (running m.transfer)) = cc in
+    moved ∙ to_one
+
+tries_by : (slots members : List Member) (dev i : ℕ) (m n : Member) (fate : Fate) (used capacity : ℕ) (o : Option Transfer) (done : Result Progress StackFault) → slots ≡ members → IsNamed members dev i m
+    → running m.transfer ≡ o → TriesTransfer fate m o done n → TriesNamed slots members dev i m n fate used capacity (control_told done)
+tries_by slots members dev i m n fate used capacity None done same at_place runs tries =
+    let stands : refusal members (Control dev fate) ≡ Some (faults.Control NoTransfer) = control_stands members dev i m fate at_place ∙ ap control_refusal runs in
+    let told : control_told done ≡ Err (faults.Control NoTransfer) = ap control_told tries.0 in
+    let Named : Result Told StackFault → Type 0 = TriesNamed slots members dev i m n fate used capacity in
+    subst Named (sym told) (record {
+      told = tt;
+      after = tt;
+      refused = λ e refused. let one : Some (faults.Control NoTransfer) ≡ Some e = sym stands ∙ refused in cc;
+      only = inl stands;
+      err = stays slots members dev i m n same at_place tries.1;
+      room = λ room memory. cc;
+    })
+tries_by slots members dev i m n fate used capacity (Some t) (Ok progress) same at_place runs tries =
+    let stands : refusal members (Control dev fate) ≡ None = control_stands members dev i m fate at_place ∙ ap control_refusal runs in
+    record {
+      told = tells_named members dev i m fate t (tellings.Transfer progress) at_place runs (ap tellings.Transfer tries.0);
+      after = leaves slots members dev i m n (Controls fate) same at_place (tries.1 ∙ ap (tried_of fate m) (sym runs));
+      refused = λ e refused. let wrong : None ≡ Some e = sym stands ∙ refused in absurd (cc);
+      only = tt;
+      err = tt;
+      room = λ room memory. cc;
+    }
+tries_by slots members dev i m n fate used capacity (Some t) (Err fault) same at_place runs tries =
+    let stands : refusal members (Control dev fate) ≡ None = control_stands members dev i m fate at_place ∙ ap control_refusal runs in
+    let gives : GivesMore fate m (running m.transfer) = subst (GivesMore fate m) (sym runs) tries.1 in
+    let takes : TakesMemory members (Control dev fate) = (m, at_place.here, gives) in
+    let told : control_told (Err fault) ≡ Err Memory = ap (λ (f : StackFault). control_told (Err f)) tries.0 in
+    let Named : Result Told StackFault → Type 0 = TriesNamed slots members dev i m n fate used capacity in
+    subst Named (sym told) (record {
+      told = tt;
+      after = tt;
+      refused = λ e refused. let wrong : None ≡ Some e = sym stands ∙ refused in absurd (cc);
+      only = inr (stands, refl, takes);
+      err = unconcluded_at slots members dev i m n fate same at_place (tries.2 ∙ ap (unconcluded_of fate m) (sym runs));
+      room = λ room memory. absurd (room takes);
+    })
+
+pub tries_named : (slots members : List Member) (dev i : ℕ) (m n : Member) (fate : Fate) (used capacity : ℕ) (done : Result Progress StackFault) (r : Result Told StackFault) → slots ≡ members → IsNamed members dev i m
+    → TriesTransfer fate m (running m.transfer) done n → r ≡ control_told done → TriesNamed slots members dev i m n fate used capacity r
+tries_named slots members dev i m n fate used capacity done r same at_place tries told =
+    subst (λ (o : Result Told StackFault). TriesNamed slots members dev i m n fate used capacity o) (sym told) (tries_by slots members dev i m n fate used capacity (running m.transfer) done same at_place refl tries)
+
+pub control_between : (members : List Member) (dev i : ℕ) (m : Member) (fate : Fate) → IsNamed members dev i m → IsBetween m.station (deed_at m (Controls fate)) → ConfiguresBetweenRounds members (Control dev fate ∷ [])
+control_between members dev i m fate at_place between = try_between members dev fate (Some m) at_place.here between

@@ -36,8 +36,9 @@ use Rattle.hid_stack.specs.declared.step.Told.{Told}
 use Rattle.hid_stack.specs.declared.step.Told.TheVariants.{Polled}
 use Rattle.hid_host.specs.declared.phase.HostPhase.TheVariants.{Ready}
 use Rattle.hid_host.specs.Host.{HostEnd, ready_after}
-use Rattle.hid_stack.specs.Slot.{joined, member_with, joint, IsEven, ArePaired, IsPair}
-use Rattle.hid_stack.specs.Rig.{Member}
+use Rattle.hid_host.specs.declared.phase.HostState.TheVariants as states
+use Rattle.hid_stack.specs.Members.{Member}
+use Rattle.hid_stack.specs.Slot.{joined, joint, IsEven, ArePaired, IsPair}
 use Rattle.hid_host.specs.Ready.{Known, told_of, view_read, events_behind, read_or_refused}
 use Rattle.hid_stack.specs.Polls.{Hears, HearsAck, Ends, spelled, told_with}
 use Rattle.hid_lives.specs.Rounds.{part_events}
@@ -110,6 +111,19 @@ pub record Arrives (fate : Fate) (c : CoreState) (known : Known) (d : DeviceStat
   pub host_moved : host_then ≡ ready_after home (sharing c known) (taken known.pipe.expects reply)
   pub delivers : events ≡ events_behind (sharing c known) (taken known.pipe.expects reply)
   pub ended : Ends (arrives_under fate) (told_of c.layout (taken known.pipe.expects reply)) (polled_device d c) device_then
+
+-- the member of a device with this inside and of its ready host, by its station
+abbrev pub ready_member : DeviceState → HostEnd → CoreState → Station → Member
+ready_member d home c s = record {
+  addr = d.addr;
+  config = c.config;
+  descriptor = c.descriptor;
+  layout = c.layout;
+  station = s;
+  endpoint = record { is_configured = c.is_configured; answer = c.answer; pending = c.pending; stage = d.control.stage };
+  host = states.Ready;
+  transfer = home.transfer;
+}
 
 -- what a poll makes of the station, once a round was opened for it
 pub record Lands (fate : Fate) (of : Station → Member) (s : Station)
@@ -200,7 +214,7 @@ fresh_clean : (c : CoreState) (known : Known) (d : DeviceState) (home : HostEnd)
     → result ≡ told_with (Some (packets.Data c.toggle (payload bytes))) (told_of c.layout (Fresh (payload bytes)))
     → host_then ≡ ready_after home (sharing c known) (Fresh (payload bytes)) → events ≡ events_behind (sharing c known) (Fresh (payload bytes))
     → HearsAck (arrives_under Clean) (waiting d c r) device_then
-    → Lands Clean (member_with d.addr c) (open_station c known r true) result device_then host_then events
+    → Lands Clean (ready_member d home c) (open_station c known r true) result device_then host_then events
 fresh_clean c known d home r bytes result device_then host_then events meets reads shows same told moved delivers hears =
     let closes = ack_closes (arrives_under Clean) d c r device_then refl hears in
     let host_is = moved ∙ fresh_host (sharing c known) home r c.standing.fixed bytes reads in
@@ -227,14 +241,14 @@ fresh_ack_lost : (c : CoreState) (known : Known) (d : DeviceState) (home : HostE
     → result ≡ told_with (Some (packets.Data c.toggle (payload bytes))) (told_of c.layout (Fresh (payload bytes)))
     → host_then ≡ ready_after home (sharing c known) (Fresh (payload bytes)) → events ≡ events_behind (sharing c known) (Fresh (payload bytes))
     → HearsAck (arrives_under AckLost) (waiting d c r) device_then
-    → Lands AckLost (member_with d.addr c) (open_station c known r true) result device_then host_then events
+    → Lands AckLost (ready_member d home c) (open_station c known r true) result device_then host_then events
 fresh_ack_lost c known d home r bytes result device_then host_then events meets reads shows same told moved delivers hears =
     let stays = ack_lost (arrives_under AckLost) d c r device_then refl hears in
     let host_is = moved ∙ fresh_host (sharing c known) home r c.standing.fixed bytes reads in
     let crossed = other_differs c.toggle known.pipe.expects same in
     record {
       member = member_of device_then (waiting d c r) host_then home (seeing (sharing c known) r c.standing.fixed) stays host_is
-          ∙ ap (λ (b : Bool). member_with d.addr c (record {
+          ∙ ap (λ (b : Bool). ready_member d home c (record {
             standing = c.standing;
             current = Some (record { report = r; crossed = not b });
             odd = c.toggle;
@@ -261,7 +275,7 @@ again_clean : (c : CoreState) (known : Known) (d : DeviceState) (home : HostEnd)
     → result ≡ Ok (Polled (spelled (Some (packets.Data c.toggle (payload bytes)))) Again)
     → host_then ≡ ready_with home (sharing c known) → events ≡ []
     → HearsAck (arrives_under Clean) (waiting d c r) device_then
-    → Lands Clean (member_with d.addr c) (open_station c known r false) result device_then host_then events
+    → Lands Clean (ready_member d home c) (open_station c known r false) result device_then host_then events
 again_clean c known d home r bytes result device_then host_then events meets shows differ told moved delivers hears =
     let closes = ack_closes (arrives_under Clean) d c r device_then refl hears in
     record {
@@ -286,12 +300,12 @@ again_ack_lost : (c : CoreState) (known : Known) (d : DeviceState) (home : HostE
     → result ≡ Ok (Polled (spelled (Some (packets.Data c.toggle (payload bytes)))) Again)
     → host_then ≡ ready_with home (sharing c known) → events ≡ []
     → HearsAck (arrives_under AckLost) (waiting d c r) device_then
-    → Lands AckLost (member_with d.addr c) (open_station c known r false) result device_then host_then events
+    → Lands AckLost (ready_member d home c) (open_station c known r false) result device_then host_then events
 again_ack_lost c known d home r bytes result device_then host_then events meets shows differ told moved delivers hears =
     let stays = ack_lost (arrives_under AckLost) d c r device_then refl hears in
     record {
       member = member_of device_then (waiting d c r) host_then home (sharing c known) stays moved
-          ∙ ap (λ (b : Bool). member_with d.addr c (open_station c known r b)) differ;
+          ∙ ap (λ (b : Bool). ready_member d home c (open_station c known r b)) differ;
       delivered = delivers;
       told = (bytes, shows, told);
       pair = pair_of device_then (waiting d c r) host_then home (sharing c known) stays moved (record {
@@ -320,7 +334,7 @@ stays : (c : CoreState) (known : Known) (d : DeviceState) (home : HostEnd) (curr
     → IsEven c.toggle known.pipe.expects current → Meets d.addr (record c { current = current }) known → IsArmed c.layout c.standing.fixed current armed
     → result ≡ Ok (Polled (spelled (Some (answer_with c.toggle armed))) Silent)
     → device_then ≡ polled_device d (record c { current = current }) → host_then ≡ ready_with home (sharing c known) → events ≡ []
-    → Lands ReplyLost (member_with d.addr c) (joined (record c { current = current }) known) result device_then host_then events
+    → Lands ReplyLost (ready_member d home c) (joined (record c { current = current }) known) result device_then host_then events
 stays c known d home None None result device_then host_then events even meets arms told device_is host_is none = record {
   member = member_of device_then (polled_device d (record c { current = None })) host_then home (sharing c known) device_is host_is;
   delivered = none;
@@ -360,7 +374,7 @@ pub reply_lost : (c : CoreState) (known : Known) (d : DeviceState) (home : HostE
     → IsEven c.toggle known.pipe.expects current → Meets d.addr (record c { current = current }) known
     → IsArmed c.layout c.standing.fixed current armed → packet ≡ answer_with c.toggle armed
     → Arrives ReplyLost (record c { current = current }) known d home packet result device_then host_then events
-    → Lands ReplyLost (member_with d.addr c) (joined (record c { current = current }) known) result device_then host_then events
+    → Lands ReplyLost (ready_member d home c) (joined (record c { current = current }) known) result device_then host_then events
 reply_lost c known d home current armed packet result device_then host_then events even meets arms packet_is t =
     let lost = read_lost (arrives_under ReplyLost) Reply packet t.reply refl t.replied in
     let took : taken known.pipe.expects t.reply ≡ Silent = ap (taken known.pipe.expects) lost in
@@ -410,7 +424,7 @@ nak : (fate : Fate) (c : CoreState) (known : Known) (d : DeviceState) (home : Ho
     (result : Result Told StackFault) (device_then : DeviceState) (host_then : HostEnd) (events : List Event)
     → IsEven c.toggle known.pipe.expects None → Meets d.addr (record c { current = None }) known
     → Comes fate (record c { current = None }) known d home packets.Nak Nak result device_then host_then events
-    → (joint device_then host_then ≡ member_with d.addr c (joined (record c { current = None }) known))
+    → (joint device_then host_then ≡ ready_member d home c (joined (record c { current = None }) known))
     × (events ≡ []) × (result ≡ Ok (Polled (spelled (Some packets.Nak)) Nak)) × IsPair device_then host_then.phase
 nak fate c known d home result device_then host_then events even meets t = (
   member_of device_then (polled_device d (record c { current = None })) host_then home (sharing c known) t.ended t.host_moved,
@@ -429,12 +443,12 @@ nak fate c known d home result device_then host_then events even meets t = (
 )
 
 -- the station of an open round, by the toggles
-opens_station : (fate : Fate) (d : DeviceState) (c : CoreState) (known : Known) (r : ℕ) (b : Bool)
+opens_station : (fate : Fate) (d : DeviceState) (home : HostEnd) (c : CoreState) (known : Known) (r : ℕ) (b : Bool)
     (result : Result Told StackFault) (device_then : DeviceState) (host_then : HostEnd) (events : List Event)
-    → beq c.toggle known.pipe.expects ≡ b → Lands fate (member_with d.addr c) (open_station c known r b) result device_then host_then events
-    → Lands fate (member_with d.addr c) (joined (record c { current = Some r }) known) result device_then host_then events
-opens_station fate d c known r b result device_then host_then events is lands =
-    subst (λ (x : Bool). Lands fate (member_with d.addr c) (open_station c known r x) result device_then host_then events) (sym is) lands
+    → beq c.toggle known.pipe.expects ≡ b → Lands fate (ready_member d home c) (open_station c known r b) result device_then host_then events
+    → Lands fate (ready_member d home c) (joined (record c { current = Some r }) known) result device_then host_then events
+opens_station fate d home c known r b result device_then host_then events is lands =
+    subst (λ (x : Bool). Lands fate (ready_member d home c) (open_station c known r x) result device_then host_then events) (sym is) lands
 
 -- the row of data, by the toggles
 abbrev row : Bool → List ℕ → Took
@@ -445,7 +459,7 @@ pub clean : (c : CoreState) (known : Known) (d : DeviceState) (home : HostEnd) (
     → IsEven c.toggle known.pipe.expects current → Meets d.addr (record c { current = current }) known → IsArmed c.layout c.standing.fixed current armed
     → ((r : ℕ) (bytes : List ℕ) → current ≡ Some r → armed ≡ Some bytes → ReadsAsShown c.layout r c.standing.fixed bytes known.view)
     → Comes Clean (record c { current = current }) known d home (answer_with c.toggle armed) (took_where known.pipe.expects c.toggle armed) result device_then host_then events
-    → Lands Clean (member_with d.addr c) (joined (record c { current = current }) known) result device_then host_then events
+    → Lands Clean (ready_member d home c) (joined (record c { current = current }) known) result device_then host_then events
 clean c known d home None None result device_then host_then events even meets arms reads t =
     let done = nak Clean c known d home result device_then host_then events even meets t in
     record { member = done.0; delivered = done.1; told = ([], refl, done.2); pair = done.3 }
@@ -459,12 +473,12 @@ clean c known d home (Some r) (Some bytes) result device_then host_then events e
           result device_then host_then events (ap (λ (b : Bool). row b bytes) same) t in
           let acked : Ends (arrives_under Clean) (Ok (Fresh (payload bytes))) (waiting d c r) device_then
           = subst (λ (x : Result Took StackFault). Ends (arrives_under Clean) x (waiting d c r) device_then) (fresh_told (sharing c known) r c.standing.fixed bytes shown) f.ended in
-          opens_station Clean d c known r true result device_then host_then events same
+          opens_station Clean d home c known r true result device_then host_then events same
           (fresh_clean c known d home r bytes result device_then host_then events meets shown arms same f.told f.host_moved f.delivers acked)
       | inr differ ↦
           let f = comes_as Clean (record c { current = Some r }) known d home (answer_with c.toggle (Some bytes)) (took_where known.pipe.expects c.toggle (Some bytes)) Again
           result device_then host_then events (ap (λ (b : Bool). row b bytes) differ) t in
-          opens_station Clean d c known r false result device_then host_then events differ
+          opens_station Clean d home c known r false result device_then host_then events differ
           (again_clean c known d home r bytes result device_then host_then events meets arms differ f.told f.host_moved f.delivers f.ended)
     ]
 
@@ -473,7 +487,7 @@ pub ack_lost_poll : (c : CoreState) (known : Known) (d : DeviceState) (home : Ho
     → IsEven c.toggle known.pipe.expects current → Meets d.addr (record c { current = current }) known → IsArmed c.layout c.standing.fixed current armed
     → ((r : ℕ) (bytes : List ℕ) → current ≡ Some r → armed ≡ Some bytes → ReadsAsShown c.layout r c.standing.fixed bytes known.view)
     → Comes AckLost (record c { current = current }) known d home (answer_with c.toggle armed) (took_where known.pipe.expects c.toggle armed) result device_then host_then events
-    → Lands AckLost (member_with d.addr c) (joined (record c { current = current }) known) result device_then host_then events
+    → Lands AckLost (ready_member d home c) (joined (record c { current = current }) known) result device_then host_then events
 ack_lost_poll c known d home None None result device_then host_then events even meets arms reads t =
     let done = nak AckLost c known d home result device_then host_then events even meets t in
     record { member = done.0; delivered = done.1; told = ([], refl, done.2); pair = done.3 }
@@ -487,11 +501,11 @@ ack_lost_poll c known d home (Some r) (Some bytes) result device_then host_then 
           result device_then host_then events (ap (λ (b : Bool). row b bytes) same) t in
           let acked : Ends (arrives_under AckLost) (Ok (Fresh (payload bytes))) (waiting d c r) device_then
           = subst (λ (x : Result Took StackFault). Ends (arrives_under AckLost) x (waiting d c r) device_then) (fresh_told (sharing c known) r c.standing.fixed bytes shown) f.ended in
-          opens_station AckLost d c known r true result device_then host_then events same
+          opens_station AckLost d home c known r true result device_then host_then events same
           (fresh_ack_lost c known d home r bytes result device_then host_then events meets shown arms same f.told f.host_moved f.delivers acked)
       | inr differ ↦
           let f = comes_as AckLost (record c { current = Some r }) known d home (answer_with c.toggle (Some bytes)) (took_where known.pipe.expects c.toggle (Some bytes)) Again
           result device_then host_then events (ap (λ (b : Bool). row b bytes) differ) t in
-          opens_station AckLost d c known r false result device_then host_then events differ
+          opens_station AckLost d home c known r false result device_then host_then events differ
           (again_ack_lost c known d home r bytes result device_then host_then events meets arms differ f.told f.host_moved f.delivers f.ended)
     ]

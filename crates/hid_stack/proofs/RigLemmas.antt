@@ -1,51 +1,72 @@
 -- What holds of every device of a rig holds behind its calls.
-use Rattle.std.proofs.Common.{◌≡◌, ◌∙◌, ◌<◌, ◌≤◌, ◌++◌, take, drop, ap, arith, ℕ, List, [], ◌∷◌, length, get_or, map, Result, Ok, Err, OnOk, OnErr, sym, subst}
+use Rattle.std.proofs.Common.{◌≡◌, ◌∙◌, ◌<◌, ◌≤◌, ◌++◌, take, drop, ap, arith, ℕ, List, [], ◌∷◌, length, get_or, map, Option, Some, None, Result, Ok, Err, OnOk, OnErr, refl, sym, subst}
 use Rattle.std.specs.Prelude.{slice_set}
 use Rattle.std.proofs.lemmas.List.{take-append-le, take_all, length-map}
 use Rattle.std.proofs.lemmas.List.Elements.{All-get_or, All-set}
 use Rattle.hid_layout.specs.Controls.{items_of}
 use Rattle.hid_layout.specs.Layout.{Contents}
 use Rattle.hid_device.specs.declared.config.Config.{Config}
-use Rattle.hid_lives.specs.Rounds.{OwnStep, Frame}
+use Rattle.hid_lives.specs.Rounds.{Frame}
 use Rattle.hid_stack.specs.declared.step.Step.TheVariants.{Frame as FrameStep}
 use Rattle.hid_host.specs.declared.fault.StackFault.{StackFault}
-use Rattle.hid_stack.specs.declared.step.Told.{Told}
-use Rattle.hid_stack.specs.Rig.{Member, member_after, fresh_member}
+use Rattle.usb_transact.specs.declared.transaction.Fate.{Fate}
+use Rattle.usb_control.specs.declared.host.Progress.{Progress}
+use Rattle.hid_host.specs.declared.host.Transfer.{Transfer}
+use Rattle.hid_host.specs.Host.{running}
+use Rattle.hid_stack.specs.declared.rig.Start.{Start}
+use Rattle.hid_stack.specs.declared.rig.Start.TheVariants as starts
+use Rattle.hid_stack.specs.Attaching.{member_at_start}
+use Rattle.hid_stack.specs.Members.{Member, MemberStep, Scheduled, Controls, member_after, tried_of}
+use Rattle.hid_stack.specs.Slot.{TriesTransfer}
 use Rattle.hid_stack.specs.Sums.{AllHaveMotions}
-use Rattle.hid_lives.proofs.MotionLemmas.{step_moving, fresh_has}
-use Rattle.hid_stack.proofs.SumLemmas.{HasItsMotions, bus_has, attached_has}
-
--- one device behind a step
-stepped : (m n : Member) (x : OwnStep) → n ≡ member_after m x → HasItsMotions m → HasItsMotions n
-stepped m n x is has = subst HasItsMotions (sym is) (step_moving (items_of m.layout) m.station x has)
+use Rattle.hid_lives.proofs.MotionLemmas.{fresh_has}
+use Rattle.hid_stack.proofs.SumLemmas.{HasItsMotions, after_member, after_unconcluded, bus_has, attached_has}
 
 at_place : (members : List Member) (i : ℕ) (m : Member) → AllHaveMotions members → i < length members → m ≡ get_or members i m → HasItsMotions m
 at_place members i m all within is = subst HasItsMotions (sym is) (All-get_or HasItsMotions members i m within all)
 
-pub stepped_have : (members : List Member) (i : ℕ) (m n : Member) (x : OwnStep) → AllHaveMotions members → i < length members → m ≡ get_or members i m → n ≡ member_after m x
+-- behind a call that is a step of a device, or that is refused and changes nothing, or makes a try
+pub stepped_have : (members : List Member) (i : ℕ) (m n : Member) → AllHaveMotions members → i < length members → m ≡ get_or members i m → (HasItsMotions m → HasItsMotions n)
     → AllHaveMotions (slice_set members i n)
-stepped_have members i m n x all within is after = All-set HasItsMotions members i n (stepped m n x after (at_place members i m all within is)) all
+stepped_have members i m n all within is goes = All-set HasItsMotions members i n (goes (at_place members i m all within is)) all
 
--- behind a poll, which memory may refuse
-polled_has : (m n : Member) (x : OwnStep) (result : Result Told StackFault) (P : Type 0) → OnOk result (n ≡ member_after m x) → OnErr result ((n ≡ m) × P) → HasItsMotions m → HasItsMotions n
-polled_has m n x (Ok told) P after err has = stepped m n x after has
-polled_has m n x (Err fault) P after err has = subst HasItsMotions (sym err.0) has
+pub stepped : (m n : Member) (x : MemberStep) → n ≡ member_after m x → HasItsMotions m → HasItsMotions n
+stepped m n x is has = subst HasItsMotions (sym is) (after_member m x has)
 
-pub polled_have : (members : List Member) (i : ℕ) (m n : Member) (x : OwnStep) (result : Result Told StackFault) (P : Type 0) → AllHaveMotions members → i < length members → m ≡ get_or members i m
-    → OnOk result (n ≡ member_after m x) → OnErr result ((n ≡ m) × P) → AllHaveMotions (slice_set members i n)
-polled_have members i m n x result P all within is after err = All-set HasItsMotions members i n (polled_has m n x result P after err (at_place members i m all within is)) all
+pub called : {A : Type 0} (m n : Member) (x : MemberStep) (result : Result A StackFault) → OnOk result (n ≡ member_after m x) → OnErr result (n ≡ m) → HasItsMotions m → HasItsMotions n
+called m n x (Ok told) after err has = stepped m n x after has
+called m n x (Err fault) after err has = subst HasItsMotions (sym err) has
+
+pub polled : {A : Type 0} (m n : Member) (x : MemberStep) (result : Result A StackFault) (P : Type 0) → OnOk result (n ≡ member_after m x) → OnErr result ((n ≡ m) × P) → HasItsMotions m → HasItsMotions n
+polled m n x (Ok told) P after err has = stepped m n x after has
+polled m n x (Err fault) P after err has = subst HasItsMotions (sym err.0) has
+
+tried_by : (fate : Fate) (m n : Member) (o : Option Transfer) (result : Result Progress StackFault) → running m.transfer ≡ o → TriesTransfer fate m o result n → HasItsMotions m → HasItsMotions n
+tried_by fate m n None result is tries has = subst HasItsMotions (sym tries.1) has
+tried_by fate m n (Some t) (Ok progress) is tries has =
+    stepped m n (Controls fate) (tries.1 ∙ ap (tried_of fate m) (sym is)) has
+tried_by fate m n (Some t) (Err fault) is tries has = subst HasItsMotions (sym tries.2) (after_unconcluded fate m (Some t) has)
+
+pub tried : (fate : Fate) (m n : Member) (result : Result Progress StackFault) → TriesTransfer fate m (running m.transfer) result n → HasItsMotions m → HasItsMotions n
+tried fate m n result tries has = tried_by fate m n (running m.transfer) result refl tries has
 
 -- behind a frame, whose slots stand in the memory of the list before
-pub framed_hold : (members new : List Member) (len cap limit : ℕ) → (length members ≤ limit) × (limit ≤ cap) × AllHaveMotions members → new ≡ map (λ (m : Member). member_after m Frame) members → length new ≡ len
+pub framed_hold : (members new : List Member) (len cap limit : ℕ) → (length members ≤ limit) × (limit ≤ cap) × AllHaveMotions members → new ≡ map (λ (m : Member). member_after m (Scheduled Frame)) members → length new ≡ len
     → (length (take len (new ++ drop (length new) members)) ≤ limit) × (limit ≤ cap) × AllHaveMotions (take len (new ++ drop (length new) members))
 framed_hold members new len cap limit (within, room, all) is size =
     let whole : take len (new ++ drop (length new) members) ≡ new = take-append-le len new (drop (length new) members) (omega arith) ∙ take_all len new (omega arith) in
-    let same : length new ≡ length members = ap (λ (ms : List Member). length ms) is ∙ length-map members (λ (m : Member). member_after m Frame) in
+    let same : length new ≡ length members = ap (λ (ms : List Member). length ms) is ∙ length-map members (λ (m : Member). member_after m (Scheduled Frame)) in
     subst (λ (ms : List Member). (length ms ≤ limit) × (limit ≤ cap) × AllHaveMotions ms) (sym whole)
     (omega arith, room, subst AllHaveMotions (sym is) (bus_has members FrameStep all))
 
 -- where a device was attached
-pub attached_have : (members new : List Member) (m : Member) (addr : ℕ) (config : Config) (descriptor : List ℕ) (layout : Contents) → AllHaveMotions members
-    → m ≡ fresh_member addr config descriptor layout → new ≡ members ++ m ∷ [] → AllHaveMotions new
-attached_have members new m addr config descriptor layout all is new_is =
-    subst AllHaveMotions (sym new_is) (attached_has members m all (subst HasItsMotions (sym is) (fresh_has (items_of layout) _)))
+starts_with : (start : Start) (addr : ℕ) (config : Config) (descriptor : List ℕ) (layout : Contents) → HasItsMotions (member_at_start start addr config descriptor layout)
+starts_with starts.Ready addr config descriptor layout = fresh_has (items_of layout) _
+starts_with starts.Cold addr config descriptor layout =
+    let has = fresh_has (items_of layout) [] in
+    record { snapshot = has.snapshot; fixed = has.fixed; view = has.view }
+
+pub attached_have : (members new : List Member) (m : Member) (start : Start) (addr : ℕ) (config : Config) (descriptor : List ℕ) (layout : Contents) → AllHaveMotions members
+    → m ≡ member_at_start start addr config descriptor layout → new ≡ members ++ m ∷ [] → AllHaveMotions new
+attached_have members new m start addr config descriptor layout all is new_is =
+    subst AllHaveMotions (sym new_is) (attached_has members m all (subst HasItsMotions (sym is) (starts_with start addr config descriptor layout)))

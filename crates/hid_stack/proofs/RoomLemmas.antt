@@ -1,18 +1,24 @@
 -- Room for what steps deliver: no step changes a layout, so behind any steps a device delivers as many events at most.
-use Rattle.std.proofs.Common.{◌≡◌, ◌∙◌, ◌≤◌, ◌<◌, ◌+◌, ◌-◌, ◌++◌, ℕ, zero, suc, Bool, true, false, List, [], ◌∷◌, length, map, take, get_or, cond, eqb, Option, Some, None, refl, ap, sym, arith}
+use Rattle.std.proofs.Common.{◌≡◌, ◌∙◌, ◌≤◌, ◌<◌, ◌+◌, ◌-◌, ◌++◌, ℕ, zero, suc, Bool, true, false, List, [], ◌∷◌, length, map, take, get_or, cond, eqb, not, Option, Some, None, Result, Ok, Err, refl, ap, sym, subst, arith}
 use Rattle.std.specs.Prelude.{slice_get, IfSome}
 use Rattle.std.specs.Option.{option_map}
 use Rattle.std.proofs.Math.Seq.{map-set_same}
+use Rattle.std.proofs.lemmas.Bool.Decides.{nat_tests}
 use Rattle.std.proofs.lemmas.List.{take_more}
+use Rattle.std.proofs.lemmas.List.Elements.{All-get_or}
 use Rattle.std.proofs.lemmas.Option.{slice_get-map, get_or_from_slice_get}
 use Rattle.std.proofs.lemmas.Simd.{map-map}
 use Rattle.hid_layout.specs.Controls.{items_of, max_events}
 use Rattle.hid_layout.specs.Layout.{Contents}
-use Rattle.hid_lives.specs.Rounds.{OwnStep, Changes, Polls}
+use Rattle.hid_lives.specs.Rounds.{Changes, Polls}
 use Rattle.hid_lives.specs.Rounds as own_steps
 use Rattle.hid_stack.specs.declared.step.Step.{Step}
-use Rattle.hid_stack.specs.declared.step.Step.TheVariants.{Change, Frame, Poll}
-use Rattle.hid_stack.specs.Rig.{Member, member_after, member_at, with_member, one_after, bus_after, bus_after_all, HasRoomFor, most_events, most_in}
+use Rattle.hid_stack.specs.declared.step.Step.TheVariants.{Change, Frame, Poll, Begin, Control}
+use Rattle.hid_stack.specs.Members.{Member, MemberStep, Scheduled, Begins, Controls, member_after}
+use Rattle.hid_stack.specs.Rig.{AreScheduled, member_at, with_member, one_after, bus_after, bus_after_all, HasRoomFor, is_scheduled, most_events, most_in, refusal, refused_after, stopped_after, IsRefusal, NoneIsRefused, StopsAt}
+use Rattle.hid_stack.specs.declared.step.Told.{Told}
+use Rattle.hid_host.specs.declared.fault.StackFault.{StackFault}
+use Rattle.hid_stack.proofs.MemberLemmas.{layout_stays}
 
 abbrev layout_of_member : Member → Contents
 layout_of_member m = m.layout
@@ -23,7 +29,7 @@ layouts members = map layout_of_member members
 found_layout : (members : List Member) (i : ℕ) (m : Member) → slice_get members i ≡ Some m → m.layout ≡ (get_or members i m).layout
 found_layout members i m h = ap layout_of_member (sym (get_or_from_slice_get members i m m h))
 
-one_layouts : (members : List Member) (dev : ℕ) (x : OwnStep) → layouts (one_after members dev x) ≡ layouts members
+one_layouts : (members : List Member) (dev : ℕ) (x : MemberStep) → layouts (one_after members dev x) ≡ layouts members
 one_layouts members dev x = by_member (member_at members dev) refl
   where
     by_number : (b : Bool) (m : Member) → cond b None (slice_get members (dev - 1)) ≡ Some m → m.layout ≡ (get_or members (dev - 1) m).layout
@@ -32,12 +38,14 @@ one_layouts members dev x = by_member (member_at members dev) refl
 
     by_member : (o : Option Member) → member_at members dev ≡ o → layouts (elim o as (λ _. List Member) [ None ↦ members | Some m ↦ with_member members dev (member_after m x) ]) ≡ layouts members
     by_member None e = refl
-    by_member (Some m) e = map-set_same layout_of_member members (dev - 1) (member_after m x) m (by_number (eqb dev 0) m e)
+    by_member (Some m) e = map-set_same layout_of_member members (dev - 1) (member_after m x) m (layout_stays m x ∙ by_number (eqb dev 0) m e)
 
 bus_layouts : (members : List Member) (x : Step) → layouts (bus_after members x) ≡ layouts members
-bus_layouts members (Change dev change) = one_layouts members dev (Changes change)
-bus_layouts members Frame = map-map layout_of_member (λ (m : Member). member_after m own_steps.Frame) members
-bus_layouts members (Poll dev fate) = one_layouts members dev (Polls fate)
+bus_layouts members (Change dev change) = one_layouts members dev (Scheduled (Changes change))
+bus_layouts members Frame = map-map layout_of_member (λ (m : Member). member_after m (Scheduled own_steps.Frame)) members
+bus_layouts members (Poll dev fate) = one_layouts members dev (Scheduled (Polls fate))
+bus_layouts members (Begin dev request) = one_layouts members dev (Begins request)
+bus_layouts members (Control dev fate) = one_layouts members dev (Controls fate)
 
 all_layouts : (members : List Member) (steps : List Step) → layouts (bus_after_all members steps) ≡ layouts members
 all_layouts members [] = refl
@@ -66,6 +74,8 @@ most_named members dev = by_number (eqb dev 0)
 most_same : (members : List Member) (steps : List Step) (x : Step) → most_events (bus_after_all members steps) x ≡ most_events members x
 most_same members steps (Change dev change) = refl
 most_same members steps Frame = refl
+most_same members steps (Begin dev request) = refl
+most_same members steps (Control dev fate) = refl
 most_same members steps (Poll dev fate) =
     most_named (bus_after_all members steps) dev
     ∙ ap (λ (ls : List Contents). most_of (cond (eqb dev 0) None (slice_get ls (dev - 1)))) (all_layouts members steps)
@@ -89,19 +99,67 @@ most_part members [] i d lt = absurd (omega arith)
 most_part members (x ∷ steps) zero d lt = omega arith
 most_part members (x ∷ steps) (suc i) d lt = omega (arith, most_part members steps i d (omega arith))
 
-has_room : (members : List Member) (x : Step) (used capacity : ℕ) → used + most_events members x ≤ capacity → HasRoomFor members x used capacity
-has_room members (Change dev change) used capacity room = tt
-has_room members Frame used capacity room = tt
-has_room members (Poll dev fate) used capacity room = by_member (member_at members dev) room
+-- a step that is of no transfer of any device
+abbrev IsOfNone : Step → Type 0
+IsOfNone x = (device : ℕ) → is_scheduled device x ≡ true
+
+names_itself : (d : ℕ) → not (eqb d d) ≡ true → ⊥
+names_itself d h = grind (arith, nat_tests)
+
+has_room : (members : List Member) (x : Step) (used capacity : ℕ) → IsOfNone x → used + most_events members x ≤ capacity → HasRoomFor members x used capacity
+has_room members (Change dev change) used capacity none room = tt
+has_room members Frame used capacity none room = tt
+has_room members (Poll dev fate) used capacity none room = by_member (member_at members dev) room
   where
     by_member : (o : Option Member) → used + polled_most o ≤ capacity → IfSome o (λ (m : Member). used + max_events (items_of m.layout) ≤ capacity)
     by_member None h = tt
     by_member (Some m) h = h
+has_room members (Begin dev request) used capacity none room = absurd (names_itself dev (none dev))
+has_room members (Control dev fate) used capacity none room = absurd (names_itself dev (none dev))
+
+none_at : (steps : List Step) (i : ℕ) (d : Step) → i < length steps → AreScheduled steps → IsOfNone (get_or steps i d)
+none_at steps i d lt all device = All-get_or (λ x. is_scheduled device x ≡ true) steps i d lt (all device)
 
 -- where there is room for all steps, there is room for each as it comes
 pub room_at : (members mid : List Member) (steps : List Step) (i : ℕ) (d : Step) (first used capacity now : ℕ) → i < length steps → mid ≡ bus_after_all members (take i steps)
-    → used ≤ first + most_in members (take i steps) → capacity ≤ now → first + most_in members steps ≤ capacity → HasRoomFor mid (get_or steps i d) used now
-room_at members mid steps i d first used capacity now lt before few grows room =
+    → used ≤ first + most_in members (take i steps) → capacity ≤ now → AreScheduled steps → first + most_in members steps ≤ capacity → HasRoomFor mid (get_or steps i d) used now
+room_at members mid steps i d first used capacity now lt before few grows all room =
     let same = ap (λ (ms : List Member). most_events ms (get_or steps i d)) before ∙ most_same members (take i steps) (get_or steps i d) in
     let part = most_part members steps i d lt in
-    has_room mid (get_or steps i d) used now (omega (arith, few, grows, room, same, part))
+    has_room mid (get_or steps i d) used now (none_at steps i d lt all) (omega (arith, few, grows, room, same, part))
+
+-- where a run stops, the refused step leaves the bus so
+read_at : (steps : List Step) (i : ℕ) (d : Step) → i < length steps → slice_get steps i ≡ Some (get_or steps i d)
+read_at [] i d lt = absurd (omega (arith, lt))
+read_at (x ∷ steps) zero d lt = refl
+read_at (x ∷ steps) (suc i) d lt = read_at steps i d (omega (arith, lt))
+
+pub stopped : (members mid new : List Member) (steps : List Step) (i : ℕ) (d : Step) (e : StackFault) → i < length steps → mid ≡ bus_after_all members (take i steps)
+    → new ≡ refused_after mid (get_or steps i d) e → new ≡ stopped_after members steps i e
+stopped members mid new steps i d e lt before one =
+    one ∙ ap (λ (ms : List Member). refused_after ms (get_or steps i d) e) before
+    ∙ sym (ap (λ (o : Option Step). elim o as (λ _. List Member) [ None ↦ members | Some x ↦ refused_after (bus_after_all members (take i steps)) x e ]) (read_at steps i d lt))
+
+pub stops_at : (members mid : List Member) (steps : List Step) (i : ℕ) (d : Step) (e : StackFault) → i < length steps → NoneIsRefused members (take i steps) → mid ≡ bus_after_all members (take i steps)
+    → IsRefusal mid (get_or steps i d) e → StopsAt members steps i e
+stops_at members mid steps i d e lt none before refused = (
+  lt,
+  none,
+  subst (λ (o : Option Step). IfSome o (λ x. IsRefusal (bus_after_all members (take i steps)) x e)) (sym (read_at steps i d lt))
+      (subst (λ (ms : List Member). IsRefusal ms (get_or steps i d) e) before refused),
+)
+
+-- what is told isn't refused
+pub not_refused : (o : Option StackFault) (r : Result Told StackFault) (told : Told) → r ≡ Ok told → ((e : StackFault) → o ≡ Some e → r ≡ Err e) → o ≡ None
+not_refused None r told is refused = refl
+not_refused (Some e) r told is refused = let wrong : Ok told ≡ Err e = sym is ∙ refused e refl in absurd (cc)
+
+none_push : (xs : List Step) (members : List Member) (x : Step) → NoneIsRefused members xs → refusal (bus_after_all members xs) x ≡ None → NoneIsRefused members (xs ++ x ∷ [])
+none_push [] members x none here = (here, tt)
+none_push (y ∷ xs) members x none here = (none.0, none_push xs (bus_after members y) x none.1 here)
+
+pub goes_on_more : (members mid : List Member) (steps : List Step) (i : ℕ) (d : Step) → i < length steps → mid ≡ bus_after_all members (take i steps)
+    → NoneIsRefused members (take i steps) → refusal mid (get_or steps i d) ≡ None → NoneIsRefused members (take (i + 1) steps)
+goes_on_more members mid steps i d lt before none here =
+    subst (NoneIsRefused members) (sym (take_more steps i d lt))
+    (none_push (take i steps) members (get_or steps i d) none (subst (λ (ms : List Member). refusal ms (get_or steps i d) ≡ None) before here))

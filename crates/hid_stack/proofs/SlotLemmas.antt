@@ -1,5 +1,5 @@
 -- A device and its host as one slot of the bus.
-use Rattle.std.proofs.Common.{◌≡◌, ◌∙◌, ◌≤◌, ℕ, List, Ok, refl, ap, sym, subst}
+use Rattle.std.proofs.Common.{◌≡◌, ◌∙◌, ◌≤◌, ℕ, Bool, true, List, Option, Ok, refl, ap, sym, subst}
 use Rattle.hid_layout.specs.Controls.{items_of, max_events}
 use Rattle.hid_descriptor.specs.Laws.{HasOneReading, AcceptsNoRefused}
 use Rattle.hid_layout.specs.Layout.{Contents, layout_of}
@@ -8,20 +8,26 @@ use Rattle.hid_layout.proofs.WellFormed.{layout_of_accepted}
 use Rattle.hid_cells.specs.declared.change.Change.{Change}
 use Rattle.hid_cells.proofs.BlankLemmas.{initial_fits}
 use Rattle.hid_device.specs.declared.config.Config.{Config}
-use Rattle.hid_device.specs.Core.{IsSound}
+use Rattle.hid_device.specs.Core.{CoreState, IsSound, changed_core}
 use Rattle.hid_device.specs.Laying.{Lays}
 use Rattle.hid_device.specs.Device.{DeviceState, changed_device, configured_device, core_of}
 use Rattle.hid_device.specs.Making.{MakesDevice, new_device}
 use Rattle.hid_host.specs.declared.fault.StackFault.{StackFault}
 use Rattle.hid_host.specs.declared.fault.StackFault.TheVariants as faults
 use Rattle.hid_host.specs.declared.fault.DescriptorFault.TheVariants.{Info, ReportLength, Layout, Device}
-use Rattle.hid_stack.specs.Attaching.{Suits, IsNoPair}
+use Rattle.usb_control.specs.Device.{DevControlState}
+use Rattle.hid_host.specs.Knowing.{Knows, LeavesTransfers, with_core}
+use Rattle.hid_host.specs.Phase.{state_of}
+use Rattle.hid_host.specs.Ready.{Known}
+use Rattle.hid_host.specs.declared.phase.HostState.TheVariants as states
+use Rattle.hid_stack.specs.declared.rig.Start.{Start}
+use Rattle.hid_stack.specs.declared.rig.Start.TheVariants as starts
+use Rattle.hid_stack.specs.Attaching.{Suits, IsNoPair, member_at_start}
 use Rattle.hid_host.specs.Conclusions.{IsNoLayout}
-use Rattle.hid_host.specs.Host.{HostEnd, ready_host}
+use Rattle.hid_host.specs.Host.{HostEnd, cold_host, ready_host}
 use Rattle.hid_host.specs.declared.phase.HostPhase.{HostPhase}
 use Rattle.hid_host.specs.declared.phase.HostPhase.TheVariants.{Cold, Described, Parsed, Ready}
-use Rattle.hid_stack.specs.Slot.{joint, ArePaired, IsPair}
-use Rattle.hid_stack.specs.Rig.{fresh_member}
+use Rattle.hid_stack.specs.Slot.{joint, IsEven, IsPair, IsUntouched, StandTogether}
 
 -- where the device accepts the descriptor, its host lacks nothing but memory
 pub no_pair : (addr : ℕ) (config : Config) (descriptor : List ℕ) (fault : StackFault) (made : DeviceState)
@@ -40,27 +46,38 @@ no_pair addr config descriptor (faults.Report f) made law makes none = absurd no
 no_pair addr config descriptor faults.TooManyDevices made law makes none = absurd none
 
 -- a device and a host that were made from one descriptor
-pub record Made (addr : ℕ) (config : Config) (descriptor : List ℕ) (device : DeviceState) (host : HostEnd) : Type 0 where
+pub record Made (start : Start) (addr : ℕ) (config : Config) (descriptor : List ℕ) (device : DeviceState) (host : HostEnd) : Type 0 where
   pub layout : Contents
   pub suits : Suits addr config descriptor layout
-  pub member : joint device host ≡ fresh_member addr config descriptor layout
-  pub pair : IsPair device host.phase
+  pub member : joint device host ≡ member_at_start start addr config descriptor layout
+  pub together : StandTogether device host.phase
+  pub knows : Knows host device.control
   pub home : host.addr ≡ device.addr
 
-pub makes : (addr : ℕ) (config : Config) (descriptor : List ℕ) (made device : DeviceState) (host : HostEnd)
-    → HasOneReading → MakesDevice addr config descriptor (Ok made) → device ≡ configured_device made
+-- laws of hosts that know their devices
+abbrev StartsReady : Type 0
+StartsReady = (addr : ℕ) (control : DevControlState CoreState) → control.requests.is_configured ≡ true → Knows (ready_host addr control.requests.layout) control
+
+abbrev StartsCold : Type 0
+StartsCold = (addr : ℕ) (control : DevControlState CoreState) → Knows (cold_host addr) control
+
+laid_by : (descriptor : List ℕ) (layout : Contents) → Lays descriptor layout → IsLayout layout
+laid_by descriptor layout lays = subst IsLayout (sym lays.laid) (layout_of_accepted descriptor lays.items lays.accepted)
+
+pub makes_ready : (addr : ℕ) (config : Config) (descriptor : List ℕ) (made device : DeviceState) (host : HostEnd)
+    → HasOneReading → StartsReady → MakesDevice addr config descriptor (Ok made) → device ≡ configured_device made
     → ((other : Contents) × Lays descriptor other × (host ≡ ready_host addr other)) → IsSound (core_of device)
-    → Made addr config descriptor device host
-makes addr config descriptor made device host law (fits, (layout, serves, made_is)) device_was (other, lays, host_was) sound =
+    → Made starts.Ready addr config descriptor device host
+makes_ready addr config descriptor made device host law begins (fits, (layout, serves, made_is)) device_was (other, lays, host_was) sound =
     let same : other ≡ layout = lays.laid ∙ ap layout_of (law descriptor lays.items serves.lays.items lays.accepted serves.lays.accepted) ∙ sym serves.lays.laid in
     let device_is : device ≡ configured_device (new_device addr config descriptor layout) = device_was ∙ ap configured_device made_is in
     let host_is : host ≡ ready_host addr layout = host_was ∙ ap (ready_host addr) same in
-    let laid : IsLayout layout = subst IsLayout (sym serves.lays.laid) (layout_of_accepted descriptor serves.lays.items serves.lays.accepted) in
+    let laid : IsLayout layout = laid_by descriptor layout serves.lays in
     record {
       layout = layout;
       suits = record { config_fits = fits; serves = serves };
       member = ap (λ (d : DeviceState). joint d host) device_is ∙ ap (λ (h : HostEnd). joint (configured_device (new_device addr config descriptor layout)) h) host_is;
-      pair = subst (λ (d : DeviceState). IsPair d host.phase) (sym device_is) (subst (λ (h : HostEnd). IsPair (configured_device (new_device addr config descriptor layout)) h.phase) (sym host_is) (record {
+      together = subst (λ (d : DeviceState). StandTogether d host.phase) (sym device_is) (subst (λ (h : HostEnd). StandTogether (configured_device (new_device addr config descriptor layout)) h.phase) (sym host_is) (record {
         configured = refl;
         layout = refl;
         addr = refl;
@@ -70,33 +87,102 @@ makes addr config descriptor made device host law (fits, (layout, serves, made_i
         laid = laid;
         fits = initial_fits layout laid;
       }));
+      knows = subst (λ (d : DeviceState). Knows host d.control) (sym device_is) (subst (λ (h : HostEnd). Knows h (configured_device (new_device addr config descriptor layout)).control) (sym host_is)
+          (begins addr (configured_device (new_device addr config descriptor layout)).control refl));
       home = ap (λ (h : HostEnd). h.addr) host_is ∙ sym (ap (λ (d : DeviceState). d.addr) device_is);
     }
 
--- a change leaves a device paired with its host
-changed_pair_at : (device device_then : DeviceState) (phase : HostPhase) (change : Change) → device_then ≡ changed_device device change → IsSound (core_of device_then)
-    → IsPair device phase → IsPair device_then phase
-changed_pair_at device device_then Cold change is sound pair = absurd pair
-changed_pair_at device device_then (Described info) change is sound pair = absurd pair
-changed_pair_at device device_then (Parsed info layout) change is sound pair = absurd pair
-changed_pair_at device device_then (Ready known) change is sound pair =
-    let sound_then = subst (λ (d : DeviceState). IsSound (core_of d)) is sound in
-    subst (λ (d : DeviceState). ArePaired d known) (sym is) (record {
-      configured = pair.configured;
-      layout = pair.layout;
-      addr = pair.addr;
-      endp = pair.endp;
-      even = pair.even;
-      sound = sound_then;
-      laid = pair.laid;
-      fits = pair.fits;
-    })
+pub makes_cold : (addr : ℕ) (config : Config) (descriptor : List ℕ) (device : DeviceState) (host : HostEnd)
+    → StartsCold → MakesDevice addr config descriptor (Ok device) → host ≡ cold_host addr → IsSound (core_of device)
+    → Made starts.Cold addr config descriptor device host
+makes_cold addr config descriptor device host begins (fits, (layout, serves, device_is)) host_is sound =
+    let made = new_device addr config descriptor layout in
+    record {
+      layout = layout;
+      suits = record { config_fits = fits; serves = serves };
+      member = ap (λ (d : DeviceState). joint d host) device_is ∙ ap (λ (h : HostEnd). joint made h) host_is;
+      together = subst (λ (h : HostEnd). StandTogether device h.phase) (sym host_is) (record {
+        sound = sound;
+        no_round = ap (λ (d : DeviceState). (core_of d).current) device_is;
+        even = ap (λ (d : DeviceState). (core_of d).toggle) device_is;
+      });
+      knows = subst (λ (h : HostEnd). Knows h device.control) (sym host_is) (begins addr device.control);
+      home = ap (λ (h : HostEnd). h.addr) host_is ∙ sym (ap (λ (d : DeviceState). d.addr) device_is);
+    }
 
-pub changed_pair : (device device_then : DeviceState) (host : HostEnd) (phase : HostPhase) (change : Change) (capacity : ℕ) → device_then ≡ changed_device device change → IsSound (core_of device_then)
-    → IsPair device phase × (host.addr ≡ device.addr) × (max_events (items_of (core_of device).layout) ≤ capacity)
-    → IsPair device_then phase × (host.addr ≡ device_then.addr) × (max_events (items_of (core_of device_then).layout) ≤ capacity)
-changed_pair device device_then host phase change capacity is sound (pair, home, room) = (
-  changed_pair_at device device_then phase change is sound pair,
-  home ∙ sym (ap (λ (d : DeviceState). d.addr) is),
-  subst (λ (d : DeviceState). max_events (items_of (core_of d).layout) ≤ capacity) (sym is) room,
+-- ---- what leaves the two together
+
+-- what a step of the schedule leaves of a device
+pub record Leaves (device device_then : DeviceState) : Type 0 where
+  pub addr : device_then.addr ≡ device.addr
+  pub layout : (core_of device_then).layout ≡ (core_of device).layout
+  pub configured : (core_of device_then).is_configured ≡ (core_of device).is_configured
+  pub current : (core_of device_then).current ≡ (core_of device).current
+  pub toggle : (core_of device_then).toggle ≡ (core_of device).toggle
+  pub sound : IsSound (core_of device_then)
+
+untouched_on : (device device_then : DeviceState) → Leaves device device_then → IsUntouched (core_of device) → IsUntouched (core_of device_then)
+untouched_on device device_then l u = record { sound = l.sound; no_round = l.current ∙ u.no_round; even = l.toggle ∙ u.even }
+
+even_on : (known : Known) (t u : Bool) (o p : Option ℕ) → u ≡ t → p ≡ o → IsEven t known.pipe.expects o → IsEven u known.pipe.expects p
+even_on known t u o p toggle current even = subst (λ (b : Bool). IsEven b known.pipe.expects p) (sym toggle) (subst (λ (x : Option ℕ). IsEven t known.pipe.expects x) (sym current) even)
+
+pub stays_together : (phase : HostPhase) (device device_then : DeviceState) → Leaves device device_then → StandTogether device phase → StandTogether device_then phase
+stays_together Cold device device_then l u = untouched_on device device_then l u
+stays_together (Described info) device device_then l u = untouched_on device device_then l u
+stays_together (Parsed info layout) device device_then l u = untouched_on device device_then l u
+stays_together (Ready known) device device_then l pair = record {
+  configured = l.configured ∙ pair.configured;
+  layout = pair.layout ∙ sym l.layout;
+  addr = pair.addr ∙ sym l.addr;
+  endp = pair.endp;
+  even = even_on known (core_of device).toggle (core_of device_then).toggle (core_of device).current (core_of device_then).current l.toggle l.current pair.even;
+  sound = l.sound;
+  laid = pair.laid;
+  fits = pair.fits;
+}
+
+-- and of the invariant of a slot
+abbrev Holds : DeviceState → HostEnd → ℕ → Type 0
+Holds device host capacity = StandTogether device host.phase × Knows host device.control × (host.addr ≡ device.addr) × (max_events (items_of (core_of device).layout) ≤ capacity)
+
+abbrev OthersLeave : Type 0
+OthersLeave = (host : HostEnd) (old new : DevControlState CoreState) → LeavesTransfers old new → Knows host old → Knows host new
+
+pub holds_on : (device device_then : DeviceState) (host : HostEnd) (capacity : ℕ) → OthersLeave → LeavesTransfers device.control device_then.control → Leaves device device_then
+    → Holds device host capacity → Holds device_then host capacity
+holds_on device device_then host capacity others transfers l (together, knows, home, room) = (
+  stays_together host.phase device device_then l together,
+  others host device.control device_then.control transfers knows,
+  home ∙ sym l.addr,
+  subst (λ (x : Contents). max_events (items_of x) ≤ capacity) (sym l.layout) room,
 )
+
+pub changed_leaves : (device device_then : DeviceState) (change : Change) → device_then ≡ changed_device device change → IsSound (core_of device_then) → Leaves device device_then
+changed_leaves device device_then change is sound = record {
+  addr = ap (λ (d : DeviceState). d.addr) is;
+  layout = ap (λ (d : DeviceState). (core_of d).layout) is;
+  configured = ap (λ (d : DeviceState). (core_of d).is_configured) is;
+  current = ap (λ (d : DeviceState). (core_of d).current) is;
+  toggle = ap (λ (d : DeviceState). (core_of d).toggle) is;
+  sound = sound;
+}
+
+pub changed_transfers : (device device_then : DeviceState) (change : Change)
+    → ((control : DevControlState CoreState) (change : Change) → LeavesTransfers control (with_core control (changed_core control.requests change)))
+    → device_then ≡ changed_device device change → LeavesTransfers device.control device_then.control
+changed_transfers device device_then change law is = subst (λ (d : DeviceState). LeavesTransfers device.control d.control) (sym is) (law device.control change)
+
+-- ---- polls
+
+pub pair_where_ready : (device : DeviceState) (phase : HostPhase) → state_of phase ≡ states.Ready → StandTogether device phase → IsPair device phase
+pair_where_ready device Cold is together = absurd (cc)
+pair_where_ready device (Described info) is together = absurd (cc)
+pair_where_ready device (Parsed info layout) is together = absurd (cc)
+pair_where_ready device (Ready known) is together = together
+
+pub pair_together : (device : DeviceState) (phase : HostPhase) → IsPair device phase → StandTogether device phase
+pair_together device Cold pair = absurd pair
+pair_together device (Described info) pair = absurd pair
+pair_together device (Parsed info layout) pair = absurd pair
+pair_together device (Ready known) pair = pair

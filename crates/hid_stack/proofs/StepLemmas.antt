@@ -35,14 +35,17 @@ use Rattle.hid_stack.specs.declared.step.Told.{Told}
 use Rattle.hid_stack.specs.declared.step.Told.TheVariants.{Polled}
 use Rattle.hid_host.specs.Host.{HostEnd, ready_after}
 use Rattle.hid_host.specs.Phase.{IfReady}
-use Rattle.hid_stack.specs.Slot.{joined, station_of, member_with, joint, IsEven, ArePaired, IsPair}
+use Rattle.hid_stack.specs.Slot.{joined, station_of, joint, IsEven, ArePaired, IsPair}
 use Rattle.hid_host.specs.Ready.{Known, told_of, events_behind}
 use Rattle.hid_stack.specs.Polls.{Hears, Ends, PollsOver, GoesByPackets, HasBytes, spelled, told_with}
 use Rattle.hid_lives.specs.Stations.{Station, opened, answered, round_events, after, events_at}
 use Rattle.hid_stack.specs.Laws.{PacketsMakePolls}
-use Rattle.hid_stack.specs.Rig.{Member}
+use Rattle.usb_control.specs.Device.{DevControlState}
+use Rattle.hid_host.specs.declared.host.Transfer.{Transfer}
+use Rattle.hid_host.specs.Knowing.{Knows, LeavesTransfers}
+use Rattle.hid_stack.specs.Members.{Member, Scheduled, member_after}
 use Rattle.hid_stack.specs.Tells.{ShowsRound, TellsOpened, TellsPoll, told_by}
-use Rattle.hid_stack.proofs.PollLemmas.{opens, Meets, Arrives, Lands, sharing, ready_with, member_of, pair_of, comes, clean, ack_lost_poll, reply_lost}
+use Rattle.hid_stack.proofs.PollLemmas.{opens, Meets, Arrives, Lands, ready_member, sharing, ready_with, member_of, pair_of, comes, clean, ack_lost_poll, reply_lost}
 
 -- opening a round keeps the layout, the configuration and the toggle
 pub record Keeps (c d : CoreState) : Type 0 where
@@ -62,16 +65,16 @@ keeps : (c : CoreState) → Keeps c (opening_of c)
 keeps c = keeps_at c c.current
 
 -- and all that the device was made with
-member_kept_if : (addr : ℕ) (c : CoreState) (due : Option ℕ) → member_with addr (opened_core_if c due) ≡ member_with addr c
-member_kept_if addr c None = refl
-member_kept_if addr c (Some r) = refl
+member_kept_if : (d : DeviceState) (home : HostEnd) (c : CoreState) (due : Option ℕ) → ready_member d home (opened_core_if c due) ≡ ready_member d home c
+member_kept_if d home c None = refl
+member_kept_if d home c (Some r) = refl
 
-member_kept_at : (addr : ℕ) (c : CoreState) (current : Option ℕ) → member_with addr (opening_of (record c { current = current })) ≡ member_with addr c
-member_kept_at addr c None = member_kept_if addr (record c { current = None }) (first_due (items_of c.layout) c.standing)
-member_kept_at addr c (Some r) = refl
+member_kept_at : (d : DeviceState) (home : HostEnd) (c : CoreState) (current : Option ℕ) → ready_member d home (opening_of (record c { current = current })) ≡ ready_member d home c
+member_kept_at d home c None = member_kept_if d home (record c { current = None }) (first_due (items_of c.layout) c.standing)
+member_kept_at d home c (Some r) = refl
 
-member_kept : (addr : ℕ) (c : CoreState) → member_with addr (opening_of c) ≡ member_with addr c
-member_kept addr c = member_kept_at addr c c.current
+member_kept : (d : DeviceState) (home : HostEnd) (c : CoreState) → ready_member d home (opening_of c) ≡ ready_member d home c
+member_kept d home c = member_kept_at d home c c.current
 
 -- where no round is open then, the toggles are still the same
 even_if : (c : CoreState) (expects : Bool) (due : Option ℕ) → c.toggle ≡ expects
@@ -110,9 +113,9 @@ reads_at c known packet armed sound laid fits arms has packet_is r bytes current
     }) fits
 
 -- what a poll comes to at the two ends
-pub record PollsAs (fate : Fate) (device : DeviceState) (s : Station)
+pub record PollsAs (fate : Fate) (device : DeviceState) (home : HostEnd) (s : Station)
     (result : Result Told StackFault) (device_then : DeviceState) (host_then : HostEnd) (events : List Event) : Type 0 where
-  pub member : joint device_then host_then ≡ member_with device.addr (core_of device) (after (items_of (core_of device).layout) s (Polls fate))
+  pub member : joint device_then host_then ≡ ready_member device home (core_of device) (after (items_of (core_of device).layout) s (Polls fate))
   pub delivered : events ≡ events_at (items_of (core_of device).layout) s (Polls fate)
   pub told : (told : Told) × (result ≡ Ok told) × TellsPoll (core_of device).layout s fate told
   pub pair : IsPair device_then host_then.phase
@@ -132,7 +135,7 @@ tells_none layout c known (Some r) = either_none _
 
 token_lost : (device : DeviceState) (known : Known) (home : HostEnd) (result : Result Told StackFault) (device_then : DeviceState) (host_then : HostEnd) (events : List Event)
     → ArePaired device known → PollsOver (arrives_under TokenLost) device home known result device_then host_then [] events
-    → PollsAs TokenLost device (joined (core_of device) known) result device_then host_then events
+    → PollsAs TokenLost device home (joined (core_of device) known) result device_then host_then events
 token_lost device known home result device_then host_then events pair t =
     let lost = read_lost (arrives_under TokenLost) Token (token_to known.pipe) t.token refl t.polled in
     let heard : Hears device None t.answer t.between = subst (λ (o : Option Packet). Hears device o t.answer t.between) lost t.heard in
@@ -142,7 +145,7 @@ token_lost device known home result device_then host_then events pair t =
     let host_is : host_then ≡ ready_with home known = t.host_moved ∙ ap (ready_after home known) took in
     record {
       member = member_of device_then device host_then home known device_is host_is
-          ∙ ap (member_with device.addr (core_of device)) (stays_closed (core_of device).layout (core_of device) known (core_of device).current);
+          ∙ ap (ready_member device home (core_of device)) (stays_closed (core_of device).layout (core_of device) known (core_of device).current);
       delivered = t.delivers ∙ ap (events_behind known) took ∙ tells_none (core_of device).layout (core_of device) known (core_of device).current;
       told = (Polled None Silent, t.told ∙ ap (λ (x : Took). told_with t.answer (told_of known.layout x)) took ∙ ap (λ (o : Option Packet). Ok (Polled (spelled o) Silent)) heard.0, refl);
       pair = pair_of device_then device host_then home known device_is host_is pair;
@@ -208,12 +211,12 @@ meets device known pair sound =
     }
 
 -- the station from before the token
-landed : (fate : Fate) (device : DeviceState) (known : Known) (result : Result Told StackFault) (device_then : DeviceState) (host_then : HostEnd) (events : List Event)
-    → ArePaired device known → Lands fate (member_with device.addr (opening_of (core_of device))) (joined (opening_of (core_of device)) known) result device_then host_then events
-    → Lands fate (member_with device.addr (core_of device)) (opened (items_of (core_of device).layout) (joined (core_of device) known)) result device_then host_then events
-landed fate device known result device_then host_then events pair lands =
-    subst (λ (s : Station). Lands fate (member_with device.addr (core_of device)) s result device_then host_then events) (opens (core_of device) known pair.even)
-    (subst (λ (of : Station → Member). Lands fate of (joined (opening_of (core_of device)) known) result device_then host_then events) (member_kept device.addr (core_of device)) lands)
+landed : (fate : Fate) (device : DeviceState) (known : Known) (home : HostEnd) (result : Result Told StackFault) (device_then : DeviceState) (host_then : HostEnd) (events : List Event)
+    → ArePaired device known → Lands fate (ready_member device home (opening_of (core_of device))) (joined (opening_of (core_of device)) known) result device_then host_then events
+    → Lands fate (ready_member device home (core_of device)) (opened (items_of (core_of device).layout) (joined (core_of device) known)) result device_then host_then events
+landed fate device known home result device_then host_then events pair lands =
+    subst (λ (s : Station). Lands fate (ready_member device home (core_of device)) s result device_then host_then events) (opens (core_of device) known pair.even)
+    (subst (λ (of : Station → Member). Lands fate of (joined (opening_of (core_of device)) known) result device_then host_then events) (member_kept device home (core_of device)) lands)
 
 -- what is told, by the bytes that show the part
 abbrev TellsSome : Contents → Station → Fate → Result Told StackFault → Type 0
@@ -225,13 +228,13 @@ told_by_report layout s fate result (report, shows, is) = (told_by s fate report
 
 pub polls : (fate : Fate) (device : DeviceState) (known : Known) (home : HostEnd) (result : Result Told StackFault) (device_then : DeviceState) (host_then : HostEnd) (events : List Event)
     → ArePaired device known → PollsOver (arrives_under fate) device home known result device_then host_then [] events
-    → PollsAs fate device (joined (core_of device) known) result device_then host_then events
+    → PollsAs fate device home (joined (core_of device) known) result device_then host_then events
 polls TokenLost device known home result device_then host_then events pair t = token_lost device known home result device_then host_then events pair t
 polls ReplyLost device known home result device_then host_then events pair t =
     let a = token_came ReplyLost device known home result device_then host_then events (λ bytes. refl) pair t in
     let c = opening_of (core_of device) in
     let even = even_at (core_of device) known.pipe.expects (core_of device).current pair.even in
-    let lands = landed ReplyLost device known result device_then host_then events pair
+    let lands = landed ReplyLost device known home result device_then host_then events pair
     (reply_lost c known device home c.current a.armed a.packet result device_then host_then events even (meets device known pair a.sound) a.arms a.packet_is
     (arrives ReplyLost device known home result device_then host_then events pair t a)) in
     record { member = lands.member; delivered = lands.delivered; told = told_by_report (core_of device).layout (opened (items_of (core_of device).layout) (joined (core_of device) known)) ReplyLost result lands.told; pair = lands.pair }
@@ -241,7 +244,7 @@ polls Clean device known home result device_then host_then events pair t =
     let even = even_at (core_of device) known.pipe.expects (core_of device).current pair.even in
     let m = meets device known pair a.sound in
     let has = subst (λ (o : Option Packet). IfSome o HasBytes) a.is t.bytes in
-    let lands = landed Clean device known result device_then host_then events pair
+    let lands = landed Clean device known home result device_then host_then events pair
     (clean c known device home c.current a.armed result device_then host_then events even m a.arms
     (reads_at c known a.packet a.armed a.sound m.laid m.fits a.arms has a.packet_is)
     (comes Clean c known device home a.armed a.packet result device_then host_then events (λ bytes. refl) a.packet_is
@@ -253,7 +256,7 @@ polls AckLost device known home result device_then host_then events pair t =
     let even = even_at (core_of device) known.pipe.expects (core_of device).current pair.even in
     let m = meets device known pair a.sound in
     let has = subst (λ (o : Option Packet). IfSome o HasBytes) a.is t.bytes in
-    let lands = landed AckLost device known result device_then host_then events pair
+    let lands = landed AckLost device known home result device_then host_then events pair
     (ack_lost_poll c known device home c.current a.armed result device_then host_then events even m a.arms
     (reads_at c known a.packet a.armed a.sound m.laid m.fits a.arms has a.packet_is)
     (comes AckLost c known device home a.armed a.packet result device_then host_then events (λ bytes. refl) a.packet_is
@@ -263,7 +266,7 @@ polls AckLost device known home result device_then host_then events pair t =
 -- the same of a host, which is ready
 pub polls_at : (fate : Fate) (device : DeviceState) (host : HostEnd) (phase : HostPhase) (result : Result Told StackFault) (device_then : DeviceState) (host_then : HostEnd) (before events : List Event)
     → IsPair device phase → before ≡ [] → GoesByPackets (arrives_under fate) device host phase result device_then host_then before events
-    → PollsAs fate device (station_of (core_of device) phase) result device_then host_then events
+    → PollsAs fate device host (station_of (core_of device) phase) result device_then host_then events
 polls_at fate device host Cold result device_then host_then before events pair none t = absurd pair
 polls_at fate device host (Described info) result device_then host_then before events pair none t = absurd pair
 polls_at fate device host (Parsed info layout) result device_then host_then before events pair none t = absurd pair
@@ -298,8 +301,63 @@ few_of device (Ready known) before events pair none few =
     let zero = ap (λ (es : List Event). length es) none in
     omega (arith, same, zero, few)
 
+-- the member of a pair after a poll
+polled_member : (fate : Fate) (device : DeviceState) (host : HostEnd) (phase : HostPhase) → IsPair device phase
+    → ready_member device host (core_of device) (after (items_of (core_of device).layout) (station_of (core_of device) phase) (Polls fate))
+    ≡ member_after (joint device (record host { phase = phase })) (Scheduled (Polls fate))
+polled_member fate device host Cold pair = absurd pair
+polled_member fate device host (Described info) pair = absurd pair
+polled_member fate device host (Parsed info layout) pair = absurd pair
+polled_member fate device host (Ready known) pair = refl
+
+pub polled_to : (fate : Fate) (device : DeviceState) (host : HostEnd) (result : Result Told StackFault) (device_then : DeviceState) (host_then : HostEnd) (events : List Event) → IsPair device host.phase
+    → PollsAs fate device host (station_of (core_of device) host.phase) result device_then host_then events → joint device_then host_then ≡ member_after (joint device host) (Scheduled (Polls fate))
+polled_to fate device host result device_then host_then events pair done = done.member ∙ polled_member fate device host host.phase pair
+
 -- a poll of a pair, by its packets
 pub packets_make_polls : PacketsMakePolls
 packets_make_polls fate device host result device_then host_then events pair t =
     let done = polls_at fate device host host.phase result device_then host_then [] events pair refl t in
-    record { told = done.told; after = done.member; delivers = done.delivered; pair = done.pair }
+    record { told = done.told; after = polled_to fate device host result device_then host_then events pair done; delivers = done.delivered; pair = done.pair }
+
+-- ---- what a host knows behind a poll
+
+-- what a poll leaves of a device's transfers
+leaves : (device device_then : DeviceState) (host host_then : HostEnd) (s : Station) → joint device_then host_then ≡ ready_member device host (core_of device) s
+    → LeavesTransfers device.control device_then.control
+leaves device device_then host host_then s same = record {
+  layout = ap (λ (m : Member). m.layout) same;
+  config = ap (λ (m : Member). m.config) same;
+  descriptor = ap (λ (m : Member). m.descriptor) same;
+  configured = λ h. ap (λ (m : Member). m.endpoint.is_configured) same ∙ h;
+  answer = ap (λ (m : Member). m.endpoint.answer) same;
+  pending = ap (λ (m : Member). m.endpoint.pending) same;
+  stage = ap (λ (m : Member). m.endpoint.stage) same;
+}
+
+-- laws of hosts that know their devices
+abbrev RepliesLeave : Type 0
+RepliesLeave = (host : HostEnd) (control : DevControlState CoreState) (took : Took) → Knows host control → IfReady host.phase (λ known. Knows (ready_after host known took) control)
+
+abbrev OthersLeave : Type 0
+OthersLeave = (host : HostEnd) (old new : DevControlState CoreState) → LeavesTransfers old new → Knows host old → Knows host new
+
+knows_by : (arrivals : Arrivals) (device device_then : DeviceState) (addr : ℕ) (transfer : Option Transfer) (phase : HostPhase) (host_then : HostEnd) (result : Result Told StackFault) (before events : List Event) (s : Station)
+    → RepliesLeave → OthersLeave → IsPair device phase
+    → GoesByPackets arrivals device (record { addr = addr; phase = phase; transfer = transfer }) phase result device_then host_then before events
+    → joint device_then host_then ≡ ready_member device (record { addr = addr; phase = phase; transfer = transfer }) (core_of device) s
+    → Knows (record { addr = addr; phase = phase; transfer = transfer }) device.control → Knows host_then device_then.control
+knows_by arrivals device device_then addr transfer Cold host_then result before events s replies others pair t same knows = absurd pair
+knows_by arrivals device device_then addr transfer (Described info) host_then result before events s replies others pair t same knows = absurd pair
+knows_by arrivals device device_then addr transfer (Parsed info layout) host_then result before events s replies others pair t same knows = absurd pair
+knows_by arrivals device device_then addr transfer (Ready known) host_then result before events s replies others pair t same knows =
+    let host : HostEnd = record { addr = addr; phase = Ready known; transfer = transfer } in
+    let took = taken known.pipe.expects t.reply in
+    others host_then device.control device_then.control (leaves device device_then host host_then s same)
+    (subst (λ (h : HostEnd). Knows h device.control) (sym t.host_moved) (replies host device.control took knows))
+
+pub polls_know : (arrivals : Arrivals) (device device_then : DeviceState) (host host_then : HostEnd) (result : Result Told StackFault) (before events : List Event) (s : Station)
+    → RepliesLeave → OthersLeave → IsPair device host.phase → GoesByPackets arrivals device host host.phase result device_then host_then before events
+    → joint device_then host_then ≡ ready_member device host (core_of device) s → Knows host device.control → Knows host_then device_then.control
+polls_know arrivals device device_then host host_then result before events s replies others pair t same knows =
+    knows_by arrivals device device_then host.addr host.transfer host.phase host_then result before events s replies others pair t same knows

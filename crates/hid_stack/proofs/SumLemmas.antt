@@ -1,22 +1,33 @@
 -- The sum of motion over steps of a bus.
-use Rattle.std.proofs.Common.{◌≡◌, ◌++◌, ◌+ℤ◌, ℕ, ◌-◌, Bool, true, false, List, [], ◌∷◌, Option, Some, None, cond, eqb, refl, ap, sym, ◌∙◌, subst, arith}
-use Rattle.std.specs.List.{slice_get}
+use Rattle.std.proofs.Common.{◌≡◌, ◌<◌, ◌+◌, ◌++◌, ◌+ℤ◌, ℕ, ◌-◌, Bool, true, false, List, [], ◌∷◌, Option, Some, None, cond, eqb, get_or, length, take, refl, ap, sym, ◌∙◌, subst, arith}
+use Rattle.std.specs.List.{cons_option, slice_get}
+use Rattle.std.specs.Prelude.{IfSome}
+use Rattle.std.proofs.lemmas.Bool.Decides.{nat_tests}
 use Rattle.std.proofs.lemmas.Int.{ints}
+use Rattle.std.proofs.lemmas.List.{take_more}
 use Rattle.std.proofs.lemmas.List.Elements.{All-get_or, All-map, All-push, All-set, All-weaker}
 use Rattle.std.proofs.lemmas.Option.{get_or_from_slice_get, slice_get_within}
-use Rattle.hid_layout.specs.Controls.{items_of}
-use Rattle.hid_lives.specs.Motion.{given_motion, Conserves, station_motion, accepted, HasMotions}
-use Rattle.hid_lives.specs.Rounds.{OwnStep, Changes, Polls}
+use Rattle.hid_layout.specs.Controls.{Item, items_of}
+use Rattle.hid_layout.specs.Layout.{Contents}
+use Rattle.usb_transact.specs.declared.transaction.Fate.{Fate}
+use Rattle.hid_lives.specs.Lives.{Deed, befallen_all, told_in}
+use Rattle.hid_lives.specs.Motion.{AreBetweenRounds, given_motion, Conserves, station_motion, accepted_in, HasMotions}
+use Rattle.hid_lives.specs.Rounds.{Changes, Polls}
 use Rattle.hid_lives.specs.Rounds as own_steps
+use Rattle.hid_lives.specs.Stations.{Station}
+use Rattle.hid_host.specs.declared.host.Transfer.{Transfer}
+use Rattle.hid_host.specs.declared.phase.HostState.{HostState}
+use Rattle.hid_host.specs.declared.phase.HostState.TheVariants as states
 use Rattle.hid_stack.specs.declared.step.Step.{Step}
-use Rattle.hid_stack.specs.declared.step.Step.TheVariants.{Change, Frame, Poll}
+use Rattle.hid_stack.specs.declared.step.Step.TheVariants.{Change, Frame, Poll, Begin, Control}
 use Rattle.hid_stack.specs.declared.step.Delivered.{Delivered}
-use Rattle.hid_lives.specs.Stations.{after_all, events_in}
-use Rattle.hid_stack.specs.Rig.{Member, member_after, member_after_all, member_at, with_member, one_after, bus_after, bus_after_all, delivered_in, own, from_device}
-use Rattle.hid_stack.specs.Sums.{AllHaveMotions, SumsUp}
-use Rattle.hid_stack.proofs.Isolation.{isolated}
+use Rattle.hid_stack.specs.Members.{Member, MemberStep, Scheduled, Begins, Controls, befallen_by, deed_at, deeds_in, member_after, member_after_all, scheduled_deed, tried_deed, unconcluded_of}
+use Rattle.hid_stack.specs.Rig.{member_at, with_member, one_after, bus_after, bus_after_all, delivered_in, member_step, member_steps, from_device}
+use Rattle.hid_stack.specs.Sums.{AllHaveMotions, ConfiguresBetweenRounds, IsBetween, SumsUp}
+use Rattle.hid_stack.proofs.Isolation.{isolated, states as states_of}
+use Rattle.hid_stack.proofs.MemberLemmas.{between_append, between_one, layout_stays, layouts_stay, station_is, stations, unconcluded_layout, unconcluded_station}
 use Rattle.hid_lives.proofs.ItemMotionLemmas.{given_append}
-use Rattle.hid_lives.proofs.MotionLemmas.{kept, step_moving}
+use Rattle.hid_lives.proofs.MotionLemmas.{lived_has, lives_keep}
 
 abbrev pub HasItsMotions : Member → Type 0
 HasItsMotions m = HasMotions (items_of m.layout) m.station
@@ -34,10 +45,22 @@ member_has members device m all h = by_number (eqb device 0) h
     by_number true k = absurd (cc)
     by_number false k = all_at members (device - 1) m all k
 
-after_member : (m : Member) (x : OwnStep) → HasItsMotions m → HasItsMotions (member_after m x)
-after_member m x has = step_moving (items_of m.layout) m.station x has
+-- behind what befalls it, where something does
+befallen_has : (items : List Item) (s : Station) (o : Option Deed) → HasMotions items s → HasMotions items (befallen_by items s o)
+befallen_has items s None has = has
+befallen_has items s (Some deed) has = lived_has items s (deed ∷ []) has
 
-one_has : (members : List Member) (device : ℕ) (x : OwnStep) → AllHaveMotions members → AllHaveMotions (one_after members device x)
+has_with : (m n : Member) (o : Option Deed) → n.layout ≡ m.layout → n.station ≡ befallen_by (items_of m.layout) m.station o → HasItsMotions m → HasItsMotions n
+has_with m n o layout station has =
+    subst (λ (l : Contents). HasMotions (items_of l) n.station) (sym layout) (subst (HasMotions (items_of m.layout)) (sym station) (befallen_has (items_of m.layout) m.station o has))
+
+pub after_member : (m : Member) (x : MemberStep) → HasItsMotions m → HasItsMotions (member_after m x)
+after_member m x has = has_with m (member_after m x) (deed_at m x) (layout_stays m x) (station_is m x) has
+
+pub after_unconcluded : (fate : Fate) (m : Member) (o : Option Transfer) → HasItsMotions m → HasItsMotions (unconcluded_of fate m o)
+after_unconcluded fate m o has = has_with m (unconcluded_of fate m o) (tried_deed fate m o) (unconcluded_layout fate m o) (unconcluded_station fate m o) has
+
+one_has : (members : List Member) (device : ℕ) (x : MemberStep) → AllHaveMotions members → AllHaveMotions (one_after members device x)
 one_has members device x all = by_member (member_at members device) refl
   where
     by_member : (o : Option Member) → member_at members device ≡ o → AllHaveMotions (elim o as (λ _. List Member) [ None ↦ members | Some m ↦ with_member members device (member_after m x) ])
@@ -46,9 +69,13 @@ one_has members device x all = by_member (member_at members device) refl
 
 -- Behind a step, and where a device is attached, every device keeps its motions again.
 pub bus_has : (members : List Member) (x : Step) → AllHaveMotions members → AllHaveMotions (bus_after members x)
-bus_has members (Change device change) all = one_has members device (Changes change) all
-bus_has members Frame all = All-map HasItsMotions (λ m. member_after m own_steps.Frame) members (All-weaker HasItsMotions (λ m. HasItsMotions (member_after m own_steps.Frame)) (λ m has. after_member m own_steps.Frame has) members all)
-bus_has members (Poll device fate) all = one_has members device (Polls fate) all
+bus_has members (Change device change) all = one_has members device (Scheduled (Changes change)) all
+bus_has members Frame all =
+    let framed : Member → Member = λ m. member_after m (Scheduled own_steps.Frame) in
+    All-map HasItsMotions framed members (All-weaker HasItsMotions (λ m. HasItsMotions (framed m)) (λ m has. after_member m (Scheduled own_steps.Frame) has) members all)
+bus_has members (Poll device fate) all = one_has members device (Scheduled (Polls fate)) all
+bus_has members (Begin device request) all = one_has members device (Begins request) all
+bus_has members (Control device fate) all = one_has members device (Controls fate) all
 
 pub all_has : (members : List Member) (steps : List Step) → AllHaveMotions members → AllHaveMotions (bus_after_all members steps)
 all_has members [] all = all
@@ -58,19 +85,88 @@ pub attached_has : (members : List Member) (m : Member) → AllHaveMotions membe
 attached_has members m all has = All-push HasItsMotions members m all has
 
 -- The sum over steps of the bus.
-pub sums_up : (before behind : List Member) (steps : List Step) (old new : List Delivered) → AllHaveMotions before → behind ≡ bus_after_all before steps → new ≡ old ++ delivered_in before steps
-    → SumsUp before behind steps old new
-sums_up before behind steps old new all states_are told_are device m n h k c =
+pub sums_up : (before behind : List Member) (steps : List Step) (old new : List Delivered) → AllHaveMotions before → ConfiguresBetweenRounds before steps
+    → behind ≡ bus_after_all before steps → new ≡ old ++ delivered_in before steps → SumsUp before behind steps old new
+sums_up before behind steps old new all between states_are told_are device m n h k c =
     let apart = isolated before behind steps old new states_are told_are in
-    let own_steps_are : List OwnStep = own device steps in
-    let sum : Conserves c (accepted (items_of m.layout) m.station own_steps_are) (station_motion (items_of m.layout) m.station c) (events_in (items_of m.layout) m.station own_steps_are) (station_motion (items_of m.layout) (after_all (items_of m.layout) m.station own_steps_are) c)
-    = kept (items_of m.layout) m.station (member_has before device m all h) own_steps_are c in
-    let told : given_motion c (from_device device new) ≡ given_motion c (from_device device old) +ℤ given_motion c (events_in (items_of m.layout) m.station own_steps_are)
-    = ap (given_motion c) (apart.events device m h) ∙ given_append c (from_device device old) (events_in (items_of m.layout) m.station own_steps_are) in
-    let stands : Some n ≡ Some (member_after_all m own_steps_are) = sym k ∙ apart.states device m h in
-    let same : n ≡ member_after_all m own_steps_are = cc in
-    let still : station_motion (items_of n.layout) n.station c ≡ station_motion (items_of m.layout) (after_all (items_of m.layout) m.station own_steps_are) c
-    = ap (λ (t : Member). station_motion (items_of t.layout) t.station c) same in
+    let items = items_of m.layout in
+    let xs = member_steps device steps in
+    let deeds = deeds_in m xs in
+    let sum : Conserves c (accepted_in items m.station deeds) (station_motion items m.station c) (told_in items m.station deeds) (station_motion items (befallen_all items m.station deeds) c)
+    = lives_keep items m.station (member_has before device m all h) deeds (between device m h) c in
+    let told : given_motion c (from_device device new) ≡ given_motion c (from_device device old) +ℤ given_motion c (told_in items m.station deeds)
+    = ap (given_motion c) (apart.events device m h) ∙ given_append c (from_device device old) (told_in items m.station deeds) in
+    let stands : Some n ≡ Some (member_after_all m xs) = sym k ∙ apart.states device m h in
+    let same : n ≡ member_after_all m xs = cc in
+    let still : station_motion (items_of n.layout) n.station c ≡ station_motion items (befallen_all items m.station deeds) c
+    = ap (λ (t : Member). station_motion (items_of t.layout) t.station c) same
+    ∙ ap (λ (l : Contents). station_motion (items_of l) (member_after_all m xs).station c) (layouts_stay xs m)
+    ∙ ap (λ (s : Station). station_motion items s c) (stations xs m) in
     omega (arith, ints, sum, told, still)
+
+-- ---- configurations come between rounds
+
+abbrev StepIsBetween : Member → Option MemberStep → Type 0
+StepIsBetween m None = Unit {0}
+StepIsBetween m (Some x) = IsBetween m.station (deed_at m x)
+
+between_of : (m : Member) (o : Option MemberStep) → StepIsBetween m o → AreBetweenRounds (items_of m.layout) m.station (deeds_in m (cons_option o []))
+between_of m None h = tt
+between_of m (Some x) h = between_one m x h
+
+polled_between : (m : Member) (host : HostState) (fate : Fate) → IsBetween m.station (scheduled_deed host (Polls fate))
+polled_between m states.Cold fate = tt
+polled_between m states.Described fate = tt
+polled_between m states.Parsed fate = tt
+polled_between m states.Ready fate = tt
+
+if_between : (m : Member) (b : Bool) (x : MemberStep) → (b ≡ true → IsBetween m.station (deed_at m x)) → StepIsBetween m (cond b (Some x) None)
+if_between m true x h = h refl
+if_between m false x h = tt
+
+-- what is no try of a transfer
+abbrev pub IsNoTry : Step → Type 0
+IsNoTry (Control dev fate) = ⊥
+IsNoTry _ = Unit {0}
+
+step_between : (device : ℕ) (m : Member) (x : Step) → IsNoTry x → StepIsBetween m (member_step device x)
+step_between device m (Change d change) no_try = if_between m (eqb d device) (Scheduled (Changes change)) (λ h. tt)
+step_between device m Frame no_try = tt
+step_between device m (Poll d fate) no_try = if_between m (eqb d device) (Scheduled (Polls fate)) (λ h. polled_between m m.host fate)
+step_between device m (Begin d request) no_try = if_between m (eqb d device) (Begins request) (λ h. tt)
+step_between device m (Control d fate) no_try = absurd no_try
+
+pub others_between : (members : List Member) (x : Step) → IsNoTry x → ConfiguresBetweenRounds members (x ∷ [])
+others_between members x no_try device m h = between_of m (member_step device x) (step_between device m x no_try)
+
+same_device : (d device : ℕ) → eqb d device ≡ true → d ≡ device
+same_device d device h = grind (arith, nat_tests)
+
+pub try_between : (members : List Member) (dev : ℕ) (fate : Fate) (found : Option Member) → member_at members dev ≡ found → IfSome found (λ m. IsBetween m.station (deed_at m (Controls fate)))
+    → ConfiguresBetweenRounds members (Control dev fate ∷ [])
+try_between members dev fate found at_place between device m h =
+    between_of m (member_step device (Control dev fate)) (if_between m (eqb dev device) (Controls fate) (λ same.
+    let here : found ≡ Some m = sym at_place ∙ ap (member_at members) (same_device dev device same) ∙ h in
+    subst (λ (o : Option Member). IfSome o (λ k. IsBetween k.station (deed_at k (Controls fate)))) here between))
+
+steps_append : (device : ℕ) (xs ys : List Step) → member_steps device (xs ++ ys) ≡ member_steps device xs ++ member_steps device ys
+steps_append device [] ys = refl
+steps_append device (x ∷ xs) ys = ap (cons_option (member_step device x)) (steps_append device xs ys) ∙ by_step (member_step device x) (member_steps device xs) (member_steps device ys)
+  where
+    by_step : (o : Option MemberStep) (ds es : List MemberStep) → cons_option o (ds ++ es) ≡ cons_option o ds ++ es
+    by_step None ds es = refl
+    by_step (Some y) ds es = refl
+
+-- one more step of a run
+pub between_more : (members mid : List Member) (steps : List Step) (i : ℕ) (d : Step) → i < length steps → mid ≡ bus_after_all members (take i steps)
+    → ConfiguresBetweenRounds members (take i steps) → ConfiguresBetweenRounds mid (get_or steps i d ∷ []) → ConfiguresBetweenRounds members (take (i + 1) steps)
+between_more members mid steps i d lt before first one device m h =
+    let x : Step = get_or steps i d in
+    let xs = member_steps device (take i steps) in
+    let n = member_after_all m xs in
+    let here : member_at mid device ≡ Some n = ap (λ (ms : List Member). member_at ms device) before ∙ states_of (take i steps) members device m h in
+    let all : member_steps device (take (i + 1) steps) ≡ xs ++ member_steps device (x ∷ []) = ap (member_steps device) (take_more steps i d lt) ∙ steps_append device (take i steps) (x ∷ []) in
+    subst (λ (ys : List MemberStep). AreBetweenRounds (items_of m.layout) m.station (deeds_in m ys)) (sym all)
+    (between_append xs (member_steps device (x ∷ [])) m (first device m h) (one device n here))
 
 pub ruleset sums = (sums_up, all_has)

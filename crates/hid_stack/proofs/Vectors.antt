@@ -50,6 +50,6 @@ token_lost = refl
 reply_lost : poll_after (press 4 4 ∷ []) ReplyLost one_key ≡ Polled (Some (record { items = 0xC3 ∷ one_key })) Silent
 reply_lost = refl
 
--- a bus has room for one device
-devices_at_most : MAX_DEVICES ≡ 1
+-- a bus has room for seven devices
+devices_at_most : MAX_DEVICES ≡ 7
 devices_at_most = refl

@@ -16,7 +16,10 @@ use Rattle.hid_device.specs.Making as making
 use Rattle.hid_host.specs.declared.fault.StackFault.{StackFault}
 use Rattle.hid_host.specs.declared.fault.StackFault.TheVariants.{NoDevice, Refused, BadDescriptor, TooManyDevices, Memory}
 use Rattle.hid_host.specs.declared.fault.DescriptorFault.TheVariants.{Device}
-use Rattle.hid_stack.specs.Rig.{Member, fresh_member, member_at}
+use Rattle.hid_stack.specs.declared.rig.Start.{Start}
+use Rattle.hid_stack.specs.declared.rig.Start.TheVariants as starts
+use Rattle.hid_stack.specs.Members.{Member, cold_member, fresh_member}
+use Rattle.hid_stack.specs.Rig.{member_at}
 
 -- a device of this configuration can have this address and this layout
 pub record Suits (addr : ℕ) (config : Config) (descriptor : List ℕ) (layout : Contents) : Type 0 where
@@ -38,24 +41,29 @@ IsNoPair addr config descriptor (BadDescriptor (Device fault)) =
 IsNoPair addr config descriptor Memory = Unit {0}
 IsNoPair addr config descriptor _ = ⊥
 
+-- how the device and its host begin
+abbrev pub member_at_start : Start → ℕ → Config → List ℕ → Contents → Member
+member_at_start starts.Ready addr config descriptor layout = fresh_member addr config descriptor layout
+member_at_start starts.Cold addr config descriptor layout = cold_member addr config descriptor layout
+
 -- Attaching where this many devices have room: the next number is the new device's address.
-abbrev pub Attaches : ℕ → Config → List ℕ → List Member → Result ℕ StackFault → List Member → Type 0
-Attaches room config descriptor old (Ok dev) new =
+abbrev pub Attaches : ℕ → Config → List ℕ → Start → List Member → Result ℕ StackFault → List Member → Type 0
+Attaches room config descriptor start old (Ok dev) new =
     (length old < room) × (dev ≡ length old + 1)
     × ((layout : Contents) × Suits dev config descriptor layout
-    × (new ≡ old ++ fresh_member dev config descriptor layout ∷ []))
-Attaches room config descriptor old (Err TooManyDevices) new = (room ≤ length old) × (new ≡ old)
-Attaches room config descriptor old (Err fault) new =
+    × (new ≡ old ++ member_at_start start dev config descriptor layout ∷ []))
+Attaches room config descriptor start old (Err TooManyDevices) new = (room ≤ length old) × (new ≡ old)
+Attaches room config descriptor start old (Err fault) new =
     (length old < room) × IsNoPair (length old + 1) config descriptor fault × (new ≡ old)
 
--- A device that was attached has the next number, is freshly configured under it with a layout that
--- suits it, and the others stand as they did.
-pub record IsAttached (config : Config) (descriptor : List ℕ) (old : List Member) (dev : ℕ)
+-- A device that was attached has the next number, begins under it with a layout that suits it, and the others stand as
+-- they did.
+pub record IsAttached (config : Config) (descriptor : List ℕ) (start : Start) (old : List Member) (dev : ℕ)
     (new : List Member) : Type 0 where
   pub number : dev ≡ length old + 1
   pub layout : Contents
   pub suits : Suits dev config descriptor layout
-  pub fresh : member_at new dev ≡ Some (fresh_member dev config descriptor layout)
+  pub begins : member_at new dev ≡ Some (member_at_start start dev config descriptor layout)
   pub others : (d : ℕ) (m : Member) → member_at old d ≡ Some m → member_at new d ≡ Some m
 
 -- the first of two places

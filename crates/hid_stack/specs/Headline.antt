@@ -1,27 +1,56 @@
--- What is promised of a device over its own steps, by the rounds of those steps (USB 2.0, 8.5.4 and 8.6).
+-- What is promised of a device over its own steps, by the rounds of those steps (USB 2.0, 8.5.4, 8.6 and 9.4.7).
 use Rattle.std.specs.Prelude.{◌≡◌, ℕ, List, ◌++◌, Some, None}
 use Rattle.hid_layout.specs.Controls.{items_of}
 use Rattle.hid_cells.specs.declared.cell.Cell.{Cell}
-use Rattle.hid_lives.specs.Following.{StandsByRounds}
+use Rattle.hid_cells.specs.declared.event.Event.{Event}
+use Rattle.hid_lives.specs.Following.{FollowsLife, StandsByRounds, course_from}
+use Rattle.hid_lives.specs.Lives.{Deed, course_behind, happenings}
 use Rattle.hid_lives.specs.Rounds.{events_of_epoch}
 use Rattle.hid_stack.specs.declared.step.Step.{Step}
 use Rattle.hid_stack.specs.declared.step.Delivered.{Delivered}
 use Rattle.hid_lives.specs.Stations.{Station, fresh}
-use Rattle.hid_stack.specs.Rig.{Member, member_at, own, from_device}
+use Rattle.hid_host.specs.declared.phase.HostState.TheVariants.{Ready}
+use Rattle.hid_stack.specs.Members.{Member, deeds_in}
+use Rattle.hid_stack.specs.Rig.{HasOnlySchedule, member_at, member_steps, own, from_device}
+
+-- both ends were just configured: the host is ready with its initial view, and no round was opened
+pub record AreFresh (m : Member) (snapshot : List Cell) (idle : List ℕ) : Type 0 where
+  pub host : m.host ≡ Ready
+  pub station : m.station ≡ fresh (items_of m.layout) snapshot idle
 
 -- The headline: of each device that was just configured the events delivered are exactly the changes
--- between the successive parts that crossed, in order, none twice.
+-- between the successive parts that crossed, in order, none twice. (No request of it is begun or tried meanwhile: a
+-- configuration begins anew.)
 abbrev pub DeliversChanges : List Member → List Step → List Delivered → List Delivered → Type 0
 DeliversChanges before steps old new =
     (device : ℕ) (m : Member) (snapshot : List Cell) (idle : List ℕ)
-    → member_at before device ≡ Some m → m.station ≡ fresh (items_of m.layout) snapshot idle
+    → member_at before device ≡ Some m → AreFresh m snapshot idle
+    → HasOnlySchedule device steps
     → from_device device new
     ≡ from_device device old ++ events_of_epoch (items_of m.layout) snapshot idle (own device steps)
 
--- Each device without an open round stands, behind its own steps, as the rounds of those steps say;
--- nothing else of it changes.
+-- Each device whose host is ready, without an open round, stands behind its own steps as the rounds of those steps
+-- say; nothing else of it changes.
 abbrev pub KeepsToRounds : List Member → List Step → List Member → Type 0
 KeepsToRounds before steps after =
-    (device : ℕ) (m : Member) → member_at before device ≡ Some m → m.station.current ≡ None
+    (device : ℕ) (m : Member) → member_at before device ≡ Some m → m.host ≡ Ready → m.station.current ≡ None
+    → HasOnlySchedule device steps
     → (s : Station) × (member_at after device ≡ Some (record m { station = s }))
     × StandsByRounds (items_of m.layout) m.station (own device steps) s
+
+-- What a device lives through, whatever befalls it: from any state without an open round on, the events delivered of it
+-- are those of its rounds that crossed, and its station stands as they say; toggles and views are counted since a
+-- configuration took effect last.
+abbrev pub LivesThrough : Member → List Deed → Member → List Event → Type 0
+LivesThrough m deeds n told =
+    FollowsLife (items_of m.layout) m.station.view m.station.odd
+    (happenings (items_of m.layout) deeds (course_from m.station))
+    (course_behind (items_of m.layout) deeds (course_from m.station)) told n.station
+
+-- and so does each device of a bus
+abbrev pub DevicesLive : List Member → List Step → List Member → List Delivered → List Delivered → Type 0
+DevicesLive before steps after old new =
+    (device : ℕ) (m : Member) → member_at before device ≡ Some m → m.station.current ≡ None
+    → (n : Member) × (told : List Event) × (member_at after device ≡ Some n)
+    × (from_device device new ≡ from_device device old ++ told)
+    × LivesThrough m (deeds_in m (member_steps device steps)) n told

@@ -17,7 +17,8 @@ use Rattle.hid_host.specs.declared.fault.StackFault.{StackFault}
 use Rattle.hid_host.specs.declared.fault.StackFault.TheVariants.{Memory}
 use Rattle.hid_stack.specs.declared.step.Step.{Step}
 use Rattle.hid_stack.specs.declared.step.Told.{Told}
-use Rattle.hid_stack.specs.Rig.{Member, member_after}
+use Rattle.hid_stack.specs.Members.{Member, Scheduled, member_after}
+use Rattle.hid_stack.specs.declared.rig.Start.{Start}
 use Rattle.hid_stack.specs.Tells.{Tells, TellsPoll}
 use Rattle.hid_stack.specs.Attaching.{Attaches, Finds}
 
@@ -36,10 +37,18 @@ FindsOneControl =
 -- a device is attached in one way at most, or refused for one cause, want of memory aside
 abbrev pub AttachesOneDevice : Type 0
 AttachesOneDevice =
-    (room : ℕ) (config : Config) (descriptor : List ℕ) (members after others : List Member)
+    (room : ℕ) (config : Config) (descriptor : List ℕ) (start : Start) (members after others : List Member)
     (result other : Result ℕ StackFault)
-    → Attaches room config descriptor members result after → Attaches room config descriptor members other others
+    → Attaches room config descriptor start members result after
+    → Attaches room config descriptor start members other others
     → result ≢ Err Memory → other ≢ Err Memory → (result ≡ other) × (after ≡ others)
+
+-- a member was made with what another was
+pub record IsMadeAs (m n : Member) : Type 0 where
+  pub addr : n.addr ≡ m.addr
+  pub config : n.config ≡ m.config
+  pub descriptor : n.descriptor ≡ m.descriptor
+  pub layout : n.layout ≡ m.layout
 
 -- What a poll of a device by its own host comes to: the two stand as the member does behind its step, which tells and
 -- delivers what it says.
@@ -48,7 +57,7 @@ pub record IsPollOfPair (fate : Fate) (device : DeviceState) (host : HostEnd)
     (events : List Event) : Type 0 where
   pub told : (told : Told) × (result ≡ Ok told)
       × TellsPoll (core_of device).layout (station_of (core_of device) host.phase) fate told
-  pub after : joint device_then host_then ≡ member_after (joint device host) (Polls fate)
+  pub after : joint device_then host_then ≡ member_after (joint device host) (Scheduled (Polls fate))
   pub delivers : events ≡ events_at (items_of (core_of device).layout) (station_of (core_of device) host.phase) (Polls fate)
   pub pair : IsPair device_then host_then.phase
 

@@ -1,4 +1,5 @@
 pub mod Faults
+pub mod Members
 pub mod Rig
 pub mod Slot
 pub mod Polls
@@ -7,4 +8,5 @@ pub mod Attaching
 pub mod Showing
 pub mod Sums
 pub mod Headline
+pub mod Transfers
 pub mod Laws

@@ -1,50 +1,29 @@
--- The devices of a bus, each with its host, and what each step of the bus makes of them (our choice).
-use Rattle.std.specs.Prelude.{◌≡◌, ◌⊎◌, ◌<◌, ◌≤◌, ◌+◌, ◌-◌, ℕ, ◌==◌, if◌then◌else◌, List, [], ◌∷◌, ◌++◌, length, map, take, slice_get, slice_set, replicate, Option, Some, None, Result, Ok, Err, IfSome}
-use Rattle.std.specs.List.{filter_map}
+-- The devices of a bus, and what each of its steps makes of them (our choice).
+use Rattle.std.specs.Prelude.{◌≡◌, ◌⊎◌, ◌<◌, ◌≤◌, ◌+◌, ◌-◌, ℕ, ◌==◌, Bool, true, not, if◌then◌else◌, List, [], ◌∷◌, ◌++◌, length, map, take, slice_get, slice_set, Option, Some, None, Result, Ok, Err, IfSome}
+use Rattle.std.specs.List.{All, filter_map}
 use Rattle.hid_layout.specs.Controls.{items_of, max_events}
-use Rattle.hid_layout.specs.Layout.{Contents}
 use Rattle.hid_cells.specs.declared.cell.Cell.{Cell}
 use Rattle.hid_cells.specs.declared.change.ChangeFault.{ChangeFault}
 use Rattle.hid_cells.specs.declared.event.Event.{Event}
-use Rattle.hid_usages.specs.Cells.{blank}
 use Rattle.hid_usages.specs.Snapshots.{changed}
-use Rattle.hid_device.specs.declared.config.Config.{Config}
-use Rattle.hid_device.specs.Inputs.{input_count}
+use Rattle.usb_transact.specs.declared.transaction.Fate.{Fate}
+use Rattle.usb_control.specs.declared.fault.ControlFault.TheVariants.{NoTransfer}
+use Rattle.usb_control.specs.declared.host.HostStage.TheVariants.{Done}
+use Rattle.hid_lives.specs.Lives.{told_in}
 use Rattle.hid_lives.specs.Rounds.{OwnStep, Changes, Polls}
 use Rattle.hid_lives.specs.Rounds as own_steps
 use Rattle.hid_host.specs.declared.fault.StackFault.{StackFault}
-use Rattle.hid_host.specs.declared.fault.StackFault.TheVariants.{NoDevice, Refused, Memory}
+use Rattle.hid_host.specs.declared.fault.StackFault.TheVariants.{NoDevice, NotReady, Refused, Memory}
+use Rattle.hid_host.specs.declared.fault.StackFault.TheVariants as faults
+use Rattle.hid_host.specs.declared.host.Transfer.{Transfer}
+use Rattle.hid_host.specs.declared.phase.HostState.{HostState}
+use Rattle.hid_host.specs.declared.phase.HostState.TheVariants as states
+use Rattle.hid_host.specs.Bringing.{TakesMemory as TakesMemoryFor}
+use Rattle.hid_host.specs.Host.{running}
 use Rattle.hid_stack.specs.declared.step.Step.{Step}
-use Rattle.hid_stack.specs.declared.step.Step.TheVariants.{Change, Frame, Poll}
+use Rattle.hid_stack.specs.declared.step.Step.TheVariants.{Change, Frame, Poll, Begin, Control}
 use Rattle.hid_stack.specs.declared.step.Delivered.{Delivered}
-use Rattle.hid_lives.specs.Stations.{Station, fresh, after, after_all, events_at, events_in}
-
--- a device with its host: its address, the configuration and the descriptor that it was made with, the layout that
--- both have, and how the two stand
-pub record Member : Type 0 where
-  pub addr : ℕ
-  pub config : Config
-  pub descriptor : List ℕ
-  pub layout : Contents
-  pub station : Station
-
--- a member after a step of its own: only its station moves
-abbrev pub member_after : Member → OwnStep → Member
-member_after m x = record m { station = after (items_of m.layout) m.station x }
-
--- and after a list of them
-abbrev pub member_after_all : Member → List OwnStep → Member
-member_after_all m steps = record m { station = after_all (items_of m.layout) m.station steps }
-
--- a device that was just attached: both ends are freshly configured, nothing is pressed and nothing has moved
-abbrev pub fresh_member : ℕ → Config → List ℕ → Contents → Member
-fresh_member addr config descriptor layout = record {
-  addr = addr;
-  config = config;
-  descriptor = descriptor;
-  layout = layout;
-  station = fresh (items_of layout) (blank (items_of layout)) (replicate (input_count layout.reports) 0);
-}
+use Rattle.hid_stack.specs.Members.{Member, MemberStep, Scheduled, Begins, Controls, begin_refusal_at, deed_at, deeds_in, ends_tried_at, events_by, member_after, member_after_all, unconcluded_of}
 
 -- devices are numbered from 1
 abbrev pub member_at : List Member → ℕ → Option Member
@@ -55,30 +34,36 @@ abbrev pub with_member : List Member → ℕ → Member → List Member
 with_member members dev m = slice_set members (dev - 1) m
 
 -- a step of one device
-abbrev pub one_after : List Member → ℕ → OwnStep → List Member
+abbrev pub one_after : List Member → ℕ → MemberStep → List Member
 one_after members dev x =
     elim (member_at members dev) [ None ↦ members | Some m ↦ with_member members dev (member_after m x) ]
 
 -- The bus after a step.
 abbrev pub bus_after : List Member → Step → List Member
-bus_after members (Change dev change) = one_after members dev (Changes change)
-bus_after members Frame = map (λ m. member_after m own_steps.Frame) members
-bus_after members (Poll dev fate) = one_after members dev (Polls fate)
+bus_after members (Change dev change) = one_after members dev (Scheduled (Changes change))
+bus_after members Frame = map (λ m. member_after m (Scheduled own_steps.Frame)) members
+bus_after members (Poll dev fate) = one_after members dev (Scheduled (Polls fate))
+bus_after members (Begin dev request) = one_after members dev (Begins request)
+bus_after members (Control dev fate) = one_after members dev (Controls fate)
 
 -- an event, with the number of the device that it came from
 abbrev pub tagged : ℕ → Event → Delivered
 tagged dev event = record { dev = dev; event = event }
 
 -- what a step of one device delivers, under its number
-abbrev pub one_delivers : List Member → ℕ → OwnStep → List Delivered
-one_delivers members dev x =
-    elim (member_at members dev) [ None ↦ [] | Some m ↦ map (tagged dev) (events_at (items_of m.layout) m.station x) ]
+abbrev pub one_delivers : List Member → ℕ → MemberStep → List Delivered
+one_delivers members dev x = elim (member_at members dev) [
+  | None ↦ []
+  | Some m ↦ map (tagged dev) (events_by (items_of m.layout) m.station (deed_at m x))
+]
 
--- What a step delivers.
+-- What a step delivers: polls alone deliver events.
 abbrev pub delivered_at : List Member → Step → List Delivered
-delivered_at members (Change dev change) = one_delivers members dev (Changes change)
+delivered_at members (Change dev change) = []
 delivered_at members Frame = []
-delivered_at members (Poll dev fate) = one_delivers members dev (Polls fate)
+delivered_at members (Poll dev fate) = one_delivers members dev (Scheduled (Polls fate))
+delivered_at members (Begin dev request) = []
+delivered_at members (Control dev fate) = []
 
 -- whole lists of steps
 abbrev pub bus_after_all : List Member → List Step → List Member
@@ -95,6 +80,16 @@ abbrev pub change_refusal : Result (List Cell) ChangeFault → Option StackFault
 change_refusal (Ok cells) = None
 change_refusal (Err fault) = Some (Refused fault)
 
+-- a host polls where it is ready
+abbrev pub poll_refusal : HostState → Option StackFault
+poll_refusal states.Ready = None
+poll_refusal _ = Some NotReady
+
+-- there is something to try where a transfer runs
+abbrev pub control_refusal : Option Transfer → Option StackFault
+control_refusal (Some t) = None
+control_refusal None = Some (faults.Control NoTransfer)
+
 -- Why a step is refused, memory aside.
 abbrev pub refusal : List Member → Step → Option StackFault
 refusal members (Change dev change) = elim (member_at members dev) [
@@ -102,24 +97,52 @@ refusal members (Change dev change) = elim (member_at members dev) [
   | Some m ↦ change_refusal (changed (items_of m.layout) m.station.standing.snapshot change)
 ]
 refusal members Frame = None
-refusal members (Poll dev fate) = elim (member_at members dev) [ None ↦ Some NoDevice | Some m ↦ None ]
+refusal members (Poll dev fate) = elim (member_at members dev) [ None ↦ Some NoDevice | Some m ↦ poll_refusal m.host ]
+refusal members (Begin dev request) =
+    elim (member_at members dev) [ None ↦ Some NoDevice | Some m ↦ begin_refusal_at m request ]
+refusal members (Control dev fate) =
+    elim (member_at members dev) [ None ↦ Some NoDevice | Some m ↦ control_refusal (running m.transfer) ]
 
--- only polls take memory: the room for what they deliver
-abbrev pub TakesMemory : Step → Type 0
-TakesMemory (Change dev change) = ⊥
-TakesMemory Frame = ⊥
-TakesMemory (Poll dev fate) = Unit {0}
+-- a try in which a request is done that gives a layout or a view
+abbrev pub GivesMore : Fate → Member → Option Transfer → Type 0
+GivesMore fate m None = ⊥
+GivesMore fate m (Some t) = ((ends_tried_at fate m t).stage ≡ Done) × TakesMemoryFor t.request
 
--- Why a step may be refused: its cause stands, or none does and memory was wanting at a poll.
+-- What takes memory: the room for what a poll delivers, and for the bytes of a request, a layout and a view.
+abbrev pub TakesMemory : List Member → Step → Type 0
+TakesMemory members (Change dev change) = ⊥
+TakesMemory members Frame = ⊥
+TakesMemory members (Poll dev fate) = Unit {0}
+TakesMemory members (Begin dev request) = Unit {0}
+TakesMemory members (Control dev fate) =
+    (m : Member) × (member_at members dev ≡ Some m) × GivesMore fate m (running m.transfer)
+
+-- Why a step may be refused: its cause stands, or none does and memory was wanting where it is taken.
 abbrev pub IsRefusal : List Member → Step → StackFault → Type 0
-IsRefusal members x e = (refusal members x ≡ Some e) ⊎ ((refusal members x ≡ None) × (e ≡ Memory) × TakesMemory x)
+IsRefusal members x e =
+    (refusal members x ≡ Some e) ⊎ ((refusal members x ≡ None) × (e ≡ Memory) × TakesMemory members x)
 
--- there is room for what a step delivers
+-- a try of one device, where memory is wanting for what its request gives
+abbrev pub one_unconcluded : List Member → ℕ → Fate → List Member
+one_unconcluded members dev fate = elim (member_at members dev) [
+  | None ↦ members
+  | Some m ↦ with_member members dev (unconcluded_of fate m (running m.transfer))
+]
+
+-- What a step that is refused leaves: nothing has changed, but that a try was made where memory is wanting for what its
+-- request gives.
+abbrev pub refused_after : List Member → Step → StackFault → List Member
+refused_after members (Control dev fate) Memory = one_unconcluded members dev fate
+refused_after members x e = members
+
+-- there is room for what a step delivers, and it takes no other memory
 abbrev pub HasRoomFor : List Member → Step → ℕ → ℕ → Type 0
 HasRoomFor members (Change dev change) used capacity = Unit {0}
 HasRoomFor members Frame used capacity = Unit {0}
 HasRoomFor members (Poll dev fate) used capacity =
     IfSome (member_at members dev) (λ m. used + max_events (items_of m.layout) ≤ capacity)
+HasRoomFor members (Begin dev request) used capacity = ⊥
+HasRoomFor members (Control dev fate) used capacity = TakesMemory members (Control dev fate) → ⊥
 
 -- how many events a step delivers at most
 abbrev pub most_events : List Member → Step → ℕ
@@ -127,26 +150,71 @@ most_events members (Change dev change) = 0
 most_events members Frame = 0
 most_events members (Poll dev fate) =
     elim (member_at members dev) [ None ↦ 0 | Some m ↦ max_events (items_of m.layout) ]
+most_events members (Begin dev request) = 0
+most_events members (Control dev fate) = 0
 
 -- and steps, one after another: none of them changes a layout
 abbrev pub most_in : List Member → List Step → ℕ
 most_in members [] = 0
 most_in members (x ∷ steps) = most_events members x + most_in members steps
 
--- A run stops at a step that is refused behind those before it.
+-- no step of a list is refused where it comes, memory aside
+abbrev pub NoneIsRefused : List Member → List Step → Type 0
+NoneIsRefused members [] = Unit {0}
+NoneIsRefused members (x ∷ steps) = (refusal members x ≡ None) × NoneIsRefused (bus_after members x) steps
+
+-- A run stops at the first step that is refused behind those before it.
 abbrev pub StopsAt : List Member → List Step → ℕ → StackFault → Type 0
 StopsAt members steps i e =
-    (i < length steps) × IfSome (slice_get steps i) (λ x. IsRefusal (bus_after_all members (take i steps)) x e)
+    (i < length steps) × NoneIsRefused members (take i steps)
+    × IfSome (slice_get steps i) (λ x. IsRefusal (bus_after_all members (take i steps)) x e)
 
--- The own steps of a device: those that name it, and all frames.
+-- What the steps of a list before a refused one leave, and that one.
+abbrev pub stopped_after : List Member → List Step → ℕ → StackFault → List Member
+stopped_after members steps i e = elim (slice_get steps i) [
+  | None ↦ members
+  | Some x ↦ refused_after (bus_after_all members (take i steps)) x e
+]
+
+-- The schedule of a device: the changes and polls that name it, and all frames.
 abbrev pub own_step : ℕ → Step → Option OwnStep
 own_step device (Change dev change) = if dev == device then Some (Changes change) else None
 own_step device Frame = Some own_steps.Frame
 own_step device (Poll dev fate) = if dev == device then Some (Polls fate) else None
+own_step device (Begin dev request) = None
+own_step device (Control dev fate) = None
 
--- and those of a list of steps, in their order
+-- and that of a list of steps, in their order
 abbrev pub own : ℕ → List Step → List OwnStep
 own device steps = filter_map (own_step device) steps
+
+-- all of its steps: those that name it, and all frames
+abbrev pub member_step : ℕ → Step → Option MemberStep
+member_step device (Change dev change) = if dev == device then Some (Scheduled (Changes change)) else None
+member_step device Frame = Some (Scheduled own_steps.Frame)
+member_step device (Poll dev fate) = if dev == device then Some (Scheduled (Polls fate)) else None
+member_step device (Begin dev request) = if dev == device then Some (Begins request) else None
+member_step device (Control dev fate) = if dev == device then Some (Controls fate) else None
+
+-- and those of a list of steps, in their order
+abbrev pub member_steps : ℕ → List Step → List MemberStep
+member_steps device steps = filter_map (member_step device) steps
+
+-- a step that is of no transfer of a device
+abbrev pub is_scheduled : ℕ → Step → Bool
+is_scheduled device (Begin dev request) = not (dev == device)
+is_scheduled device (Control dev fate) = not (dev == device)
+is_scheduled device (Change dev change) = true
+is_scheduled device Frame = true
+is_scheduled device (Poll dev fate) = true
+
+-- no request of a device is begun or tried
+abbrev pub HasOnlySchedule : ℕ → List Step → Type 0
+HasOnlySchedule device steps = All (λ x. is_scheduled device x ≡ true) steps
+
+-- no step is of a transfer
+abbrev pub AreScheduled : List Step → Type 0
+AreScheduled steps = (device : ℕ) → HasOnlySchedule device steps
 
 -- what was delivered of a device
 abbrev pub own_event : ℕ → Delivered → Option Event
@@ -159,6 +227,7 @@ from_device device out = filter_map (own_event device) out
 -- Each device by itself: how it stands and what was delivered of it are a function of its own steps.
 pub record IsIsolated (before after : List Member) (steps : List Step) (old new : List Delivered) : Type 0 where
   pub states : (device : ℕ) (m : Member) → member_at before device ≡ Some m
-      → member_at after device ≡ Some (member_after_all m (own device steps))
+      → member_at after device ≡ Some (member_after_all m (member_steps device steps))
   pub events : (device : ℕ) (m : Member) → member_at before device ≡ Some m
-      → from_device device new ≡ from_device device old ++ events_in (items_of m.layout) m.station (own device steps)
+      → from_device device new ≡ from_device device old
+      ++ told_in (items_of m.layout) m.station (deeds_in m (member_steps device steps))

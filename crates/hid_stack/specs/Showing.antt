@@ -1,25 +1,32 @@
 -- What the two ends of a member show (USB 2.0, 8.5.4 and 8.6).
-use Rattle.std.specs.Prelude.{◌≡◌, ℕ, true, List, Some}
+use Rattle.std.specs.Prelude.{◌≡◌, ℕ, true, List, length, Option, Some, None, Result, Err}
 use Rattle.std.specs.Option.{option_map}
 use Rattle.hid_device.specs.declared.device.TheConstants.{ENDPOINT}
 use Rattle.hid_device.specs.Device.{DeviceState, core_of}
-use Rattle.hid_host.specs.Host.{HostEnd}
-use Rattle.hid_host.specs.Phase.{IfReady, IsReady}
+use Rattle.usb_control.specs.declared.host.Outcome.{Outcome}
+use Rattle.hid_host.specs.declared.fault.StackFault.{StackFault}
+use Rattle.hid_host.specs.declared.fault.StackFault.TheVariants.{NoDevice}
+use Rattle.hid_host.specs.Host.{HostEnd, ShowsLast}
+use Rattle.hid_host.specs.declared.phase.HostPhase.{HostPhase}
+use Rattle.hid_host.specs.declared.phase.HostPhase.TheVariants.{Cold, Described, Parsed, Ready}
+use Rattle.hid_host.specs.Phase.{IsReady, state_of}
 use Rattle.hid_host.specs.Ready.{Known}
 use Rattle.hid_lives.specs.Stations.{expected}
-use Rattle.hid_stack.specs.Rig.{Member, member_at}
+use Rattle.hid_device.specs.Deciding.{config_info}
+use Rattle.hid_stack.specs.Members.{Member, endpoint_of}
+use Rattle.hid_stack.specs.Rig.{member_at}
 
--- The device of a member: it was made as the member says, is configured and stands as its station does,
--- the round that is open there is open here, and its toggle is set where the rounds closed are odd in number.
+-- The device of a member: it was made as the member says and stands as its station does, the round that is open there is
+-- open here, its toggle is set where the rounds closed are odd in number, and its endpoint 0 is the member's.
 pub record ShowsDevice (m : Member) (d : DeviceState) : Type 0 where
   pub home : d.addr ≡ m.addr
   pub config : (core_of d).config ≡ m.config
   pub descriptor : (core_of d).descriptor ≡ m.descriptor
   pub layout : (core_of d).layout ≡ m.layout
-  pub configured : (core_of d).is_configured ≡ true
   pub standing : (core_of d).standing ≡ m.station.standing
   pub open_report : (core_of d).current ≡ option_map (λ round. round.report) m.station.current
   pub toggle : (core_of d).toggle ≡ m.station.odd
+  pub endpoint : endpoint_of d.control ≡ m.endpoint
 
 -- what its ready host keeps: the toggle that it expects is the other one exactly while an open round has crossed
 pub record ShowsKnown (m : Member) (known : Known) : Type 0 where
@@ -27,12 +34,27 @@ pub record ShowsKnown (m : Member) (known : Known) : Type 0 where
   pub polls : known.pipe ≡ record { addr = m.addr; endp = ENDPOINT; expects = expected m.station }
   pub view : known.view ≡ m.station.view
 
--- Its host: it is ready for the device at the member's address, and keeps what a ready host keeps.
+-- what a host knows that isn't ready yet: what the configuration says of the device, and then its layout
+abbrev pub ShowsPhase : Member → HostPhase → Type 0
+ShowsPhase m Cold = Unit {0}
+ShowsPhase m (Described info) = info ≡ config_info m.config (length m.descriptor)
+ShowsPhase m (Parsed info layout) = (info ≡ config_info m.config (length m.descriptor)) × (layout ≡ m.layout)
+ShowsPhase m (Ready known) = ShowsKnown m known
+
+-- Its host: it is the one of the device at the member's address, has come as far, and knows what is so there. It is ready
+-- only where the device is configured, and then has its layout.
 pub record ShowsHost (m : Member) (h : HostEnd) : Type 0 where
   pub home : h.addr ≡ m.addr
-  pub is_ready : IsReady h.phase
-  pub known : IfReady h.phase (ShowsKnown m)
+  pub state : state_of h.phase ≡ m.host
+  pub knows : ShowsPhase m h.phase
+  pub configured : IsReady h.phase → m.endpoint.is_configured ≡ true
+  pub transfer : h.transfer ≡ m.transfer
 
 -- what a member gives, where there is one
 abbrev pub GivesOf : {A : Type 0} → (Member → A → Type 0) → List Member → ℕ → A → Type 0
 GivesOf shows members dev given = (m : Member) × (member_at members dev ≡ Some m) × shows m given
+
+-- what is shown of the transfer that a device's host began last
+abbrev pub ShowsTransfer : Option Member → Result Outcome StackFault → Type 0
+ShowsTransfer None shown = shown ≡ Err NoDevice
+ShowsTransfer (Some m) shown = ShowsLast m.transfer shown

@@ -1,5 +1,5 @@
 -- A device and its host as one member of the bus (USB 2.0, 8.6; our choice).
-use Rattle.std.specs.Prelude.{◌≡◌, ℕ, Bool, true, not, Option, Some, None}
+use Rattle.std.specs.Prelude.{◌≡◌, ℕ, Bool, true, false, not, Option, Some, None, Result, Ok, Err}
 use Rattle.std.specs.Bool.{beq}
 use Rattle.hid_layout.specs.Reports.{IsLayout}
 use Rattle.hid_layout.specs.Controls.{items_of}
@@ -12,7 +12,16 @@ use Rattle.hid_host.specs.declared.phase.HostPhase.TheVariants.{Ready}
 use Rattle.hid_host.specs.Host.{HostEnd}
 use Rattle.hid_host.specs.Ready.{Known}
 use Rattle.hid_lives.specs.Stations.{Station, Open}
-use Rattle.hid_stack.specs.Rig.{Member}
+use Rattle.hid_host.specs.Phase.{state_of}
+use Rattle.usb_transact.specs.declared.transaction.Fate.{Fate}
+use Rattle.usb_control.specs.declared.fault.ControlFault.TheVariants.{NoTransfer}
+use Rattle.usb_control.specs.declared.host.Progress.{Progress}
+use Rattle.usb_control.specs.Host.{progress_of}
+use Rattle.hid_host.specs.declared.fault.StackFault.{StackFault}
+use Rattle.hid_host.specs.declared.fault.StackFault.TheVariants.{Control, Memory}
+use Rattle.hid_host.specs.declared.host.Transfer.{Transfer}
+use Rattle.hid_stack.specs.Members.{Member, endpoint_of, ends_tried_at, tried_of, unconcluded_of}
+use Rattle.hid_stack.specs.Rig.{GivesMore}
 
 -- an open round has crossed exactly where the two toggles differ
 abbrev pub round_between : Bool → Bool → Option ℕ → Option Open
@@ -38,14 +47,18 @@ station_of core _ = record {
   view = blank (items_of core.layout);
 }
 
--- the member of a device that stands so
-abbrev pub member_with : ℕ → CoreState → Station → Member
-member_with addr core s =
-    record { addr = addr; config = core.config; descriptor = core.descriptor; layout = core.layout; station = s }
-
--- and the member that they are
+-- The member that a device and its host are.
 abbrev pub joint : DeviceState → HostEnd → Member
-joint device host = member_with device.addr (core_of device) (station_of (core_of device) host.phase)
+joint device host = record {
+  addr = device.addr;
+  config = (core_of device).config;
+  descriptor = (core_of device).descriptor;
+  layout = (core_of device).layout;
+  station = station_of (core_of device) host.phase;
+  endpoint = endpoint_of device.control;
+  host = state_of host.phase;
+  transfer = host.transfer;
+}
 
 -- where no round is open the toggles are the same
 abbrev pub IsEven : Bool → Bool → Option ℕ → Type 0
@@ -68,3 +81,24 @@ pub record ArePaired (device : DeviceState) (known : Known) : Type 0 where
 abbrev pub IsPair : DeviceState → HostPhase → Type 0
 IsPair device (Ready known) = ArePaired device known
 IsPair device _ = ⊥
+
+-- a device of which no round has opened, as before it is configured
+pub record IsUntouched (core : CoreState) : Type 0 where
+  pub sound : IsSound core
+  pub no_round : core.current ≡ None
+  pub even : core.toggle ≡ false
+
+-- a device and its host stand together: they are such a pair where the host is ready, and before that no round opens
+abbrev pub StandTogether : DeviceState → HostPhase → Type 0
+StandTogether device (Ready known) = ArePaired device known
+StandTogether device _ = IsUntouched (core_of device)
+
+-- A try of the transfer that runs, where one does: both ends go on, but that the host stays where memory is wanting for
+-- what its request gives.
+abbrev pub TriesTransfer :
+    Fate → Member → Option Transfer → Result Progress StackFault → Member → Type 0
+TriesTransfer fate m None result new = (result ≡ Err (Control NoTransfer)) × (new ≡ m)
+TriesTransfer fate m (Some t) (Ok progress) new =
+    (progress ≡ progress_of (ends_tried_at fate m t).stage) × (new ≡ tried_of fate m (Some t))
+TriesTransfer fate m (Some t) (Err fault) new =
+    (fault ≡ Memory) × GivesMore fate m (Some t) × (new ≡ unconcluded_of fate m (Some t))

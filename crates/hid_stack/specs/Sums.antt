@@ -1,17 +1,31 @@
 -- The sum of motion over steps of a bus: what moves add to a relative control is delivered once, or the
 -- device still has it (our choice).
-use Rattle.std.specs.Prelude.{◌≡◌, ℕ, List, Some, ◌+ℤ◌}
+use Rattle.std.specs.Prelude.{◌≡◌, ℕ, List, Option, Some, None, ◌+ℤ◌}
 use Rattle.std.specs.List.{All}
 use Rattle.hid_layout.specs.declared.control.ControlId.{ControlId}
 use Rattle.hid_layout.specs.Controls.{items_of}
-use Rattle.hid_lives.specs.Motion.{given_motion, Conserves, station_motion, accepted, HasMotions}
+use Rattle.hid_lives.specs.Motion.{AreBetweenRounds, IsBetweenRounds, given_motion, Conserves, station_motion, accepted_in, HasMotions}
+use Rattle.hid_lives.specs.Lives.{Deed}
+use Rattle.hid_lives.specs.Stations.{Station}
 use Rattle.hid_stack.specs.declared.step.Step.{Step}
 use Rattle.hid_stack.specs.declared.step.Delivered.{Delivered}
-use Rattle.hid_stack.specs.Rig.{Member, member_at, own, from_device}
+use Rattle.hid_stack.specs.Members.{Member, deeds_in}
+use Rattle.hid_stack.specs.Rig.{member_at, member_steps, from_device}
 
 -- every device keeps a motion for each of its relative controls
 abbrev pub AllHaveMotions : List Member → Type 0
 AllHaveMotions members = All (λ m. HasMotions (items_of m.layout) m.station) members
+
+-- what befalls a device, where something does, comes between its rounds if it is a configuration
+abbrev pub IsBetween : Station → Option Deed → Type 0
+IsBetween s None = Unit {0}
+IsBetween s (Some deed) = IsBetweenRounds s deed
+
+-- a configuration takes effect between the rounds of its device, and so loses no motion
+abbrev pub ConfiguresBetweenRounds : List Member → List Step → Type 0
+ConfiguresBetweenRounds members steps =
+    (device : ℕ) (m : Member) → member_at members device ≡ Some m
+    → AreBetweenRounds (items_of m.layout) m.station (deeds_in m (member_steps device steps))
 
 -- Of each device and control: what was delivered before, what the device had and what accepted moves
 -- added is what is delivered now and what the device still has.
@@ -19,7 +33,7 @@ abbrev pub SumsUp : List Member → List Member → List Step → List Delivered
 SumsUp before after steps old new =
     (device : ℕ) (m n : Member)
     → member_at before device ≡ Some m → member_at after device ≡ Some n
-    → (c : ControlId) → Conserves c (accepted (items_of m.layout) m.station (own device steps))
+    → (c : ControlId) → Conserves c (accepted_in (items_of m.layout) m.station (deeds_in m (member_steps device steps)))
     (given_motion c (from_device device old) +ℤ station_motion (items_of m.layout) m.station c)
     (from_device device new)
     (station_motion (items_of n.layout) n.station c)

@@ -1,5 +1,5 @@
--- What a poll tells, by its fate (USB 2.0, 8.5.4 and 8.6).
-use Rattle.std.specs.Prelude.{◌≡◌, ℕ, if◌then◌else◌, List, [], Some, None}
+-- What a step tells, by its fate (USB 2.0, 8.5.3, 8.5.4 and 8.6).
+use Rattle.std.specs.Prelude.{◌≡◌, ℕ, if◌then◌else◌, List, [], Option, Some, None}
 use Rattle.hid_layout.specs.Controls.{items_of}
 use Rattle.hid_layout.specs.Layout.{Contents}
 use Rattle.usb_packet.specs.declared.packet.Packet.{Packet}
@@ -11,11 +11,16 @@ use Rattle.usb_transact.specs.declared.transaction.Fate.{Fate}
 use Rattle.usb_transact.specs.declared.transaction.Fate.TheVariants.{Clean, TokenLost, ReplyLost, AckLost}
 use Rattle.hid_device.specs.Core.{AreBytesOf}
 use Rattle.hid_stack.specs.declared.step.Step.{Step}
-use Rattle.hid_stack.specs.declared.step.Step.TheVariants.{Change, Frame, Poll}
+use Rattle.hid_stack.specs.declared.step.Step.TheVariants.{Change, Frame, Poll, Begin, Control}
 use Rattle.hid_stack.specs.declared.step.Told.{Told}
 use Rattle.hid_stack.specs.declared.step.Told.TheVariants.{Quiet, Polled}
+use Rattle.hid_stack.specs.declared.step.Told.TheVariants as tellings
 use Rattle.hid_lives.specs.Stations.{Station, opened}
-use Rattle.hid_stack.specs.Rig.{Member, member_at}
+use Rattle.usb_control.specs.Host.{progress_of}
+use Rattle.hid_host.specs.declared.host.Transfer.{Transfer}
+use Rattle.hid_host.specs.Host.{running}
+use Rattle.hid_stack.specs.Members.{Member, ends_tried_at}
+use Rattle.hid_stack.specs.Rig.{member_at}
 
 -- the bytes that show the part of the open round
 abbrev pub ShowsRound : Contents → Station → List ℕ → Type 0
@@ -60,6 +65,11 @@ TellsPoll layout s ReplyLost told = TellsOpened layout (opened (items_of layout)
 TellsPoll layout s Clean told = TellsOpened layout (opened (items_of layout) s) Clean told
 TellsPoll layout s AckLost told = TellsOpened layout (opened (items_of layout) s) AckLost told
 
+-- what a try of the transfer that runs tells: how far it has come then
+abbrev pub TellsTry : Fate → Member → Option Transfer → Told → Type 0
+TellsTry fate m None told = ⊥
+TellsTry fate m (Some t) told = told ≡ tellings.Transfer (progress_of (ends_tried_at fate m t).stage)
+
 -- What a step of the bus tells.
 abbrev pub Tells : List Member → Step → Told → Type 0
 Tells members (Change dev change) told = told ≡ Quiet
@@ -67,4 +77,9 @@ Tells members Frame told = told ≡ Quiet
 Tells members (Poll dev fate) told = elim (member_at members dev) [
   | None ↦ ⊥
   | Some m ↦ TellsPoll m.layout m.station fate told
+]
+Tells members (Begin dev request) told = told ≡ Quiet
+Tells members (Control dev fate) told = elim (member_at members dev) [
+  | None ↦ ⊥
+  | Some m ↦ TellsTry fate m (running m.transfer) told
 ]

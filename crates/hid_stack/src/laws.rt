@@ -1,12 +1,16 @@
 //! Laws of the definitions that contracts cite.
 
-ghost use Rattle.std.specs.Prelude.{◌≡◌, ◌++◌, List};
+ghost use Rattle.std.specs.Prelude.{◌≡◌, ◌++◌, List, None};
+ghost use Rattle.hid_requests.specs.declared.request.Request.{Request};
+ghost use Rattle.hid_device.specs.Laying.{Lays};
 ghost use Rattle.hid_stack.specs.declared.step.Step.{Step as BusStep};
 ghost use Rattle.hid_stack.specs.declared.step.Delivered.{Delivered};
-ghost use Rattle.hid_stack.specs.Laws.{TellsOneThing, FindsOneControl, AttachesOneDevice, PacketsMakePolls};
-ghost use Rattle.hid_stack.specs.Headline.{DeliversChanges, KeepsToRounds};
-ghost use Rattle.hid_stack.specs.Rig.{Member, bus_after_all, delivered_in, IsIsolated};
-ghost use Rattle.hid_stack.specs.Sums.{AllHaveMotions, SumsUp};
+ghost use Rattle.hid_stack.specs.Laws.{IsMadeAs, TellsOneThing, FindsOneControl, AttachesOneDevice, PacketsMakePolls};
+ghost use Rattle.hid_stack.specs.Headline.{DeliversChanges, DevicesLive, KeepsToRounds};
+ghost use Rattle.hid_stack.specs.Members.{Member, MemberStep, begin_refusal_at, member_after_all};
+ghost use Rattle.hid_stack.specs.Transfers.{BeginsNone, IsWhole};
+ghost use Rattle.hid_stack.specs.Rig.{bus_after_all, delivered_in, IsIsolated};
+ghost use Rattle.hid_stack.specs.Sums.{AllHaveMotions, ConfiguresBetweenRounds, SumsUp};
 
 use hid_layout::laws::{accepted_or_refused, one_reading, one_refusal};
 pub use hid_lives::laws::{motion_is_kept, rounds_say_all};
@@ -37,7 +41,8 @@ pub fn packets_make_polls()
 {}
 
 /// Each device goes its own way over any steps, from any state of the bus; one that was just configured delivers the
-/// changes between the successive parts that crossed, and one without an open round stands as its rounds say.
+/// changes between the successive parts that crossed, one without an open round stands as its rounds say, and so
+/// whatever befalls it.
 pub fn devices_go_their_own_way()
     ensures isolated { (before after : List Member) (steps : List BusStep) (old new : List Delivered)
         → after ≡ bus_after_all before steps → new ≡ old ++ delivered_in before steps
@@ -46,13 +51,31 @@ pub fn devices_go_their_own_way()
         → new ≡ old ++ delivered_in before steps → DeliversChanges before steps old new }
     ensures rounds { (before after : List Member) (steps : List BusStep)
         → after ≡ bus_after_all before steps → KeepsToRounds before steps after }
+    ensures lives { (before after : List Member) (steps : List BusStep) (old new : List Delivered)
+        → after ≡ bus_after_all before steps → new ≡ old ++ delivered_in before steps
+        → DevicesLive before steps after old new }
 {}
 
 /// Steps of a bus neither lose nor double motion, of each device and control, and every device keeps its motions.
 pub fn motion_sums_up()
     ensures sums { (before behind : List Member) (steps : List BusStep) (old new : List Delivered)
-        → AllHaveMotions before → behind ≡ bus_after_all before steps → new ≡ old ++ delivered_in before steps
+        → AllHaveMotions before → ConfiguresBetweenRounds before steps
+        → behind ≡ bus_after_all before steps → new ≡ old ++ delivered_in before steps
         → SumsUp before behind steps old new }
     ensures after { (members : List Member) (steps : List BusStep) → AllHaveMotions members
         → AllHaveMotions (bus_after_all members steps) }
+{}
+
+/// Whatever befalls a device between the tries of a request: both ends stand where its tries lead; a read that is done gave
+/// the device's answer as it was fixed at the last SETUP that arrived, cut to what was asked for; a write that is done took
+/// effect exactly once, one that failed or runs once at most, and one that was refused never.
+pub fn transfers_are_whole()
+    ensures { (m : Member) (request : Request) (steps : List MemberStep)
+        → Lays m.descriptor m.layout → begin_refusal_at m request ≡ None → BeginsNone steps
+        → IsWhole m request steps }
+{}
+
+/// No step changes what a device was made with.
+pub fn devices_stay_as_made()
+    ensures { (m : Member) (steps : List MemberStep) → IsMadeAs m (member_after_all m steps) }
 {}

@@ -3,6 +3,9 @@
 //!   Rig                     bus                              Device                    HostDevice
 //!   Step::Change ---------------------------------------->   change
 //!   Step::Frame  ---------------------------------------->   frame
+//!   Step::Begin                                                                        begin: a request, nothing is sent
+//!   Step::Control           <---- SETUP, IN or OUT ------------------------------------ control_step: one try
+//!                           ---------------------------->    endpoint 0 answers
 //!   Step::Poll              <---- IN 69 81 00 ----------------------------------------- token
 //!                           ---------------------------->    on_packet: a round opens where a report is due
 //!                           <---- DATA0 C3 00 00 04 .. ---   armed until it is acknowledged
@@ -17,8 +20,10 @@
 //!
 //! The promise, for every report descriptor that both ends accept and every list of changes, frames and polls: the events
 //! delivered are exactly the changes between the successive parts that crossed, in order, none twice: `headline` on
-//! [`Rig::run`]. Each step is told by its definition: `told`, `after` and `events` on [`Rig::step`]. Each device goes its
-//! own way: `isolated`. Its motion is neither lost nor doubled: `conserves`.
+//! [`Rig::run`]. With transfers between the polls the same holds from each configuration on: `lives`. Each step is told by
+//! its definition: `told`, `after` and `events` on [`Rig::step`]. Each device goes its own way: `isolated`. Its motion is
+//! neither lost nor doubled: `conserves`. A host is ready only while its device is configured, and only with its layout:
+//! `shows` on [`Rig::host`].
 #![tactic(auto)]
 
 mod fault;
@@ -30,6 +35,7 @@ mod step;
 
 pub use fault::RunFault;
 pub use hid_host::{DescriptorFault, HostDevice, HostState, StackFault};
+pub use hid_requests::Request;
 pub use polls::poll;
 pub use rig::{MAX_DEVICES, Rig, Start};
 pub use step::{Delivered, Step, Told};

@@ -8,7 +8,8 @@ ghost use Rattle.usb_packet.specs.Spelling.{Fits};
 ghost use Rattle.hid_lives.specs.Rounds.{Polls};
 ghost use Rattle.hid_host.specs.Phase.{IfReady};
 ghost use Rattle.hid_stack.specs.Slot.{IsPair, joint, station_of};
-ghost use Rattle.hid_stack.specs.Rig.{member_after};
+ghost use Rattle.hid_host.specs.Knowing.{Knows};
+ghost use Rattle.hid_stack.specs.Members.{Scheduled, member_after};
 ghost use Rattle.hid_stack.specs.Polls.{Hears, HasBytes, Acknowledges, GoesByPackets, spelled};
 ghost use Rattle.hid_lives.specs.Stations.{events_at};
 ghost use Rattle.hid_stack.specs.Tells.{TellsPoll};
@@ -16,6 +17,7 @@ ghost use Rattle.hid_stack.specs.Tells.{TellsPoll};
 use crate::step::Told;
 use arrayvec::ArrayVec;
 use hid_device::Device;
+use hid_host::laws::hosts_know_their_devices;
 use hid_host::{HostDevice, StackFault};
 use hid_usages::Event;
 use usb_packet::{Packet, encode};
@@ -112,8 +114,9 @@ pub(crate) fn poll_pair(
     ensures told { TellsPoll (core_of device.old).layout
         (station_of (core_of device.old) host.old.phase) fate result }
     ensures after { joint device.new host.new
-        ≡ member_after (joint device.old host.old) (Polls fate) }
+        ≡ member_after (joint device.old host.old) (Scheduled (Polls fate)) }
     ensures pair { IsPair device.new host.new.phase }
+    ensures knows { Knows host.old device.old.control → Knows host.new device.new.control }
     ensures home { host.new.addr ≡ host.old.addr }
     ensures events { events.new.items
         ≡ events_at (items_of (core_of device.old).layout) (station_of (core_of device.old) host.old.phase)
@@ -121,6 +124,7 @@ pub(crate) fn poll_pair(
     ensures few { length events.new.items ≤ max_events (items_of (core_of device.old).layout) }
     ensures capacity { vec_capacity events.new ≡ vec_capacity events.old }
 {
+    hosts_know_their_devices();
     events.clear();
     match poll(&fate, device, host, events) {
         Ok(told) => told,

@@ -1,13 +1,14 @@
 //! The rig: the devices of a bus with their hosts, and the steps that befall them.
-ghost use Rattle.std.specs.Prelude.{◌≡◌, ◌≢◌, ◌≤◌, ◌+◌, ◌++◌, ◌<◌, ℕ, List, [], Ok, Err, Some, length, map, take, IfOk, OnOk, IfErr, OnErr, vec_len, vec_capacity};
+ghost use Rattle.std.specs.Prelude.{◌≡◌, ◌≢◌, ◌≤◌, ◌+◌, ◌++◌, ◌<◌, ℕ, List, [], ◌∷◌, Ok, Err, Some, length, map, take, IfOk, OnOk, IfErr, OnErr, vec_len, vec_capacity};
 ghost use Rattle.hid_layout.specs.declared.control.ControlId.{ControlId as ControlPlace};
 ghost use Rattle.hid_lives.specs.Rounds.{Frame as FrameStep};
 ghost use Rattle.hid_host.specs.declared.fault.StackFault.{StackFault};
 ghost use Rattle.hid_stack.specs.Attaching.{Attaches, IsAttached, Finds};
-ghost use Rattle.hid_stack.specs.Headline.{DeliversChanges, KeepsToRounds};
-ghost use Rattle.hid_stack.specs.Rig.{member_at, member_after, bus_after, delivered_at, bus_after_all, delivered_in, refusal, IsRefusal, StopsAt, HasRoomFor, most_events, most_in, IsIsolated};
-ghost use Rattle.hid_stack.specs.Showing.{ShowsDevice, ShowsHost, GivesOf};
-ghost use Rattle.hid_stack.specs.Sums.{SumsUp};
+ghost use Rattle.hid_stack.specs.Headline.{DeliversChanges, DevicesLive, KeepsToRounds};
+ghost use Rattle.hid_stack.specs.Members.{Scheduled, member_after};
+ghost use Rattle.hid_stack.specs.Rig.{AreScheduled, NoneIsRefused, member_at, bus_after, delivered_at, bus_after_all, delivered_in, refusal, refused_after, stopped_after, IsRefusal, StopsAt, HasRoomFor, most_events, most_in, IsIsolated};
+ghost use Rattle.hid_stack.specs.Showing.{GivesOf, ShowsDevice, ShowsHost, ShowsTransfer};
+ghost use Rattle.hid_stack.specs.Sums.{ConfiguresBetweenRounds, SumsUp};
 ghost use Rattle.hid_stack.specs.Tells.{Tells};
 
 use crate::fault::RunFault;
@@ -19,15 +20,18 @@ use hid_layout::{ControlId, Usage};
 use hid_usages::ChangeFault;
 use std::alloc::Global;
 use std::marker::Model;
+use usb_control::Outcome;
 
 /// How many devices a bus has room for (our choice).
-pub const MAX_DEVICES: usize = 1;
+pub const MAX_DEVICES: usize = 7;
 
 /// How a device and its host begin.
 #[derive(Clone, Copy, Debug, PartialEq, Eq)]
 pub enum Start {
     /// Both ends are freshly configured, and the host has the layout of the device's reports.
     Ready,
+    /// The device isn't configured, and the host knows nothing of it: it is to read and configure it by transfers.
+    Cold,
 }
 
 /// The devices of a bus, each with its host. A contract sees the list of them, and of each how the two stand together.
@@ -39,7 +43,7 @@ pub struct Rig {
 
 impl Model for Rig {
     ghost use Rattle.std.specs.Prelude.{List, ◌≤◌, length, vec_capacity};
-    ghost use Rattle.hid_stack.specs.Rig.{Member};
+    ghost use Rattle.hid_stack.specs.Members.{Member};
     ghost use Rattle.hid_stack.specs.Sums.{AllHaveMotions};
     ghost use Rattle.hid_stack.specs.declared.rig.TheConstants.{MAX_DEVICES};
 
@@ -78,17 +82,15 @@ impl Rig {
         descriptor: &[u8],
         start: Start,
     ) -> Result<u8, StackFault>
-        ensures attaches { Attaches MAX_DEVICES config.now descriptor.now self.old result self.new }
+        ensures attaches { Attaches MAX_DEVICES config.now descriptor.now start self.old result self.new }
         ensures attached { IfOk result
-            (λ dev. IsAttached config.now descriptor.now self.old dev self.new) }
+            (λ dev. IsAttached config.now descriptor.now start self.old dev self.new) }
     {
         if self.slots.len() >= MAX_DEVICES {
             return Err(StackFault::TooManyDevices);
         }
         let dev = self.slots.len() as u8 + 1;
-        let slot = match start {
-            Start::Ready => Slot::ready(self.alloc, dev, config, descriptor)?,
-        };
+        let slot = Slot::new(self.alloc, dev, config, descriptor, start)?;
         self.slots.push_reserved(slot);
         Ok(dev)
     }
@@ -147,11 +149,27 @@ impl Rig {
         Ok(self.slots[i].host())
     }
 
-    /// One step of the bus. A step that is refused sends nothing and changes nothing.
+    /// How far the transfer of a device's host has come that was begun last, with the bytes of a read that is done.
     ///
     /// # Errors
-    /// Of a change or a poll [`StackFault::NoDevice`] where no device has this number; of a change
-    /// [`StackFault::Refused`]; of a poll [`StackFault::Memory`], but never with room for what it delivers.
+    /// [`StackFault::NoDevice`] where no device has this number, and [`StackFault::Control`] with
+    /// [`ControlFault::NoTransfer`](usb_control::ControlFault::NoTransfer) where its host has begun none.
+    pub fn transfer(&self, dev: u8) -> Result<Outcome<'_>, StackFault>
+        ensures { ShowsTransfer (member_at self.now dev) result }
+    {
+        let i = self.place(dev)?;
+        self.slots[i].host().outcome()
+    }
+
+    /// One step of the bus. A step that is refused sends nothing and changes nothing. Only a [`Step::Control`] that finds no
+    /// memory has made its try: the transfer is over, and the host stays in its state.
+    ///
+    /// # Errors
+    /// [`StackFault::NoDevice`] where no device has this number. Of a change [`StackFault::Refused`]. Of a poll
+    /// [`StackFault::NotReady`] where the host isn't ready; then [`StackFault::Memory`], but never with room for what it
+    /// delivers. Of a request that begins [`StackFault::Control`] where another transfer runs; then
+    /// [`StackFault::NotReady`] where the host is in another state; then [`StackFault::Memory`]. Of a try
+    /// [`StackFault::Control`] where no transfer runs, and [`StackFault::Memory`] where a layout or a view finds none.
     pub fn step(&mut self, step: &Step, out: &mut Vec<Delivered>) -> Result<Told, StackFault>
         // What it tells, where the bus stands after it, and what it delivers.
         ensures told { IfOk result (λ told. Tells self.old step.now told) }
@@ -159,10 +177,14 @@ impl Rig {
         ensures events { OnOk result (out.new.items
             ≡ out.old.items ++ delivered_at self.old step.now) }
 
-        // Each refusal comes exactly where its cause stands, memory aside, and changes nothing.
+        // Each refusal comes exactly where its cause stands, memory aside, and changes nothing but by a try.
         ensures refused { (e : StackFault) → refusal self.old step.now ≡ Some e → result ≡ Err e }
         ensures only { IfErr result (λ e. IsRefusal self.old step.now e) }
-        ensures err { OnErr result ((self.new ≡ self.old) × (out.new.items ≡ out.old.items)) }
+        ensures err { IfErr result (λ e. self.new ≡ refused_after self.old step.now e) }
+        ensures err_events { OnErr result (out.new.items ≡ out.old.items) }
+
+        // A configuration takes effect between the rounds of its device.
+        ensures between { ConfiguresBetweenRounds self.old (step.now ∷ []) }
 
         // With room for what a poll delivers, memory is never wanting. A step fills no more than that, and gives none back.
         ensures room { HasRoomFor self.old step.now (vec_len out.old) (vec_capacity out.old)
@@ -186,6 +208,20 @@ impl Rig {
                 let i = self.place(dev)?;
                 self.slots[i].poll(dev, fate, out)
             }
+            Step::Begin { dev, request } => {
+                let i = self.place(dev)?;
+                match self.slots[i].begin(&request) {
+                    Ok(()) => Ok(Told::Quiet),
+                    Err(fault) => Err(fault),
+                }
+            }
+            Step::Control { dev, fate } => {
+                let i = self.place(dev)?;
+                match self.slots[i].control(fate) {
+                    Ok(progress) => Ok(Told::Transfer(progress)),
+                    Err(fault) => Err(fault),
+                }
+            }
         }
     }
 
@@ -195,13 +231,21 @@ impl Rig {
     /// Where and why a step was refused. The steps before it are done, and what they delivered stands.
     pub fn run(&mut self, steps: &[Step], out: &mut Vec<Delivered>) -> Result<(), RunFault>
         // Of a device that was just configured the events delivered are exactly the changes between the successive
-        // parts that crossed, in order, none twice.
+        // parts that crossed, in order, none twice. No request of it is begun or tried meanwhile.
         ensures headline { OnOk result
             (DeliversChanges self.old steps.now out.old.items out.new.items) }
 
-        // A device without an open round stands as the rounds of its own steps say: with the open round, the view of the
-        // parts that crossed, and toggles by the numbers of rounds closed and crossed.
+        // A ready device without an open round stands as the rounds of its own steps say: with the open round, the view
+        // of the parts that crossed, and toggles by the numbers of rounds closed and crossed.
         ensures rounds { OnOk result (KeepsToRounds self.old steps.now self.new) }
+
+        // The same of any device without an open round, whatever befalls it: a configuration that takes effect begins
+        // its rounds, its toggles and its view anew.
+        ensures lives { OnOk result
+            (DevicesLive self.old steps.now self.new out.old.items out.new.items) }
+
+        // No step was refused.
+        ensures goes_on { OnOk result (NoneIsRefused self.old steps.now) }
 
         // Where the bus stands, and what was delivered.
         ensures after { OnOk result (self.new ≡ bus_after_all self.old steps.now) }
@@ -215,24 +259,27 @@ impl Rig {
         // Motion is neither lost nor doubled.
         ensures conserves { OnOk result
             (SumsUp self.old self.new steps.now out.old.items out.new.items) }
-        ensures err_conserves { IfErr result
-            (λ e. SumsUp self.old self.new (take e.at steps.now) out.old.items out.new.items) }
+        ensures err_conserves { IfErr result (λ e. SumsUp self.old
+            (bus_after_all self.old (take e.at steps.now)) (take e.at steps.now) out.old.items out.new.items) }
 
-        // A run stops at its first refusal, and the steps before it stand.
+        // A run stops at its first refusal, and the steps before it stand; then the bus is as that one leaves it.
         ensures stops { IfErr result (λ e. StopsAt self.old steps.now e.at e.fault) }
-        ensures err_after { IfErr result (λ e. self.new
-            ≡ bus_after_all self.old (take e.at steps.now)) }
+        ensures err_after { IfErr result
+            (λ e. self.new ≡ stopped_after self.old steps.now e.at e.fault) }
         ensures err_events { IfErr result (λ e. out.new.items
             ≡ out.old.items ++ delivered_in self.old (take e.at steps.now)) }
         ensures err_headline { IfErr result
             (λ e. DeliversChanges self.old (take e.at steps.now) out.old.items out.new.items) }
-        ensures err_rounds { IfErr result
-            (λ e. KeepsToRounds self.old (take e.at steps.now) self.new) }
-        ensures err_isolated { IfErr result
-            (λ e. IsIsolated self.old self.new (take e.at steps.now) out.old.items out.new.items) }
+        ensures err_rounds { IfErr result (λ e. KeepsToRounds self.old (take e.at steps.now)
+            (bus_after_all self.old (take e.at steps.now))) }
+        ensures err_lives { IfErr result (λ e. DevicesLive self.old (take e.at steps.now)
+            (bus_after_all self.old (take e.at steps.now)) out.old.items out.new.items) }
+        ensures err_isolated { IfErr result (λ e. IsIsolated self.old
+            (bus_after_all self.old (take e.at steps.now)) (take e.at steps.now) out.old.items out.new.items) }
 
-        // With room for all that its polls can deliver, memory is never wanting.
-        ensures room { vec_len out.old + most_in self.old steps.now ≤ vec_capacity out.old
+        // With room for all that its polls can deliver, memory is never wanting where no request is begun or tried.
+        ensures room { AreScheduled steps.now
+            → vec_len out.old + most_in self.old steps.now ≤ vec_capacity out.old
             → IfErr result (λ e. e.fault ≢ StackFault.Memory) }
     {
         let _slots = &self.slots;
@@ -248,7 +295,7 @@ impl Rig {
 
 /// A frame reaches every device.
 fn frame_all(slots: &mut [Slot])
-    ensures { slots.new ≡ map (λ m. member_after m FrameStep) slots.old }
+    ensures { slots.new ≡ map (λ m. member_after m (Scheduled FrameStep)) slots.old }
 {
     for slot in slots.iter_mut() {
         slot.frame();

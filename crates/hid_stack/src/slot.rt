@@ -1,6 +1,6 @@
 //! A device of the bus with its host.
 ghost use Rattle.hid_device.specs.Device.{core_of};
-ghost use Rattle.std.specs.Prelude.{◌≡◌, ◌≤◌, ◌+◌, ◌++◌, ◌<◌, ℕ, List, map, length, IfOk, IfErr, IsOk, OnOk, OnErr, vec_len, vec_capacity};
+ghost use Rattle.std.specs.Prelude.{◌≡◌, ◌≢◌, ◌⊎◌, ◌≤◌, ◌+◌, ◌++◌, ◌<◌, ℕ, List, map, length, Ok, Err, Some, None, IfOk, IfErr, OnOk, OnErr, vec_len, vec_capacity};
 ghost use Rattle.hid_layout.specs.Controls.{items_of, max_events};
 ghost use Rattle.hid_layout.specs.Layout.{Contents};
 ghost use Rattle.hid_usages.specs.Snapshots.{Changes};
@@ -8,23 +8,33 @@ ghost use Rattle.hid_lives.specs.Rounds.{Polls, Changes as ChangeStep, Frame as 
 ghost use Rattle.hid_device.specs.declared.config.Config.{Config as ConfigValue};
 ghost use Rattle.hid_device.specs.Core.{IsSound};
 ghost use Rattle.hid_device.specs.Fault.{is_memory};
-ghost use Rattle.hid_device.specs.Making.{Refuses};
-ghost use Rattle.hid_stack.specs.Attaching.{Suits, IsNoPair};
-ghost use Rattle.hid_stack.specs.Slot.{IsPair};
-ghost use Rattle.hid_stack.specs.Rig.{member_after, tagged, fresh_member};
+ghost use Rattle.hid_device.specs.Making.{MakesDevice, Refuses};
+ghost use Rattle.usb_packet.specs.declared.packet.TheConstants.{MAX_ADDRESS as GREATEST};
+ghost use Rattle.hid_stack.specs.Attaching.{Suits, IsNoPair, member_at_start};
+ghost use Rattle.hid_host.specs.declared.fault.StackFault.{StackFault as Refusal};
+ghost use Rattle.hid_host.specs.Host.{running};
+ghost use Rattle.hid_stack.specs.Members.{Scheduled, Begins, Controls, begin_refusal_at, cold_member, deed_at, events_by, fresh_member, member_after};
+ghost use Rattle.hid_stack.specs.Slot.{TriesTransfer};
+ghost use Rattle.hid_stack.specs.Rig.{poll_refusal, tagged};
+ghost use Rattle.hid_stack.specs.Sums.{IsBetween};
 ghost use Rattle.hid_stack.specs.Showing.{ShowsDevice, ShowsHost};
-ghost use Rattle.hid_lives.specs.Stations.{events_at};
 ghost use Rattle.hid_stack.specs.Tells.{TellsPoll};
 
 use crate::polls::poll_pair;
+use crate::rig::Start;
 use crate::step::{Delivered, Told};
 use hid_device::{Config, Device, DeviceCause, DeviceFault};
-use hid_host::{DescriptorFault, HostDevice, StackFault};
+use hid_host::laws::{
+    control_steps_are_computed, devices_leave_transfers, hosts_know_their_devices,
+};
+use hid_host::{DescriptorFault, HostDevice, HostState, StackFault};
 use hid_layout::laws::{accepted_or_refused, one_reading};
 use hid_layout::{Cause, Layout};
+use hid_requests::Request;
 use hid_usages::{Change, ChangeFault, Event};
 use std::alloc::Global;
 use std::marker::Model;
+use usb_control::Progress;
 use usb_packet::MAX_ADDRESS;
 use usb_transact::Fate;
 
@@ -39,14 +49,16 @@ pub struct Slot {
 impl Model for Slot {
     ghost use Rattle.std.specs.Prelude.{◌≡◌, ◌≤◌, vec_capacity};
     ghost use Rattle.hid_layout.specs.Controls.{items_of, max_events};
-    ghost use Rattle.hid_stack.specs.Slot.{IsPair, joint};
-    ghost use Rattle.hid_stack.specs.Rig.{Member};
+    ghost use Rattle.hid_host.specs.Knowing.{Knows};
+    ghost use Rattle.hid_stack.specs.Members.{Member};
+    ghost use Rattle.hid_stack.specs.Slot.{StandTogether, joint};
 
     ghost Value = { Member };
 
     ghost view = { λ s. joint s.device s.host };
 
-    ghost invariant = { λ s. IsPair s.device s.host.phase × (s.host.addr ≡ s.device.addr)
+    ghost invariant = { λ s. StandTogether s.device s.host.phase × Knows s.host s.device.control
+        × (s.host.addr ≡ s.device.addr)
         × (max_events (items_of s.device.control.requests.layout) ≤ vec_capacity s.events) };
 }
 
@@ -77,6 +89,22 @@ fn wants_memory(cause: Cause) -> bool
     }
 }
 
+/// A new device.
+fn made(alloc: Global, addr: u8, config: &Config, descriptor: &[u8]) -> Result<Device, StackFault>
+    ensures made { IfOk result (λ device. MakesDevice addr config.now descriptor.now (Ok device)) }
+    ensures sound { IfOk result (λ device. IsSound (core_of device)) }
+    ensures address { IfOk result (λ _. (0 < addr) × (addr ≤ GREATEST)) }
+    ensures refused { IfErr result (λ fault. IsNoPair addr config.now descriptor.now fault) }
+{
+    match Device::new(alloc, addr, config, descriptor) {
+        Ok(device) => {
+            is_sound(&device);
+            Ok(device)
+        }
+        Err(fault) => Err(no_device(fault)),
+    }
+}
+
 // What holds of every device.
 fn is_sound(device: &Device)
     ensures { IsSound (core_of device.now) }
@@ -85,8 +113,27 @@ fn is_sound(device: &Device)
 }
 
 impl Slot {
+    /// A device at this address and its host, which begin so.
+    pub(crate) fn new(
+        alloc: Global,
+        addr: u8,
+        config: &Config,
+        descriptor: &[u8],
+        start: Start,
+    ) -> Result<Slot, StackFault>
+        ensures begins { IfOk result (λ slot. (layout : Contents)
+            × Suits addr config.now descriptor.now layout
+            × (slot ≡ member_at_start start addr config.now descriptor.now layout)) }
+        ensures refused { IfErr result (λ fault. IsNoPair addr config.now descriptor.now fault) }
+    {
+        match start {
+            Start::Ready => Slot::ready(alloc, addr, config, descriptor),
+            Start::Cold => Slot::cold(alloc, addr, config, descriptor),
+        }
+    }
+
     /// A device at this address and its host, both freshly configured.
-    pub(crate) fn ready(
+    fn ready(
         alloc: Global,
         addr: u8,
         config: &Config,
@@ -99,10 +146,8 @@ impl Slot {
     {
         one_reading();
         accepted_or_refused();
-        let mut device = match Device::new(alloc, addr, config, descriptor) {
-            Ok(device) => device,
-            Err(fault) => return Err(no_device(fault)),
-        };
+        hosts_know_their_devices();
+        let mut device = made(alloc, addr, config, descriptor)?;
         device.configure();
         let host = match HostDevice::ready(alloc, addr, descriptor) {
             Ok(host) => host,
@@ -118,13 +163,35 @@ impl Slot {
         }
     }
 
+    /// A new device at this address, and a host that knows nothing of it yet.
+    fn cold(alloc: Global, addr: u8, config: &Config, descriptor: &[u8]) -> Result<Slot, StackFault>
+        ensures cold { IfOk result (λ slot. (layout : Contents)
+            × Suits addr config.now descriptor.now layout
+            × (slot ≡ cold_member addr config.now descriptor.now layout)) }
+        ensures refused { IfErr result (λ fault. IsNoPair addr config.now descriptor.now fault) }
+    {
+        hosts_know_their_devices();
+        let device = made(alloc, addr, config, descriptor)?;
+        let host = HostDevice::cold(alloc, addr);
+        match Vec::with_capacity(alloc, device.layout().max_events()) {
+            Ok(events) => Ok(Slot {
+                device,
+                host,
+                events,
+            }),
+            Err(_) => Err(StackFault::Memory),
+        }
+    }
+
     /// Changes a control of the device. A change that is refused changes nothing.
     pub(crate) fn change(&mut self, change: Change) -> Result<(), ChangeFault>
         ensures changes { Changes
             (items_of self.old.layout) self.old.station.standing.snapshot change result
             self.new.station.standing.snapshot }
-        ensures after { self.new ≡ member_after self.old (ChangeStep change) }
+        ensures after { self.new ≡ member_after self.old (Scheduled (ChangeStep change)) }
     {
+        hosts_know_their_devices();
+        devices_leave_transfers();
         let result = self.device.change(change);
         is_sound(&self.device);
         result
@@ -132,9 +199,12 @@ impl Slot {
 
     /// A frame passes.
     pub(crate) fn frame(&mut self)
-        ensures { self.new ≡ member_after self.old FrameStep }
+        ensures { self.new ≡ member_after self.old (Scheduled FrameStep) }
     {
+        hosts_know_their_devices();
+        devices_leave_transfers();
         self.device.frame();
+        is_sound(&self.device);
     }
 
     /// The layout of the device's reports.
@@ -166,16 +236,25 @@ impl Slot {
         out: &mut Vec<Delivered>,
     ) -> Result<Told, StackFault>
         ensures told { IfOk result (λ told. TellsPoll self.old.layout self.old.station fate told) }
-        ensures after { OnOk result (self.new ≡ member_after self.old (Polls fate)) }
+        ensures after { OnOk result (self.new ≡ member_after self.old (Scheduled (Polls fate))) }
         ensures events { OnOk result (out.new.items
-            ≡ out.old.items ++ map (tagged dev) (events_at (items_of self.old.layout) self.old.station (Polls fate))) }
-        ensures memory { IfErr result (λ fault. fault ≡ StackFault.Memory) }
+            ≡ out.old.items ++ map (tagged dev) (events_by (items_of self.old.layout) self.old.station
+            (deed_at self.old (Scheduled (Polls fate))))) }
+        ensures refused { (e : Refusal) → poll_refusal self.old.host ≡ Some e → result ≡ Err e }
+        ensures only { IfErr result (λ fault. (poll_refusal self.old.host ≡ Some fault)
+            ⊎ ((poll_refusal self.old.host ≡ None) × (fault ≡ Refusal.Memory))) }
         ensures err { OnErr result ((self.new ≡ self.old) × (out.new.items ≡ out.old.items)) }
         ensures room { vec_len out.old + max_events (items_of self.old.layout)
-            ≤ vec_capacity out.old → IsOk result }
+            ≤ vec_capacity out.old → result ≢ Err Refusal.Memory }
         ensures few { vec_len out.new ≤ vec_len out.old + max_events (items_of self.old.layout) }
         ensures capacity { vec_capacity out.old ≤ vec_capacity out.new }
     {
+        match self.host.state() {
+            HostState::Ready => {}
+            HostState::Cold | HostState::Described | HostState::Parsed => {
+                return Err(StackFault::NotReady);
+            }
+        }
         let room = self.device.layout().max_events();
         if out.reserve(room).is_err() {
             return Err(StackFault::Memory);
@@ -183,6 +262,30 @@ impl Slot {
         let told = poll_pair(fate, &mut self.device, &mut self.host, &mut self.events);
         hand_over(dev, &self.events, out);
         Ok(told)
+    }
+
+    /// The host begins a request.
+    pub(crate) fn begin(&mut self, request: &Request) -> Result<(), StackFault>
+        ensures after { OnOk result (self.new ≡ member_after self.old (Begins request.now)) }
+        ensures refused { (e : Refusal) → begin_refusal_at self.old request.now ≡ Some e → result ≡ Err e }
+        ensures only { IfErr result (λ e. (begin_refusal_at self.old request.now ≡ Some e)
+            ⊎ ((begin_refusal_at self.old request.now ≡ None) × (e ≡ Refusal.Memory))) }
+        ensures err { OnErr result (self.new ≡ self.old) }
+    {
+        hosts_know_their_devices();
+        self.host.begin(request)
+    }
+
+    /// The host makes a try of the transfer that runs, and this fate befalls it.
+    pub(crate) fn control(&mut self, fate: Fate) -> Result<Progress, StackFault>
+        ensures tries { TriesTransfer fate self.old (running self.old.transfer) result self.new }
+        ensures between { IsBetween self.old.station (deed_at self.old (Controls fate)) }
+    {
+        hosts_know_their_devices();
+        control_steps_are_computed();
+        let result = self.host.control_step(self.device.control(), fate);
+        is_sound(&self.device);
+        result
     }
 }
 

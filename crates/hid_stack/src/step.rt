@@ -1,9 +1,12 @@
 //! The steps of a bus, and what they tell and deliver.
 use arrayvec::ArrayVec;
+use hid_requests::Request;
 use hid_usages::{Change, Event};
+use usb_control::Progress;
 use usb_transact::{Fate, Took};
 
-/// A step of the bus: one control change, one frame, or one whole transaction with what is lost of it.
+/// A step of the bus: one control change, one frame, a request that begins, or one whole transaction with what is lost of
+/// it.
 #[derive(Clone, Copy, Debug, PartialEq, Eq)]
 pub enum Step {
     /// A control of a device changes.
@@ -21,6 +24,19 @@ pub enum Step {
         /// What is lost of the poll.
         fate: Fate,
     },
+    /// The host of a device begins a request, and sends nothing yet (USB 2.0, 8.5.3).
+    Begin {
+        /// The device, from 1.
+        dev: u8,
+        request: Request,
+    },
+    /// The host of a device makes one try of its transfer (USB 2.0, 8.5.3).
+    Control {
+        /// The device, from 1.
+        dev: u8,
+        /// What is lost of the try.
+        fate: Fate,
+    },
 }
 
 /// What a step tells.
@@ -35,6 +51,8 @@ pub enum Told {
         /// What the host made of it.
         took: Took,
     },
+    /// A try of a transfer: how far the transfer has come.
+    Transfer(Progress),
 }
 
 /// An event, and the device that it came from.

@@ -2,12 +2,14 @@
 //! and 8.6).
 
 use crate::{
-    Delivered, HostDevice, MAX_DEVICES, Rig, RunFault, StackFault, Start, Step, Told, poll,
+    Delivered, HostDevice, HostState, MAX_DEVICES, Request, Rig, RunFault, StackFault, Start, Step,
+    Told, poll,
 };
 use hid_device::{Boot, Config, Device, KEYBOARD, MOUSE};
 use hid_layout::{ControlId, Usage};
 use hid_usages::{Change, ChangeFault, Event, ReportFault};
 use std::test::Fail;
+use usb_control::{ControlFault, Outcome, Progress};
 use usb_transact::{Fate, Took};
 
 fn config(boot: Boot) -> Config {
@@ -364,5 +366,84 @@ fn refusals_are_printed_as_their_codes(rt: HostRuntime) -> Result<(), Fail> {
         format!(in rt.alloc(); "{stopped}")?.as_str(),
         "step 4: S3 U6"
     );
+    Ok(())
+}
+
+/// The requests that bring a boot keyboard up, and how many tries each takes where nothing is lost: its configuration has
+/// 34 bytes and its report descriptor 63, which go in pieces of 8.
+const BRINGS_UP: [(Request, usize); 3] = [
+    (Request::Config, 7),
+    (Request::Report, 10),
+    (Request::Configure, 2),
+];
+
+/// A request of device 1 with so many tries, and what the last of them tells.
+fn asked(
+    rig: &mut Rig,
+    request: Request,
+    tries: usize,
+    out: &mut Vec<Delivered>,
+) -> Result<Told, StackFault> {
+    let mut told = rig.step(&Step::Begin { dev: 1, request }, out)?;
+    for _ in 0..tries {
+        let fate = Fate::Clean;
+        told = rig.step(&Step::Control { dev: 1, fate }, out)?;
+    }
+    Ok(told)
+}
+
+#[test]
+fn a_cold_device_is_brought_up(rt: HostRuntime) -> Result<(), Fail> {
+    let mut rig = Rig::new(rt.alloc())?;
+    rig.attach(&config(Boot::Keyboard), &KEYBOARD, Start::Cold)?;
+    let mut out = Vec::new(rt.alloc());
+    for (request, tries) in BRINGS_UP {
+        let told = asked(&mut rig, request, tries, &mut out)?;
+        assert!(rt; told == Told::Transfer(Progress::Done), "{request:?}");
+    }
+    assert!(rt; rig.host(1)?.state() == HostState::Ready);
+    rig.step(&step_of(Act::Press(4, 4)), &mut out)?;
+    rig.step(&step_of(CLEAN), &mut out)?;
+    assert!(rt; are_delivered(&out, &[Given::Down(4)]));
+    Ok(())
+}
+
+#[test]
+fn the_bytes_of_a_read_are_shown(rt: HostRuntime) -> Result<(), Fail> {
+    let mut rig = Rig::new(rt.alloc())?;
+    rig.attach(&config(Boot::Keyboard), &KEYBOARD, Start::Cold)?;
+    let mut out = Vec::new(rt.alloc());
+    asked(&mut rig, Request::GetConfiguration, 2, &mut out)?;
+    assert!(rt;
+        rig.transfer(1) == Ok(Outcome::Running),
+        "its status is missing"
+    );
+    let fate = Fate::Clean;
+    rig.step(&Step::Control { dev: 1, fate }, &mut out)?;
+    assert!(rt;
+        rig.transfer(1) == Ok(Outcome::Done(&[0])),
+        "not configured"
+    );
+    Ok(())
+}
+
+/// Steps that a device is refused whose host knows nothing of it and has begun no request.
+#[rattlefmt::skip]
+const REFUSED_WHEN_COLD: [(Step, StackFault); 4] = [
+    (Step::Poll { dev: 1, fate: Fate::Clean },                     StackFault::NotReady),
+    (Step::Control { dev: 1, fate: Fate::Clean },                  StackFault::Control(ControlFault::NoTransfer)),
+    (Step::Begin { dev: 1, request: Request::Configure },          StackFault::NotReady),
+    (Step::Begin { dev: 2, request: Request::Config },             StackFault::NoDevice),
+];
+
+#[test]
+fn a_cold_device_is_refused_polls_and_tries(rt: HostRuntime) -> Result<(), Fail> {
+    let mut rig = Rig::new(rt.alloc())?;
+    rig.attach(&config(Boot::Keyboard), &KEYBOARD, Start::Cold)?;
+    let mut out = Vec::new(rt.alloc());
+    for (step, fault) in REFUSED_WHEN_COLD {
+        let told = rig.step(&step, &mut out);
+        assert!(rt; told == Err(fault), "{fault}");
+    }
     Ok(())
 }

@@ -1,5 +1,5 @@
 -- Worked values of what is printed, each by hand.
-use Rattle.std.proofs.Common.{◌≡◌, [], ◌∷◌, ◌++◌, None, Some, refl, pos, negsuc}
+use Rattle.std.proofs.Common.{◌≡◌, [], ◌∷◌, ◌++◌, None, Some, true, false, refl, pos, negsuc}
 use Rattle.std.specs.Prelude.{codes}
 use Rattle.std.specs.Fmt.{digits}
 use Rattle.hid_descriptor.specs.declared.report.ReportKind.TheVariants.{Input}
@@ -8,6 +8,9 @@ use Rattle.hid_descriptor.specs.declared.shape.Shape.TheVariants.{Variable}
 use Rattle.hid_text.specs.Text.{hex_text, usage_text, range_text}
 use Rattle.hid_text.specs.LayoutText.{item_head, item_line}
 use Rattle.hid_text.specs.ValuesText.{value_line}
+use Rattle.hid_text.specs.TransferText.{transfer_text}
+use Rattle.usb_control.specs.declared.fault.ControlFault.TheVariants.{BusFault}
+use Rattle.usb_control.specs.declared.host.Progress.TheVariants.{Running, Done, Failed}
 
 -- two digits at least, and no more than there are
 two_digits : hex_text 0x0A ≡ codes "0A"
@@ -45,3 +48,21 @@ mouse_buttons : item_line 0 (record { kind = Input; id = 0; bits = 24 }) buttons
     ≡ codes "item 0 input 0 at 0 1x3 variable 0..1 09:01-09:03 in 1/01:02 0/-" ++ 10 ∷ []
 unfolding buttons item_head range_text hex_text digits
 mouse_buttons = refl
+
+-- the status of a device that was read, whatever is asked to be traced
+a_status : transfer_text false 1 Done (0x00 ∷ 0x00 ∷ []) ≡ codes "1 control done 00 00" ++ 10 ∷ []
+unfolding transfer_text hex_text digits
+a_status = refl
+
+three_lost_tokens : transfer_text false 1 (Failed BusFault) [] ≡ codes "1 control failed C2" ++ 10 ∷ []
+unfolding transfer_text digits
+three_lost_tokens = refl
+
+-- a try behind which there is another to make
+one_try : transfer_text true 1 Running [] ≡ codes "1 control running" ++ 10 ∷ []
+unfolding transfer_text digits
+one_try = refl
+
+one_try_untold : transfer_text false 1 Running [] ≡ []
+unfolding transfer_text
+one_try_untold = refl

@@ -1,6 +1,5 @@
 -- Polls as they are printed (our choice: docs/SCRIPT.md).
 use Rattle.std.specs.Prelude.{ℕ, true, false, List, [], ◌∷◌, ◌++◌, length, ◌==◌, ◌&&◌, nat_le, if◌then◌else◌, Option, None, Some, codes}
-use Rattle.std.specs.List.{flat_map}
 use Rattle.std.specs.Fmt.{decimal}
 use Rattle.usb_packet.specs.declared.packet.TheConstants.{MAX_PAYLOAD}
 use Rattle.usb_packet.specs.declared.packet.Packet.{Packet}
@@ -8,11 +7,7 @@ use Rattle.usb_packet.specs.declared.packet.Packet.TheVariants.{Token, Data, Ack
 use Rattle.usb_packet.specs.Spelling.{data_pid, pid_of}
 use Rattle.usb_transact.specs.declared.host.Took.{Took}
 use Rattle.usb_transact.specs.declared.host.Took.TheVariants as host
-use Rattle.hid_text.specs.Text.{hex_text}
-
--- each byte behind a space
-abbrev pub bytes_text : List ℕ → List ℕ
-bytes_text bytes = flat_map (λ b. 32 ∷ hex_text b) bytes
+use Rattle.hid_text.specs.Text.{bytes_text}
 
 -- a packet that a device sends; it sends no other to answer a poll
 abbrev pub packet_words : Packet → List ℕ

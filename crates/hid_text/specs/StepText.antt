@@ -3,24 +3,25 @@ use Rattle.std.specs.Prelude.{Bool, List, [], ◌∷◌, ◌++◌, if◌then◌e
 use Rattle.std.specs.List.{flat_map}
 use Rattle.std.specs.Option.{option_map}
 use Rattle.hid_stack.specs.declared.step.Step.{Step}
-use Rattle.hid_stack.specs.declared.step.Step.TheVariants.{Change, Frame, Poll}
+use Rattle.hid_stack.specs.declared.step.Step.TheVariants.{Poll, Control}
 use Rattle.hid_stack.specs.declared.step.Told.{Told}
-use Rattle.hid_stack.specs.declared.step.Told.TheVariants.{Quiet, Polled}
+use Rattle.hid_stack.specs.declared.step.Told.TheVariants.{Polled, Transfer}
 use Rattle.hid_stack.specs.declared.step.Delivered.{Delivered}
 use Rattle.hid_text.specs.EventText.{event_text}
 use Rattle.hid_text.specs.PollText.{poll_text}
+use Rattle.hid_text.specs.TransferText.{transfer_text}
 
--- the line of a poll
-abbrev pub told_text : Step → Told → List ℕ
-told_text (Poll dev fate) (Polled reply took) = poll_text dev (option_map (λ bytes. bytes.items) reply) took
-told_text (Poll dev fate) Quiet = []
-told_text (Change dev change) told = []
-told_text Frame told = []
+-- the line of a poll, with --trace alone, or of a try of a transfer; other steps have none
+abbrev pub told_text : Bool → Step → Told → List ℕ → List ℕ
+told_text trace (Poll dev fate) (Polled reply took) got =
+    if trace then poll_text dev (option_map (λ bytes. bytes.items) reply) took else []
+told_text trace (Control dev fate) (Transfer progress) got = transfer_text trace dev progress got
+told_text trace step told got = []
 
 -- a line for each event
 abbrev pub events_text : List Delivered → List ℕ
 events_text delivered = flat_map (λ d. event_text d.dev d.event ++ 10 ∷ []) delivered
 
--- with --trace the line of the step, and in any case its events
-unfoldable pub step_text : Bool → Step → Told → List Delivered → List ℕ
-step_text trace step told delivered = (if trace then told_text step told else []) ++ events_text delivered
+-- the line of the step, where the transfer got these bytes, and its events
+unfoldable pub step_text : Bool → Step → Told → List ℕ → List Delivered → List ℕ
+step_text trace step told got delivered = told_text trace step told got ++ events_text delivered

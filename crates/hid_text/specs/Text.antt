@@ -1,5 +1,6 @@
--- Numbers in hex and usages, as they are printed (our choice: docs/SCRIPT.md).
+-- Numbers in hex, bytes and usages, as they are printed (our choice: docs/SCRIPT.md).
 use Rattle.std.specs.Prelude.{ℕ, zero, suc, List, [], ◌∷◌, ◌++◌, ◌==◌, ◌&&◌, nat_lt, if◌then◌else◌, true, Option, None, Some, codes}
+use Rattle.std.specs.List.{flat_map}
 use Rattle.std.specs.Fmt.{digits}
 use Rattle.hid_descriptor.specs.declared.usage.Usage.{Usage}
 use Rattle.hid_descriptor.specs.Usages.{Entry}
@@ -7,6 +8,10 @@ use Rattle.hid_descriptor.specs.Usages.{Entry}
 -- upper-case hex, of two digits at least
 unfoldable pub hex_text : ℕ → List ℕ
 hex_text n = if nat_lt n 16 then 48 ∷ digits 16 true n else digits 16 true n
+
+-- each byte behind a space
+abbrev pub bytes_text : List ℕ → List ℕ
+bytes_text bytes = flat_map (λ b. 32 ∷ hex_text b) bytes
 
 -- page and ID, joined by a colon
 abbrev pub usage_text : Usage → List ℕ

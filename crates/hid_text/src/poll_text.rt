@@ -2,23 +2,12 @@
 
 ghost use Rattle.std.specs.Prelude.{◌≡◌, ◌++◌, OnOk, string_bytes};
 ghost use Rattle.std.specs.Option.{option_copied};
-ghost use Rattle.hid_text.specs.PollText.{bytes_text, packet_words, reply_words, reply_text, verdict_word, poll_text};
+ghost use Rattle.hid_text.specs.PollText.{packet_words, reply_words, reply_text, verdict_word, poll_text};
 
-use super::text::HexText;
+use super::text::print_bytes;
 use std::alloc::AllocError;
 use usb_packet::{Packet, decode};
 use usb_transact::Took;
-
-/// Adds each byte behind a space.
-fn print_bytes(text: &mut String, bytes: &[u8]) -> Result<(), AllocError>
-    ensures { OnOk result (string_bytes text.new ≡ string_bytes text.old ++ bytes_text bytes.now) }
-{
-    for byte in bytes {
-        let byte = HexText(u16::from(*byte));
-        write!(text, " {byte}")?;
-    }
-    Ok(())
-}
 
 /// Adds the name of a packet that a device sends, and of data each byte.
 fn print_packet(text: &mut String, packet: &Packet) -> Result<(), AllocError>

@@ -5,6 +5,7 @@ ghost use Rattle.hid_text.specs.StepText.{told_text, events_text, step_text};
 
 use super::event_text::EventText;
 use super::poll_text::print_poll;
+use super::transfer_text::print_transfer;
 use hid_stack::{Delivered, Step, Told};
 use std::alloc::AllocError;
 
@@ -21,34 +22,48 @@ fn print_events(text: &mut String, delivered: &[Delivered]) -> Result<(), AllocE
     Ok(())
 }
 
-/// Adds the line of a poll; other steps have none.
-fn print_told(text: &mut String, step: &Step, told: &Told) -> Result<(), AllocError>
+/// Adds the line of a poll, where lines of steps are asked for, or of a try of a transfer; other steps have none.
+fn print_told(
+    text: &mut String,
+    trace: bool,
+    step: &Step,
+    told: &Told,
+    got: &[u8],
+) -> Result<(), AllocError>
     ensures { OnOk result (string_bytes text.new
-        ≡ string_bytes text.old ++ told_text step.now told.now) }
+        ≡ string_bytes text.old ++ told_text trace step.now told.now got.now) }
 {
     match (step, told) {
-        (Step::Poll { dev, .. }, Told::Polled { reply, took }) => match reply {
-            None => print_poll(text, *dev, None, took),
-            Some(bytes) => print_poll(text, *dev, Some(bytes.as_slice()), took),
-        },
+        (Step::Poll { dev, .. }, Told::Polled { reply, took }) => {
+            if !trace {
+                return Ok(());
+            }
+            match reply {
+                None => print_poll(text, *dev, None, took),
+                Some(bytes) => print_poll(text, *dev, Some(bytes.as_slice()), took),
+            }
+        }
+        (Step::Control { dev, .. }, Told::Transfer(progress)) => print_transfer(
+            text, trace, *dev, progress, got,
+        ),
         _ => Ok(()),
     }
 }
 
-/// Adds what is printed of a step that was taken: its line, where lines of steps are asked for, and its events.
+/// Adds what is printed of a step that was taken: its line, and its events. Lines of polls and of transfers that go on stand
+/// where lines of steps are asked for. `got` are the bytes of a read that the step ended.
 #[tactic(auto, unfolding(crate::specs::StepText::step_text))]
 pub fn print_step(
     text: &mut String,
     trace: bool,
     step: &Step,
     told: &Told,
+    got: &[u8],
     delivered: &[Delivered],
 ) -> Result<(), AllocError>
     ensures { OnOk result (string_bytes text.new
-        ≡ string_bytes text.old ++ step_text trace step.now told.now delivered.now) }
+        ≡ string_bytes text.old ++ step_text trace step.now told.now got.now delivered.now) }
 {
-    if trace {
-        print_told(text, step, told)?;
-    }
+    print_told(text, trace, step, told, got)?;
     print_events(text, delivered)
 }

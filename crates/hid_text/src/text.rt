@@ -1,9 +1,10 @@
-//! Numbers in hex and usages, as they are printed.
+//! Numbers in hex, bytes and usages, as they are printed.
 
-ghost use Rattle.std.specs.Prelude.{Some};
-ghost use Rattle.hid_text.specs.Text.{hex_text, usage_text, usage_or_dash, range_text};
+ghost use Rattle.std.specs.Prelude.{◌≡◌, ◌++◌, Some, OnOk, string_bytes};
+ghost use Rattle.hid_text.specs.Text.{hex_text, bytes_text, usage_text, usage_or_dash, range_text};
 
 use hid_layout::Usage;
+use std::alloc::AllocError;
 use std::fmt;
 
 /// A number in upper-case hex, of two digits at least.
@@ -17,6 +18,17 @@ impl fmt::Display for HexText {
         let HexText(number) = *self;
         write!(f, "{number:02X}")
     }
+}
+
+/// Adds each byte behind a space.
+pub fn print_bytes(text: &mut String, bytes: &[u8]) -> Result<(), AllocError>
+    ensures { OnOk result (string_bytes text.new ≡ string_bytes text.old ++ bytes_text bytes.now) }
+{
+    for byte in bytes {
+        let byte = HexText(u16::from(*byte));
+        write!(text, " {byte}")?;
+    }
+    Ok(())
 }
 
 /// A usage, as page and ID: `01:30`.

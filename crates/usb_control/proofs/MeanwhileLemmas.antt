@@ -181,3 +181,15 @@ places_are_run {R} t sends place m (Tries fate ∷ xs) spelled keep stands =
           let there : m ≡ turned t m (Tries fate) = sym (ap (λ (b : Bool). if b then ends_tried t fate m else m) over) in
           subst (λ (o : Bool). Goal (turned t m (Tries fate)) o) (sym closed) (subst (λ (x : Ends R). Goal x false) there rest_here)
     ]
+
+-- what the host asked for stays
+turned_setup : {R : Type 0} (t : Table R) (m : Ends R) (fate : Fate) (b : Bool) → (if b then ends_tried t fate m else m).host.setup ≡ m.host.setup
+turned_setup t m fate true = host_keeps t fate m.host m.control
+turned_setup t m fate false = refl
+
+pub setup_stays : {R : Type 0} (t : Table R) (m : Ends R) (xs : List (Turn R)) → (turned_all t m xs).host.setup ≡ m.host.setup
+setup_stays t m [] = refl
+setup_stays t m (Meanwhile f hears ∷ xs) = setup_stays t (turned t m (Meanwhile f hears)) xs
+setup_stays t m (Tries fate ∷ xs) = setup_stays t (turned t m (Tries fate)) xs ∙ turned_setup t m fate (is_running m.host.stage)
+
+pub ruleset runs = (places_are_run, setup_stays)

@@ -143,11 +143,14 @@ pub fn tries_are_computed<R>()
 {}
 
 /// Whatever comes between the tries of a transfer, as long as it leaves the answer that is fixed: both ends stand at the
-/// place to which the tries lead, each with what a SETUP that arrives in it is decided then.
-#[tactic(auto, using(crate::proofs::MeanwhileLemmas::places_are_run))]
+/// place to which the tries lead, each with what a SETUP that arrives in it is decided then; and what the host asked for
+/// stays.
+#[tactic(auto, using(crate::proofs::MeanwhileLemmas::runs))]
 pub fn places_are_run<R>()
-    ensures { (table : Table R) (sends : List ℕ) (place : Place) (ends : Ends R) (turns : List (Turn R))
+    ensures stands { (table : Table R) (sends : List ℕ) (place : Place) (ends : Ends R) (turns : List (Turn R))
         → IsSpelled ends.host.setup → LeaveAnswers table turns → StandAt table sends place ends
         → StandAt table sends (run (shape_of ends.host.setup) (tries_in table ends turns) place)
         (turned_all table ends turns) }
+    ensures same { (table : Table R) (ends : Ends R) (turns : List (Turn R))
+        → (turned_all table ends turns).host.setup ≡ ends.host.setup }
 {}

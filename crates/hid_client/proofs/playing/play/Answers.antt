@@ -4,6 +4,6 @@ use Rattle.hid_client.proofs.playing.play.Goals as goal
 pub returns : goal.returns
 returns c = record {
   played = played c.args.config.now c.args.descriptor.now c.args.steps.now c.args.control _ c.attach.new.self c.run.new.self c.in_ok-dev.dev _ c.run.new.out.items c.in_ok-host.field-0.now
-      c.view.result.now c.held-is_held.result c.in_ok-rig.ensures.new c.in_ok-dev.ensures.attached c.new-events.ensures.items c.in-Ok.ensures.headline c.in-Ok.ensures.rounds
-      c.in_ok-host.ensures.shows c.view.ensures c.held-is_held.ensures;
+      c.holds-is_held.result c.in_ok-rig.ensures.new c.in_ok-dev.ensures.attached c.new-events.ensures.items c.in-Ok.ensures.headline c.in-Ok.ensures.rounds
+      c.in_ok-host.ensures.shows c.holds-is_held.ensures;
 }

@@ -1,4 +1,4 @@
-use Rattle.hid_stack.proofs.Isolation.{isolated, headline, keeps_to_rounds}
+use Rattle.hid_stack.proofs.Isolation.{isolated, headline, keeps_to_rounds, devices_live}
 use Rattle.hid_stack.proofs.laws.devices_go_their_own_way.Goals as goal
 
 pub returns-clause-isolated : goal.returns-clause-isolated
@@ -9,3 +9,6 @@ returns-clause-headline c = headline
 
 pub returns-clause-rounds : goal.returns-clause-rounds
 returns-clause-rounds c = keeps_to_rounds
+
+pub returns-clause-lives : goal.returns-clause-lives
+returns-clause-lives c = devices_live

@@ -2,7 +2,7 @@ use Rattle.hid_device.specs.Device.{core_of}
 use Rattle.std.proofs.Common.{◌≡◌, ◌∙◌, Ok, Err, sym}
 use Rattle.usb_transact.specs.Fate.{arrives_under}
 use Rattle.hid_stack.specs.Slot.{station_of}
-use Rattle.hid_stack.proofs.StepLemmas.{polls_at, told_is, home_stays, few_of}
+use Rattle.hid_stack.proofs.StepLemmas.{polls_at, polled_to, polls_know, told_is, home_stays, few_of}
 use Rattle.hid_stack.proofs.polls.poll_pair.Goals as goal
 
 pub unreachable-requires : goal.unreachable-requires
@@ -16,7 +16,15 @@ returns-clause-told c =
     told_is (core_of c.args.device.now).layout (station_of (core_of c.args.device.now) c.args.host.now.phase) c.args.fate c.poll.result c.in-Ok.told c.in-Ok.is done.told
 
 pub returns-clause-after : goal.returns-clause-after
-returns-clause-after c = (polls_at c.args.fate c.args.device.now c.args.host.now c.args.host.now.phase c.poll.result c.poll.new.device c.poll.new.host c.clear.new.self.items c.poll.new.out.items c.requires.pair c.clear.ensures.items c.poll.ensures.packets).member
+returns-clause-after c =
+    let done = polls_at c.args.fate c.args.device.now c.args.host.now c.args.host.now.phase c.poll.result c.poll.new.device c.poll.new.host c.clear.new.self.items c.poll.new.out.items c.requires.pair c.clear.ensures.items c.poll.ensures.packets in
+    polled_to c.args.fate c.args.device.now c.args.host.now c.poll.result c.poll.new.device c.poll.new.host c.poll.new.out.items c.requires.pair done
+
+pub returns-clause-knows : goal.returns-clause-knows
+returns-clause-knows c =
+    let done = polls_at c.args.fate c.args.device.now c.args.host.now c.args.host.now.phase c.poll.result c.poll.new.device c.poll.new.host c.clear.new.self.items c.poll.new.out.items c.requires.pair c.clear.ensures.items c.poll.ensures.packets in
+    polls_know (arrives_under c.args.fate) c.args.device.now c.poll.new.device c.args.host.now c.poll.new.host c.poll.result c.clear.new.self.items c.poll.new.out.items _
+    c.hosts_know_their_devices.ensures.replies c.hosts_know_their_devices.ensures.meanwhile c.requires.pair c.poll.ensures.packets done.member
 
 pub returns-clause-pair : goal.returns-clause-pair
 returns-clause-pair c = (polls_at c.args.fate c.args.device.now c.args.host.now c.args.host.now.phase c.poll.result c.poll.new.device c.poll.new.host c.clear.new.self.items c.poll.new.out.items c.requires.pair c.clear.ensures.items c.poll.ensures.packets).pair

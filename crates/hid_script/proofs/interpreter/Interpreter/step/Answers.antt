@@ -12,6 +12,6 @@ returns-in_err-print_step g c = memory_ends _ (TellsStep c.args.step.now (sessio
 
 pub returns : goal.returns
 returns g c =
-    step_written _ _ (session_of c.args.self.now) c.args.step.now c.in_ok-told.told c.step.result c.step.new.out.items c.step.new.self c.saturating_add-self.result c.as_bytes.result.now _
-    c.step.ensures.refused c.in_ok-told.was c.in_ok-told.ensures.told (search rules) (search rules) (search rules) (search rules)
+    step_written _ _ (session_of c.args.self.now) c.args.step.now c.in_ok-told.told c.step.result c.step.new.out.items c.step.new.self c.saturating_add-self.result c.got_by-got.result.now c.as_bytes.result.now _
+    c.step.ensures.refused c.in_ok-told.was c.in_ok-told.ensures.told (search rules) (search rules) c.got_by-got.ensures (search rules) (search rules)
     c.write_text.ensures.ok c.write_text.ensures.cause c.write_text.ensures.front

@@ -1,10 +1,10 @@
-use Rattle.std.proofs.Common.{◌≡◌, ◌++◌, ◌∙◌, ap, arith, take, subst, Err}
+use Rattle.std.proofs.Common.{◌≡◌, ◌++◌, ◌∙◌, ap, arith, refl, take, subst, Err}
 use Rattle.std.proofs.lemmas.Grind.{common_steps}
-use Rattle.hid_stack.specs.Rig.{bus_after_all, delivered_in}
-use Rattle.hid_stack.specs.Sums.{AllHaveMotions}
-use Rattle.hid_stack.proofs.Isolation.{ran_more, told_more, headline, isolated, keeps_to_rounds}
-use Rattle.hid_stack.proofs.RoomLemmas.{most_more, room_at}
-use Rattle.hid_stack.proofs.SumLemmas.{sums_up}
+use Rattle.hid_stack.specs.Rig.{NoneIsRefused, bus_after_all, delivered_in}
+use Rattle.hid_stack.specs.Sums.{AllHaveMotions, ConfiguresBetweenRounds}
+use Rattle.hid_stack.proofs.Isolation.{ran_more, told_more, devices_live, headline, isolated, keeps_to_rounds}
+use Rattle.hid_stack.proofs.RoomLemmas.{goes_on_more, most_more, not_refused, room_at, stopped, stops_at}
+use Rattle.hid_stack.proofs.SumLemmas.{between_more, sums_up}
 use Rattle.hid_stack.proofs.rig.Rig.run.Goals as goal
 
 pub loop-at-preserved : goal.loop-at-preserved
@@ -12,6 +12,8 @@ loop-at-preserved c = record {
   now = ran_more _ _ _ _ _ _ c.loop-at-test.true c.loop-at.invariant.now c.in-Ok.ensures.after;
   told = told_more _ _ _ _ _ _ _ _ c.loop-at-test.true c.loop-at.invariant.now c.loop-at.invariant.told c.in-Ok.ensures.events;
   few = most_more _ _ _ _ _ _ _ _ c.loop-at-test.true c.loop-at.invariant.now c.loop-at.invariant.few c.step.ensures.few;
+  goes_on = goes_on_more _ _ _ _ _ c.loop-at-test.true c.loop-at.invariant.now c.loop-at.invariant.goes_on (not_refused _ c.step.result c.in-Ok.field-0 c.in-Ok.is c.step.ensures.refused);
+  between = between_more _ _ _ _ _ c.loop-at-test.true c.loop-at.invariant.now c.loop-at.invariant.between c.step.ensures.between;
   capacity = omega (arith, c.loop-at.invariant.capacity, c.step.ensures.capacity);
 }
 
@@ -25,36 +27,62 @@ returns-clause-rounds c =
     let stands : c.loop-at.self ≡ bus_after_all c.args.self.now c.args.steps.now = grind (arith, common_steps) in
     keeps_to_rounds c.args.self.now c.loop-at.self c.args.steps.now stands
 
+pub returns-clause-lives : goal.returns-clause-lives
+returns-clause-lives c =
+    let stands : c.loop-at.self ≡ bus_after_all c.args.self.now c.args.steps.now = grind (arith, common_steps) in
+    let told : c.loop-at.out.items ≡ c.args.out.now.items ++ delivered_in c.args.self.now c.args.steps.now = grind (arith, common_steps) in
+    devices_live c.args.self.now c.loop-at.self c.args.steps.now c.args.out.now.items c.loop-at.out.items stands told
+
 pub returns-clause-isolated : goal.returns-clause-isolated
 returns-clause-isolated c =
     let stands : c.loop-at.self ≡ bus_after_all c.args.self.now c.args.steps.now = grind (arith, common_steps) in
     let told : c.loop-at.out.items ≡ c.args.out.now.items ++ delivered_in c.args.self.now c.args.steps.now = grind (arith, common_steps) in
     isolated c.args.self.now c.loop-at.self c.args.steps.now c.args.out.now.items c.loop-at.out.items stands told
 
-pub returns-in-Err-clause-err_headline : goal.returns-in-Err-clause-err_headline
-returns-in-Err-clause-err_headline c =
-    headline c.args.self.now (take c.loop-at.at c.args.steps.now) c.args.out.now.items c.step.new.out.items (c.in-Err.ensures.err.1 ∙ c.loop-at.invariant.told)
-
-pub returns-in-Err-clause-err_rounds : goal.returns-in-Err-clause-err_rounds
-returns-in-Err-clause-err_rounds c =
-    keeps_to_rounds c.args.self.now c.step.new.self (take c.loop-at.at c.args.steps.now) (c.in-Err.ensures.err.0 ∙ c.loop-at.invariant.now)
-
-pub returns-in-Err-clause-err_isolated : goal.returns-in-Err-clause-err_isolated
-returns-in-Err-clause-err_isolated c =
-    isolated c.args.self.now c.step.new.self (take c.loop-at.at c.args.steps.now) c.args.out.now.items c.step.new.out.items
-    (c.in-Err.ensures.err.0 ∙ c.loop-at.invariant.now) (c.in-Err.ensures.err.1 ∙ c.loop-at.invariant.told)
-
 pub returns-clause-conserves : goal.returns-clause-conserves
 returns-clause-conserves c =
     let stands : c.loop-at.self ≡ bus_after_all c.args.self.now c.args.steps.now = grind (arith, common_steps) in
     let told : c.loop-at.out.items ≡ c.args.out.now.items ++ delivered_in c.args.self.now c.args.steps.now = grind (arith, common_steps) in
-    sums_up c.args.self.now c.loop-at.self c.args.steps.now c.args.out.now.items c.loop-at.out.items (subst AllHaveMotions c.self.view_is c.self.invariant.2) stands told
+    let whole : take c.loop-at.at c.args.steps.now ≡ c.args.steps.now = grind (arith, common_steps) in
+    sums_up c.args.self.now c.loop-at.self c.args.steps.now c.args.out.now.items c.loop-at.out.items (subst AllHaveMotions c.self.view_is c.self.invariant.2)
+    (subst (ConfiguresBetweenRounds c.args.self.now) whole c.loop-at.invariant.between) stands told
+
+pub returns-clause-goes_on : goal.returns-clause-goes_on
+returns-clause-goes_on c =
+    let whole : take c.loop-at.at c.args.steps.now ≡ c.args.steps.now = grind (arith, common_steps) in
+    subst (NoneIsRefused c.args.self.now) whole c.loop-at.invariant.goes_on
+
+-- where a step is refused, the steps before it stand
+
+pub returns-in-Err-clause-stops : goal.returns-in-Err-clause-stops
+returns-in-Err-clause-stops c = stops_at _ _ _ _ _ _ c.loop-at-test.true c.loop-at.invariant.goes_on c.loop-at.invariant.now c.in-Err.ensures.only
+
+pub returns-in-Err-clause-err_after : goal.returns-in-Err-clause-err_after
+returns-in-Err-clause-err_after c = stopped _ _ _ _ _ _ _ c.loop-at-test.true c.loop-at.invariant.now c.in-Err.ensures.err
+
+pub returns-in-Err-clause-err_headline : goal.returns-in-Err-clause-err_headline
+returns-in-Err-clause-err_headline c =
+    headline c.args.self.now (take c.loop-at.at c.args.steps.now) c.args.out.now.items c.step.new.out.items (c.in-Err.ensures.err_events ∙ c.loop-at.invariant.told)
+
+pub returns-in-Err-clause-err_rounds : goal.returns-in-Err-clause-err_rounds
+returns-in-Err-clause-err_rounds c =
+    keeps_to_rounds c.args.self.now (bus_after_all c.args.self.now (take c.loop-at.at c.args.steps.now)) (take c.loop-at.at c.args.steps.now) refl
+
+pub returns-in-Err-clause-err_lives : goal.returns-in-Err-clause-err_lives
+returns-in-Err-clause-err_lives c =
+    devices_live c.args.self.now (bus_after_all c.args.self.now (take c.loop-at.at c.args.steps.now)) (take c.loop-at.at c.args.steps.now) c.args.out.now.items c.step.new.out.items refl
+    (c.in-Err.ensures.err_events ∙ c.loop-at.invariant.told)
+
+pub returns-in-Err-clause-err_isolated : goal.returns-in-Err-clause-err_isolated
+returns-in-Err-clause-err_isolated c =
+    isolated c.args.self.now (bus_after_all c.args.self.now (take c.loop-at.at c.args.steps.now)) (take c.loop-at.at c.args.steps.now) c.args.out.now.items c.step.new.out.items refl
+    (c.in-Err.ensures.err_events ∙ c.loop-at.invariant.told)
 
 pub returns-in-Err-clause-err_conserves : goal.returns-in-Err-clause-err_conserves
 returns-in-Err-clause-err_conserves c =
-    sums_up c.args.self.now c.step.new.self (take c.loop-at.at c.args.steps.now) c.args.out.now.items c.step.new.out.items (subst AllHaveMotions c.self.view_is c.self.invariant.2)
-    (c.in-Err.ensures.err.0 ∙ c.loop-at.invariant.now) (c.in-Err.ensures.err.1 ∙ c.loop-at.invariant.told)
+    sums_up c.args.self.now (bus_after_all c.args.self.now (take c.loop-at.at c.args.steps.now)) (take c.loop-at.at c.args.steps.now) c.args.out.now.items c.step.new.out.items
+    (subst AllHaveMotions c.self.view_is c.self.invariant.2) c.loop-at.invariant.between refl (c.in-Err.ensures.err_events ∙ c.loop-at.invariant.told)
 
 pub returns-in-Err-clause-room : goal.returns-in-Err-clause-room
-returns-in-Err-clause-room c room memory =
-    c.step.ensures.room (room_at _ _ _ _ _ _ _ _ _ c.loop-at-test.true c.loop-at.invariant.now c.loop-at.invariant.few c.loop-at.invariant.capacity room) (c.in-Err.is ∙ ap Err memory)
+returns-in-Err-clause-room c scheduled room memory =
+    c.step.ensures.room (room_at _ _ _ _ _ _ _ _ _ c.loop-at-test.true c.loop-at.invariant.now c.loop-at.invariant.few c.loop-at.invariant.capacity scheduled room) (c.in-Err.is ∙ ap Err memory)

@@ -1,5 +1,6 @@
 use Rattle.std.proofs.Common.{◌≡◌, ◌++◌, ◌+◌, ◌≤◌, take, vec_len, vec_capacity}
-use Rattle.hid_stack.specs.Rig.{bus_after_all, delivered_in, most_in}
+use Rattle.hid_stack.specs.Rig.{NoneIsRefused, bus_after_all, delivered_in, most_in}
+use Rattle.hid_stack.specs.Sums.{ConfiguresBetweenRounds}
 use Rattle.hid_stack.proofs.rig.Rig.run.Given as goal
 
 -- the steps so far
@@ -8,5 +9,7 @@ invariant-loop-at l = record {
   now : l.self ≡ bus_after_all l.fn.self (take l.at l.steps);
   told : l.out.items ≡ l.fn.out.items ++ delivered_in l.fn.self (take l.at l.steps);
   few : vec_len l.out ≤ vec_len l.fn.out + most_in l.fn.self (take l.at l.steps);
+  goes_on : NoneIsRefused l.fn.self (take l.at l.steps);
+  between : ConfiguresBetweenRounds l.fn.self (take l.at l.steps);
   capacity : vec_capacity l.fn.out ≤ vec_capacity l.out;
 }

@@ -1,7 +1,7 @@
 use Rattle.std.proofs.Common.{◌≡◌, ◌++◌, take}
 use Rattle.std.specs.Prelude.{string_bytes}
-use Rattle.hid_text.specs.PollText.{bytes_text}
-use Rattle.hid_text.proofs.poll_text.print_bytes.Given as goal
+use Rattle.hid_text.specs.Text.{bytes_text}
+use Rattle.hid_text.proofs.text.print_bytes.Given as goal
 
 -- the bytes so far
 abbrev pub invariant-loop-byte : goal.invariant-loop-byte

@@ -1,0 +1,81 @@
+//! Scripts with transfers over memory, and what they print.
+//! The keyboard and the mouse are those of HID 1.11, appendix E.6 and E.10; what is read of them, and every expected text,
+//! was worked out by hand from docs/FORMATS.md and docs/SCRIPT.md.
+
+use crate::{Options, fault_line, run};
+use std::test::Fail;
+
+/// Scripts that run to their end, with `--trace` or not.
+#[rattlefmt::skip]
+const ACCEPTED: [(&str, bool, &str, &str); 4] = [
+    ("a keyboard is read and configured", false,
+        "device cold keyboard 05 01 09 06 A1 01 05 07 19 E0 29 E7 15 00 25 01 75 01 95 08 81 02 95 01 75 08 81 01 95 05 75 01 05 08 19 01 29 05 91 02 95 01 75 03 91 01 95 06 75 08 15 00 25 65 05 07 19 00 29 65 81 00 C0\nbegin 1 config\ncontrol 1 clean 7\nbegin 1 report\ncontrol 1 clean 10\nbegin 1 configure\ncontrol 1\ncontrol 1 ack\npress 1 07:04\npoll 1\n",
+        "1 control done 09 02 22 00 01 01 00 80 32 09 04 00 00 01 03 01 01 00 09 21 11 01 00 01 22 3F 00 07 05 81 03 40 00 0A\n1 control done 05 01 09 06 A1 01 05 07 19 E0 29 E7 15 00 25 01 75 01 95 08 81 02 95 01 75 08 81 01 95 05 75 01 05 08 19 01 29 05 91 02 95 01 75 03 91 01 95 06 75 08 15 00 25 65 05 07 19 00 29 65 81 00 C0\n1 control done\n1 down 07:04\n"),
+    ("a mouse is configured twice", false,
+        "device cold mouse 05 01 09 02 A1 01 09 01 A1 00 05 09 19 01 29 03 15 00 25 01 95 03 75 01 81 02 95 01 75 05 81 01 05 01 09 30 09 31 15 81 25 7F 75 08 95 02 81 06 C0 C0\nbegin 1 config\ncontrol 1 clean 7\nbegin 1 report\ncontrol 1 clean 9\nbegin 1 configure\ncontrol 1\ncontrol 1 reply 3\nbegin 1 configure\ncontrol 1 clean 2\nmove 1 01:30 5\npoll 1\n",
+        "1 control done 09 02 22 00 01 01 00 80 32 09 04 00 00 01 03 01 02 00 09 21 11 01 00 01 22 32 00 07 05 81 03 40 00 0A\n1 control done 05 01 09 02 A1 01 09 01 A1 00 05 09 19 01 29 03 15 00 25 01 95 03 75 01 81 02 95 01 75 05 81 01 05 01 09 30 09 31 15 81 25 7F 75 08 95 02 81 06 C0 C0\n1 control failed C2\n1 control done\n1 motion 01:30 5\n"),
+    ("a status", true,
+        "device ready keyboard 05 01 09 06 A1 01 05 07 19 E0 29 E7 15 00 25 01 75 01 95 08 81 02 95 01 75 08 81 01 95 05 75 01 05 08 19 01 29 05 91 02 95 01 75 03 91 01 95 06 75 08 15 00 25 65 05 07 19 00 29 65 81 00 C0\nbegin 1 status\ncontrol 1 clean 3\n",
+        "1 control running\n1 control running\n1 control done 00 00\n"),
+    ("lost tokens", false,
+        "device ready keyboard 05 01 09 06 A1 01 05 07 19 E0 29 E7 15 00 25 01 75 01 95 08 81 02 95 01 75 08 81 01 95 05 75 01 05 08 19 01 29 05 91 02 95 01 75 03 91 01 95 06 75 08 15 00 25 65 05 07 19 00 29 65 81 00 C0\nbegin 1 status\ncontrol 1 token 3\n",
+        "1 control failed C2\n"),
+];
+
+/// Scripts that are refused, with the line that names the fault.
+#[rattlefmt::skip]
+const REFUSED: [(&str, &str, &str); 5] = [
+    ("a poll before the device is configured",
+        "device cold mouse 05 01 09 02 A1 01 09 01 A1 00 05 09 19 01 29 03 15 00 25 01 95 03 75 01 81 02 95 01 75 05 81 01 05 01 09 30 09 31 15 81 25 7F 75 08 95 02 81 06 C0 C0\npoll 1\n",
+        "line 2: X4 S2\n"),
+    ("a configuration is read where nothing is known",
+        "device ready keyboard 05 01 09 06 A1 01 05 07 19 E0 29 E7 15 00 25 01 75 01 95 08 81 02 95 01 75 08 81 01 95 05 75 01 05 08 19 01 29 05 91 02 95 01 75 03 91 01 95 06 75 08 15 00 25 65 05 07 19 00 29 65 81 00 C0\nbegin 1 config\n",
+        "line 2: X4 S2\n"),
+    ("no request was begun",
+        "device ready keyboard 05 01 09 06 A1 01 05 07 19 E0 29 E7 15 00 25 01 75 01 95 08 81 02 95 01 75 08 81 01 95 05 75 01 05 08 19 01 29 05 91 02 95 01 75 03 91 01 95 06 75 08 15 00 25 65 05 07 19 00 29 65 81 00 C0\ncontrol 1\n",
+        "line 2: X4 S4 C4\n"),
+    ("another transfer runs",
+        "device ready keyboard 05 01 09 06 A1 01 05 07 19 E0 29 E7 15 00 25 01 75 01 95 08 81 02 95 01 75 08 81 01 95 05 75 01 05 08 19 01 29 05 91 02 95 01 75 03 91 01 95 06 75 08 15 00 25 65 05 07 19 00 29 65 81 00 C0\nbegin 1 status\nbegin 1 status\n",
+        "line 3: X4 S4 C5\n"),
+    ("no device",
+        "begin 1 status\n",
+        "line 1: X4 S1\n"),
+];
+
+#[test]
+fn an_accepted_transfer_prints_its_text(rt: HostRuntime) -> Result<(), Fail> {
+    for (name, trace, script, text) in ACCEPTED {
+        let options = Options {
+            layout: false,
+            trace,
+        };
+        let mut reader = script.as_bytes();
+        let mut written = Vec::new(rt.alloc());
+        run(rt.alloc(), &mut reader, &mut written, options)?;
+        assert_eq!(rt; written.as_slice(), text.as_bytes(), "{name}");
+    }
+    Ok(())
+}
+
+#[test]
+fn a_refused_request_is_named(rt: HostRuntime) -> Result<(), Fail> {
+    let options = Options {
+        layout: false,
+        trace: true,
+    };
+    for (name, script, line) in REFUSED {
+        let mut reader = script.as_bytes();
+        let mut written = Vec::new(rt.alloc());
+        let fault = run(rt.alloc(), &mut reader, &mut written, options).expect_err(
+            &rt,
+            "a refusal",
+        );
+        assert!(rt; written.is_empty(), "{name}");
+        assert_eq!(rt;
+            fault_line(rt.alloc(), &fault)?.as_slice(),
+            line.as_bytes(),
+            "{name}"
+        );
+    }
+    Ok(())
+}

@@ -1,0 +1,249 @@
+-- A device of a bus with its host, and what each step of the bus makes of the two (USB 2.0, 8.5, 9.1.1 and 9.4.7; our
+-- choice).
+use Rattle.std.specs.Prelude.{ℕ, Bool, true, false, if◌then◌else◌, is_some, List, [], ◌∷◌, length, replicate, Option, Some, None}
+use Rattle.std.specs.List.{cons_option}
+use Rattle.std.specs.Option.{option_map}
+use Rattle.hid_layout.specs.Layout.{Contents}
+use Rattle.hid_layout.specs.Controls.{Item, items_of}
+use Rattle.hid_cells.specs.declared.event.Event.{Event}
+use Rattle.hid_usages.specs.Cells.{blank}
+use Rattle.usb_transact.specs.declared.transaction.Fate.{Fate}
+use Rattle.usb_control.specs.declared.device.Heard.TheVariants as hears
+use Rattle.usb_control.specs.declared.device.Stage.{Stage}
+use Rattle.usb_control.specs.declared.device.Stage.TheVariants as stages
+use Rattle.usb_control.specs.declared.fault.ControlFault.TheVariants.{Busy}
+use Rattle.usb_control.specs.declared.host.HostStage.{HostStage}
+use Rattle.usb_control.specs.declared.host.HostStage.TheVariants.{Done}
+use Rattle.usb_control.specs.Computed.{control_tried, host_tried}
+use Rattle.usb_control.specs.Device.{DevControlState}
+use Rattle.usb_control.specs.Host.{HostTransferState, at_start}
+use Rattle.hid_requests.specs.declared.request.Request.{Request}
+use Rattle.hid_requests.specs.declared.request.Request.TheVariants as requests
+use Rattle.hid_requests.specs.Asking.{setup_for}
+use Rattle.hid_lives.specs.Lives.{Deed, Own, Configures, befallen, events_on}
+use Rattle.hid_lives.specs.Rounds.{OwnStep, Changes, Frame, Polls}
+use Rattle.hid_lives.specs.Stations.{Station, fresh}
+use Rattle.hid_device.specs.declared.config.Config.{Config}
+use Rattle.hid_device.specs.declared.decisions.Pending.{Pending}
+use Rattle.hid_device.specs.declared.decisions.Pending.TheVariants as pendings
+use Rattle.hid_device.specs.Core.{CoreState}
+use Rattle.hid_device.specs.Deciding.{core_table}
+use Rattle.hid_device.specs.Inputs.{input_count}
+use Rattle.hid_device.specs.Making.{new_core}
+use Rattle.hid_host.specs.declared.fault.StackFault.{StackFault}
+use Rattle.hid_host.specs.declared.fault.StackFault.TheVariants.{NotReady, Control}
+use Rattle.hid_host.specs.declared.host.Transfer.{Transfer}
+use Rattle.hid_host.specs.declared.phase.HostState.{HostState}
+use Rattle.hid_host.specs.declared.phase.HostState.TheVariants as states
+use Rattle.hid_host.specs.Bringing.{configures}
+use Rattle.hid_host.specs.Host.{running}
+use Rattle.hid_host.specs.Phase.{may_begin}
+
+-- What endpoint 0 of a device keeps: whether SET_CONFIGURATION took effect; of the last request the answer, where it
+-- has one, and what is carried out when its status is asked for; and how far its transfer has come.
+pub record Endpoint : Type 0 where
+  pub is_configured : Bool
+  pub answer : Option (List ℕ)
+  pub pending : Pending
+  pub stage : Stage
+
+-- A device with its host: its address, the configuration and the descriptor that it was made with, its layout, how the
+-- two stand, the device's endpoint 0, how far the host has come with it, and the transfer that the host began last.
+pub record Member : Type 0 where
+  pub addr : ℕ
+  pub config : Config
+  pub descriptor : List ℕ
+  pub layout : Contents
+  pub station : Station
+  pub endpoint : Endpoint
+  pub host : HostState
+  pub transfer : Option Transfer
+
+-- What a step of the bus is for one device: a step of its schedule, a request of its host, or a try of the transfer
+-- that runs.
+pub data MemberStep : Type 0 where
+  Scheduled : OwnStep → MemberStep
+  Begins : Request → MemberStep
+  Controls : Fate → MemberStep
+
+-- ---- devices that were just attached
+
+-- endpoint 0 of a device that no request has reached
+abbrev pub new_endpoint : Bool → Endpoint
+new_endpoint is_configured =
+    record { is_configured = is_configured; answer = None; pending = pendings.Nothing; stage = stages.Idle }
+
+-- both ends are freshly configured, nothing is pressed and nothing has moved
+abbrev pub fresh_member : ℕ → Config → List ℕ → Contents → Member
+fresh_member addr config descriptor layout = record {
+  addr = addr;
+  config = config;
+  descriptor = descriptor;
+  layout = layout;
+  station = fresh (items_of layout) (blank (items_of layout)) (replicate (input_count layout.reports) 0);
+  endpoint = new_endpoint true;
+  host = states.Ready;
+  transfer = None;
+}
+
+-- the device is as it was made, and its host knows nothing of it
+abbrev pub cold_member : ℕ → Config → List ℕ → Contents → Member
+cold_member addr config descriptor layout = record {
+  addr = addr;
+  config = config;
+  descriptor = descriptor;
+  layout = layout;
+  station = record {
+    standing = (new_core config descriptor layout).standing;
+    current = None;
+    odd = false;
+    view = blank (items_of layout);
+  };
+  endpoint = new_endpoint false;
+  host = states.Cold;
+  transfer = None;
+}
+
+-- ---- the device's side of a transfer
+
+-- the inside of the device
+abbrev pub core_at : Member → CoreState
+core_at m = record {
+  layout = m.layout;
+  config = m.config;
+  descriptor = m.descriptor;
+  is_configured = m.endpoint.is_configured;
+  standing = m.station.standing;
+  current = option_map (λ round. round.report) m.station.current;
+  toggle = m.station.odd;
+  answer = m.endpoint.answer;
+  pending = m.endpoint.pending;
+}
+
+-- and its endpoint 0, between transactions: a try begins with a token, so what was heard before it doesn't count
+abbrev pub control_at : Member → DevControlState CoreState
+control_at m = record { requests = core_at m; stage = m.endpoint.stage; heard = hears.Nothing }
+
+-- what is kept of endpoint 0
+abbrev pub endpoint_of : DevControlState CoreState → Endpoint
+endpoint_of control = record {
+  is_configured = control.requests.is_configured;
+  answer = control.requests.answer;
+  pending = control.requests.pending;
+  stage = control.stage;
+}
+
+-- ---- what befalls the device by a step
+
+-- a poll befalls it where its host is ready
+abbrev pub polled_deed : HostState → Fate → Option Deed
+polled_deed states.Ready fate = Some (Own (Polls fate))
+polled_deed _ fate = None
+
+-- a step of its schedule
+abbrev pub scheduled_deed : HostState → OwnStep → Option Deed
+scheduled_deed host (Changes change) = Some (Own (Changes change))
+scheduled_deed host Frame = Some (Own Frame)
+scheduled_deed host (Polls fate) = polled_deed host fate
+
+-- a try in which a configuration takes effect
+abbrev pub configured_deed : Bool → Option Deed
+configured_deed true = Some Configures
+configured_deed false = None
+
+-- a try of the transfer that runs, where one does
+abbrev pub tried_deed : Fate → Member → Option Transfer → Option Deed
+tried_deed fate m None = None
+tried_deed fate m (Some t) = configured_deed (configures fate t.ends (control_at m))
+
+-- What befalls a device by a step, where something does.
+abbrev pub deed_at : Member → MemberStep → Option Deed
+deed_at m (Scheduled x) = scheduled_deed m.host x
+deed_at m (Begins request) = None
+deed_at m (Controls fate) = tried_deed fate m (running m.transfer)
+
+-- the station behind it
+abbrev pub befallen_by : List Item → Station → Option Deed → Station
+befallen_by items s None = s
+befallen_by items s (Some deed) = befallen items s deed
+
+-- and the events that it delivers
+abbrev pub events_by : List Item → Station → Option Deed → List Event
+events_by items s None = []
+events_by items s (Some deed) = events_on items s deed
+
+-- ---- the member behind a step
+
+-- why a request can't begin, memory aside: another transfer runs, or the host is in another state
+abbrev pub begin_refusal_at : Member → Request → Option StackFault
+begin_refusal_at m request =
+    if is_some (running m.transfer) then Some (Control Busy)
+    else if may_begin request m.host then None
+    else Some NotReady
+
+-- a request begins unless it is refused: its transfer has yet to make its first try
+abbrev pub begun_unless : Option StackFault → Member → Request → Member
+begun_unless (Some fault) m request = m
+begun_unless None m request = record m {
+  transfer = Some (record {
+    request = request;
+    ends = at_start m.addr (setup_for request (record { report_length = length m.descriptor })) [];
+  });
+}
+
+-- the state to which a request that is done leads
+abbrev pub state_behind : Request → HostState → HostState
+state_behind requests.Device host = host
+state_behind requests.Config host = states.Described
+state_behind requests.Report host = states.Parsed
+state_behind requests.Configure host = states.Ready
+state_behind requests.Status host = host
+state_behind requests.GetConfiguration host = host
+
+-- and that behind a try that leaves its transfer at a stage
+abbrev pub state_at : HostStage → Request → HostState → HostState
+state_at Done request host = state_behind request host
+state_at stage request host = host
+
+-- the host's side of the transfer after a try
+abbrev pub ends_tried_at : Fate → Member → Transfer → HostTransferState
+ends_tried_at fate m t = host_tried core_table fate t.ends (control_at m)
+
+-- a try of a transfer, with the host in this state behind it
+abbrev pub tried_to : Fate → Member → Transfer → HostState → Member
+tried_to fate m t host = record {
+  addr = m.addr;
+  config = m.config;
+  descriptor = m.descriptor;
+  layout = m.layout;
+  station = befallen_by (items_of m.layout) m.station (tried_deed fate m (Some t));
+  endpoint = endpoint_of (control_tried core_table fate t.ends (control_at m));
+  host = host;
+  transfer = Some (record t { ends = ends_tried_at fate m t });
+}
+
+-- a try of the transfer that runs: where its request is done the host goes on
+abbrev pub tried_of : Fate → Member → Option Transfer → Member
+tried_of fate m None = m
+tried_of fate m (Some t) = tried_to fate m t (state_at (ends_tried_at fate m t).stage t.request m.host)
+
+-- Its member after a step: what is refused changes nothing.
+abbrev pub member_after : Member → MemberStep → Member
+member_after m (Scheduled x) = record m { station = befallen_by (items_of m.layout) m.station (scheduled_deed m.host x) }
+member_after m (Begins request) = begun_unless (begin_refusal_at m request) m request
+member_after m (Controls fate) = tried_of fate m (running m.transfer)
+
+-- the same where memory is wanting for what a request that is done gives: the host stays where it is
+abbrev pub unconcluded_of : Fate → Member → Option Transfer → Member
+unconcluded_of fate m None = m
+unconcluded_of fate m (Some t) = tried_to fate m t m.host
+
+-- and after a list of steps
+abbrev pub member_after_all : Member → List MemberStep → Member
+member_after_all m [] = m
+member_after_all m (x ∷ steps) = member_after_all (member_after m x) steps
+
+-- What befalls a device by a list of steps.
+abbrev pub deeds_in : Member → List MemberStep → List Deed
+deeds_in m [] = []
+deeds_in m (x ∷ steps) = cons_option (deed_at m x) (deeds_in (member_after m x) steps)

@@ -1,0 +1,61 @@
+-- A request of a device's host, with anything between its tries: what both ends make of it (USB 2.0, 8.5.3 and 9.2.6).
+use Rattle.std.specs.Prelude.{◌≡◌, true, List, [], ◌∷◌, ◌++◌, length, Option, Some, None}
+use Rattle.usb_transact.specs.declared.transaction.Fate.{Fate}
+use Rattle.usb_control.specs.declared.host.HostStage.TheVariants.{Done}
+use Rattle.usb_control.specs.declared.setup.Setup.{Setup}
+use Rattle.usb_control.specs.Meanwhile.{Ends, StandAt, decision_now}
+use Rattle.usb_control.specs.Runs.{IsOnce, acts, last_decision, run}
+use Rattle.usb_control.specs.Transfer.{Decision, Refused, answered_bytes, shape_of, start}
+use Rattle.hid_requests.specs.declared.request.Request.{Request}
+use Rattle.hid_requests.specs.Asking.{setup_for}
+use Rattle.hid_device.specs.Core.{CoreState}
+use Rattle.hid_device.specs.Deciding.{core_table}
+use Rattle.hid_host.specs.declared.host.Transfer.{Transfer}
+use Rattle.hid_stack.specs.Members.{Member, MemberStep, Scheduled, Begins, Controls, control_at, member_after, member_after_all}
+
+-- the setup of a request of a member
+abbrev pub setup_at : Member → Request → Setup
+setup_at m request = setup_for request (record { report_length = length m.descriptor })
+
+-- both ends of a transfer of a member
+abbrev pub ends_at : Member → Transfer → Ends CoreState
+ends_at m t = record { host = t.ends; control = control_at m }
+
+-- a try, with what a SETUP that arrives in it is decided
+abbrev pub try_at : Fate → Member → Option Transfer → List (Fate × Decision)
+try_at fate m None = []
+try_at fate m (Some t) = (fate, decision_now core_table (ends_at m t)) ∷ []
+
+-- The tries among the steps of a member.
+abbrev pub tries_of : Member → List MemberStep → List (Fate × Decision)
+tries_of m [] = []
+tries_of m (Controls fate ∷ steps) = try_at fate m m.transfer ++ tries_of (member_after m (Controls fate)) steps
+tries_of m (Scheduled x ∷ steps) = tries_of (member_after m (Scheduled x)) steps
+tries_of m (Begins request ∷ steps) = tries_of (member_after m (Begins request)) steps
+
+-- no request begins
+abbrev pub BeginsNone : List MemberStep → Type 0
+BeginsNone [] = Unit {0}
+BeginsNone (Begins request ∷ steps) = ⊥
+BeginsNone (Scheduled x ∷ steps) = BeginsNone steps
+BeginsNone (Controls fate ∷ steps) = BeginsNone steps
+
+-- Behind its tries both ends of a request that began at this member stand where these lead, whatever came between them.
+-- So a read that is done gave the device's answer as it was fixed at the last SETUP that arrived, cut to what was asked
+-- for; and a write took effect as `IsOnce` says: exactly once where it is done, else once at most, and never where it was
+-- refused.
+pub record IsWholeFrom (m : Member) (request : Request) (steps : List MemberStep) (begun : Member) : Type 0 where
+  pub transfer : Transfer
+  pub is : (member_after_all begun steps).transfer ≡ Some transfer
+  pub of : transfer.request ≡ request
+  pub asked : transfer.ends.setup ≡ setup_at m request
+  pub once : IsOnce (shape_of (setup_at m request)) (tries_of begun steps)
+  pub stands : StandAt core_table [] (run (shape_of (setup_at m request)) (tries_of begun steps) start)
+      (ends_at (member_after_all begun steps) transfer)
+  pub read : transfer.ends.stage ≡ Done → (shape_of (setup_at m request)).reads ≡ true
+      → transfer.ends.bytes ≡ answered_bytes (shape_of (setup_at m request))
+      (last_decision Refused (acts (shape_of (setup_at m request)) (tries_of begun steps) start))
+
+-- the same from its begin on
+abbrev pub IsWhole : Member → Request → List MemberStep → Type 0
+IsWhole m request steps = IsWholeFrom m request steps (member_after m (Begins request))

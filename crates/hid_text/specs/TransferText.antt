@@ -1,0 +1,22 @@
+-- Transfers as they are printed (USB 2.0, 8.5.3; our choice: docs/SCRIPT.md).
+use Rattle.std.specs.Prelude.{ℕ, Bool, List, [], ◌∷◌, ◌++◌, if◌then◌else◌, codes}
+use Rattle.std.specs.Fmt.{decimal}
+use Rattle.usb_control.specs.Fault.{control_code_of}
+use Rattle.usb_control.specs.declared.host.Progress.{Progress}
+use Rattle.usb_control.specs.declared.host.Progress.TheVariants.{Running, Done, Failed}
+use Rattle.hid_text.specs.Text.{bytes_text}
+
+-- how far a transfer has come: where it is done with the bytes that it got, where it failed with the code
+abbrev pub progress_words : Progress → List ℕ → List ℕ
+progress_words Running got = codes "running"
+progress_words Done got = codes "done" ++ bytes_text got
+progress_words (Failed fault) got = codes "failed " ++ control_code_of fault
+
+-- D control PROGRESS
+abbrev pub progress_text : ℕ → Progress → List ℕ → List ℕ
+progress_text dev progress got = decimal dev ++ codes " control " ++ progress_words progress got ++ 10 ∷ []
+
+-- the line of a try, of a transfer that goes on with --trace alone
+unfoldable pub transfer_text : Bool → ℕ → Progress → List ℕ → List ℕ
+transfer_text trace dev Running got = if trace then progress_text dev Running got else []
+transfer_text trace dev progress got = progress_text dev progress got
