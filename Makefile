@@ -86,6 +86,7 @@ install: $(HIDRUN) $(HIDPLAY) library
 	cp -P bin/lib/libhidstack.so bin/lib/libhidstack.so.0 $(DESTDIR)$(PREFIX)/lib
 	install -Dm644 include/hidstack.h $(DESTDIR)$(PREFIX)/include/hidstack.h
 	install -Dm644 packaging/hidrun.1 $(DESTDIR)$(PREFIX)/share/man/man1/hidrun.1
+	install -Dm644 packaging/hidplay.1 $(DESTDIR)$(PREFIX)/share/man/man1/hidplay.1
 	install -Dm644 packaging/hidstack.3 $(DESTDIR)$(PREFIX)/share/man/man3/hidstack.3
 	mkdir -p $(DESTDIR)$(PREFIX)/lib/pkgconfig
 	sed 's|@PREFIX@|$(PREFIX)|; s|@VERSION@|$(VERSION)|' packaging/hidstack.pc.in > $(DESTDIR)$(PREFIX)/lib/pkgconfig/hidstack.pc

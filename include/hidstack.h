@@ -76,7 +76,7 @@ enum hidstack_flag {
 /* Options of hidstack_run, to be joined by |. */
 enum hidstack_option {
     HIDSTACK_LAYOUTS = 1, /* the layout of each device that is attached */
-    HIDSTACK_POLLS = 2    /* a line for each poll */
+    HIDSTACK_POLLS = 2    /* a line for each poll, and for each try of a transfer */
 };
 
 /* A device: its layout, and what was read of it; or nothing, where it is closed. */

@@ -20,7 +20,7 @@ const PIECE: usize = 4096;
 /// and at the end, also at a fault, so `writer` may be a buffer.
 ///
 /// # Errors
-/// The first fault, at its line. Where the last flush fails, X6 at that line, whatever the fault was: what was told would
+/// The first fault, at its line. Where the last flush fails, R9 at that line, whatever the fault was: what was told would
 /// else be lost without a word. Of a recording that is accepted the line is the one behind the last.
 pub fn play<R: Read, W: Write>(
     alloc: Global,

@@ -22,7 +22,7 @@ pub struct HidRan {
     pub fault: u64,
 }
 
-/// Bit 0: the layout of each device; bit 1: a line for each poll.
+/// Bit 0: the layout of each device; bit 1: a line for each poll, and for each try of a transfer.
 fn options_of(options: u32) -> Options
     ensures { result ≡ options_of options }
 {
