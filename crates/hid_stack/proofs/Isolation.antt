@@ -40,12 +40,12 @@ no_zero members dev m h = elim (cases_Bool (eqb dev 0)) [
 pub at_place : (members : List Member) (dev : ℕ) → eqb dev 0 ≡ false → member_at members dev ≡ slice_get members (dev - 1)
 at_place members dev some = ap (λ (b : Bool). cond b None (slice_get members (dev - 1))) some
 
-with_same : (members : List Member) (dev : ℕ) (m n : Member) → member_at members dev ≡ Some m → member_at (with_member members dev n) dev ≡ Some n
+pub with_same : (members : List Member) (dev : ℕ) (m n : Member) → member_at members dev ≡ Some m → member_at (with_member members dev n) dev ≡ Some n
 with_same members dev m n h =
     let some = no_zero members dev m h in
     at_place (with_member members dev n) dev some ∙ set_here members (dev - 1) n (slice_get_within members (dev - 1) m (sym (at_place members dev some) ∙ h))
 
-with_other : (members : List Member) (d dev : ℕ) (m k n : Member) → (d ≡ dev → ⊥) → member_at members d ≡ Some k → member_at members dev ≡ Some m → member_at (with_member members d n) dev ≡ Some m
+pub with_other : (members : List Member) (d dev : ℕ) (m k n : Member) → (d ≡ dev → ⊥) → member_at members d ≡ Some k → member_at members dev ≡ Some m → member_at (with_member members d n) dev ≡ Some m
 with_other members d dev m k n ne g h =
     let some = no_zero members dev m h in
     let some_d = no_zero members d k g in
@@ -61,7 +61,7 @@ abbrev own_events : Member → Option MemberStep → List Event
 own_events m None = []
 own_events m (Some x) = events_by (items_of m.layout) m.station (deed_at m x)
 
-same_or_not : (d device : ℕ) → ((d ≡ device) × (eqb d device ≡ true)) ⊎ ((d ≡ device → ⊥) × (eqb d device ≡ false))
+pub same_or_not : (d device : ℕ) → ((d ≡ device) × (eqb d device ≡ true)) ⊎ ((d ≡ device → ⊥) × (eqb d device ≡ false))
 same_or_not d device = grind (arith, nat_tests)
 
 state_same : (device : ℕ) (members : List Member) (m : Member) (y : MemberStep) → member_at members device ≡ Some m → member_at (one_after members device y) device ≡ Some (member_after m y)

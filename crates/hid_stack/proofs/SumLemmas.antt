@@ -1,5 +1,5 @@
 -- The sum of motion over steps of a bus.
-use Rattle.std.proofs.Common.{◌≡◌, ◌<◌, ◌+◌, ◌++◌, ◌+ℤ◌, ℕ, ◌-◌, Bool, true, false, List, [], ◌∷◌, Option, Some, None, cond, eqb, get_or, length, take, refl, ap, sym, ◌∙◌, subst, arith}
+use Rattle.std.proofs.Common.{◌≡◌, ◌<◌, ◌+◌, ◌++◌, ◌+ℤ◌, ℕ, ℤ, inl, inr, ◌-◌, Bool, true, false, List, [], ◌∷◌, Option, Some, None, cond, eqb, get_or, length, take, refl, ap, sym, ◌∙◌, subst, arith}
 use Rattle.std.specs.List.{cons_option, slice_get}
 use Rattle.std.specs.Prelude.{IfSome}
 use Rattle.std.proofs.lemmas.Bool.Decides.{nat_tests}
@@ -10,21 +10,27 @@ use Rattle.std.proofs.lemmas.Option.{get_or_from_slice_get, slice_get_within}
 use Rattle.hid_layout.specs.Controls.{Item, items_of}
 use Rattle.hid_layout.specs.Layout.{Contents}
 use Rattle.usb_transact.specs.declared.transaction.Fate.{Fate}
-use Rattle.hid_lives.specs.Lives.{Deed, befallen_all, told_in}
+use Rattle.hid_layout.specs.declared.control.ControlId.{ControlId}
+use Rattle.hid_lives.specs.Lives.{Deed, Configures, befallen, befallen_all, told_in}
 use Rattle.hid_lives.specs.Motion.{AreBetweenRounds, given_motion, Conserves, station_motion, accepted_in, HasMotions}
 use Rattle.hid_lives.specs.Rounds.{Changes, Polls}
 use Rattle.hid_lives.specs.Rounds as own_steps
 use Rattle.hid_lives.specs.Stations.{Station}
+use Rattle.hid_host.specs.declared.fault.StackFault.{StackFault}
+use Rattle.hid_host.specs.declared.fault.StackFault.TheVariants.{NoDevice, NotReady, Refused, BadDescriptor, Report, TooManyDevices, Memory}
+use Rattle.hid_host.specs.declared.fault.StackFault.TheVariants as faults
 use Rattle.hid_host.specs.declared.host.Transfer.{Transfer}
+use Rattle.hid_host.specs.Bringing.{configures}
+use Rattle.hid_host.specs.Host.{running}
 use Rattle.hid_host.specs.declared.phase.HostState.{HostState}
 use Rattle.hid_host.specs.declared.phase.HostState.TheVariants as states
 use Rattle.hid_stack.specs.declared.step.Step.{Step}
 use Rattle.hid_stack.specs.declared.step.Step.TheVariants.{Change, Frame, Poll, Begin, Control}
 use Rattle.hid_stack.specs.declared.step.Delivered.{Delivered}
-use Rattle.hid_stack.specs.Members.{Member, MemberStep, Scheduled, Begins, Controls, befallen_by, deed_at, deeds_in, member_after, member_after_all, scheduled_deed, tried_deed, unconcluded_of}
-use Rattle.hid_stack.specs.Rig.{member_at, with_member, one_after, bus_after, bus_after_all, delivered_in, member_step, member_steps, from_device}
-use Rattle.hid_stack.specs.Sums.{AllHaveMotions, ConfiguresBetweenRounds, IsBetween, SumsUp}
-use Rattle.hid_stack.proofs.Isolation.{isolated, states as states_of}
+use Rattle.hid_stack.specs.Members.{Member, MemberStep, Scheduled, Begins, Controls, befallen_by, configured_deed, control_at, deed_at, deeds_in, member_after, member_after_all, scheduled_deed, tried_deed, unconcluded_of}
+use Rattle.hid_stack.specs.Rig.{member_at, with_member, one_after, one_unconcluded, refused_after, bus_after, bus_after_all, delivered_in, member_step, member_steps, from_device}
+use Rattle.hid_stack.specs.Sums.{AllHaveMotions, ConfiguresBetweenRounds, IsBetween, RefusedKeepMotion, SumsUp}
+use Rattle.hid_stack.proofs.Isolation.{isolated, same_or_not, states as states_of, with_other, with_same}
 use Rattle.hid_stack.proofs.MemberLemmas.{between_append, between_one, layout_stays, layouts_stay, station_is, stations, unconcluded_layout, unconcluded_station}
 use Rattle.hid_lives.proofs.ItemMotionLemmas.{given_append}
 use Rattle.hid_lives.proofs.MotionLemmas.{lived_has, lives_keep}
@@ -168,5 +174,86 @@ between_more members mid steps i d lt before first one device m h =
     let all : member_steps device (take (i + 1) steps) ≡ xs ++ member_steps device (x ∷ []) = ap (member_steps device) (take_more steps i d lt) ∙ steps_append device (take i steps) (x ∷ []) in
     subst (λ (ys : List MemberStep). AreBetweenRounds (items_of m.layout) m.station (deeds_in m ys)) (sym all)
     (between_append xs (member_steps device (x ∷ [])) m (first device m h) (one device n here))
+
+-- ---- a step that is refused keeps the motions
+
+abbrev motion_at : Member → ControlId → ℤ
+motion_at m c = station_motion (items_of m.layout) m.station c
+
+configured_keeps : (items : List Item) (s : Station) (b : Bool) (c : ControlId) → HasMotions items s → IsBetween s (configured_deed b) → station_motion items (befallen_by items s (configured_deed b)) c ≡ station_motion items s c
+configured_keeps items s false c has between = refl
+configured_keeps items s true c has between =
+    let sum : Conserves c [] (station_motion items s c) [] (station_motion items (befallen items s Configures) c) = lives_keep items s has (Configures ∷ []) (between, tt) c in
+    omega (arith, ints, sum)
+
+tried_keeps : (fate : Fate) (m : Member) (o : Option Transfer) (c : ControlId) → HasItsMotions m → IsBetween m.station (tried_deed fate m o)
+    → station_motion (items_of m.layout) (befallen_by (items_of m.layout) m.station (tried_deed fate m o)) c ≡ motion_at m c
+tried_keeps fate m None c has between = refl
+tried_keeps fate m (Some t) c has between = configured_keeps (items_of m.layout) m.station (configures fate t.ends (control_at m)) c has between
+
+unconcluded_keeps : (fate : Fate) (m : Member) (c : ControlId) → HasItsMotions m → IsBetween m.station (deed_at m (Controls fate)) → motion_at (unconcluded_of fate m (running m.transfer)) c ≡ motion_at m c
+unconcluded_keeps fate m c has between =
+    let u = unconcluded_of fate m (running m.transfer) in
+    ap (λ (l : Contents). station_motion (items_of l) u.station c) (unconcluded_layout fate m (running m.transfer))
+    ∙ ap (λ (s : Station). station_motion (items_of m.layout) s c) (unconcluded_station fate m (running m.transfer))
+    ∙ tried_keeps fate m (running m.transfer) c has between
+
+same_keeps : (n k : Member) (c : ControlId) → (let o = Some n in o) ≡ Some k → motion_at n c ≡ motion_at k c
+same_keeps n k c same = let is : n ≡ k = cc in ap (λ (m : Member). motion_at m c) is
+
+between_back : (s : Station) (items : List Item) (o : Option Deed) → AreBetweenRounds items s (cons_option o []) → IsBetween s o
+between_back s items None h = tt
+between_back s items (Some deed) h = h.0
+
+names_itself : (d : ℕ) → eqb d d ≡ true
+names_itself d = grind (arith, nat_tests)
+
+between_at : (members : List Member) (dev : ℕ) (fate : Fate) (m : Member) → ConfiguresBetweenRounds members (Control dev fate ∷ []) → member_at members dev ≡ Some m → IsBetween m.station (deed_at m (Controls fate))
+between_at members dev fate m between h =
+    let here = subst (λ (b : Bool). AreBetweenRounds (items_of m.layout) m.station (deeds_in m (cons_option (cond b (Some (Controls fate)) None) []))) (names_itself dev) (between dev m h) in
+    between_back m.station (items_of m.layout) (deed_at m (Controls fate)) here
+
+one_keeps : (members : List Member) (dev device : ℕ) (fate : Fate) (k n : Member) (c : ControlId) → AllHaveMotions members → ConfiguresBetweenRounds members (Control dev fate ∷ [])
+    → member_at members device ≡ Some k → member_at (one_unconcluded members dev fate) device ≡ Some n → motion_at n c ≡ motion_at k c
+one_keeps members dev device fate k n c all between h stands = by_found (member_at members dev) refl stands
+  where
+    by_found : (found : Option Member) → member_at members dev ≡ found
+        → member_at (elim found as (λ _. List Member) [ None ↦ members | Some m ↦ with_member members dev (unconcluded_of fate m (running m.transfer)) ]) device ≡ Some n → motion_at n c ≡ motion_at k c
+    by_found None e there = same_keeps n k c (sym there ∙ h)
+    by_found (Some m) e there =
+        let u = unconcluded_of fate m (running m.transfer) in
+        elim (same_or_not dev device) [
+          | inl same ↦
+              let is_u : member_at (with_member members dev u) device ≡ Some u = ap (member_at (with_member members dev u)) (sym same.0) ∙ with_same members dev m u e in
+              let is_m : Some m ≡ Some k = sym e ∙ ap (member_at members) same.0 ∙ h in
+              same_keeps n u c (sym there ∙ is_u) ∙ unconcluded_keeps fate m c (member_has members dev m all e) (between_at members dev fate m between e) ∙ same_keeps m k c is_m
+          | inr other ↦ same_keeps n k c (sym there ∙ with_other members dev device k m u other.0 e h)
+        ]
+
+pub refused_keep : RefusedKeepMotion
+refused_keep members (Control dev fate) Memory device k n c all between h there = one_keeps members dev device fate k n c all between h there
+refused_keep members (Control dev fate) NoDevice device k n c all between h there = same_keeps n k c (sym there ∙ h)
+refused_keep members (Control dev fate) NotReady device k n c all between h there = same_keeps n k c (sym there ∙ h)
+refused_keep members (Control dev fate) (Refused f) device k n c all between h there = same_keeps n k c (sym there ∙ h)
+refused_keep members (Control dev fate) (faults.Control f) device k n c all between h there = same_keeps n k c (sym there ∙ h)
+refused_keep members (Control dev fate) (BadDescriptor f) device k n c all between h there = same_keeps n k c (sym there ∙ h)
+refused_keep members (Control dev fate) (Report f) device k n c all between h there = same_keeps n k c (sym there ∙ h)
+refused_keep members (Control dev fate) TooManyDevices device k n c all between h there = same_keeps n k c (sym there ∙ h)
+refused_keep members (Change dev change) e device k n c all between h there = same_keeps n k c (sym there ∙ h)
+refused_keep members Frame e device k n c all between h there = same_keeps n k c (sym there ∙ h)
+refused_keep members (Poll dev fate) e device k n c all between h there = same_keeps n k c (sym there ∙ h)
+refused_keep members (Begin dev request) e device k n c all between h there = same_keeps n k c (sym there ∙ h)
+
+-- the sum where a run stops
+pub sums_stop : (before mid new : List Member) (steps : List Step) (x : Step) (e : StackFault) (old out : List Delivered) → AllHaveMotions before → ConfiguresBetweenRounds before steps → ConfiguresBetweenRounds mid (x ∷ [])
+    → mid ≡ bus_after_all before steps → out ≡ old ++ delivered_in before steps → new ≡ refused_after mid x e → SumsUp before new steps old out
+sums_stop before mid new steps x e old out all between between_here mid_is told_is new_is device m n h there c =
+    let k = member_after_all m (member_steps device steps) in
+    let at_mid : member_at mid device ≡ Some k = ap (λ (ms : List Member). member_at ms device) mid_is ∙ states_of steps before device m h in
+    let at_new : member_at (refused_after mid x e) device ≡ Some n = sym (ap (λ (ms : List Member). member_at ms device) new_is) ∙ there in
+    let all_mid : AllHaveMotions mid = subst AllHaveMotions (sym mid_is) (all_has before steps all) in
+    subst (Conserves c (accepted_in (items_of m.layout) m.station (deeds_in m (member_steps device steps))) (given_motion c (from_device device old) +ℤ motion_at m c) (from_device device out))
+    (sym (refused_keep mid x e device k n c all_mid between_here at_mid at_new))
+    (sums_up before mid steps old out all between mid_is told_is device m k h at_mid c)
 
 pub ruleset sums = (sums_up, all_has)

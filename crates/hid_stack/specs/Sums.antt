@@ -1,6 +1,6 @@
 -- The sum of motion over steps of a bus: what moves add to a relative control is delivered once, or the
 -- device still has it (our choice).
-use Rattle.std.specs.Prelude.{◌≡◌, ℕ, List, Option, Some, None, ◌+ℤ◌}
+use Rattle.std.specs.Prelude.{◌≡◌, ℕ, List, [], ◌∷◌, Option, Some, None, ◌+ℤ◌}
 use Rattle.std.specs.List.{All}
 use Rattle.hid_layout.specs.declared.control.ControlId.{ControlId}
 use Rattle.hid_layout.specs.Controls.{items_of}
@@ -10,7 +10,8 @@ use Rattle.hid_lives.specs.Stations.{Station}
 use Rattle.hid_stack.specs.declared.step.Step.{Step}
 use Rattle.hid_stack.specs.declared.step.Delivered.{Delivered}
 use Rattle.hid_stack.specs.Members.{Member, deeds_in}
-use Rattle.hid_stack.specs.Rig.{member_at, member_steps, from_device}
+use Rattle.hid_stack.specs.Rig.{member_at, member_steps, from_device, refused_after}
+use Rattle.hid_host.specs.declared.fault.StackFault.{StackFault}
 
 -- every device keeps a motion for each of its relative controls
 abbrev pub AllHaveMotions : List Member → Type 0
@@ -37,3 +38,11 @@ SumsUp before after steps old new =
     (given_motion c (from_device device old) +ℤ station_motion (items_of m.layout) m.station c)
     (from_device device new)
     (station_motion (items_of n.layout) n.station c)
+
+-- a step that is refused leaves each device with the motion that it had
+abbrev pub RefusedKeepMotion : Type 0
+RefusedKeepMotion =
+    (members : List Member) (x : Step) (e : StackFault) (device : ℕ) (m n : Member) (c : ControlId)
+    → AllHaveMotions members → ConfiguresBetweenRounds members (x ∷ [])
+    → member_at members device ≡ Some m → member_at (refused_after members x e) device ≡ Some n
+    → station_motion (items_of n.layout) n.station c ≡ station_motion (items_of m.layout) m.station c

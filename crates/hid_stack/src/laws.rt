@@ -10,7 +10,7 @@ ghost use Rattle.hid_stack.specs.Headline.{DeliversChanges, DevicesLive, KeepsTo
 ghost use Rattle.hid_stack.specs.Members.{Member, MemberStep, begin_refusal_at, member_after_all};
 ghost use Rattle.hid_stack.specs.Transfers.{BeginsNone, IsWhole};
 ghost use Rattle.hid_stack.specs.Rig.{bus_after_all, delivered_in, IsIsolated};
-ghost use Rattle.hid_stack.specs.Sums.{AllHaveMotions, ConfiguresBetweenRounds, SumsUp};
+ghost use Rattle.hid_stack.specs.Sums.{AllHaveMotions, ConfiguresBetweenRounds, RefusedKeepMotion, SumsUp};
 
 use hid_layout::laws::{accepted_or_refused, one_reading, one_refusal};
 pub use hid_lives::laws::{motion_is_kept, rounds_say_all};
@@ -56,7 +56,8 @@ pub fn devices_go_their_own_way()
         → DevicesLive before steps after old new }
 {}
 
-/// Steps of a bus neither lose nor double motion, of each device and control, and every device keeps its motions.
+/// Steps of a bus neither lose nor double motion, of each device and control, and every device keeps its motions. One that
+/// is refused changes none, also a try that finds no memory for what its request gives.
 pub fn motion_sums_up()
     ensures sums { (before behind : List Member) (steps : List BusStep) (old new : List Delivered)
         → AllHaveMotions before → ConfiguresBetweenRounds before steps
@@ -64,6 +65,7 @@ pub fn motion_sums_up()
         → SumsUp before behind steps old new }
     ensures after { (members : List Member) (steps : List BusStep) → AllHaveMotions members
         → AllHaveMotions (bus_after_all members steps) }
+    ensures refused { RefusedKeepMotion }
 {}
 
 /// Whatever befalls a device between the tries of a request: both ends stand where its tries lead; a read that is done gave

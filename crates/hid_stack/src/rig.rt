@@ -259,8 +259,8 @@ impl Rig {
         // Motion is neither lost nor doubled.
         ensures conserves { OnOk result
             (SumsUp self.old self.new steps.now out.old.items out.new.items) }
-        ensures err_conserves { IfErr result (λ e. SumsUp self.old
-            (bus_after_all self.old (take e.at steps.now)) (take e.at steps.now) out.old.items out.new.items) }
+        ensures err_conserves { IfErr result
+            (λ e. SumsUp self.old self.new (take e.at steps.now) out.old.items out.new.items) }
 
         // A run stops at its first refusal, and the steps before it stand; then the bus is as that one leaves it.
         ensures stops { IfErr result (λ e. StopsAt self.old steps.now e.at e.fault) }

@@ -4,7 +4,7 @@ use Rattle.hid_stack.specs.Rig.{NoneIsRefused, bus_after_all, delivered_in}
 use Rattle.hid_stack.specs.Sums.{AllHaveMotions, ConfiguresBetweenRounds}
 use Rattle.hid_stack.proofs.Isolation.{ran_more, told_more, devices_live, headline, isolated, keeps_to_rounds}
 use Rattle.hid_stack.proofs.RoomLemmas.{goes_on_more, most_more, not_refused, room_at, stopped, stops_at}
-use Rattle.hid_stack.proofs.SumLemmas.{between_more, sums_up}
+use Rattle.hid_stack.proofs.SumLemmas.{between_more, sums_stop, sums_up}
 use Rattle.hid_stack.proofs.rig.Rig.run.Goals as goal
 
 pub loop-at-preserved : goal.loop-at-preserved
@@ -80,8 +80,8 @@ returns-in-Err-clause-err_isolated c =
 
 pub returns-in-Err-clause-err_conserves : goal.returns-in-Err-clause-err_conserves
 returns-in-Err-clause-err_conserves c =
-    sums_up c.args.self.now (bus_after_all c.args.self.now (take c.loop-at.at c.args.steps.now)) (take c.loop-at.at c.args.steps.now) c.args.out.now.items c.step.new.out.items
-    (subst AllHaveMotions c.self.view_is c.self.invariant.2) c.loop-at.invariant.between refl (c.in-Err.ensures.err_events ∙ c.loop-at.invariant.told)
+    sums_stop c.args.self.now c.loop-at.self c.step.new.self (take c.loop-at.at c.args.steps.now) _ _ c.args.out.now.items c.step.new.out.items
+    (subst AllHaveMotions c.self.view_is c.self.invariant.2) c.loop-at.invariant.between c.step.ensures.between c.loop-at.invariant.now (c.in-Err.ensures.err_events ∙ c.loop-at.invariant.told) c.in-Err.ensures.err
 
 pub returns-in-Err-clause-room : goal.returns-in-Err-clause-room
 returns-in-Err-clause-room c scheduled room memory =
