@@ -233,6 +233,22 @@ fn a_run_ends_at_its_first_refusal(rt: HostRuntime) -> Result<(), Fail> {
     Ok(())
 }
 
+/// The toggle that a host expects, once it is ready.
+fn expects(host: &HostDevice) -> Option<bool> {
+    match host.state() {
+        HostState::Ready => Some(host.pipe().expects()),
+        HostState::Cold | HostState::Described | HostState::Parsed => None,
+    }
+}
+
+/// Whether a host is ready and holds a control.
+fn holds(host: &HostDevice, control: ControlId) -> bool {
+    match host.state() {
+        HostState::Ready => host.view().held(control),
+        HostState::Cold | HostState::Described | HostState::Parsed => false,
+    }
+}
+
 #[test]
 fn the_two_ends_show_their_toggles(rt: HostRuntime) -> Result<(), Fail> {
     let key = ControlId { item: 4, index: 4 };
@@ -250,13 +266,13 @@ fn the_two_ends_show_their_toggles(rt: HostRuntime) -> Result<(), Fail> {
         ),
         Ok(())
     );
-    assert!(rt; rig.host(1)?.pipe().expects());
-    assert!(rt; rig.host(1)?.view().held(key));
+    assert!(rt; expects(rig.host(1)?) == Some(true));
+    assert!(rt; holds(rig.host(1)?, key));
     assert!(rt; !rig.device(1)?.pipe().toggle());
     assert_eq!(rt; rig.device(1)?.pipe().armed(), Some(report.as_slice()));
 
     assert_eq!(rt; rig.run(&[step_of(CLEAN)], &mut out), Ok(()));
-    assert!(rt; rig.host(1)?.pipe().expects());
+    assert!(rt; expects(rig.host(1)?) == Some(true));
     assert!(rt; rig.device(1)?.pipe().toggle());
     assert_eq!(rt; rig.device(1)?.pipe().armed(), None);
     Ok(())
