@@ -42,8 +42,8 @@ BeginsNone (Controls fate ∷ steps) = BeginsNone steps
 
 -- Behind its tries both ends of a request that began at this member stand where these lead, whatever came between them.
 -- So a read that is done gave the device's answer as it was fixed at the last SETUP that arrived, cut to what was asked
--- for; and a write took effect as `IsOnce` says: exactly once where it is done, else once at most, and never where it was
--- refused.
+-- for; and by the places of its tries a write took effect as `IsOnce` says: exactly once where it is done, else once at
+-- most, and never where it was refused.
 pub record IsWholeFrom (m : Member) (request : Request) (steps : List MemberStep) (begun : Member) : Type 0 where
   pub transfer : Transfer
   pub is : (member_after_all begun steps).transfer ≡ Some transfer
