@@ -1,5 +1,5 @@
 -- Both ends of a request stand where its tries lead, whatever befalls the device between them.
-use Rattle.std.proofs.Common.{◌≡◌, ◌++◌, ◌∙◌, Bool, true, false, List, [], ◌∷◌, length, Option, Some, None, refl, ap, sym, subst}
+use Rattle.std.proofs.Common.{◌≡◌, ◌++◌, ◌∙◌, ◌+◌, arith, Bool, true, false, List, [], ◌∷◌, length, Option, Some, None, refl, ap, sym, subst}
 use Rattle.std.specs.Prelude.{if◌then◌else◌}
 use Rattle.usb_transact.specs.declared.transaction.Fate.{Fate}
 use Rattle.usb_control.specs.declared.device.Heard.TheVariants as hears
@@ -8,7 +8,7 @@ use Rattle.usb_control.specs.declared.host.HostStage.TheVariants as stages
 use Rattle.usb_control.specs.Meanwhile.{Ends, LeaveAnswers, Meanwhile, StandAt, Tries, Turn, decision_now, ends_tried, is_running, tries_in, turned, turned_all}
 use Rattle.usb_control.specs.declared.setup.Setup.{Setup}
 use Rattle.usb_control.specs.Host.{at_start}
-use Rattle.usb_control.specs.Runs.{run}
+use Rattle.usb_control.specs.Runs.{acts, run}
 use Rattle.usb_control.specs.Standing.{Stands}
 use Rattle.usb_control.specs.Transfer.{Decision, answered_bytes, shape_of, start}
 use Rattle.usb_control.proofs.LawLemmas.{begins, done_is, read_is}
@@ -23,9 +23,10 @@ use Rattle.hid_device.specs.Core.{CoreState}
 use Rattle.hid_device.specs.Deciding.{core_table}
 use Rattle.hid_host.specs.declared.host.Transfer.{Transfer}
 use Rattle.hid_host.specs.Bringing.{answering}
-use Rattle.hid_host.specs.Host.{running, running_at}
-use Rattle.hid_stack.specs.Members.{Member, MemberStep, Scheduled, Begins, Controls, begin_refusal_at, begun_unless, control_at, core_at, ends_tried_at, member_after, member_after_all, tried_of}
-use Rattle.hid_stack.specs.Transfers.{BeginsNone, IsWhole, IsWholeFrom, ends_at, setup_at, tries_of, try_at}
+use Rattle.hid_host.specs.Host.{running}
+use Rattle.hid_stack.specs.Members.{Member, MemberStep, Scheduled, Begins, Controls, begin_refusal_at, begun_unless, control_at, core_at, deeds_in, ends_tried_at, member_after, member_after_all, tried_of, unconcluded_of}
+use Rattle.hid_stack.specs.Transfers.{BeginsNone, IsUnconcludedOnce, IsWhole, IsWholeFrom, configurations, configured_by, ends_at, setup_at, tries_of, try_at}
+use Rattle.hid_stack.proofs.CountLemmas.{Stood, counted, runs_as}
 
 -- ---- the steps of a member as turns of a transfer
 
@@ -44,16 +45,6 @@ leave_answers [] m = tt
 leave_answers (Controls fate ∷ steps) m = (λ core. refl, leave_answers steps (member_after m (Controls fate)))
 leave_answers (Scheduled x ∷ steps) m = (λ core. refl, leave_answers steps (member_after m (Scheduled x)))
 leave_answers (Begins request ∷ steps) m = leave_answers steps m
-
--- a transfer that is tried, or is over
-running_so : (t : Transfer) (stage : HostStage) (b : Bool) → is_running stage ≡ b → running_at t stage ≡ (if b then Some t else None)
-running_so t stages.Setup b is = ap (λ (x : Bool). if x then Some t else None) is
-running_so t (stages.DataIn one) b is = ap (λ (x : Bool). if x then Some t else None) is
-running_so t (stages.DataOut sent one) b is = ap (λ (x : Bool). if x then Some t else None) is
-running_so t stages.StatusIn b is = ap (λ (x : Bool). if x then Some t else None) is
-running_so t stages.StatusOut b is = ap (λ (x : Bool). if x then Some t else None) is
-running_so t stages.Done b is = ap (λ (x : Bool). if x then Some t else None) is
-running_so t (stages.Failed fault) b is = ap (λ (x : Bool). if x then Some t else None) is
 
 -- the two ends behind turns
 pub record Behind (n : Member) (t : Transfer) (ends : Ends CoreState) : Type 0 where
@@ -87,9 +78,6 @@ try_behind fate m t false is has runs =
 record Follows (m : Member) (t : Transfer) (steps : List MemberStep) : Type 0 where
   behind : Behind (member_after_all m steps) t (turned_all core_table (ends_at m t) (turns_by m steps))
   tries : tries_in core_table (ends_at m t) (turns_by m steps) ≡ tries_of m steps
-
-runs_as : (m : Member) (t : Transfer) → m.transfer ≡ Some t → running m.transfer ≡ (if is_running t.ends.stage then Some t else None)
-runs_as m t has = ap running has ∙ running_so t t.ends.stage (is_running t.ends.stage) refl
 
 follows : (steps : List MemberStep) (m : Member) (t : Transfer) → m.transfer ≡ Some t → BeginsNone steps → Follows m t steps
 follows [] m t has none = record { behind = record { transfer = t; is = has; of = refl; ends_are = refl }; tries = refl }
@@ -138,6 +126,11 @@ whole m request steps lays allowed none =
     = subst (λ (xs : List (Fate × Decision)). StandAt core_table [] (run shape xs start) (ends_at (member_after_all begun steps) b.transfer)) f.tries
     (subst (λ (e : Ends CoreState). StandAt core_table [] (run shape (tries_in core_table (ends_at begun t) turns) start) e) b.ends_are stands) in
     let once = is_once shape (tries_of begun steps) in
+    let none_yet : Stood begun t start = record { asked = refl; spelled = spelled_so request asking (short_so m.descriptor m.layout lays); stands = first; decided = λ behind. absurd behind } in
+    let took : configurations (deeds_in begun steps) ≡ configured_by request (acts shape (tries_of begun steps) start)
+    = let same = counted steps begun t start 0 refl none none_yet in
+    let zero : configurations (deeds_in begun steps) + 0 ≡ configurations (deeds_in begun steps) = omega arith in
+    sym zero ∙ sym same in
     subst (λ (k : Member). IsWholeFrom m request steps k) (sym is_begun) (record {
       transfer = b.transfer;
       is = b.is;
@@ -150,4 +143,40 @@ whole m request steps lays allowed none =
           read_is core_table.answer_of shape [] (run shape (tries_of begun steps) start) b.transfer.ends (control_at (member_after_all begun steps)) here
           ((done_is core_table.answer_of shape [] (run shape (tries_of begun steps) start) b.transfer.ends (control_at (member_after_all begun steps)) here).0 done) is_read
           ∙ ap (answered_bytes shape) once.decided;
+      took = took;
+      configured = λ is_configure done.
+          let here = subst (λ (s : Setup). Stands core_table.answer_of (shape_of s) [] (run shape (tries_of begun steps) start) b.transfer.ends (control_at (member_after_all begun steps))) asked there in
+          let writes : shape.reads ≡ false = ap (λ (q : Request). (shape_of (setup_at m q)).reads) is_configure in
+          took ∙ ap (λ (q : Request). configured_by q (acts shape (tries_of begun steps) start)) is_configure
+          ∙ once.once ((done_is core_table.answer_of shape [] (run shape (tries_of begun steps) start) b.transfer.ends (control_at (member_after_all begun steps)) here).0 done) writes;
     })
+
+-- ---- a Configure that finds no memory
+
+behind_one : (steps : List MemberStep) (m : Member) (x : MemberStep) → member_after_all m (steps ++ x ∷ []) ≡ member_after (member_after_all m steps) x
+behind_one [] m x = refl
+behind_one (y ∷ steps) m x = behind_one steps (member_after m y) x
+
+begins_none : (fate : Fate) (steps : List MemberStep) → BeginsNone steps → BeginsNone (steps ++ Controls fate ∷ [])
+begins_none fate [] none = tt
+begins_none fate (Scheduled x ∷ steps) none = begins_none fate steps none
+begins_none fate (Begins request ∷ steps) none = absurd none
+begins_none fate (Controls other ∷ steps) none = begins_none fate steps none
+
+-- the transfer ends all the same
+same_transfer : (fate : Fate) (n : Member) (runs : Option Transfer) → (tried_of fate n runs).transfer ≡ (unconcluded_of fate n runs).transfer
+same_transfer fate n None = refl
+same_transfer fate n (Some t) = refl
+
+one_transfer : (a b : Transfer) → Some a ≡ Some b → a ≡ b
+one_transfer a b e = cc
+
+pub unconcluded_once : (m : Member) (request : Request) (steps : List MemberStep) → Lays m.descriptor m.layout → begin_refusal_at m request ≡ None → BeginsNone steps
+    → IsUnconcludedOnce m request steps
+unconcluded_once m request steps lays allowed none fate ended is_configure is done =
+    let begun = member_after m (Begins request) in
+    let n = member_after_all begun steps in
+    let w = whole m request (steps ++ Controls fate ∷ []) lays allowed (begins_none fate steps none) in
+    let there : Some w.transfer ≡ Some ended
+    = sym w.is ∙ ap (λ (k : Member). k.transfer) (behind_one steps begun (Controls fate)) ∙ same_transfer fate n (running n.transfer) ∙ is in
+    w.configured is_configure (ap (λ (t : Transfer). t.ends.stage) (one_transfer w.transfer ended there) ∙ done)

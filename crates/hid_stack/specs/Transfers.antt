@@ -1,17 +1,20 @@
 -- A request of a device's host, with anything between its tries: what both ends make of it (USB 2.0, 8.5.3 and 9.2.6).
-use Rattle.std.specs.Prelude.{◌≡◌, true, List, [], ◌∷◌, ◌++◌, length, Option, Some, None}
+use Rattle.std.specs.Prelude.{◌≡◌, ℕ, suc, Bool, true, false, if◌then◌else◌, List, [], ◌∷◌, ◌++◌, length, Option, Some, None}
 use Rattle.usb_transact.specs.declared.transaction.Fate.{Fate}
 use Rattle.usb_control.specs.declared.host.HostStage.TheVariants.{Done}
 use Rattle.usb_control.specs.declared.setup.Setup.{Setup}
 use Rattle.usb_control.specs.Meanwhile.{Ends, StandAt, decision_now}
-use Rattle.usb_control.specs.Runs.{IsOnce, acts, last_decision, run}
-use Rattle.usb_control.specs.Transfer.{Decision, Refused, answered_bytes, shape_of, start}
+use Rattle.usb_control.specs.Runs.{IsOnce, acts, effects, last_decision, run}
+use Rattle.usb_control.specs.Transfer.{Act, Decision, Refused, answered_bytes, shape_of, start}
 use Rattle.hid_requests.specs.declared.request.Request.{Request}
+use Rattle.hid_requests.specs.declared.request.Request.TheVariants.{Configure}
 use Rattle.hid_requests.specs.Asking.{setup_for}
+use Rattle.hid_lives.specs.Lives.{Deed, Own, Configures}
 use Rattle.hid_device.specs.Core.{CoreState}
 use Rattle.hid_device.specs.Deciding.{core_table}
 use Rattle.hid_host.specs.declared.host.Transfer.{Transfer}
-use Rattle.hid_stack.specs.Members.{Member, MemberStep, Scheduled, Begins, Controls, control_at, member_after, member_after_all}
+use Rattle.hid_host.specs.Host.{running}
+use Rattle.hid_stack.specs.Members.{Member, MemberStep, Scheduled, Begins, Controls, control_at, deeds_in, member_after, member_after_all, unconcluded_of}
 
 -- the setup of a request of a member
 abbrev pub setup_at : Member → Request → Setup
@@ -40,10 +43,25 @@ BeginsNone (Begins request ∷ steps) = ⊥
 BeginsNone (Scheduled x ∷ steps) = BeginsNone steps
 BeginsNone (Controls fate ∷ steps) = BeginsNone steps
 
+-- how often a configuration takes effect among what befalls a device
+abbrev pub configurations : List Deed → ℕ
+configurations [] = 0
+configurations (Own x ∷ deeds) = configurations deeds
+configurations (Configures ∷ deeds) = suc (configurations deeds)
+
+-- a request asks for the configuration
+abbrev pub is_configure : Request → Bool
+is_configure Configure = true
+is_configure _ = false
+
+-- how often a request configures its device, by what its tries do there
+abbrev pub configured_by : Request → List Act → ℕ
+configured_by request acts = if is_configure request then effects 0 acts else 0
+
 -- Behind its tries both ends of a request that began at this member stand where these lead, whatever came between them.
 -- So a read that is done gave the device's answer as it was fixed at the last SETUP that arrived, cut to what was asked
--- for; and by the places of its tries a write took effect as `IsOnce` says: exactly once where it is done, else once at
--- most, and never where it was refused.
+-- for; and a write took effect as `IsOnce` says: exactly once where it is done, else once at most, and never where it was
+-- refused. What befell the device says so too: it was configured as often.
 pub record IsWholeFrom (m : Member) (request : Request) (steps : List MemberStep) (begun : Member) : Type 0 where
   pub transfer : Transfer
   pub is : (member_after_all begun steps).transfer ≡ Some transfer
@@ -55,6 +73,18 @@ pub record IsWholeFrom (m : Member) (request : Request) (steps : List MemberStep
   pub read : transfer.ends.stage ≡ Done → (shape_of (setup_at m request)).reads ≡ true
       → transfer.ends.bytes ≡ answered_bytes (shape_of (setup_at m request))
       (last_decision Refused (acts (shape_of (setup_at m request)) (tries_of begun steps) start))
+  pub took : configurations (deeds_in begun steps)
+      ≡ configured_by request (acts (shape_of (setup_at m request)) (tries_of begun steps) start)
+  -- a device is configured once by a Configure that is done
+  pub configured : request ≡ Configure → transfer.ends.stage ≡ Done → configurations (deeds_in begun steps) ≡ 1
+
+-- A Configure that is done at a try behind which the host finds no memory for its view configured the device once too.
+abbrev pub IsUnconcludedOnce : Member → Request → List MemberStep → Type 0
+IsUnconcludedOnce m request steps =
+    (fate : Fate) (ended : Transfer) → let begun = member_after m (Begins request) in
+    request ≡ Configure
+    → (let n = member_after_all begun steps in (unconcluded_of fate n (running n.transfer)).transfer) ≡ Some ended
+    → ended.ends.stage ≡ Done → configurations (deeds_in begun (steps ++ Controls fate ∷ [])) ≡ 1
 
 -- the same from its begin on
 abbrev pub IsWhole : Member → Request → List MemberStep → Type 0

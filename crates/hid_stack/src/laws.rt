@@ -8,7 +8,7 @@ ghost use Rattle.hid_stack.specs.declared.step.Delivered.{Delivered};
 ghost use Rattle.hid_stack.specs.Laws.{IsMadeAs, TellsOneThing, FindsOneControl, AttachesOneDevice, PacketsMakePolls};
 ghost use Rattle.hid_stack.specs.Headline.{DeliversChanges, DevicesLive, KeepsToRounds};
 ghost use Rattle.hid_stack.specs.Members.{Member, MemberStep, begin_refusal_at, member_after_all};
-ghost use Rattle.hid_stack.specs.Transfers.{BeginsNone, IsWhole};
+ghost use Rattle.hid_stack.specs.Transfers.{BeginsNone, IsUnconcludedOnce, IsWhole};
 ghost use Rattle.hid_stack.specs.Rig.{bus_after_all, delivered_in, IsIsolated};
 ghost use Rattle.hid_stack.specs.Sums.{AllHaveMotions, ConfiguresBetweenRounds, RefusedKeepMotion, SumsUp};
 
@@ -69,12 +69,16 @@ pub fn motion_sums_up()
 {}
 
 /// Whatever befalls a device between the tries of a request: both ends stand where its tries lead; a read that is done gave
-/// the device's answer as it was fixed at the last SETUP that arrived, cut to what was asked for; by the places of its tries
-/// a write that is done took effect exactly once, one that failed or runs once at most, and one that was refused never.
+/// the device's answer as it was fixed at the last SETUP that arrived, cut to what was asked for; a write that is done took
+/// effect exactly once, one that failed or runs once at most, and one that was refused never. A configuration befell the
+/// device as often as a request for it took effect: once where it is done, also where the host then found no memory.
 pub fn transfers_are_whole()
-    ensures { (m : Member) (request : Request) (steps : List MemberStep)
+    ensures whole { (m : Member) (request : Request) (steps : List MemberStep)
         → Lays m.descriptor m.layout → begin_refusal_at m request ≡ None → BeginsNone steps
         → IsWhole m request steps }
+    ensures unconcluded { (m : Member) (request : Request) (steps : List MemberStep)
+        → Lays m.descriptor m.layout → begin_refusal_at m request ≡ None → BeginsNone steps
+        → IsUnconcludedOnce m request steps }
 {}
 
 /// No step changes what a device was made with.

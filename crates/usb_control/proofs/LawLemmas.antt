@@ -55,19 +55,32 @@ read_is answer_of shape sends place host control u done is_read =
     ∙ ap (λ (p : Position). host_bytes shape sends place.decision p) done.1
     ∙ ap (λ (b : Bool). if b then answered_bytes shape place.decision else sends) is_read
 
-has_kept : {R : Type 0} (answer_of : AnswerOf R) (shape : Shape) (sends : List ℕ) (q : Decision) (a : Bool) (p : Position) (old new : DevControlState R) → answer_of new.requests ≡ answer_of old.requests → new.stage ≡ old.stage → DeviceHas answer_of shape sends q a p old → DeviceHas answer_of shape sends q a p new
-has_kept answer_of shape sends Refused a p old new e f h = f ∙ h
-has_kept answer_of shape sends (Accepted x) a p old new e f h = (f ∙ h.0, λ r. e ∙ h.1 r)
+-- a place doesn't tell what answers requests, but for its answer
+has_kept : {R S : Type 0} (old_of : AnswerOf R) (new_of : AnswerOf S) (shape : Shape) (sends : List ℕ) (q : Decision) (a : Bool) (p : Position) (old : DevControlState R) (new : DevControlState S)
+    → new_of new.requests ≡ old_of old.requests → new.stage ≡ old.stage → DeviceHas old_of shape sends q a p old → DeviceHas new_of shape sends q a p new
+has_kept old_of new_of shape sends Refused a p old new e f h = f ∙ h
+has_kept old_of new_of shape sends (Accepted x) a p old new e f h = (f ∙ h.0, λ r. e ∙ h.1 r)
 
-device_kept : {R : Type 0} (answer_of : AnswerOf R) (shape : Shape) (sends : List ℕ) (q : Decision) (a : Bool) (p : Position) (old new : DevControlState R) → answer_of new.requests ≡ answer_of old.requests → new.stage ≡ old.stage → DeviceStands answer_of shape sends q a p old → DeviceStands answer_of shape sends q a p new
-device_kept answer_of shape sends q a Setup old new e f h = tt
-device_kept answer_of shape sends q a (Piece k) old new e f h = has_kept answer_of shape sends q a (Piece k) old new e f h
-device_kept answer_of shape sends q a Status old new e f h = has_kept answer_of shape sends q a Status old new e f h
-device_kept answer_of shape sends q a Past old new e f h = has_kept answer_of shape sends q a Past old new e f h
+device_kept : {R S : Type 0} (old_of : AnswerOf R) (new_of : AnswerOf S) (shape : Shape) (sends : List ℕ) (q : Decision) (a : Bool) (p : Position) (old : DevControlState R) (new : DevControlState S)
+    → new_of new.requests ≡ old_of old.requests → new.stage ≡ old.stage → DeviceStands old_of shape sends q a p old → DeviceStands new_of shape sends q a p new
+device_kept old_of new_of shape sends q a Setup old new e f h = tt
+device_kept old_of new_of shape sends q a (Piece k) old new e f h = has_kept old_of new_of shape sends q a (Piece k) old new e f h
+device_kept old_of new_of shape sends q a Status old new e f h = has_kept old_of new_of shape sends q a Status old new e f h
+device_kept old_of new_of shape sends q a Past old new e f h = has_kept old_of new_of shape sends q a Past old new e f h
 
-kept_with : {R : Type 0} (answer_of : AnswerOf R) (shape : Shape) (sends : List ℕ) (place : Place) (fault : Option ControlFault) (host : HostTransferState) (old new : DevControlState R) → answer_of new.requests ≡ answer_of old.requests → new.stage ≡ old.stage → StandsWith answer_of shape sends place fault host old → StandsWith answer_of shape sends place fault host new
-kept_with answer_of shape sends place None host old new e f u = record { whole = u.whole; sender = u.sender; near = u.near; device = device_kept answer_of shape sends place.decision place.applied place.device old new e f u.device }
-kept_with answer_of shape sends place (Some fault) host old new e f u = u
+kept_with : {R S : Type 0} (old_of : AnswerOf R) (new_of : AnswerOf S) (shape : Shape) (sends : List ℕ) (place : Place) (fault : Option ControlFault) (host : HostTransferState) (old : DevControlState R) (new : DevControlState S)
+    → new_of new.requests ≡ old_of old.requests → new.stage ≡ old.stage → StandsWith old_of shape sends place fault host old → StandsWith new_of shape sends place fault host new
+kept_with old_of new_of shape sends place None host old new e f u = record {
+  whole = u.whole;
+  sender = u.sender;
+  near = u.near;
+  device = device_kept old_of new_of shape sends place.decision place.applied place.device old new e f u.device;
+}
+kept_with old_of new_of shape sends place (Some fault) host old new e f u = u
+
+pub kept_across : {R S : Type 0} (old_of : AnswerOf R) (new_of : AnswerOf S) (shape : Shape) (sends : List ℕ) (place : Place) (host : HostTransferState) (old : DevControlState R) (new : DevControlState S)
+    → Stands old_of shape sends place host old → new_of new.requests ≡ old_of old.requests → new.stage ≡ old.stage → Stands new_of shape sends place host new
+kept_across old_of new_of shape sends place host old new u e f = kept_with old_of new_of shape sends place place.fault host old new e f u
 
 pub kept_is : {R : Type 0} (answer_of : AnswerOf R) (shape : Shape) (sends : List ℕ) (place : Place) (host : HostTransferState) (old new : DevControlState R) → Stands answer_of shape sends place host old → answer_of new.requests ≡ answer_of old.requests → new.stage ≡ old.stage → Stands answer_of shape sends place host new
-kept_is answer_of shape sends place host old new u e f = kept_with answer_of shape sends place place.fault host old new e f u
+kept_is answer_of shape sends place host old new u e f = kept_across answer_of answer_of shape sends place host old new u e f

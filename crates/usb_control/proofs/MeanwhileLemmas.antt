@@ -12,17 +12,20 @@ use Rattle.usb_control.specs.declared.fault.ControlFault.{ControlFault}
 use Rattle.usb_control.specs.declared.fault.ControlFault.TheVariants.{BusFault, Overrun}
 use Rattle.usb_control.specs.declared.host.HostStage.{HostStage}
 use Rattle.usb_control.specs.declared.host.HostStage.TheVariants as stages
+use Rattle.usb_control.specs.declared.device.Heard.{Heard}
+use Rattle.usb_control.specs.declared.device.Heard.TheVariants as hears
+use Rattle.usb_control.specs.declared.device.Stage.{Stage}
 use Rattle.usb_control.specs.SetupBytes.{IsSpelled}
-use Rattle.usb_control.specs.Computed.{AppliesBy, PreparesBy, Table, control_tried, host_tried}
-use Rattle.usb_control.specs.Device.{DevControlState}
+use Rattle.usb_control.specs.Computed.{AppliesBy, PreparesBy, Table, acknowledged_if, control_after, control_tried, effect_reached, host_tried, is_acknowledged, is_applied, takes_effect}
+use Rattle.usb_control.specs.Device.{Answers, Applies, Decides as Decides', DevControlState, Effect, ack_heard}
 use Rattle.usb_control.specs.Host.{HostTransferState, IsRunning, took_at, unanswered, failed, not_taken, handshake, in_answered, setup_answered, data_in, status_in, joined, answered, after_read_piece, after_write_piece}
 use Rattle.usb_control.specs.Pieces.{piece_from}
-use Rattle.usb_control.specs.Transfer.{Shape, shape_of, Decision, decision_of, Position, Setup, Piece, Status, Past, Place, Acts, act_at, comes, tried, tried_at}
+use Rattle.usb_control.specs.Transfer.{Shape, shape_of, Decision, Refused, Accepted, decision_of, Position, Setup, Piece, Status, Past, Place, Act, Nothing, Decides, TakesEffect, Acts, act_at, act_of, comes, tried, tried_at}
 use Rattle.usb_control.specs.Runs.{run, is_open, is_open_at}
 use Rattle.usb_control.specs.Standing.{Stands, StandsWith, host_stage, toggle}
-use Rattle.usb_control.specs.Meanwhile.{Ends, Turn, Tries, Meanwhile, is_running, ends_tried, turned, turned_all, decision_now, tries_in, LeaveAnswers, StandAt}
+use Rattle.usb_control.specs.Meanwhile.{Ends, GoesBy, Turn, Tries, Meanwhile, act_now, is_effect, is_running, ends_tried, turned, turned_all, decision_now, tries_in, LeaveAnswers, StandAt}
 use Rattle.usb_control.proofs.TryLemmas.{try_shown}
-use Rattle.usb_control.proofs.LawLemmas.{kept_is}
+use Rattle.usb_control.proofs.LawLemmas.{kept_across, kept_is}
 use Rattle.usb_control.proofs.ComputedLemmas.{transacts_computed}
 
 -- a transfer runs exactly where its place is open
@@ -45,7 +48,7 @@ running_is answer_of shape sends place host control u =
       | None ↦ λ b. ap is_running b.sender.stage ∙ runs_at shape place.host
     ] in by_fault u
 
-is_running_runs : (stage : HostStage) → is_running stage ≡ true → IsRunning stage
+pub is_running_runs : (stage : HostStage) → is_running stage ≡ true → IsRunning stage
 is_running_runs stages.Done h = absurd (cc)
 is_running_runs (stages.Failed fault) h = absurd (cc)
 is_running_runs stages.Setup h = refl
@@ -144,16 +147,148 @@ run_closed : (shape : Shape) (tries : List (Fate × Decision)) (place : Place) �
 run_closed shape [] place h = refl
 run_closed shape (x ∷ tries) place h = ap (λ (b : Bool). if b then run shape tries (tried shape x.0 x.1 place) else place) h
 
--- one try, of a transfer that runs
-try_stands : {R : Type 0} (t : Table R) (sends : List ℕ) (place : Place) (fate : Fate) (m : Ends R) → IsSpelled m.host.setup → IsRunning m.host.stage → StandAt t sends place m
-    → StandAt t sends (tried (shape_of m.host.setup) fate (decision_now t m) place) (ends_tried t fate m)
-try_stands {R} t sends place fate m spelled running stands =
+-- ---- what a try does
+
+-- only a SETUP is decided on
+act_apart : (p : Position) (shape : Shape) (fate : Fate) (d e : Decision) (held : Decision) (applied : Bool) → is_effect (act_at p shape fate d held applied) ≡ is_effect (act_at p shape fate e held applied)
+act_apart p shape TokenLost d e held applied = refl
+act_apart Setup shape Clean d e held applied = refl
+act_apart Setup shape ReplyLost d e held applied = refl
+act_apart Setup shape AckLost d e held applied = refl
+act_apart (Piece k) shape Clean d e held applied = refl
+act_apart (Piece k) shape ReplyLost d e held applied = refl
+act_apart (Piece k) shape AckLost d e held applied = refl
+act_apart Status shape Clean d e Refused applied = refl
+act_apart Status shape ReplyLost d e Refused applied = refl
+act_apart Status shape AckLost d e Refused applied = refl
+act_apart Status shape Clean d e (Accepted x) true = refl
+act_apart Status shape ReplyLost d e (Accepted x) true = refl
+act_apart Status shape AckLost d e (Accepted x) true = refl
+act_apart Status shape Clean d e (Accepted x) false = refl
+act_apart Status shape ReplyLost d e (Accepted x) false = refl
+act_apart Status shape AckLost d e (Accepted x) false = refl
+act_apart Past shape Clean d e held applied = refl
+act_apart Past shape ReplyLost d e held applied = refl
+act_apart Past shape AckLost d e held applied = refl
+
+acts_so : {R : Type 0} (t : Table R) (request : Request) (bytes : List ℕ) (shape : Shape) (fate : Fate) (p : Position) (held : Decision) (applied : Bool) (decision : Decision) (old new : R)
+    → Acts (PreparesBy t) (AppliesBy t) t.answer_of request bytes (act_at p shape fate decision held applied) old new
+    → Acts (PreparesBy t) (AppliesBy t) t.answer_of request bytes (act_at p shape fate (decision_of (t.accepts old request) (t.answer_of (t.prepared old request))) held applied) old new
+acts_so t request bytes shape TokenLost p held applied decision old new acts = acts
+acts_so t request bytes shape Clean Setup held applied decision old new (said, gives, is) = (said, gives, sym (decides_so t request old new decision said gives is) ∙ is)
+acts_so t request bytes shape ReplyLost Setup held applied decision old new (said, gives, is) = (said, gives, sym (decides_so t request old new decision said gives is) ∙ is)
+acts_so t request bytes shape AckLost Setup held applied decision old new (said, gives, is) = (said, gives, sym (decides_so t request old new decision said gives is) ∙ is)
+acts_so t request bytes shape Clean (Piece k) held applied decision old new acts = acts
+acts_so t request bytes shape ReplyLost (Piece k) held applied decision old new acts = acts
+acts_so t request bytes shape AckLost (Piece k) held applied decision old new acts = acts
+acts_so t request bytes shape Clean Status Refused applied decision old new acts = acts
+acts_so t request bytes shape ReplyLost Status Refused applied decision old new acts = acts
+acts_so t request bytes shape AckLost Status Refused applied decision old new acts = acts
+acts_so t request bytes shape Clean Status (Accepted x) true decision old new acts = acts
+acts_so t request bytes shape ReplyLost Status (Accepted x) true decision old new acts = acts
+acts_so t request bytes shape AckLost Status (Accepted x) true decision old new acts = acts
+acts_so t request bytes shape Clean Status (Accepted x) false decision old new acts = acts
+acts_so t request bytes shape ReplyLost Status (Accepted x) false decision old new acts = acts
+acts_so t request bytes shape AckLost Status (Accepted x) false decision old new acts = acts
+acts_so t request bytes shape Clean Past held applied decision old new acts = acts
+acts_so t request bytes shape ReplyLost Past held applied decision old new acts = acts
+acts_so t request bytes shape AckLost Past held applied decision old new acts = acts
+
+-- ---- how often a write takes effect: what answers requests counts it
+
+pub record Counted (R : Type 0) : Type 0 where
+  pub inside : R
+  pub count : ℕ
+
+abbrev counting : {R : Type 0} → Table R → Table (Counted R)
+counting t = record {
+  answer_of = λ c. t.answer_of c.inside;
+  accepts = λ c setup. t.accepts c.inside setup;
+  prepared = λ c setup. record { inside = t.prepared c.inside setup; count = c.count };
+  applied = λ c bytes. record { inside = t.applied c.inside bytes; count = c.count + 1 };
+}
+
+-- how often, by one effect
+abbrev once_if : Bool → ℕ
+once_if true = 1
+once_if false = 0
+
+acts_count : {R : Type 0} (t : Table R) (request : Request) (bytes : List ℕ) (act : Act) (inside : R) (new : Counted R)
+    → Acts (PreparesBy (counting t)) (AppliesBy (counting t)) (counting t).answer_of request bytes act (record { inside = inside; count = 0 }) new → new.count ≡ once_if (is_effect act)
+acts_count t request bytes Nothing inside new same = ap (λ (c : Counted _). c.count) same
+acts_count t request bytes (Decides decision) inside new (said, gives, is) = ap (λ (c : Counted _). c.count) gives.1
+acts_count t request bytes TakesEffect inside new same = ap (λ (c : Counted _). c.count) same
+
+effect_counts : {R : Type 0} (t : Table R) (e : Effect) (inside : R) → (control_after (counting t) e (record { inside = inside; count = 0 })).requests.count ≡ once_if (is_applied e)
+effect_counts t (Answers answer stage heard) inside = refl
+effect_counts t (Decides' bytes) inside = refl
+effect_counts t (Applies bytes) inside = refl
+
+ack_counts : {R : Type 0} (t : Table R) (requests : Counted R) (stage : Stage) (heard : Heard)
+    → (control_after (counting t) (ack_heard (t.answer_of requests.inside) stage heard) requests).requests.count ≡ requests.count
+ack_counts t requests stage hears.Answered = refl
+ack_counts t requests stage hears.Nothing = refl
+ack_counts t requests stage hears.Setup = refl
+ack_counts t requests stage hears.Out = refl
+
+acknowledged_counts : {R : Type 0} (t : Table R) (b : Bool) (c : DevControlState (Counted R)) → (acknowledged_if (counting t) b c).requests.count ≡ c.requests.count
+acknowledged_counts t true c = ack_counts t c.requests c.stage c.heard
+acknowledged_counts t false c = refl
+
+abbrev counted : {R : Type 0} → DevControlState R → DevControlState (Counted R)
+counted c = record { requests = record { inside = c.requests; count = 0 }; stage = c.stage; heard = c.heard }
+
+reached_counts : {R : Type 0} (t : Table R) (fate : Fate) (host : HostTransferState) (c : DevControlState R)
+    → let e = effect_reached t host c in
+    (acknowledged_if (counting t) (is_acknowledged fate host e) (control_after (counting t) e (counted c).requests)).requests.count ≡ once_if (is_applied e)
+reached_counts t fate host c =
+    let e = effect_reached t host c in
+    acknowledged_counts t (is_acknowledged fate host e) (control_after (counting t) e (counted c).requests) ∙ effect_counts t e c.requests
+
+tried_counts : {R : Type 0} (t : Table R) (fate : Fate) (host : HostTransferState) (c : DevControlState R)
+    → (control_tried (counting t) fate host (counted c)).requests.count ≡ once_if (takes_effect t fate host c)
+tried_counts t TokenLost host c = refl
+tried_counts t Clean host c = reached_counts t Clean host c
+tried_counts t ReplyLost host c = reached_counts t ReplyLost host c
+tried_counts t AckLost host c = reached_counts t AckLost host c
+
+once_same : (x y : Bool) → once_if x ≡ once_if y → x ≡ y
+once_same true true e = refl
+once_same true false e = absurd (cc)
+once_same false true e = absurd (cc)
+once_same false false e = refl
+
+takes_so : {R : Type 0} (t : Table R) (sends : List ℕ) (place : Place) (fate : Fate) (m : Ends R) → IsSpelled m.host.setup → IsRunning m.host.stage → StandAt t sends place m
+    → takes_effect t fate m.host m.control ≡ is_effect (act_now t place fate m)
+takes_so {R} t sends place fate m spelled running stands =
+    let table = counting t in
+    let c = counted m.control in
+    let shape = shape_of m.host.setup in
+    let there = kept_across t.answer_of table.answer_of shape sends place m.host m.control c stands refl refl in
+    let shown = try_shown (PreparesBy table) (AppliesBy table) table.answer_of shape sends fate place m.host c (host_tried table fate m.host c) (control_tried table fate m.host c) spelled running there (transacts_computed table fate m.host c) in
+    once_same (takes_effect t fate m.host m.control) (is_effect (act_now t place fate m))
+    (sym (tried_counts t fate m.host m.control)
+    ∙ acts_count t m.host.setup sends (act_of shape fate shown.0 place) m.control.requests (control_tried table fate m.host c).requests shown.1
+    ∙ ap once_if (act_apart place.host shape fate shown.0 (decision_now t m) place.decision place.applied))
+
+-- one try of a transfer that runs
+pub goes_by : {R : Type 0} (t : Table R) (sends : List ℕ) (place : Place) (fate : Fate) (m : Ends R) → IsSpelled m.host.setup → IsRunning m.host.stage → StandAt t sends place m → GoesBy t sends place fate m
+goes_by {R} t sends place fate m spelled running stands =
     let shape = shape_of m.host.setup in
     let shown = try_shown (PreparesBy t) (AppliesBy t) t.answer_of shape sends fate place m.host m.control (host_tried t fate m.host m.control) (control_tried t fate m.host m.control) spelled running stands (transacts_computed t fate m.host m.control) in
     let same : tried shape fate shown.0 place ≡ tried shape fate (decision_now t m) place
     = tried_so t m.host.setup sends shape fate place.host place.decision place.applied shown.0 place m.control.requests (control_tried t fate m.host m.control).requests shown.1 in
-    subst (λ (s : Shape). Stands t.answer_of s sends (tried shape fate (decision_now t m) place) (host_tried t fate m.host m.control) (control_tried t fate m.host m.control)) (sym (ap shape_of (host_keeps t fate m.host m.control)))
-    (subst (λ (p : Place). Stands t.answer_of shape sends p (host_tried t fate m.host m.control) (control_tried t fate m.host m.control)) same shown.2)
+    let asked = host_keeps t fate m.host m.control in
+    record {
+      acts = acts_so t m.host.setup sends shape fate place.host place.decision place.applied shown.0 m.control.requests (control_tried t fate m.host m.control).requests shown.1;
+      takes = takes_so t sends place fate m spelled running stands;
+      asked = asked;
+      stands = subst (λ (s : Shape). Stands t.answer_of s sends (tried shape fate (decision_now t m) place) (host_tried t fate m.host m.control) (control_tried t fate m.host m.control)) (sym (ap shape_of asked))
+          (subst (λ (p : Place). Stands t.answer_of shape sends p (host_tried t fate m.host m.control) (control_tried t fate m.host m.control)) same shown.2);
+    }
+
+pub runs_so : {R : Type 0} (t : Table R) (sends : List ℕ) (place : Place) (m : Ends R) → StandAt t sends place m → is_running m.host.stage ≡ is_open place
+runs_so t sends place m stands = running_is t.answer_of (shape_of m.host.setup) sends place m.host m.control stands
 
 pub places_are_run : {R : Type 0} (t : Table R) (sends : List ℕ) (place : Place) (m : Ends R) (xs : List (Turn R)) → IsSpelled m.host.setup → LeaveAnswers t xs → StandAt t sends place m
     → StandAt t sends (run (shape_of m.host.setup) (tries_in t m xs) place) (turned_all t m xs)
@@ -164,12 +299,12 @@ places_are_run t sends place m (Meanwhile f hears ∷ xs) spelled keep stands =
 places_are_run {R} t sends place m (Tries fate ∷ xs) spelled keep stands =
     let shape = shape_of m.host.setup in
     let Goal : Ends R → Bool → Type 0 = λ n o. StandAt t sends (if o then run shape (tries_in t n xs) (tried shape fate (decision_now t m) place) else place) (turned_all t n xs) in
-    let opens = running_is t.answer_of shape sends place m.host m.control stands in
+    let opens = runs_so t sends place m stands in
     elim (cases_Bool (is_running m.host.stage)) [
       | inl runs ↦
           let n = ends_tried t fate m in
           let same_setup : n.host.setup ≡ m.host.setup = host_keeps t fate m.host m.control in
-          let next = try_stands t sends place fate m spelled (is_running_runs m.host.stage runs) stands in
+          let next = (goes_by t sends place fate m spelled (is_running_runs m.host.stage runs) stands).stands in
           let rest = places_are_run t sends (tried shape fate (decision_now t m) place) n xs (subst IsSpelled (sym same_setup) spelled) keep next in
           let rest_here : Goal n true = subst (λ (s : Shape). StandAt t sends (run s (tries_in t n xs) (tried shape fate (decision_now t m) place)) (turned_all t n xs)) (ap shape_of same_setup) rest in
           let there : ends_tried t fate m ≡ turned t m (Tries fate) = sym (ap (λ (b : Bool). if b then ends_tried t fate m else m) runs) in
@@ -191,5 +326,3 @@ pub setup_stays : {R : Type 0} (t : Table R) (m : Ends R) (xs : List (Turn R)) �
 setup_stays t m [] = refl
 setup_stays t m (Meanwhile f hears ∷ xs) = setup_stays t (turned t m (Meanwhile f hears)) xs
 setup_stays t m (Tries fate ∷ xs) = setup_stays t (turned t m (Tries fate)) xs ∙ turned_setup t m fate (is_running m.host.stage)
-
-pub ruleset runs = (places_are_run, setup_stays)

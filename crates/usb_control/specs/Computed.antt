@@ -93,3 +93,13 @@ control_tried table TokenLost host control = control
 control_tried table fate host control =
     acknowledged_if table (is_acknowledged fate host (effect_reached table host control))
     (control_after table (effect_reached table host control) control.requests)
+
+-- an effect carries out a write
+abbrev pub is_applied : Effect → Bool
+is_applied (Applies bytes) = true
+is_applied _ = false
+
+-- whether a write takes effect in a try: where its first packets arrive, and ask for the status of an accepted write
+abbrev pub takes_effect : {R : Type 0} → Table R → Fate → HostTransferState → DevControlState R → Bool
+takes_effect table TokenLost host control = false
+takes_effect table fate host control = is_applied (effect_reached table host control)

@@ -4,11 +4,11 @@ use Rattle.usb_transact.specs.declared.transaction.Fate.{Fate}
 use Rattle.usb_control.specs.declared.device.Heard.{Heard}
 use Rattle.usb_control.specs.declared.host.HostStage.{HostStage}
 use Rattle.usb_control.specs.declared.host.HostStage.TheVariants.{Done, Failed}
-use Rattle.usb_control.specs.Computed.{Table, host_tried, control_tried}
+use Rattle.usb_control.specs.Computed.{AppliesBy, PreparesBy, Table, control_tried, host_tried, takes_effect}
 use Rattle.usb_control.specs.Device.{DevControlState}
 use Rattle.usb_control.specs.Host.{HostTransferState}
 use Rattle.usb_control.specs.Standing.{Stands}
-use Rattle.usb_control.specs.Transfer.{Decision, Place, decision_of, shape_of}
+use Rattle.usb_control.specs.Transfer.{Act, Acts, Decision, Place, TakesEffect, act_of, decision_of, shape_of, tried}
 
 -- the transfer at the host, and endpoint 0 of the device
 pub record Ends (R : Type 0) : Type 0 where
@@ -74,3 +74,20 @@ LeaveAnswers {R} table (Meanwhile change hears ∷ turns) =
 -- both ends stand at a place of the transfer
 abbrev pub StandAt : {R : Type 0} → Table R → List ℕ → Place → Ends R → Type 0
 StandAt table sends place ends = Stands table.answer_of (shape_of ends.host.setup) sends place ends.host ends.control
+
+-- a write takes effect by an act
+abbrev pub is_effect : Act → Bool
+is_effect TakesEffect = true
+is_effect _ = false
+
+-- what a try at a place does at the device
+abbrev pub act_now : {R : Type 0} → Table R → Place → Fate → Ends R → Act
+act_now table place fate ends = act_of (shape_of ends.host.setup) fate (decision_now table ends) place
+
+-- A try does at the device what its place says, and leads both ends to the next place.
+pub record GoesBy {R : Type 0} (table : Table R) (sends : List ℕ) (place : Place) (fate : Fate) (ends : Ends R) : Type 0 where
+  pub acts : Acts (PreparesBy table) (AppliesBy table) table.answer_of ends.host.setup sends (act_now table place fate ends)
+      ends.control.requests (control_tried table fate ends.host ends.control).requests
+  pub takes : takes_effect table fate ends.host ends.control ≡ is_effect (act_now table place fate ends)
+  pub asked : (host_tried table fate ends.host ends.control).setup ≡ ends.host.setup
+  pub stands : StandAt table sends (tried (shape_of ends.host.setup) fate (decision_now table ends) place) (ends_tried table fate ends)

@@ -17,8 +17,8 @@ ghost use Rattle.usb_control.specs.Transfer.{Shape, Decision, Place, answered_by
 ghost use Rattle.usb_control.specs.Standing.{GoesOn, Stands};
 ghost use Rattle.usb_control.specs.Transaction.{Transacts};
 ghost use Rattle.usb_control.specs.Computed.{AppliesBy, PreparesBy, Table, control_tried, host_tried};
-ghost use Rattle.usb_control.specs.Meanwhile.{Ends, LeaveAnswers, StandAt, Turn, tries_in, turned_all};
-ghost use Rattle.usb_control.specs.Runs.{IsDone, IsOnce, run};
+ghost use Rattle.usb_control.specs.Meanwhile.{Ends, GoesBy, LeaveAnswers, StandAt, Turn, is_running, tries_in, turned_all};
+ghost use Rattle.usb_control.specs.Runs.{IsDone, IsOnce, is_open, run};
 ghost use Rattle.usb_control.specs.Steps.{IsAppliedOnce, IsOnceAtMost, Steps};
 
 use crate::requests::Requests;
@@ -145,7 +145,6 @@ pub fn tries_are_computed<R>()
 /// Whatever comes between the tries of a transfer, as long as it leaves the answer that is fixed: both ends stand at the
 /// place to which the tries lead, each with what a SETUP that arrives in it is decided then; and what the host asked for
 /// stays.
-#[tactic(auto, using(crate::proofs::MeanwhileLemmas::runs))]
 pub fn places_are_run<R>()
     ensures stands { (table : Table R) (sends : List ℕ) (place : Place) (ends : Ends R) (turns : List (Turn R))
         → IsSpelled ends.host.setup → LeaveAnswers table turns → StandAt table sends place ends
@@ -153,4 +152,11 @@ pub fn places_are_run<R>()
         (turned_all table ends turns) }
     ensures same { (table : Table R) (ends : Ends R) (turns : List (Turn R))
         → (turned_all table ends turns).host.setup ≡ ends.host.setup }
+    // The transfer runs exactly where its place is open.
+    ensures runs { (table : Table R) (sends : List ℕ) (place : Place) (ends : Ends R)
+        → StandAt table sends place ends → is_running ends.host.stage ≡ is_open place }
+    // One try: it does at the device what its place says, and a write takes effect in it exactly where this says so.
+    ensures goes_by { (table : Table R) (sends : List ℕ) (place : Place) (fate : Fate) (ends : Ends R)
+        → IsSpelled ends.host.setup → IsRunning ends.host.stage → StandAt table sends place ends
+        → GoesBy table sends place fate ends }
 {}

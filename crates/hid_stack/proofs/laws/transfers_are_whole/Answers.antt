@@ -1,5 +1,8 @@
-use Rattle.hid_stack.proofs.WholeLemmas.{whole}
+use Rattle.hid_stack.proofs.WholeLemmas.{unconcluded_once, whole}
 use Rattle.hid_stack.proofs.laws.transfers_are_whole.Goals as goal
 
-pub returns : goal.returns
-returns c = whole
+pub returns-clause-whole : goal.returns-clause-whole
+returns-clause-whole c = whole
+
+pub returns-clause-unconcluded : goal.returns-clause-unconcluded
+returns-clause-unconcluded c = unconcluded_once

@@ -1,0 +1,242 @@
+-- A request configures its device as often as its tries take effect there, whatever comes between them.
+use Rattle.std.proofs.Common.{◌≡◌, ◌∙◌, ℕ, ◌+◌, Bool, true, false, ◌&&◌, List, [], ◌∷◌, ◌++◌, Option, Some, None, refl, ap, sym, subst, inl, inr, arith}
+use Rattle.std.specs.Prelude.{if◌then◌else◌, length}
+use Rattle.std.specs.List.{cons_option}
+use Rattle.std.proofs.lemmas.Bool.{cases_Bool}
+use Rattle.usb_transact.specs.declared.transaction.Fate.{Fate}
+use Rattle.usb_transact.specs.declared.transaction.Fate.TheVariants.{Clean, TokenLost, ReplyLost, AckLost}
+use Rattle.usb_control.specs.declared.host.HostStage.{HostStage}
+use Rattle.usb_control.specs.declared.host.HostStage.TheVariants as stages
+use Rattle.usb_control.specs.Computed.{control_tried, effect_reached, is_applied, takes_effect}
+use Rattle.usb_control.specs.Device.{Answers, Applies, Decides as Decides', DevControlState, Effect}
+use Rattle.usb_control.specs.Host.{HostTransferState}
+use Rattle.usb_control.specs.Meanwhile.{GoesBy, StandAt, act_now, decision_now, is_effect, is_running}
+use Rattle.usb_control.specs.Runs.{acts, effects, is_open}
+use Rattle.usb_control.specs.SetupBytes.{IsSpelled}
+use Rattle.usb_control.specs.Transfer.{Act, Decides, Nothing, TakesEffect, Decision, Accepted, Refused, Place, Piece, Position, Past, Setup, Shape, Status, act_at, act_of, shape_of, tried}
+use Rattle.usb_control.proofs.LawLemmas.{kept_is}
+use Rattle.usb_control.proofs.MeanwhileLemmas.{goes_by, is_running_runs, runs_so}
+use Rattle.hid_requests.specs.declared.request.Asking.{Asking}
+use Rattle.hid_requests.specs.declared.request.Request.{Request}
+use Rattle.hid_requests.specs.declared.request.Request.TheVariants as requests
+use Rattle.hid_lives.specs.Lives.{Deed}
+use Rattle.hid_lives.specs.Rounds.{OwnStep, Changes, Frame, Polls}
+use Rattle.hid_device.specs.declared.decisions.Pending.{Pending}
+use Rattle.hid_device.specs.declared.decisions.Pending.TheVariants as pendings
+use Rattle.hid_device.specs.Core.{CoreState}
+use Rattle.hid_device.specs.Deciding.{core_table}
+use Rattle.hid_host.specs.declared.host.Transfer.{Transfer}
+use Rattle.hid_host.specs.declared.phase.HostState.{HostState}
+use Rattle.hid_host.specs.declared.phase.HostState.TheVariants as states
+use Rattle.hid_host.specs.Bringing.{carries_out, configures}
+use Rattle.hid_host.specs.Host.{running, running_at}
+use Rattle.hid_host.specs.Knowing.{IsBehindSetup, IsDecided}
+use Rattle.hid_host.proofs.KnowingLemmas.{Goes, acts_go, decided_behind, decided_stays}
+use Rattle.hid_stack.specs.Members.{Member, MemberStep, Scheduled, Begins, Controls, configured_deed, control_at, core_at, deeds_in, ends_tried_at, member_after, scheduled_deed, tried_deed, tried_of, tried_to}
+use Rattle.hid_stack.specs.Transfers.{BeginsNone, configurations, ends_at, is_configure, setup_at, tries_of, try_at}
+
+-- ---- one try
+
+-- only a status takes effect
+effect_behind : (p : Position) (shape : Shape) (fate : Fate) (d held : Decision) (applied : Bool) → is_effect (act_at p shape fate d held applied) ≡ true → IsBehindSetup p
+effect_behind p shape TokenLost d held applied h = absurd (cc)
+effect_behind Setup shape Clean d held applied h = absurd (cc)
+effect_behind Setup shape ReplyLost d held applied h = absurd (cc)
+effect_behind Setup shape AckLost d held applied h = absurd (cc)
+effect_behind (Piece k) shape fate d held applied h = tt
+effect_behind Status shape fate d held applied h = tt
+effect_behind Past shape fate d held applied h = tt
+
+-- what is to be carried out behind SETUP
+abbrev pending_if : Bool → Pending
+pending_if sets = if sets then pendings.Configure else pendings.Nothing
+
+pends_so : (request : Request) (core : CoreState) (d : Decision) → IsDecided request core d → core.pending ≡ pending_if (is_configure request)
+pends_so requests.Device core d h = h.1
+pends_so requests.Config core d h = h.1
+pends_so requests.Report core d h = h.1
+pends_so requests.Configure core d h = h.1
+pends_so requests.Status core d h = h.1
+pends_so requests.GetConfiguration core d h = h.1
+
+carries_as : (e : Effect) (sets : Bool) (pending : Pending) → (is_applied e ≡ true → pending ≡ pending_if sets) → carries_out e pending ≡ (is_applied e && sets)
+carries_as (Answers answer stage heard) sets pending pends = refl
+carries_as (Decides' bytes) sets pending pends = refl
+carries_as (Applies bytes) true pending pends = ap (carries_out (Applies bytes)) (pends refl)
+carries_as (Applies bytes) false pending pends = ap (carries_out (Applies bytes)) (pends refl)
+
+configures_as : (fate : Fate) (ends : HostTransferState) (control : DevControlState CoreState) (sets : Bool) → (takes_effect core_table fate ends control ≡ true → control.requests.pending ≡ pending_if sets)
+    → configures fate ends control ≡ (takes_effect core_table fate ends control && sets)
+configures_as TokenLost ends control sets pends = refl
+configures_as Clean ends control sets pends = carries_as (effect_reached core_table ends control) sets control.requests.pending pends
+configures_as ReplyLost ends control sets pends = carries_as (effect_reached core_table ends control) sets control.requests.pending pends
+configures_as AckLost ends control sets pends = carries_as (effect_reached core_table ends control) sets control.requests.pending pends
+
+-- ---- both ends stand at a place, with what the device decided
+
+pub record Stood (m : Member) (t : Transfer) (place : Place) : Type 0 where
+  pub asked : t.ends.setup ≡ setup_at m t.request
+  pub spelled : IsSpelled t.ends.setup
+  pub stands : StandAt core_table [] place (ends_at m t)
+  pub decided : IsBehindSetup place.host → IsDecided t.request (core_at m) place.decision
+
+-- a step of the schedule leaves it
+stood_scheduled : (x : OwnStep) (m : Member) (t : Transfer) (place : Place) → Stood m t place → Stood (member_after m (Scheduled x)) t place
+stood_scheduled x m t place s =
+    let n = member_after m (Scheduled x) in
+    record {
+      asked = s.asked;
+      spelled = s.spelled;
+      stands = kept_is core_table.answer_of (shape_of t.ends.setup) [] place t.ends (control_at m) (control_at n) s.stands refl refl;
+      decided = λ behind. decided_stays t.request (core_at m) (core_at n) place.decision (record { layout = refl; config = refl; descriptor = refl; configured = λ h. h }) refl (s.decided behind);
+    }
+
+-- and a try leads on
+abbrev tried_transfer : Fate → Member → Transfer → Transfer
+tried_transfer fate m t = record t { ends = ends_tried_at fate m t }
+
+abbrev place_behind : Fate → Member → Transfer → Place → Place
+place_behind fate m t place = tried (shape_of t.ends.setup) fate (decision_now core_table (ends_at m t)) place
+
+stood_tried : (fate : Fate) (m : Member) (t : Transfer) (place : Place) (host : HostState) → Stood m t place → GoesBy core_table [] place fate (ends_at m t)
+    → Stood (tried_to fate m t host) (tried_transfer fate m t) (place_behind fate m t place)
+stood_tried fate m t place host s g =
+    let n = tried_to fate m t host in
+    let control = control_tried core_table fate t.ends (control_at m) in
+    let asking : Asking = record { report_length = length m.descriptor } in
+    let goes = acts_go t.ends.setup (act_now core_table place fate (ends_at m t)) (core_at m) control.requests g.acts in
+    record {
+      asked = g.asked ∙ s.asked;
+      spelled = subst IsSpelled (sym g.asked) s.spelled;
+      stands = kept_is core_table.answer_of (shape_of (ends_tried_at fate m t).setup) [] (place_behind fate m t place) (ends_tried_at fate m t) control (control_at n) g.stands refl refl;
+      decided = λ behind. decided_stays t.request control.requests (core_at n) (place_behind fate m t place).decision
+          (record { layout = sym goes.layout; config = sym goes.config; descriptor = sym goes.descriptor; configured = λ h. h }) refl
+          (decided_behind t.request asking t.ends.setup fate (decision_now core_table (ends_at m t)) place.host place (core_at m) control.requests s.asked refl g.acts s.decided behind);
+    }
+
+try_configures : (fate : Fate) (m : Member) (t : Transfer) (place : Place) → Stood m t place → GoesBy core_table [] place fate (ends_at m t)
+    → configures fate t.ends (control_at m) ≡ (is_effect (act_now core_table place fate (ends_at m t)) && is_configure t.request)
+try_configures fate m t place s g =
+    configures_as fate t.ends (control_at m) (is_configure t.request)
+    (λ takes. pends_so t.request (core_at m) place.decision (s.decided (effect_behind place.host (shape_of t.ends.setup) fate (decision_now core_table (ends_at m t)) place.decision place.applied (sym g.takes ∙ takes))))
+    ∙ ap (λ (b : Bool). b && is_configure t.request) g.takes
+
+-- ---- whole lists
+
+abbrev once_if : Bool → ℕ
+once_if true = 1
+once_if false = 0
+
+-- the effects that count for a request
+abbrev pub counts_for : Bool → ℕ → List Act → ℕ
+counts_for sets n acts = if sets then effects n acts else n
+
+one_more : (n : ℕ) (rest : List Act) → effects (n + 1) rest ≡ effects (1 + n) rest
+one_more n rest = let same : n + 1 ≡ 1 + n = omega arith in ap (λ (k : ℕ). effects k rest) same
+
+one_act : (sets : Bool) (n : ℕ) (act : Act) (rest : List Act) → counts_for sets n (act ∷ rest) ≡ counts_for sets (once_if (is_effect act && sets) + n) rest
+one_act true n Nothing rest = refl
+one_act true n (Decides decision) rest = refl
+one_act true n TakesEffect rest = one_more n rest
+one_act false n Nothing rest = refl
+one_act false n (Decides decision) rest = refl
+one_act false n TakesEffect rest = refl
+
+none_counts : (sets : Bool) (n : ℕ) → counts_for sets n [] ≡ n
+none_counts true n = refl
+none_counts false n = refl
+
+one_deed : (b : Bool) (deeds : List Deed) → configurations (cons_option (configured_deed b) deeds) ≡ once_if b + configurations deeds
+one_deed true deeds = refl
+one_deed false deeds = refl
+
+poll_deed : (host : HostState) (fate : Fate) (deeds : List Deed) → configurations (cons_option (scheduled_deed host (Polls fate)) deeds) ≡ configurations deeds
+poll_deed states.Cold fate deeds = refl
+poll_deed states.Described fate deeds = refl
+poll_deed states.Parsed fate deeds = refl
+poll_deed states.Ready fate deeds = refl
+
+own_deed : (host : HostState) (x : OwnStep) (deeds : List Deed) → configurations (cons_option (scheduled_deed host x) deeds) ≡ configurations deeds
+own_deed host (Changes change) deeds = refl
+own_deed host Frame deeds = refl
+own_deed host (Polls fate) deeds = poll_deed host fate deeds
+
+open_acts : (shape : Shape) (x : Fate × Decision) (xs : List (Fate × Decision)) (place : Place) → is_open place ≡ true → acts shape (x ∷ xs) place ≡ act_of shape x.0 x.1 place ∷ acts shape xs (tried shape x.0 x.1 place)
+open_acts shape x xs place h = ap (λ (b : Bool). if b then act_of shape x.0 x.1 place ∷ acts shape xs (tried shape x.0 x.1 place) else []) h
+
+closed_acts : (shape : Shape) (xs : List (Fate × Decision)) (place : Place) → is_open place ≡ false → acts shape xs place ≡ []
+closed_acts shape [] place h = refl
+closed_acts shape (x ∷ xs) place h = ap (λ (b : Bool). if b then act_of shape x.0 x.1 place ∷ acts shape xs (tried shape x.0 x.1 place) else []) h
+
+-- ---- a transfer that runs
+
+-- a transfer that is tried, or is over
+running_so : (t : Transfer) (stage : HostStage) (b : Bool) → is_running stage ≡ b → running_at t stage ≡ (if b then Some t else None)
+running_so t stages.Setup b is = ap (λ (x : Bool). if x then Some t else None) is
+running_so t (stages.DataIn one) b is = ap (λ (x : Bool). if x then Some t else None) is
+running_so t (stages.DataOut sent one) b is = ap (λ (x : Bool). if x then Some t else None) is
+running_so t stages.StatusIn b is = ap (λ (x : Bool). if x then Some t else None) is
+running_so t stages.StatusOut b is = ap (λ (x : Bool). if x then Some t else None) is
+running_so t stages.Done b is = ap (λ (x : Bool). if x then Some t else None) is
+running_so t (stages.Failed fault) b is = ap (λ (x : Bool). if x then Some t else None) is
+
+pub runs_as : (m : Member) (t : Transfer) → m.transfer ≡ Some t → running m.transfer ≡ (if is_running t.ends.stage then Some t else None)
+runs_as m t has = ap running has ∙ running_so t t.ends.stage (is_running t.ends.stage) refl
+
+-- what is counted of a try and the steps behind it, of a transfer that runs or not
+abbrev Counts : Fate → List MemberStep → Member → Transfer → Place → ℕ → Option Transfer → Option Transfer → Type 0
+Counts fate steps m t place n runs has =
+    counts_for (is_configure t.request) n (acts (shape_of t.ends.setup) (try_at fate m has ++ tries_of (tried_of fate m runs) steps) place)
+    ≡ configurations (cons_option (tried_deed fate m runs) (deeds_in (tried_of fate m runs) steps)) + n
+
+Behind : List MemberStep → Type 0
+Behind steps = (m : Member) (t : Transfer) (place : Place) (n : ℕ) → m.transfer ≡ Some t → BeginsNone steps → Stood m t place
+    → counts_for (is_configure t.request) n (acts (shape_of t.ends.setup) (tries_of m steps) place) ≡ configurations (deeds_in m steps) + n
+
+try_counts : (fate : Fate) (steps : List MemberStep) (m : Member) (t : Transfer) (place : Place) (n : ℕ) → BeginsNone steps → Stood m t place → is_running t.ends.stage ≡ true → Behind steps
+    → Counts fate steps m t place n (Some t) (Some t)
+unfolding Behind
+try_counts fate steps m t place n none s runs later =
+    let shape = shape_of t.ends.setup in
+    let sets = is_configure t.request in
+    let g = goes_by core_table [] place fate (ends_at m t) s.spelled (is_running_runs t.ends.stage runs) s.stands in
+    let act = act_now core_table place fate (ends_at m t) in
+    let k = tried_of fate m (Some t) in
+    let behind = place_behind fate m t place in
+    let xs = tries_of k steps in
+    let once = once_if (is_effect act && sets) in
+    let rest : counts_for sets (once + n) (acts (shape_of (ends_tried_at fate m t).setup) xs behind) ≡ configurations (deeds_in k steps) + (once + n)
+    = later k (tried_transfer fate m t) behind (once + n) refl none (stood_tried fate m t place k.host s g) in
+    let swapped : configurations (deeds_in k steps) + (once + n) ≡ (once + configurations (deeds_in k steps)) + n = omega arith in
+    ap (counts_for sets n) (open_acts shape (fate, decision_now core_table (ends_at m t)) xs place (sym (runs_so core_table [] place (ends_at m t) s.stands) ∙ runs))
+    ∙ one_act sets n act (acts shape xs behind)
+    ∙ ap (λ (s : Shape). counts_for sets (once + n) (acts s xs behind)) (sym (ap shape_of g.asked))
+    ∙ rest
+    ∙ swapped
+    ∙ ap (λ (c : ℕ). c + n) (sym (one_deed (is_effect act && sets) (deeds_in k steps)))
+    ∙ ap (λ (b : Bool). configurations (cons_option (configured_deed b) (deeds_in k steps)) + n) (sym (try_configures fate m t place s g))
+
+over_counts : (fate : Fate) (steps : List MemberStep) (m : Member) (t : Transfer) (place : Place) (n : ℕ) → m.transfer ≡ Some t → BeginsNone steps → Stood m t place → is_running t.ends.stage ≡ false → Behind steps
+    → Counts fate steps m t place n None (Some t)
+unfolding Behind
+over_counts fate steps m t place n has none s over later =
+    let shape = shape_of t.ends.setup in
+    let closed : is_open place ≡ false = sym (runs_so core_table [] place (ends_at m t) s.stands) ∙ over in
+    ap (counts_for (is_configure t.request) n) (closed_acts shape (try_at fate m (Some t) ++ tries_of m steps) place closed ∙ sym (closed_acts shape (tries_of m steps) place closed))
+    ∙ later m t place n has none s
+
+pub counted : (steps : List MemberStep) → Behind steps
+unfolding Behind
+counted [] m t place n has none s = none_counts (is_configure t.request) n
+counted (Scheduled x ∷ steps) m t place n has none s =
+    counted steps (member_after m (Scheduled x)) t place n has none (stood_scheduled x m t place s)
+    ∙ ap (λ (c : ℕ). c + n) (sym (own_deed m.host x (deeds_in (member_after m (Scheduled x)) steps)))
+counted (Begins request ∷ steps) m t place n has none s = absurd none
+counted (Controls fate ∷ steps) m t place n has none s = elim (cases_Bool (is_running t.ends.stage)) [
+  | inl runs ↦
+      subst (λ (o : Option Transfer). Counts fate steps m t place n o m.transfer) (sym (runs_as m t has ∙ ap (λ (b : Bool). if b then Some t else None) runs))
+      (subst (λ (o : Option Transfer). Counts fate steps m t place n (Some t) o) (sym has) (try_counts fate steps m t place n none s runs (counted steps)))
+  | inr over ↦
+      subst (λ (o : Option Transfer). Counts fate steps m t place n o m.transfer) (sym (runs_as m t has ∙ ap (λ (b : Bool). if b then Some t else None) over))
+      (subst (λ (o : Option Transfer). Counts fate steps m t place n None o) (sym has) (over_counts fate steps m t place n has none s over (counted steps)))
+]
