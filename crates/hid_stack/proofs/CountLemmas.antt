@@ -1,5 +1,5 @@
 -- A request configures its device as often as its tries take effect there, whatever comes between them.
-use Rattle.std.proofs.Common.{◌≡◌, ◌∙◌, ℕ, ◌+◌, Bool, true, false, ◌&&◌, List, [], ◌∷◌, ◌++◌, Option, Some, None, refl, ap, sym, subst, inl, inr, arith}
+use Rattle.std.proofs.Common.{◌≡◌, ◌∙◌, ℕ, suc, ◌+◌, Bool, true, false, ◌&&◌, List, [], ◌∷◌, ◌++◌, Option, Some, None, refl, ap, sym, subst, inl, inr, arith}
 use Rattle.std.specs.Prelude.{if◌then◌else◌, length}
 use Rattle.std.specs.List.{cons_option}
 use Rattle.std.proofs.lemmas.Bool.{cases_Bool}
@@ -13,7 +13,7 @@ use Rattle.usb_control.specs.Host.{HostTransferState}
 use Rattle.usb_control.specs.Meanwhile.{GoesBy, StandAt, act_now, decision_now, is_effect, is_running}
 use Rattle.usb_control.specs.Runs.{acts, effects, is_open}
 use Rattle.usb_control.specs.SetupBytes.{IsSpelled}
-use Rattle.usb_control.specs.Transfer.{Act, Decides, Nothing, TakesEffect, Decision, Accepted, Refused, Place, Piece, Position, Past, Setup, Shape, Status, act_at, act_of, shape_of, tried}
+use Rattle.usb_control.specs.Transfer.{Act, Decides, Nothing, TakesEffect, Decision, Place, Piece, Position, Past, Setup, Shape, Status, act_at, act_of, shape_of, tried}
 use Rattle.usb_control.proofs.LawLemmas.{kept_is}
 use Rattle.usb_control.proofs.MeanwhileLemmas.{goes_by, is_running_runs, runs_so}
 use Rattle.hid_requests.specs.declared.request.Asking.{Asking}
@@ -31,7 +31,7 @@ use Rattle.hid_host.specs.declared.phase.HostState.TheVariants as states
 use Rattle.hid_host.specs.Bringing.{carries_out, configures}
 use Rattle.hid_host.specs.Host.{running, running_at}
 use Rattle.hid_host.specs.Knowing.{IsBehindSetup, IsDecided}
-use Rattle.hid_host.proofs.KnowingLemmas.{Goes, acts_go, decided_behind, decided_stays}
+use Rattle.hid_host.proofs.KnowingLemmas.{acts_go, decided_behind, decided_stays}
 use Rattle.hid_stack.specs.Members.{Member, MemberStep, Scheduled, Begins, Controls, configured_deed, control_at, core_at, deeds_in, ends_tried_at, member_after, scheduled_deed, tried_deed, tried_of, tried_to}
 use Rattle.hid_stack.specs.Transfers.{BeginsNone, configurations, ends_at, is_configure, setup_at, tries_of, try_at}
 
@@ -123,18 +123,19 @@ try_configures fate m t place s g =
 
 -- ---- whole lists
 
-abbrev once_if : Bool → ℕ
-once_if true = 1
-once_if false = 0
+-- one more, or as many
+abbrev more : Bool → ℕ → ℕ
+more true n = suc n
+more false n = n
 
 -- the effects that count for a request
 abbrev pub counts_for : Bool → ℕ → List Act → ℕ
 counts_for sets n acts = if sets then effects n acts else n
 
-one_more : (n : ℕ) (rest : List Act) → effects (n + 1) rest ≡ effects (1 + n) rest
-one_more n rest = let same : n + 1 ≡ 1 + n = omega arith in ap (λ (k : ℕ). effects k rest) same
+one_more : (n : ℕ) (rest : List Act) → effects (n + 1) rest ≡ effects (suc n) rest
+one_more n rest = let same : n + 1 ≡ suc n = omega arith in ap (λ (k : ℕ). effects k rest) same
 
-one_act : (sets : Bool) (n : ℕ) (act : Act) (rest : List Act) → counts_for sets n (act ∷ rest) ≡ counts_for sets (once_if (is_effect act && sets) + n) rest
+one_act : (sets : Bool) (n : ℕ) (act : Act) (rest : List Act) → counts_for sets n (act ∷ rest) ≡ counts_for sets (more (is_effect act && sets) n) rest
 one_act true n Nothing rest = refl
 one_act true n (Decides decision) rest = refl
 one_act true n TakesEffect rest = one_more n rest
@@ -142,13 +143,17 @@ one_act false n Nothing rest = refl
 one_act false n (Decides decision) rest = refl
 one_act false n TakesEffect rest = refl
 
-none_counts : (sets : Bool) (n : ℕ) → counts_for sets n [] ≡ n
-none_counts true n = refl
-none_counts false n = refl
+none_counts : (sets : Bool) (n : ℕ) → counts_for sets n [] ≡ 0 + n
+none_counts true n = omega arith
+none_counts false n = omega arith
 
-one_deed : (b : Bool) (deeds : List Deed) → configurations (cons_option (configured_deed b) deeds) ≡ once_if b + configurations deeds
+one_deed : (b : Bool) (deeds : List Deed) → configurations (cons_option (configured_deed b) deeds) ≡ more b (configurations deeds)
 one_deed true deeds = refl
 one_deed false deeds = refl
+
+more_before : (b : Bool) (m n : ℕ) → m + more b n ≡ more b m + n
+more_before true m n = omega arith
+more_before false m n = refl
 
 poll_deed : (host : HostState) (fate : Fate) (deeds : List Deed) → configurations (cons_option (scheduled_deed host (Polls fate)) deeds) ≡ configurations deeds
 poll_deed states.Cold fate deeds = refl
@@ -189,13 +194,12 @@ Counts fate steps m t place n runs has =
     counts_for (is_configure t.request) n (acts (shape_of t.ends.setup) (try_at fate m has ++ tries_of (tried_of fate m runs) steps) place)
     ≡ configurations (cons_option (tried_deed fate m runs) (deeds_in (tried_of fate m runs) steps)) + n
 
-Behind : List MemberStep → Type 0
+abbrev Behind : List MemberStep → Type 0
 Behind steps = (m : Member) (t : Transfer) (place : Place) (n : ℕ) → m.transfer ≡ Some t → BeginsNone steps → Stood m t place
     → counts_for (is_configure t.request) n (acts (shape_of t.ends.setup) (tries_of m steps) place) ≡ configurations (deeds_in m steps) + n
 
 try_counts : (fate : Fate) (steps : List MemberStep) (m : Member) (t : Transfer) (place : Place) (n : ℕ) → BeginsNone steps → Stood m t place → is_running t.ends.stage ≡ true → Behind steps
     → Counts fate steps m t place n (Some t) (Some t)
-unfolding Behind
 try_counts fate steps m t place n none s runs later =
     let shape = shape_of t.ends.setup in
     let sets = is_configure t.request in
@@ -204,21 +208,19 @@ try_counts fate steps m t place n none s runs later =
     let k = tried_of fate m (Some t) in
     let behind = place_behind fate m t place in
     let xs = tries_of k steps in
-    let once = once_if (is_effect act && sets) in
-    let rest : counts_for sets (once + n) (acts (shape_of (ends_tried_at fate m t).setup) xs behind) ≡ configurations (deeds_in k steps) + (once + n)
-    = later k (tried_transfer fate m t) behind (once + n) refl none (stood_tried fate m t place k.host s g) in
-    let swapped : configurations (deeds_in k steps) + (once + n) ≡ (once + configurations (deeds_in k steps)) + n = omega arith in
+    let once : Bool = is_effect act && sets in
+    let rest : counts_for sets (more once n) (acts (shape_of (ends_tried_at fate m t).setup) xs behind) ≡ configurations (deeds_in k steps) + more once n
+    = later k (tried_transfer fate m t) behind (more once n) refl none (stood_tried fate m t place k.host s g) in
     ap (counts_for sets n) (open_acts shape (fate, decision_now core_table (ends_at m t)) xs place (sym (runs_so core_table [] place (ends_at m t) s.stands) ∙ runs))
     ∙ one_act sets n act (acts shape xs behind)
-    ∙ ap (λ (s : Shape). counts_for sets (once + n) (acts s xs behind)) (sym (ap shape_of g.asked))
+    ∙ ap (λ (s : Shape). counts_for sets (more once n) (acts s xs behind)) (sym (ap shape_of g.asked))
     ∙ rest
-    ∙ swapped
-    ∙ ap (λ (c : ℕ). c + n) (sym (one_deed (is_effect act && sets) (deeds_in k steps)))
+    ∙ more_before once (configurations (deeds_in k steps)) n
+    ∙ ap (λ (c : ℕ). c + n) (sym (one_deed once (deeds_in k steps)))
     ∙ ap (λ (b : Bool). configurations (cons_option (configured_deed b) (deeds_in k steps)) + n) (sym (try_configures fate m t place s g))
 
 over_counts : (fate : Fate) (steps : List MemberStep) (m : Member) (t : Transfer) (place : Place) (n : ℕ) → m.transfer ≡ Some t → BeginsNone steps → Stood m t place → is_running t.ends.stage ≡ false → Behind steps
     → Counts fate steps m t place n None (Some t)
-unfolding Behind
 over_counts fate steps m t place n has none s over later =
     let shape = shape_of t.ends.setup in
     let closed : is_open place ≡ false = sym (runs_so core_table [] place (ends_at m t) s.stands) ∙ over in
@@ -226,7 +228,6 @@ over_counts fate steps m t place n has none s over later =
     ∙ later m t place n has none s
 
 pub counted : (steps : List MemberStep) → Behind steps
-unfolding Behind
 counted [] m t place n has none s = none_counts (is_configure t.request) n
 counted (Scheduled x ∷ steps) m t place n has none s =
     counted steps (member_after m (Scheduled x)) t place n has none (stood_scheduled x m t place s)

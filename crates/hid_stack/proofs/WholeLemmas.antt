@@ -3,8 +3,6 @@ use Rattle.std.proofs.Common.{◌≡◌, ◌++◌, ◌∙◌, ◌+◌, arith, Bo
 use Rattle.std.specs.Prelude.{if◌then◌else◌}
 use Rattle.usb_transact.specs.declared.transaction.Fate.{Fate}
 use Rattle.usb_control.specs.declared.device.Heard.TheVariants as hears
-use Rattle.usb_control.specs.declared.host.HostStage.{HostStage}
-use Rattle.usb_control.specs.declared.host.HostStage.TheVariants as stages
 use Rattle.usb_control.specs.Meanwhile.{Ends, LeaveAnswers, Meanwhile, StandAt, Tries, Turn, decision_now, ends_tried, is_running, tries_in, turned, turned_all}
 use Rattle.usb_control.specs.declared.setup.Setup.{Setup}
 use Rattle.usb_control.specs.Host.{at_start}
