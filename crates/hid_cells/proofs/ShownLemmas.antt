@@ -1,9 +1,9 @@
 -- What a report shows of a snapshot suits the controls, and so does what is left of its motion.
-use Rattle.std.proofs.Common.{◌≡◌, ℕ, zero, suc, ◌<◌, ◌≤◌, Bool, true, false, cond, nat_lt, List, [], ◌∷◌, length, map, Some, ℤ, pos, negsuc, ◌-ℤ◌, ◌≤ℤ◌, refl, sym, ap, ◌∙◌, subst, arith}
+use Rattle.std.proofs.Common.{◌≡◌, ℕ, zero, suc, ◌<◌, ◌≤◌, Bool, true, false, cond, nat_lt, List, [], ◌∷◌, length, map, replicate, Some, ℤ, pos, negsuc, ◌-ℤ◌, ◌≤ℤ◌, refl, sym, ap, ◌∙◌, subst, arith}
 use Rattle.std.specs.List.{slice_get}
 use Rattle.std.specs.Int.{int_min}
 use Rattle.std.specs.Int.Signed.{le_z}
-use Rattle.std.proofs.lemmas.List.{length-map}
+use Rattle.std.proofs.lemmas.List.{length-map, length-replicate}
 use Rattle.std.proofs.lemmas.Int.{ints, int_min_is, int_max_is}
 use Rattle.std.proofs.lemmas.Bool.Decides.{nat_tests}
 use Rattle.hid_layout.specs.Layout.{Contents}
@@ -16,7 +16,7 @@ use Rattle.hid_cells.specs.Cells.{is_in, is_i32, pressed_count, are_motions, Has
 use Rattle.std.proofs.lemmas.Option.{slice_get_within}
 use Rattle.hid_layout.specs.declared.control.Controls.{Controls}
 use Rattle.hid_layout.specs.declared.control.Controls.TheVariants as head
-use Rattle.hid_cells.specs.Parts.{item_at, HasRoomOf, AreMotions, blank_parts, has_zeros, clamp, is_of, by_item, shown_cell, shown_of, shown, differences, minus_motion, taken_of, taken, has_zero}
+use Rattle.hid_cells.specs.Parts.{item_at, HasRoomOf, AreMotions, blank_parts, has_zeros, clamp, is_of, by_item, shown_cell, shown_of, shown, differences, minus_motion, taken_of, taken, has_zero, without_motion, still_of, still}
 use Rattle.hid_cells.proofs.CodeLemmas.{test_true, true_test, both_true}
 use Rattle.hid_cells.proofs.FillLemmas.{length_map_zip}
 use Rattle.hid_cells.proofs.BlankLemmas.{IsSound, sound_items, suits_all, blank_room, blank_in_snapshot}
@@ -301,6 +301,38 @@ zero_at : (items : List Item) (i : ℕ) (item : Item) → has_zeros items ≡ tr
 zero_at [] i item h k = absurd (cc)
 zero_at (it ∷ items) zero item h k = let e : it ≡ item = cc in rw (← e) (both_true _ _ h).0
 zero_at (it ∷ items) (suc i) item h k = zero_at items i item ((both_true (has_zero (head_of it.form)) (has_zeros items) h).1) k
+
+-- no motion at all, where an element can carry 0
+still_all : (least greatest : ℤ) (n : ℕ) → is_in least greatest (pos 0) ≡ true → are_motions least greatest (replicate n (pos 0))
+still_all least greatest zero h = tt
+still_all least greatest (suc n) h = (h, still_all least greatest n h)
+
+still_stands : (form : Form) (part : Cell) → has_zero (head_of form) ≡ true → HasRoom (head_of form) part → InPart form part → HasRoom (head_of form) (without_motion part) × InPart form (without_motion part)
+still_stands form Vacant zero_ room ok = (room, ok)
+still_stands form (Pressed xs) zero_ room ok = (room, ok)
+still_stands form (Holding xs) zero_ room ok = (room, ok)
+still_stands form (RolledOver xs) zero_ room ok = (room, ok)
+still_stands NoControls (Moved xs) zero_ room ok = absurd room
+still_stands (Elements Switch least greatest us) (Moved xs) zero_ room ok = absurd room
+still_stands (Elements Value least greatest us) (Moved xs) zero_ room ok = absurd room
+still_stands (Elements NullValue least greatest us) (Moved xs) zero_ room ok = absurd room
+still_stands (Elements Relative least greatest us) (Moved xs) zero_ room ok = (length-replicate (length xs) (pos 0) ∙ room, still_all least greatest (length xs) zero_)
+still_stands (Keys elements rolls keys) (Moved xs) zero_ room ok = absurd room
+
+-- The still part of a snapshot suits the items.
+pub still_fits : (layout : Contents) (r : ℕ) (cells parts : List Cell) → IsLayout layout → has_zeros (items_of layout) ≡ true → Suits InSnapshot (items_of layout) cells → Suits InPart (items_of layout) parts
+    → Suits InPart (items_of layout) (still (items_of layout) r cells parts)
+still_fits layout r cells parts laid zeros fits fits' =
+    suits_by InPart (still_of r) (items_of layout) cells parts fits.one_each fits'.one_each
+    (λ i item a b h g k. by_report (is_of r item) item a b
+    (still_stands item.form (shown_cell (head_of item.form) a) (zero_at (items_of layout) i item zeros h) (part_room item.form a (fits.room i item a h g)) (part_stands item.form a (sound_items layout laid i item h) (fits.suits i item a h g)))
+    (fits'.room i item b h k, fits'.suits i item b h k))
+  where
+    by_report : (b : Bool) (item : Item) (cell part : Cell) → HasRoom (head_of item.form) (without_motion (shown_cell (head_of item.form) cell)) × InPart item.form (without_motion (shown_cell (head_of item.form) cell))
+        → HasRoom (head_of item.form) part × InPart item.form part
+        → HasRoom (head_of item.form) (cond b (without_motion (shown_cell (head_of item.form) cell)) part) × InPart item.form (cond b (without_motion (shown_cell (head_of item.form) cell)) part)
+    by_report true item cell part new old = new
+    by_report false item cell part new old = old
 
 -- What is left of a snapshot's motion suits the items.
 pub taken_fits : (items : List Item) (r : ℕ) (cells parts : List Cell) → has_zeros items ≡ true → parts ≡ shown items r cells parts → Suits InSnapshot items cells → Suits InPart items parts

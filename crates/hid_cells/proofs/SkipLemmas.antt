@@ -1,12 +1,12 @@
 -- What an item of another report leaves as it was.
-use Rattle.std.proofs.Common.{◌≡◌, ℕ, ◌<◌, Bool, false, List, ◌++◌, length, take, drop, get_or, Some, refl, sym, ◌∙◌, arith}
+use Rattle.std.proofs.Common.{◌≡◌, ℕ, ◌<◌, Bool, true, false, List, ◌++◌, length, take, drop, get_or, Some, refl, sym, ◌∙◌, arith}
 use Rattle.std.specs.List.{list_any}
 use Rattle.std.proofs.lemmas.Option.{slice_get_within, slice_get-get_or}
 use Rattle.hid_layout.specs.Layout.{Contents}
 use Rattle.hid_layout.specs.Reports.{IsLayout}
 use Rattle.hid_layout.specs.Controls.{Item, items_of}
 use Rattle.hid_cells.specs.declared.cell.Cell.{Cell}
-use Rattle.hid_cells.specs.Parts.{IsInput, is_of, item_at, by_item, shown_of, taken_of, calls_for}
+use Rattle.hid_cells.specs.Parts.{IsInput, is_of, item_at, by_item, part_shown, taken_of, calls_for}
 use Rattle.hid_cells.proofs.FillLemmas.{any_from_miss}
 use Rattle.hid_cells.proofs.ItemLemmas.{got, items_of-length, set_same}
 use Rattle.hid_cells.proofs.PartLemmas.{show_next, of_report, called_there}
@@ -27,10 +27,14 @@ skips layout r f cells start now laid input lc ls ln leaves i item listed other 
     let same : part.0 ≡ f (item_at (items_of layout) i) cell.0 (get_or now i part.0) = is ∙ sym (leaves i of_other cell.0 (get_or now i part.0)) in
     sym (set_same now i part.0 part.1) ∙ show_next f (items_of layout) cells start now i cell.0 part.0 part.0 lc ls so_far within cell.1 ln same
 
-pub shown_skips : (layout : Contents) (r : ℕ) (cells start now : List Cell) → IsLayout layout → IsInput layout r → length cells ≡ length (items_of layout) → length start ≡ length (items_of layout) → length now ≡ length start
-    → Skips layout r (λ i. now ≡ take i (by_item (shown_of r) (items_of layout) cells start) ++ drop i start)
-shown_skips layout r cells start now laid input lc ls ln =
-    skips layout r (shown_of r) cells start now laid input lc ls ln (λ i other a b. rw other refl)
+pub shown_skips : (layout : Contents) (r : ℕ) (still : Bool) (cells start now : List Cell) → IsLayout layout → IsInput layout r → length cells ≡ length (items_of layout) → length start ≡ length (items_of layout) → length now ≡ length start
+    → Skips layout r (λ i. now ≡ take i (by_item (part_shown still r) (items_of layout) cells start) ++ drop i start)
+shown_skips layout r still cells start now laid input lc ls ln =
+    skips layout r (part_shown still r) cells start now laid input lc ls ln (λ i other a b. leaves still (item_at (items_of layout) i) other a b)
+  where
+    leaves : (still : Bool) (item : Item) → is_of r item ≡ false → (a b : Cell) → part_shown still r item a b ≡ b
+    leaves true item other a b = rw other refl
+    leaves false item other a b = rw other refl
 
 pub taken_skips : (layout : Contents) (r : ℕ) (parts start now : List Cell) → IsLayout layout → IsInput layout r → length parts ≡ length (items_of layout) → length start ≡ length (items_of layout) → length now ≡ length start
     → Skips layout r (λ i. now ≡ take i (by_item (λ item part cell. taken_of r item cell part) (items_of layout) parts start) ++ drop i start)

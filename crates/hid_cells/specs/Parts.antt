@@ -1,6 +1,6 @@
 -- What a report shows of a snapshot, and when its controls call for it
 -- (our choice; HID 1.11, 8 and appendix C on arrays).
-use Rattle.std.specs.Prelude.{◌≡◌, length, ℕ, Bool, true, false, not, ◌&&◌, ◌||◌, ◌==◌, nat_lt, if◌then◌else◌, List, [], ◌∷◌, map, slice_get, unwrap_or, Option, Some, None, ℤ, pos, negsuc, ◌-ℤ◌}
+use Rattle.std.specs.Prelude.{◌≡◌, length, ℕ, Bool, true, false, not, ◌&&◌, ◌||◌, ◌==◌, nat_lt, if◌then◌else◌, List, [], ◌∷◌, map, replicate, slice_get, unwrap_or, Option, Some, None, ℤ, pos, negsuc, ◌-ℤ◌}
 use Rattle.std.specs.Int.{int_min, int_max}
 use Rattle.std.specs.List.{list_any, list_all, zip}
 use Rattle.std.specs.Ordering.{int_eq}
@@ -55,6 +55,25 @@ shown_of r item cell part = if is_of r item then shown_cell (head_of item.form) 
 -- what a snapshot shows in the part of report r, and the parts of the others as they were
 abbrev pub shown : List Item → ℕ → List Cell → List Cell → List Cell
 shown items r snapshot parts = by_item (shown_of r) items snapshot parts
+
+-- a part without its motion: every motion is 0
+abbrev pub without_motion : Cell → Cell
+without_motion (Moved ms) = Moved (replicate (length ms) (pos 0))
+without_motion part = part
+
+-- The still part of a cell: what its report shows of it, with every motion 0.
+abbrev pub still_of : ℕ → Item → Cell → Cell → Cell
+still_of r item cell part =
+    if is_of r item then without_motion (shown_cell (head_of item.form) cell) else part
+
+-- the still part of report r of a snapshot, and the parts of the others as they were
+abbrev pub still : List Item → ℕ → List Cell → List Cell → List Cell
+still items r snapshot parts = by_item (still_of r) items snapshot parts
+
+-- the part of an item as it is shown, or the still one
+abbrev pub part_shown : Bool → ℕ → Item → Cell → Cell → Cell
+part_shown true = still_of
+part_shown false = shown_of
 
 -- the parts of a blank snapshot
 abbrev pub blank_parts : List Item → List Cell

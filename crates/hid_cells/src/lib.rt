@@ -5,6 +5,7 @@
 //!
 //!   blank_cells: nothing is pressed, nothing has moved
 //!   show_cells: motions clamped to what elements carry, an array with more keys than elements rolled over
+//!   show_still: the same, with every motion 0
 //!   take_cells: the motion that a part carries is taken out
 //!   reset_parts: the parts of a blank snapshot, once more in the same room
 //! ```
@@ -33,5 +34,5 @@ pub use fault::{MemoryFault, ReportFault};
 pub use flags::Flags;
 pub use items::{is_input, is_of, item_at, item_count, plan_of};
 pub use keys::{has_keys, key_words};
-pub use parts::{cell_at, has_zeros, is_changed, show_cell, show_cells, take_cells};
+pub use parts::{cell_at, has_zeros, is_changed, show_cell, show_cells, show_still, take_cells};
 pub use reset::reset_parts;

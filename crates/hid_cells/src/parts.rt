@@ -4,11 +4,12 @@ ghost use Rattle.std.specs.Prelude.{◌≡◌, ◌<◌, IsTrue, true, length, sl
 ghost use Rattle.hid_layout.specs.Controls.{items_of};
 ghost use Rattle.hid_layout.specs.Reports.{IsLayout};
 ghost use Rattle.hid_cells.specs.Cells.{FitsSnapshot, FitsShown};
-ghost use Rattle.hid_cells.specs.Parts.{item_at, IsInput, is_of, shown_cell, rolled_cell, shown, minus_motion, taken, has_motion, is_changed, has_zero, has_zeros, HasRoomOf, AreMotions, shown_of, taken_of, calls_for, is_shown};
+ghost use Rattle.hid_cells.specs.Parts.{item_at, IsInput, is_of, shown_cell, rolled_cell, shown, by_item, minus_motion, taken, has_motion, is_changed, has_zero, has_zeros, HasRoomOf, AreMotions, still, without_motion, part_shown, taken_of, calls_for, is_shown};
 
 use crate::cell::Cell;
 use crate::flags::Flags;
 use crate::items::{is_of, item_count, plan_of};
+use crate::reset::reset_motions;
 use hid_layout::{ControlKind, Controls, Layout};
 use std::mem;
 
@@ -166,16 +167,45 @@ pub fn cell_at(cells: &[Cell], i: usize) -> &Cell
     &cells[i]
 }
 
-/// Makes the part of an item what a report shows of it, where the item stands in that report.
-fn show_item(layout: &Layout, i: usize, report: usize, cell: &Cell, part: &mut Cell)
+/// Makes every motion of a part 0.
+fn stop(part: &mut Cell)
+    ensures { part.new ≡ without_motion part.old }
+{
+    match part {
+        Cell::Moved(motions) => reset_motions(motions),
+        Cell::Vacant | Cell::Pressed(_) | Cell::Holding(_) | Cell::RolledOver(_) => {}
+    }
+}
+
+/// Makes the part of an item what a report shows of it, or the still part of that, where the item stands in it.
+fn show_item(layout: &Layout, i: usize, report: usize, cell: &Cell, part: &mut Cell, still: bool)
     requires listed { i < length layout.now.items }
     requires input { IsInput layout.now report }
     requires room { HasRoomOf cell.now part.old }
-    ensures { part.new ≡ shown_of report (item_at (items_of layout.now) i) cell.now part.old }
+    ensures { part.new ≡ part_shown still report (item_at (items_of layout.now) i)
+        cell.now part.old }
 {
     if is_of(layout, i, report) {
         copy_cell(cell, part);
         show_cell(part, &layout.controls(i));
+        if still {
+            stop(part);
+        }
+    }
+}
+
+/// Makes the part of a report what it shows of these cells, or the still part of that.
+fn show_each(layout: &Layout, report: usize, cells: &[Cell], parts: &mut [Cell], still: bool)
+    requires input { IsInput layout.now report }
+    requires cells { FitsSnapshot (items_of layout.now) cells.now }
+    requires parts { FitsShown (items_of layout.now) parts.old }
+    ensures shown { parts.new
+        ≡ by_item (part_shown still report) (items_of layout.now) cells.now parts.old }
+    ensures layout { IsLayout layout.now }
+{
+    for place in plan_of(layout, report) {
+        let i = *place;
+        show_item(layout, i, report, cell_at(cells, i), &mut parts[i], still);
     }
 }
 
@@ -187,10 +217,18 @@ pub fn show_cells(layout: &Layout, report: usize, cells: &[Cell], parts: &mut [C
     ensures shown { parts.new ≡ shown (items_of layout.now) report cells.now parts.old }
     ensures layout { IsLayout layout.now }
 {
-    for place in plan_of(layout, report) {
-        let i = *place;
-        show_item(layout, i, report, cell_at(cells, i), &mut parts[i]);
-    }
+    show_each(layout, report, cells, parts, false);
+}
+
+/// Makes the part of a report its still part of these cells: what it shows of them, with every motion 0.
+pub fn show_still(layout: &Layout, report: usize, cells: &[Cell], parts: &mut [Cell])
+    requires input { IsInput layout.now report }
+    requires cells { FitsSnapshot (items_of layout.now) cells.now }
+    requires parts { FitsShown (items_of layout.now) parts.old }
+    ensures still { parts.new ≡ still (items_of layout.now) report cells.now parts.old }
+    ensures layout { IsLayout layout.now }
+{
+    show_each(layout, report, cells, parts, true);
 }
 
 /// Takes the motion that the part of an item carries out of its cell, where the item stands in the report.

@@ -39,7 +39,7 @@ fn reset_values(values: &mut Values, controls: &Controls)
 
 /// Nothing has moved.
 #[tactic(auto, using(crate::proofs::ResetLemmas::none_left))]
-fn reset_motions(motions: &mut Motions)
+pub(crate) fn reset_motions(motions: &mut Motions)
     ensures { motions.new ≡ replicate (length motions.old) (pos 0) }
 {
     motions.clamp(&0, &0);

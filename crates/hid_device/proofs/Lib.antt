@@ -1,3 +1,5 @@
+pub mod ApartLemmas
 pub mod DueLemmas
 pub mod InputLemmas
+pub mod OutputLemmas
 mod Vectors

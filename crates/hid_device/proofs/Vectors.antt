@@ -1,16 +1,17 @@
 -- Worked values of known devices: each is worked out by hand, and a wrong one fails the check.
-use Rattle.std.specs.Prelude.{◌≡◌, ℕ, Bool, true, false, List, [], ◌∷◌, refl}
+use Rattle.std.specs.Prelude.{◌≡◌, ℕ, Bool, true, false, List, [], ◌∷◌, Some, None, refl}
 use Rattle.hid_descriptor.specs.declared.report.Report.{Report}
 use Rattle.hid_descriptor.specs.declared.report.ReportKind.{ReportKind}
-use Rattle.hid_descriptor.specs.declared.report.ReportKind.TheVariants.{Input, Output}
+use Rattle.hid_descriptor.specs.declared.report.ReportKind.TheVariants.{Input, Output, Feature}
 use Rattle.hid_device.specs.declared.device.TheConstants.{ENDPOINT}
 use Rattle.hid_device.specs.declared.config.Boot.TheVariants as boot
 use Rattle.hid_layout.specs.declared.boot.TheConstants.{KEYBOARD, MOUSE}
 use Rattle.hid_device.specs.Config.{is_config}
 use Rattle.hid_device.specs.Inputs.{input_count}
+use Rattle.hid_device.specs.Outputs.{kept, kept_place, number_of}
 use Rattle.hid_device.specs.declared.config.Boot.{Boot}
-use Rattle.hid_device.specs.Deciding.{config_info, reads_if, configuration_number}
-use Rattle.hid_device.specs.Decisions.{Refuses, Reads}
+use Rattle.hid_device.specs.Deciding.{config_info, configuration_number, idle_set}
+use Rattle.hid_device.specs.Decisions.{Refuses, Reads, reads_if}
 use Rattle.hid_requests.specs.Descriptors.{configuration_bytes}
 
 -- the wheel and the button are two Input reports; an Output report behind them is none
@@ -77,3 +78,36 @@ refused_before = refl
 
 read_after : reads_if true (0 ∷ []) ≡ Reads (0 ∷ [])
 read_after = refl
+
+-- a report is set whole: two bytes are none of three, and there is no second one
+kept_whole : kept ((1 ∷ 0 ∷ 0 ∷ []) ∷ []) 0 (1 ∷ 0xAB ∷ 0xCD ∷ []) ≡ (1 ∷ 0xAB ∷ 0xCD ∷ []) ∷ []
+kept_whole = refl
+
+none_of_two : kept ((1 ∷ 0 ∷ 0 ∷ []) ∷ []) 0 (1 ∷ 0xAB ∷ []) ≡ (1 ∷ 0 ∷ 0 ∷ []) ∷ []
+none_of_two = refl
+
+no_second : kept ((1 ∷ 0 ∷ 0 ∷ []) ∷ []) 1 (1 ∷ 0xAB ∷ 0xCD ∷ []) ≡ (1 ∷ 0 ∷ 0 ∷ []) ∷ []
+no_second = refl
+
+-- behind two Input reports, those of an Output report of ID 1 and a Feature report of ID 2 are kept
+abbrev reports : List Report
+reports = report Input 1 ∷ report Input 3 ∷ report Output 1 ∷ report Feature 2 ∷ []
+
+second_input : number_of reports Input 3 ≡ Some 1
+second_input = refl
+
+second_kept : kept_place reports Feature 2 ≡ Some 1
+second_kept = refl
+
+no_output_of_2 : kept_place reports Output 2 ≡ None
+no_output_of_2 = refl
+
+no_input_kept : kept_place reports Input 1 ≡ None
+no_input_kept = refl
+
+-- an idle time of the second of two Input reports, and of both (HID 1.11, 7.2.4)
+idle_of_one : idle_set (0 ∷ 0 ∷ []) (Some 1) 5 ≡ 0 ∷ 5 ∷ []
+idle_of_one = refl
+
+idle_of_all : idle_set (0 ∷ 5 ∷ []) None 7 ≡ 7 ∷ 7 ∷ []
+idle_of_all = refl

@@ -12,14 +12,17 @@ use Rattle.hid_cells.specs.Parts.{has_zeros}
 use Rattle.usb_packet.specs.declared.packet.Packet.{Packet}
 use Rattle.usb_transact.specs.Device.{answer_with}
 use Rattle.hid_device.specs.declared.config.Config.{Config}
+use Rattle.hid_requests.specs.declared.class.Protocol.{Protocol}
 use Rattle.hid_device.specs.declared.decisions.Pending.{Pending}
 use Rattle.hid_device.specs.Laying.{Lays}
 use Rattle.hid_device.specs.Inputs.{input_count, AreInputsFirst}
+use Rattle.hid_device.specs.Outputs.{AreOutputs}
 use Rattle.hid_device.specs.Standing.{Standing, configured, first_due, after_change, after_frame, after_opening}
 
 -- Its layout, its configuration and its descriptor; whether SET_CONFIGURATION took effect; how it stands; the
--- report of the round that is open, where one is; whether data go out as DATA1; and of the last request the answer,
--- where it has one, and what is carried out when its status is asked for.
+-- report of the round that is open, where one is; whether data go out as DATA1; its protocol, and its Output and Feature
+-- reports as they were set last; and of the last request the answer, where it has one, and what is carried out when its
+-- status is asked for.
 pub record CoreState : Type 0 where
   pub layout : Contents
   pub config : Config
@@ -28,6 +31,8 @@ pub record CoreState : Type 0 where
   pub standing : Standing
   pub current : Option ℕ
   pub toggle : Bool
+  pub protocol : Protocol
+  pub outputs : List (List ℕ)
   pub answer : Option (List ℕ)
   pub pending : Pending
 
@@ -109,11 +114,13 @@ pub record IsSound (core : CoreState) : Type 0 where
   pub each_frames : length core.standing.frames ≡ input_count core.layout.reports
   pub each_idle : length core.standing.idle ≡ input_count core.layout.reports
   pub of_input : IsBelow (input_count core.layout.reports) core.current
+  pub outputs : AreOutputs core.layout core.outputs
 
--- the same, with what its pipe has armed
-pub record IsCore (core : CoreState) (bytes : Option (List ℕ)) : Type 0 where
+-- the same, with what its pipe has armed, and with room for the parts that are asked for
+pub record IsCore (core : CoreState) (bytes : Option (List ℕ)) (parts : List Cell) : Type 0 where
   pub sound : IsSound core
   pub armed : IsArmed core.layout core.standing.fixed core.current bytes
+  pub room : FitsShown (items_of core.layout) parts
 
 -- the report of the open round, and whether its data go out as DATA1
 abbrev pub round_of : CoreState → Option (ℕ × Bool)

@@ -1,42 +1,97 @@
--- The laws of what answers requests (USB 2.0, 9.2 and 9.4).
-use Rattle.std.proofs.Common.{◌≡◌, ◌≤◌, ℕ, Bool, true, false, List, Option, Some, None, refl, ap, sym, ◌∙◌, subst, arith}
-use Rattle.std.specs.Prelude.{IsSome}
+-- The laws of what answers requests (USB 2.0, 9.2 and 9.4; HID 1.11, 7.2).
+use Rattle.std.proofs.Common.{◌≡◌, ◌≤◌, ℕ, Bool, true, false, ◌&&◌, ◌==◌, not, List, Option, Some, None, refl, ap, sym, ◌∙◌, subst, arith}
+use Rattle.std.specs.Prelude.{IsSome, if◌then◌else◌, nat_le, option_map, [], ◌∷◌}
+use Rattle.std.proofs.lemmas.Bool.Decides.{nat_tests}
 use Rattle.usb_control.specs.declared.device.TheConstants.{MAX_WRITE}
 use Rattle.usb_control.specs.declared.setup.Setup.{Setup}
 use Rattle.usb_control.specs.SetupBytes.{reads}
 use Rattle.usb_control.specs.Computed.{AppliesBy, PreparesBy}
 use Rattle.hid_requests.specs.declared.asked.Asked.{Asked}
-use Rattle.hid_requests.specs.declared.asked.Asked.TheVariants.{Status, InterfaceStatus, ControlStatus, ReportStatus, DeviceDescriptor, Configuration, HidDescriptor, ReportDescriptor, GetConfiguration, GetInterface, SetConfiguration}
+use Rattle.hid_requests.specs.declared.asked.Asked.TheVariants.{Status, InterfaceStatus, ControlStatus, ReportStatus, DeviceDescriptor, Configuration, HidDescriptor, ReportDescriptor, GetConfiguration, GetInterface, SetConfiguration, GetReport, GetIdle, GetProtocol, SetReport, SetIdle, SetProtocol}
 use Rattle.hid_requests.specs.Asked.{IsSorted, asked_of}
+use Rattle.hid_descriptor.specs.declared.report.ReportKind.TheVariants.{Input}
+use Rattle.hid_requests.specs.Class.{number_of as protocol_number}
 use Rattle.hid_requests.proofs.AskedLemmas.{sorted}
 use Rattle.hid_device.specs.declared.decisions.Pending.{Pending}
-use Rattle.hid_device.specs.declared.decisions.Pending.TheVariants.{Nothing, Configure}
+use Rattle.hid_device.specs.declared.decisions.Pending.TheVariants.{Nothing, Configure, Keep, Idle}
+use Rattle.hid_device.specs.declared.decisions.Pending.TheVariants as pendings
+use Rattle.hid_device.specs.Config.{is_boot}
 use Rattle.hid_device.specs.Core.{CoreState}
-use Rattle.hid_device.specs.Decisions.{Decided, Refuses, Reads, Writes, is_accepted}
-use Rattle.hid_device.specs.Deciding.{core_table, decide, decided_on, decided_row, effected, left_by, reads_if}
+use Rattle.hid_device.specs.Decisions.{Decided, Refuses, Reads, Writes, is_accepted, reads_if, writes_if}
+use Rattle.hid_device.specs.Outputs.{kept_bytes, kept_place, number_of}
+use Rattle.hid_device.specs.Deciding.{core_table, decide, decided_on, decided_row, effected, idle_told, keeps, left_by, reads_any, report_now, sets_idle, sets_idle_of}
 
--- what is read is a read, and what is written is a write without data
+-- what is read is a read, and what is written is a write of no more bytes than a device takes
 abbrev IsOf : Setup → Decided → Type 0
 IsOf setup Refuses = Unit {0}
 IsOf setup (Reads bytes) = reads setup ≡ true
-IsOf setup (Writes pending) = (reads setup ≡ false) × (setup.length ≡ 0)
+IsOf setup (Writes pending) = (reads setup ≡ false) × (setup.length ≤ MAX_WRITE)
 
-of_if : (setup : Setup) (is_configured : Bool) (bytes : List ℕ) → reads setup ≡ true → IsOf setup (reads_if is_configured bytes)
-of_if setup true bytes is = is
-of_if setup false bytes is = tt
+of_reads : (setup : Setup) (holds : Bool) (bytes : List ℕ) → reads setup ≡ true → IsOf setup (reads_if holds bytes)
+of_reads setup true bytes is = is
+of_reads setup false bytes is = tt
+
+of_any : (setup : Setup) (bytes : Option (List ℕ)) → reads setup ≡ true → IsOf setup (reads_any bytes)
+of_any setup None is = tt
+of_any setup (Some bytes) is = is
+
+-- a write of a row without data
+of_write : (setup : Setup) (pending : Pending) → reads setup ≡ false → setup.length ≡ 0 → IsOf setup (Writes pending)
+of_write setup pending writes none = (writes, omega (arith, none))
+
+of_writes :
+    (setup : Setup) (holds : Bool) (pending : Pending) → reads setup ≡ false
+    → (holds ≡ true → setup.length ≤ MAX_WRITE) → IsOf setup (writes_if holds pending)
+of_writes setup true pending writes short = (writes, short refl)
+of_writes setup false pending writes short = tt
+
+of_keeps :
+    (core : CoreState) (setup : Setup) (len : ℕ) (place : Option ℕ) → reads setup ≡ false → setup.length ≡ len
+    → IsOf setup (keeps core len place)
+of_keeps core setup len None writes same = tt
+of_keeps core setup len (Some i) writes same =
+    of_writes setup ((len == kept_bytes core.layout i) && nat_le len MAX_WRITE) (Keep i) writes
+    (λ h. let small : len ≤ MAX_WRITE = grind (arith, nat_tests, h) in omega (arith, same, small))
+
+of_idle_of :
+    (setup : Setup) (time : ℕ) (place : Option ℕ) → reads setup ≡ false → setup.length ≡ 0
+    → IsOf setup (sets_idle_of time place)
+of_idle_of setup time None writes none = tt
+of_idle_of setup time (Some r) writes none = of_write setup (Idle (Some r) time) writes none
+
+of_either : (setup : Setup) (test : Bool) (one other : Decided) → IsOf setup one → IsOf setup other → IsOf setup (if test then one else other)
+of_either setup true one other h k = h
+of_either setup false one other h k = k
+
+of_idle :
+    (core : CoreState) (setup : Setup) (id time : ℕ) → reads setup ≡ false → setup.length ≡ 0
+    → IsOf setup (sets_idle core id time)
+of_idle core setup id time writes none =
+    of_either setup (id == 0) (Writes (Idle None time)) (sets_idle_of time (number_of core.layout.reports Input id)) (of_write setup (Idle None time) writes none)
+    (of_idle_of setup time (number_of core.layout.reports Input id) writes none)
 
 of_row : (core : CoreState) (setup : Setup) (asked : Asked) → IsSorted setup asked → IsOf setup (decided_row core asked)
 of_row core setup Status h = h.ways
-of_row core setup InterfaceStatus h = of_if setup core.is_configured _ h.ways
+of_row core setup InterfaceStatus h = of_reads setup core.is_configured (0 ∷ 0 ∷ []) h.ways
 of_row core setup ControlStatus h = h.ways
-of_row core setup ReportStatus h = of_if setup core.is_configured _ h.ways
+of_row core setup ReportStatus h = of_reads setup core.is_configured (0 ∷ 0 ∷ []) h.ways
 of_row core setup DeviceDescriptor h = h.ways
 of_row core setup Configuration h = h.ways
 of_row core setup HidDescriptor h = h.ways
 of_row core setup ReportDescriptor h = h.ways
 of_row core setup GetConfiguration h = h.ways
-of_row core setup GetInterface h = of_if setup core.is_configured _ h.ways
-of_row core setup SetConfiguration h = (h.ways, h.bare refl)
+of_row core setup GetInterface h = of_reads setup core.is_configured (0 ∷ []) h.ways
+of_row core setup SetConfiguration h = of_write setup Configure h.ways (h.bytes refl)
+of_row core setup (GetReport kind id) h = of_any setup (report_now core kind id) h.ways
+of_row core setup (GetIdle id) h = of_any setup (option_map (λ time. time ∷ []) (idle_told core id)) h.ways
+of_row core setup GetProtocol h =
+    of_reads setup (is_boot core.config.boot) (protocol_number core.protocol ∷ []) h.ways
+of_row core setup (SetReport kind id len) h =
+    of_keeps core setup len (kept_place core.layout.reports kind id) h.ways (h.bytes refl)
+of_row core setup (SetIdle id time) h = of_idle core setup id time h.ways (h.bytes refl)
+of_row core setup (SetProtocol protocol) h =
+    of_writes setup (is_boot core.config.boot && not core.is_configured) (pendings.Protocol protocol) h.ways
+    (λ holds. let none = h.bytes refl in omega (arith, none))
 
 of_asked :
     (core : CoreState) (setup : Setup) (o : Option Asked) → ((asked : Asked) → o ≡ Some asked → IsSorted setup asked)
@@ -64,7 +119,7 @@ short_there :
     (setup : Setup) (d : Decided) → IsOf setup d → true ≡ is_accepted d → reads setup ≡ false → setup.length ≤ MAX_WRITE
 short_there setup Refuses of accepted writes = absurd (cc)
 short_there setup (Reads bytes) of accepted writes = absurd (cc)
-short_there setup (Writes pending) of accepted writes = let none = of.1 in omega (arith, none)
+short_there setup (Writes pending) of accepted writes = of.1
 
 pub write_is_short :
     (s t : CoreState) (setup : Setup) → PreparesBy core_table s setup true t → reads setup ≡ false
@@ -102,6 +157,12 @@ same_row s answer pending ReportDescriptor = refl
 same_row s answer pending GetConfiguration = refl
 same_row s answer pending GetInterface = refl
 same_row s answer pending SetConfiguration = refl
+same_row s answer pending (GetReport kind id) = refl
+same_row s answer pending (GetIdle id) = refl
+same_row s answer pending GetProtocol = refl
+same_row s answer pending (SetReport kind id len) = refl
+same_row s answer pending (SetIdle id time) = refl
+same_row s answer pending (SetProtocol protocol) = refl
 
 same_asked :
     (s : CoreState) (answer : Option (List ℕ)) (pending : Pending) (o : Option Asked)
@@ -145,5 +206,5 @@ pub read_has_no_effect :
     (s t u : CoreState) (setup : Setup) (bytes : List ℕ) → PreparesBy core_table s setup true t → reads setup ≡ true
     → AppliesBy core_table t bytes u → u ≡ t
 read_has_no_effect s t u setup bytes h is_read applies =
-    applies ∙ ap (effected t) (ap (λ (x : CoreState). x.pending) h.1
+    applies ∙ ap (effected t bytes) (ap (λ (x : CoreState). x.pending) h.1
     ∙ nothing_pending s setup (decide s setup) (decides s setup) is_read)

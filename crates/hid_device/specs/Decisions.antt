@@ -12,6 +12,15 @@ pub data Decided : Type 0 where
   Reads : List ℕ → Decided
   Writes : Pending → Decided
 
+-- a read, or a write, that is accepted where this holds
+abbrev pub reads_if : Bool → List ℕ → Decided
+reads_if true bytes = Reads bytes
+reads_if false bytes = Refuses
+
+abbrev pub writes_if : Bool → Pending → Decided
+writes_if true pending = Writes pending
+writes_if false pending = Refuses
+
 -- whether it is accepted
 abbrev pub is_accepted : Decided → Bool
 is_accepted Refuses = false

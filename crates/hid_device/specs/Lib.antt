@@ -3,9 +3,11 @@ pub mod Config
 pub mod Fault
 pub mod Inputs
 pub mod Laying
+pub mod Outputs
 pub mod Decisions
 pub mod Core
 pub mod Deciding
 pub mod DecidingLaws
 pub mod Device
+pub mod Apart
 pub mod Making

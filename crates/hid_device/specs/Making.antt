@@ -12,13 +12,16 @@ use Rattle.hid_device.specs.declared.fault.DeviceCause.TheVariants.{BadConfig, L
 use Rattle.hid_device.specs.declared.fault.DeviceFault.{DeviceFault}
 use Rattle.hid_device.specs.Config.{is_config}
 use Rattle.hid_device.specs.Inputs.{input_count}
+use Rattle.hid_device.specs.Outputs.{bare_outputs}
+use Rattle.hid_requests.specs.declared.class.Protocol.TheVariants as protocols
 use Rattle.usb_control.specs.Device.{idle}
 use Rattle.hid_device.specs.declared.decisions.Pending.TheVariants.{Nothing}
 pub use Rattle.hid_device.specs.Laying.{Lays}
 use Rattle.hid_device.specs.Core.{CoreState}
 use Rattle.hid_device.specs.Device.{DeviceState}
 
--- A device that isn't configured yet: nothing is pressed and nothing has moved.
+-- A device that isn't configured yet: nothing is pressed and nothing has moved, no idle time is set (our choice), reports
+-- are in the report protocol (HID 1.11, 7.2.6), and Output and Feature reports are zeros.
 abbrev pub new_core : Config → List ℕ → Contents → CoreState
 new_core config descriptor layout = record {
   layout = layout;
@@ -33,6 +36,8 @@ new_core config descriptor layout = record {
   };
   current = None;
   toggle = false;
+  protocol = protocols.Report;
+  outputs = bare_outputs layout;
   answer = None;
   pending = Nothing;
 }

@@ -1,7 +1,7 @@
 //! What a device is beside its report descriptor.
 
 ghost use Rattle.std.specs.Prelude.{◌≡◌};
-ghost use Rattle.hid_device.specs.Config.{is_config, suits_boot};
+ghost use Rattle.hid_device.specs.Config.{is_boot, is_config, suits_boot};
 ghost use Rattle.hid_device.specs.Deciding.{config_info, device_info, protocol_of, subclass_of};
 
 use crate::device::ENDPOINT;
@@ -21,6 +21,16 @@ pub enum Boot {
 }
 
 impl Boot {
+    /// Whether it has the boot protocol (HID 1.11, 4.2).
+    pub(crate) fn is_boot(self) -> bool
+        ensures { result ≡ is_boot self }
+    {
+        match self {
+            Boot::No => false,
+            Boot::Keyboard | Boot::Mouse => true,
+        }
+    }
+
     /// bInterfaceSubClass (HID 1.11, 4.2).
     fn subclass(self) -> u8
         ensures { result ≡ subclass_of self }

@@ -1,18 +1,20 @@
 //! A device on the bus: which packets reach its pipe, and which its endpoint 0.
 
 ghost use Rattle.std.specs.Prelude.{◌≡◌, IfSome};
+ghost use Rattle.std.specs.Option.{option_copied};
 ghost use Rattle.hid_layout.specs.Controls.{items_of};
 ghost use Rattle.hid_cells.specs.Snapshots.{Changes};
 ghost use Rattle.usb_packet.specs.Spelling.{Fits};
 ghost use Rattle.hid_device.specs.Core.{IsSound, IsArmed, Answers, opening_of, round_of};
 ghost use Rattle.hid_device.specs.Device.{is_poll, device_after, DeviceAnswers, configured_device, controlled, core_of, changed_device, effect_of, framed_device, passed, polled_device};
+ghost use Rattle.hid_device.specs.Deciding.{output_of};
 ghost use Rattle.hid_device.specs.Making.{MakesDevice};
 
 use crate::config::{Config, is_config};
 use crate::fault::{DeviceCause, DeviceFault};
 use crate::state::Core;
 use hid_cells::{Change, ChangeFault};
-use hid_layout::Layout;
+use hid_layout::{Layout, ReportKind};
 use hid_parts::Shown;
 use std::alloc::Global;
 use std::marker::Model;
@@ -174,6 +176,14 @@ impl Device {
         ensures { result.now ≡ (core_of self.now).standing.fixed }
     {
         self.control.requests().fixed()
+    }
+
+    /// The Output or Feature report of this kind and ID, as SET_REPORT set it last, its ID first where it has one; at first
+    /// zeros behind the ID. None where there is no such report.
+    pub fn outputs(&self, kind: ReportKind, id: u8) -> Option<&[u8]>
+        ensures { option_copied result ≡ output_of (core_of self.now) kind id }
+    {
+        self.control.requests().output(kind, id)
     }
 
     /// The pipe of its Input reports: something is armed exactly while a round is open, and it is the bytes of the part that

@@ -1,6 +1,7 @@
-//! Frames between two rounds of a report, and its idle time (HID 1.11, 7.2.4).
+//! Frames between two rounds of a report, and its idle time (HID 1.11, 7.2.3 and 7.2.4).
 
 ghost use Rattle.std.specs.Prelude.{◌≡◌, ◌+◌, map, min};
+ghost use Rattle.hid_device.specs.Deciding.{idle_set};
 ghost use Rattle.hid_device.specs.Standing.{is_idle_over, most_frames};
 
 /// Frames are counted up to the longest idle time, 255 units of four frames (HID 1.11, 7.2.4).
@@ -19,5 +20,19 @@ pub(crate) fn count_frame(frames: &mut [u16])
 {
     for count in frames.iter_mut() {
         *count = count.saturating_add(1).min(MAX_FRAMES);
+    }
+}
+
+/// Sets the idle time of an Input report, by its number, or of all.
+pub(crate) fn set_idle(idle: &mut [u8], report: Option<usize>, time: u8)
+    ensures { idle.new ≡ idle_set idle.old report time }
+{
+    match report {
+        None => idle.fill(time),
+        Some(report) => {
+            if report < idle.len() {
+                idle[report] = time;
+            }
+        }
     }
 }

@@ -1,6 +1,6 @@
 //! The Input reports of a layout.
 
-ghost use Rattle.std.specs.Prelude.{◌≡◌};
+ghost use Rattle.std.specs.Prelude.{◌≡◌, ◌≤◌, length};
 ghost use Rattle.hid_descriptor.specs.Kinds.{same_kind};
 ghost use Rattle.hid_device.specs.Inputs.{input_count};
 
@@ -17,7 +17,8 @@ fn is_input(report: &Report) -> bool
 
 /// How many Input reports there are.
 pub(crate) fn input_count(layout: &Layout) -> usize
-    ensures { result ≡ input_count layout.now.reports }
+    ensures count { result ≡ input_count layout.now.reports }
+    ensures within { result ≤ length layout.now.reports }
 {
     layout
         .reports()

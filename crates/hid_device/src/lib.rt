@@ -22,14 +22,15 @@
 //! same toggle, until its acknowledgement arrives. What changes meanwhile goes into a later round, and motion that its
 //! field can't carry stays in the snapshot for one.
 //!
-//! A new device isn't configured: it answers no poll, and at endpoint 0 what the standard has for that state. All that
-//! endpoint 0 reads and writes stands in [`Core`], beside the address and the wait for an ACK. Class requests get STALL.
+//! A new device isn't configured: it answers no poll, and at endpoint 0 what the standards have for that state. All that
+//! endpoint 0 reads and writes stands in [`Core`], beside the address and the wait for an ACK. What it reads of a report is
+//! the report of now, without motion: nothing is fixed, and no round opens.
 //!
 //! The promise: a device is made exactly where no cause of [`DeviceCause`] stands ([`Device::new`]); a packet does to it
 //! what `device_after` says, and is answered as `DeviceAnswers` says (`device` and `answer` on [`Device::on_packet`]), of
 //! which `specs/Rounds.antt` of `hid_lives` makes rounds and their events; something is armed exactly while a round is open,
-//! and it is the bytes of the part that was fixed for it (`armed` on [`Device::pipe`]). No call takes memory but
-//! [`Device::new`].
+//! and it is the bytes of the part that was fixed for it (`armed` on [`Device::pipe`]); and the two endpoints leave one
+//! another as they were ([`laws::ends_are_apart`]). No call takes memory but [`Device::new`].
 //! ```text
 //!   let mut mouse = Device::new(alloc, 1, &config, &MOUSE)?;         // or Err, printed as `V10 at 12`
 //!   mouse.configure();
@@ -45,6 +46,8 @@ mod device;
 mod fault;
 mod frames;
 mod inputs;
+pub mod laws;
+mod outputs;
 mod state;
 
 pub use config::{Boot, Config};

@@ -1,6 +1,7 @@
 //! The inside of a device: all that endpoint 0 reads and writes, and the pipe of its Input reports.
 
 ghost use Rattle.std.specs.Prelude.{◌≡◌, ◌<◌, ◌≤◌, length, None, IfSome, IfOk, IfErr};
+ghost use Rattle.std.specs.Option.{option_copied};
 ghost use Rattle.hid_layout.specs.Controls.{items_of};
 ghost use Rattle.hid_cells.specs.Cells.{FitsSnapshot};
 ghost use Rattle.hid_parts.specs.Encoding.{AreBytes};
@@ -8,20 +9,26 @@ ghost use Rattle.hid_cells.specs.Snapshots.{Changes};
 ghost use Rattle.usb_packet.specs.Spelling.{Fits};
 ghost use Rattle.hid_device.specs.Standing.{is_due, first_due};
 ghost use Rattle.hid_device.specs.Core.{IsSound, IsArmed, Answers, opened_core, opening_of, closed_core, configured_core, changed_core, framed_core, round_of};
+ghost use Rattle.hid_device.specs.declared.decisions.Pending.TheVariants.{Keep};
 ghost use Rattle.hid_device.specs.Decisions.{decided_by};
-ghost use Rattle.hid_device.specs.Deciding.{decided_row, reads_if};
+ghost use Rattle.hid_device.specs.Deciding.{decided_row, effected, idle_told, keeps, output_of, reads_any, report_now, sets_idle, still_bytes};
+ghost use Rattle.hid_device.specs.Outputs.{kept_place};
 ghost use Rattle.hid_device.specs.Making.{no_memory, new_core, CanServe, RefusesDescriptor, MakesCore};
 
 use crate::config::Config;
-use crate::decisions::{Answer, Decision, Pending, reads};
+use crate::decisions::{Answer, Decision, Pending, reads, reads_if, writes_if};
 use crate::fault::{DeviceCause, DeviceFault};
-use crate::frames::{count_frame, is_idle_over};
+use crate::frames::{count_frame, is_idle_over, set_idle};
 use crate::inputs::input_count;
+use crate::outputs::{KeptReport, bare_outputs, input_with, kept_place};
+use arrayvec::ArrayVec;
 use hid_cells::{Change, ChangeFault, has_empty_codes, has_zeros};
 use hid_fields::WordCodec;
-use hid_layout::Layout;
+use hid_layout::{Layout, ReportKind};
 use hid_parts::{Shown, Snapshot, encode_report};
-use hid_requests::{Asked, configuration, device_descriptor, hid_descriptor, what_is_asked};
+use hid_requests::{
+    Asked, Protocol, configuration, device_descriptor, hid_descriptor, what_is_asked,
+};
 use std::alloc::Global;
 use std::marker::Model;
 use usb_control::{Requests, Setup};
@@ -47,6 +54,12 @@ pub struct Core {
     pipe: DevPipe,
     /// The report of the open round.
     current: Option<usize>,
+    /// In which form a boot device sends its reports.
+    protocol: Protocol,
+    /// The Output and Feature reports, in the order of the layout, as they were set last.
+    outputs: Vec<KeptReport>,
+    /// Room for the still part of a report that is asked for.
+    still: Shown,
     /// The answer to the last request, where it was a read that was accepted.
     answer: Option<Answer>,
     /// What its status brings about.
@@ -68,11 +81,13 @@ impl Model for Core {
       standing = record { snapshot = c.snapshot; fixed = c.fixed; frames = c.frames.items; idle = c.idle.items };
       current = c.current;
       toggle = c.pipe.toggle;
+      protocol = c.protocol;
+      outputs = c.outputs.items;
       answer = option_map (answer_bytes c.descriptor.items) c.answer;
       pending = c.pending;
     } };
 
-    // What is armed is the part that was fixed, exactly while a round is open.
+    // What is armed is the part that was fixed, exactly while a round is open; there is room for a still part.
     ghost invariant = { λ c. IsCore (record {
       layout = c.layout;
       config = c.config;
@@ -81,9 +96,11 @@ impl Model for Core {
       standing = record { snapshot = c.snapshot; fixed = c.fixed; frames = c.frames.items; idle = c.idle.items };
       current = c.current;
       toggle = c.pipe.toggle;
+      protocol = c.protocol;
+      outputs = c.outputs.items;
       answer = option_map (answer_bytes c.descriptor.items) c.answer;
       pending = c.pending;
-    }) c.pipe.armed };
+    }) c.pipe.armed c.still };
 }
 
 /// The layout of a descriptor, of which a device can send every report.
@@ -130,6 +147,8 @@ impl Core {
         let fixed = Shown::blank(alloc, &layout)?;
         let frames = vec![in alloc; 0; count]?;
         let idle = vec![in alloc; 0; count]?;
+        let outputs = bare_outputs(alloc, &layout)?;
+        let still = Shown::blank(alloc, &layout)?;
         Ok(Core {
             layout,
             config: *config,
@@ -141,6 +160,9 @@ impl Core {
             idle,
             pipe: DevPipe::new(),
             current: None,
+            protocol: Protocol::Report,
+            outputs,
+            still,
             answer: None,
             pending: Pending::Nothing,
         })
@@ -307,25 +329,108 @@ impl Core {
         self.descriptor.len() as u16
     }
 
-    /// A read that a configured device alone answers.
-    fn reads_configured(&self, bytes: &[u8]) -> Decision
-        requires { length bytes.now ≤ 64 }
-        ensures { decided_by self.now.descriptor result ≡ reads_if self.now.is_configured bytes.now }
+    /// The Output or Feature report of this kind and ID, as it was set last.
+    pub(crate) fn output(&self, kind: ReportKind, id: u8) -> Option<&[u8]>
+        ensures output { option_copied result ≡ output_of self.now kind id }
+        ensures short { IfSome result (λ bytes. length bytes.now ≤ 64) }
     {
-        if self.is_configured {
-            reads(bytes)
-        } else {
-            Decision::Refuses
+        match kept_place(&self.layout, kind, id) {
+            Some(place) => Some(self.outputs[place].bytes()),
+            None => None,
         }
     }
 
-    /// What is decided on a request, by its row (USB 2.0, 9.4; HID 1.11, 7.1).
-    fn decide(&self, asked: Asked) -> Decision
-        ensures { decided_by self.now.descriptor result ≡ decided_row self.now asked }
+    /// The bytes of an Input report as it is now, with every motion 0.
+    fn still_report(&mut self, report: usize) -> ArrayVec<u8, 64>
+        requires { report < length self.old.standing.frames }
+        ensures bytes { result.items ≡ still_bytes self.old report }
+        ensures same { self.new ≡ self.old }
+    {
+        self.still.reset(&self.layout);
+        self.snapshot.still(&self.layout, report, &mut self.still);
+        encode_report::<WordCodec>(&self.layout, report, &self.still)
+    }
+
+    /// What is decided on GET_REPORT (HID 1.11, 7.2.1).
+    fn get_report(&mut self, kind: ReportKind, id: u8) -> Decision
+        ensures decided { decided_by self.old.descriptor result
+            ≡ reads_any (report_now self.old kind id) }
+        ensures same { self.new ≡ self.old }
+    {
+        match kind {
+            ReportKind::Input => match input_with(&self.layout, id) {
+                Some(report) => reads(&self.still_report(report)),
+                None => Decision::Refuses,
+            },
+            ReportKind::Output | ReportKind::Feature => match self.output(kind, id) {
+                Some(bytes) => reads(bytes),
+                None => Decision::Refuses,
+            },
+        }
+    }
+
+    /// The idle time that GET_IDLE tells (HID 1.11, 7.2.3): of the Input report with this ID, or for 0 of the first.
+    fn idle_time(&self, id: u8) -> Option<u8>
+        ensures { result ≡ idle_told self.now id }
+    {
+        if id == 0 {
+            self.idle.first().copied()
+        } else {
+            match input_with(&self.layout, id) {
+                Some(report) => self.idle.get(report).copied(),
+                None => None,
+            }
+        }
+    }
+
+    /// What is decided on SET_REPORT (HID 1.11, 7.2.2): as many bytes come as the report has.
+    fn set_report(&self, kind: ReportKind, id: u8, length: u16) -> Decision
+        ensures { decided_by self.now.descriptor result
+            ≡ keeps self.now length (kept_place self.now.layout.reports kind id) }
+    {
+        match kept_place(&self.layout, kind, id) {
+            Some(place) => {
+                let suits = usize::from(length) == self.outputs[place].len();
+                writes_if(suits, Pending::Keep { place })
+            }
+            None => Decision::Refuses,
+        }
+    }
+
+    /// What is decided on SET_IDLE (HID 1.11, 7.2.4): for an Input report, or with 0 for all.
+    fn set_idle(&self, id: u8, time: u8) -> Decision
+        ensures { decided_by self.now.descriptor result ≡ sets_idle self.now id time }
+    {
+        if id == 0 {
+            Decision::Writes(Pending::Idle { report: None, time })
+        } else {
+            match input_with(&self.layout, id) {
+                Some(report) => Decision::Writes(Pending::Idle {
+                    report: Some(report),
+                    time,
+                }),
+                None => Decision::Refuses,
+            }
+        }
+    }
+
+    /// SET_REPORT takes effect: the Output or Feature report at this place is set, where it has as many bytes.
+    fn keep(&mut self, place: usize, bytes: &[u8])
+        ensures { self.new ≡ effected self.old bytes.now (Keep place) }
+    {
+        if place < self.outputs.len() {
+            self.outputs[place].keep(bytes);
+        }
+    }
+
+    /// What is decided on a request, by its row (USB 2.0, 9.4; HID 1.11, 7.1 and 7.2).
+    fn decide(&mut self, asked: Asked) -> Decision
+        ensures decided { decided_by self.old.descriptor result ≡ decided_row self.old asked }
+        ensures same { self.new ≡ self.old }
     {
         match asked {
             Asked::Status | Asked::ControlStatus => reads(&[0, 0]),
-            Asked::InterfaceStatus | Asked::ReportStatus => self.reads_configured(&[0, 0]),
+            Asked::InterfaceStatus | Asked::ReportStatus => reads_if(self.is_configured, &[0, 0]),
             Asked::DeviceDescriptor => reads(&device_descriptor(&self.config.device_info())),
             Asked::Configuration => {
                 let info = self.config.config_info(self.report_length());
@@ -334,8 +439,20 @@ impl Core {
             Asked::HidDescriptor => reads(&hid_descriptor(self.report_length())),
             Asked::ReportDescriptor => Decision::Reads(Answer::Descriptor),
             Asked::GetConfiguration => reads(&[u8::from(self.is_configured)]),
-            Asked::GetInterface => self.reads_configured(&[0]),
+            Asked::GetInterface => reads_if(self.is_configured, &[0]),
             Asked::SetConfiguration => Decision::Writes(Pending::Configure),
+            Asked::GetReport { kind, id } => self.get_report(kind, id),
+            Asked::GetIdle { id } => match self.idle_time(id) {
+                Some(time) => reads(&[time]),
+                None => Decision::Refuses,
+            },
+            Asked::GetProtocol => reads_if(self.config.boot.is_boot(), &[self.protocol.number()]),
+            Asked::SetReport { kind, id, length } => self.set_report(kind, id, length),
+            Asked::SetIdle { id, time } => self.set_idle(id, time),
+            Asked::SetProtocol { protocol } => writes_if(
+                self.config.boot.is_boot() && !self.is_configured,
+                Pending::Protocol(protocol),
+            ),
         }
     }
 }
@@ -392,10 +509,13 @@ impl Requests for Core {
         }
     }
 
-    fn apply(&mut self, _bytes: &[u8]) {
+    fn apply(&mut self, bytes: &[u8]) {
         match self.pending {
             Pending::Nothing => {}
             Pending::Configure => self.configure(),
+            Pending::Keep { place } => self.keep(place, bytes),
+            Pending::Idle { report, time } => set_idle(&mut self.idle, report, time),
+            Pending::Protocol(protocol) => self.protocol = protocol,
         }
     }
 }

@@ -1,5 +1,5 @@
 -- A control step with a virtual device is a function of both ends, memory aside.
-use Rattle.std.proofs.Common.{◌≡◌, ◌⊎◌, inl, inr, ℕ, true, List, [], length, Option, Some, None, Result, Ok, Err, refl, ap, sym, ◌∙◌, subst}
+use Rattle.std.proofs.Common.{◌≡◌, ◌⊎◌, inl, inr, ℕ, true, List, length, Option, Some, None, Result, Ok, Err, refl, ap, sym, ◌∙◌, subst}
 use Rattle.std.specs.Prelude.{IfSome, ◌<◌, ◌^◌}
 use Rattle.hid_descriptor.specs.Laws.{HasOneReading, AcceptsNoRefused}
 use Rattle.hid_layout.specs.Layout.{Contents}
@@ -19,7 +19,7 @@ use Rattle.usb_control.proofs.ComputedLemmas.{tries_are}
 use Rattle.usb_control.proofs.LawLemmas.{done_is, read_is}
 use Rattle.hid_requests.specs.declared.request.Request.{Request}
 use Rattle.hid_requests.specs.declared.request.Request.TheVariants as requests
-use Rattle.hid_requests.specs.Asking.{setup_for}
+use Rattle.hid_requests.specs.Asking.{sends_of, setup_for}
 use Rattle.hid_requests.proofs.DescriptorLemmas.{configuration_read}
 use Rattle.hid_device.specs.declared.device.TheConstants.{ENDPOINT}
 use Rattle.hid_device.specs.Core.{CoreState}
@@ -30,7 +30,7 @@ use Rattle.hid_host.specs.declared.fault.StackFault.TheVariants.{Control, Memory
 use Rattle.hid_host.specs.declared.host.Transfer.{Transfer}
 use Rattle.hid_host.specs.declared.phase.HostPhase.{HostPhase}
 use Rattle.hid_host.specs.declared.phase.HostPhase.TheVariants.{Cold, Described, Parsed, Ready}
-use Rattle.hid_host.specs.Bringing.{IsComputed, TakesMemory, answering, brought, brought_at, configured_if, configures, ends_after}
+use Rattle.hid_host.specs.Bringing.{IsComputed, TakesMemory, answering, brought, brought_about, brought_at, ends_after}
 use Rattle.hid_host.specs.Conclusions.{Configured, Makes, leads_to, phase_made}
 use Rattle.hid_host.specs.Host.{ConcludesAt, ControlSteps, HostEnd, TriesOnce, bytes_got, running, told_made}
 use Rattle.hid_host.specs.Knowing.{Carries, IsBehindSetup, Knows, KnowsAt, info_of}
@@ -75,6 +75,12 @@ made_is one apart addr requests.Configure (Described info) core bytes made lays 
 made_is one apart addr requests.Configure (Ready known) core bytes made lays short knows needs answer is = absurd (cc)
 made_is one apart addr requests.Status phase core bytes made lays short knows needs answer is = inl is
 made_is one apart addr requests.GetConfiguration phase core bytes made lays short knows needs answer is = inl is
+made_is one apart addr (requests.Idle id time) phase core bytes made lays short knows needs answer is = inl is
+made_is one apart addr (requests.GetIdle id) phase core bytes made lays short knows needs answer is = inl is
+made_is one apart addr (requests.Protocol boot) phase core bytes made lays short knows needs answer is = inl is
+made_is one apart addr requests.GetProtocol phase core bytes made lays short knows needs answer is = inl is
+made_is one apart addr (requests.GetReport kind id) phase core bytes made lays short knows needs answer is = inl is
+made_is one apart addr (requests.SetReport kind id set) phase core bytes made lays short knows needs answer is = inl is
 
 -- what is concluded: on an answer, or nothing, and then the phase stays
 concluded_so : (stage : HostStage) (addr : ℕ) (request : Request) (phase next : HostPhase) (bytes : List ℕ) (result : Result Progress StackFault) → ConcludesAt stage addr request phase bytes result next
@@ -101,18 +107,18 @@ once_computed : HasOneReading → AcceptsNoRefused → (fate : Fate) (host after
 once_computed one apart fate host after t old new result lays short knows c running tr =
     let e = (tries_are core_table fate t.ends old tr.ends new).0 tr.transacts in
     let ends : HostTransferState = ends_after fate t old in
-    let rounds = subst (λ (d : DevControlState CoreState). d.requests ≡ answering (configured_if (configures fate t.ends old) old.requests) d.requests) (sym e.1) (tried_rounds fate t.ends old) in
+    let brings = subst (λ (d : DevControlState CoreState). d.requests ≡ answering (brought_about fate t.ends old) d.requests) (sym e.1) (tried_rounds fate t.ends old) in
     elim (concluded_so tr.ends.stage host.addr t.request host.phase tr.next (bytes_got tr.ends) result tr.concludes) [
       | inl (done, (made, makes, told, moves)) ↦
           let not_running : IsRunning tr.ends.stage → tr.next ≡ host.phase = λ run. let wrong = subst IsRunning done run in absurd (cc) in
           let tried_so = carried fate host.phase tr.next t tr.ends old new short c running tr.transacts tr.same not_running in
           let goes = tried_so.goes in
           let d = tried_so.carries in
-          let is_done : IsDone d.place = (done_is core_table.answer_of (shape_of tr.ends.setup) [] d.place tr.ends new d.stands).0 done in
+          let is_done : IsDone d.place = (done_is core_table.answer_of (shape_of tr.ends.setup) (sends_of t.request) d.place tr.ends new d.stands).0 done in
           let behind : IsBehindSetup d.place.host = subst IsBehindSetup (sym is_done.1) tt in
           let answer = answer_is t.request new.requests d.place.decision (bytes_got tr.ends) (d.decided behind)
           (got_so tr.ends (setup_for t.request (record { report_length = length new.requests.descriptor })) d.place.decision d.asked
-          (λ is_read. read_is core_table.answer_of (shape_of tr.ends.setup) [] d.place tr.ends new d.stands is_done is_read)) in
+          (λ is_read. read_is core_table.answer_of (shape_of tr.ends.setup) (sends_of t.request) d.place tr.ends new d.stands is_done is_read)) in
           let lays_on : Lays new.requests.descriptor new.requests.layout = subst (λ (x : List ℕ). Lays x new.requests.layout) (sym goes.descriptor) (subst (λ l. Lays old.requests.descriptor l) (sym goes.layout) lays) in
           let short_on : length new.requests.descriptor < 2 ^ 16 = subst (λ (x : List ℕ). length x < 2 ^ 16) (sym goes.descriptor) short in
           let stage : ends.stage ≡ stages.Done = ap (λ (x : HostTransferState). x.stage) (sym e.0) ∙ done in
@@ -127,18 +133,18 @@ once_computed one apart fate host after t old new result lays short knows c runn
               | inr (none, takes) ↦ inr (told ∙ ap told_made none, stage, takes, tr.after ∙ leads_on host t tr.ends ends tr.next host.phase e.0 (moves ∙ ap (phase_made host.phase) none))
             ];
             needs = c.needs running;
-            rounds = rounds;
+            brings = brings;
             parsed = λ h. parsed_by fate host.phase t old c running h;
           }
-      | inr (told, stays, brings) ↦ record {
+      | inr (told, stays, leads) ↦ record {
         device_then = e.1;
         host_then = inl (
           told ∙ ap (λ (x : HostTransferState). Ok (progress_of x.stage)) e.0,
           tr.after ∙ leads_on host t tr.ends ends tr.next _ e.0
-              (stays ∙ sym (brings new.requests) ∙ ap (λ (x : HostTransferState). brought_at x.stage t.request host.addr new.requests host.phase) e.0),
+              (stays ∙ sym (leads new.requests) ∙ ap (λ (x : HostTransferState). brought_at x.stage t.request host.addr new.requests host.phase) e.0),
         );
         needs = c.needs running;
-        rounds = rounds;
+        brings = brings;
         parsed = λ h. parsed_by fate host.phase t old c running h;
       }
     ]

@@ -1,5 +1,5 @@
 -- A host comes to know its virtual device, and nothing else of it.
-use Rattle.std.proofs.Common.{◌≡◌, ◌≢◌, ℕ, Bool, true, false, ◌||◌, List, [], length, Option, Some, refl, ap, sym, ◌∙◌, subst}
+use Rattle.std.proofs.Common.{◌≡◌, ◌≢◌, ℕ, Bool, true, false, ◌||◌, List, Option, refl, ap, sym, ◌∙◌, subst}
 use Rattle.std.specs.Prelude.{if◌then◌else◌}
 use Rattle.usb_transact.specs.declared.transaction.Fate.{Fate}
 use Rattle.usb_transact.specs.declared.transaction.Fate.TheVariants.{Clean, TokenLost, ReplyLost, AckLost}
@@ -7,17 +7,15 @@ use Rattle.usb_control.specs.declared.setup.Setup.{Setup as Request'}
 use Rattle.usb_control.specs.Computed.{AppliesBy, PreparesBy}
 use Rattle.usb_control.specs.Transfer.{Act, Acts, Decides, Nothing, TakesEffect, Shape, shape_of, Decision, Accepted, Refused, decision_of, Position, Setup, Piece, Status, Past, Place, act_at, tried_at, setup_tried, piece_tried, applies, data_pieces, decided}
 use Rattle.hid_requests.specs.declared.request.Request.{Request}
-use Rattle.hid_requests.specs.declared.request.Request.TheVariants as requests
 use Rattle.hid_requests.specs.declared.request.Asking.{Asking}
-use Rattle.hid_requests.specs.Asking.{row_of, setup_for}
-use Rattle.hid_requests.specs.Descriptors.{configuration_bytes, device_bytes}
+use Rattle.hid_requests.specs.Asking.{FitsRequest, row_of, setup_for}
 use Rattle.hid_requests.proofs.AskedLemmas.{asked_so}
 use Rattle.hid_device.specs.declared.decisions.Pending.{Pending}
 use Rattle.hid_device.specs.declared.decisions.Pending.TheVariants as pendings
 use Rattle.hid_device.specs.Core.{CoreState}
 use Rattle.hid_device.specs.Decisions.{Decided, Refuses, Reads, Writes, is_accepted}
-use Rattle.hid_device.specs.Deciding.{config_info, core_table, decide, decided_on, decided_row, device_info, effected, left_by}
-use Rattle.hid_host.specs.Knowing.{IsBehindSetup, IsDecided}
+use Rattle.hid_device.specs.Deciding.{core_table, decide, decided_on, decided_row, effected, left_by}
+use Rattle.hid_host.specs.Knowing.{IsBehindSetup, IsDecided, IsDecidedBy}
 use Rattle.hid_host.proofs.PlacesLemmas.{accepted_reaches, piece_decision, refused_applied, silent_host, silent_stays}
 
 -- what a device was made with stays, and so does its configuration
@@ -35,73 +33,75 @@ left_goes core Refuses = record { layout = refl; config = refl; descriptor = ref
 left_goes core (Reads bytes) = record { layout = refl; config = refl; descriptor = refl; configured = λ h. h }
 left_goes core (Writes pending) = record { layout = refl; config = refl; descriptor = refl; configured = λ h. h }
 
-effect_goes : (core : CoreState) (pending : Pending) → Goes core (effected core pending)
-effect_goes core pendings.Nothing = goes_nowhere core
-effect_goes core pendings.Configure = record { layout = refl; config = refl; descriptor = refl; configured = λ h. refl }
+effect_goes : (core : CoreState) (bytes : List ℕ) (pending : Pending) → Goes core (effected core bytes pending)
+effect_goes core bytes pendings.Nothing = goes_nowhere core
+effect_goes core bytes pendings.Configure = record { layout = refl; config = refl; descriptor = refl; configured = λ h. refl }
+effect_goes core bytes (pendings.Keep i) = record { layout = refl; config = refl; descriptor = refl; configured = λ h. h }
+effect_goes core bytes (pendings.Idle report time) = record { layout = refl; config = refl; descriptor = refl; configured = λ h. h }
+effect_goes core bytes (pendings.Protocol protocol) = record { layout = refl; config = refl; descriptor = refl; configured = λ h. h }
 
-abbrev pub ActsOn : Request' → Act → CoreState → CoreState → Type 0
-ActsOn setup act old new = Acts (PreparesBy core_table) (AppliesBy core_table) core_table.answer_of setup [] act old new
+abbrev pub ActsOn : Request' → List ℕ → Act → CoreState → CoreState → Type 0
+ActsOn setup bytes act old new = Acts (PreparesBy core_table) (AppliesBy core_table) core_table.answer_of setup bytes act old new
 
-pub acts_go : (setup : Request') (act : Act) (old new : CoreState) → ActsOn setup act old new → Goes old new
-acts_go setup Nothing old new same = subst (λ (c : CoreState). Goes old c) (sym same) (goes_nowhere old)
-acts_go setup (Decides decision) old new (said, gives, is) = subst (λ (c : CoreState). Goes old c) (sym gives.1) (left_goes old (decide old setup))
-acts_go setup TakesEffect old new same = subst (λ (c : CoreState). Goes old c) (sym same) (effect_goes old old.pending)
+pub acts_go : (setup : Request') (bytes : List ℕ) (act : Act) (old new : CoreState) → ActsOn setup bytes act old new → Goes old new
+acts_go setup bytes Nothing old new same = subst (λ (c : CoreState). Goes old c) (sym same) (goes_nowhere old)
+acts_go setup bytes (Decides decision) old new (said, gives, is) = subst (λ (c : CoreState). Goes old c) (sym gives.1) (left_goes old (decide old setup))
+acts_go setup bytes TakesEffect old new same = subst (λ (c : CoreState). Goes old c) (sym same) (effect_goes old bytes old.pending)
 
 -- ---- what is decided behind SETUP
 
-row_decided : (request : Request) (core : CoreState)
-    → IsDecided request (left_by core (decided_row core (row_of request))) (decision_of (is_accepted (decided_row core (row_of request))) (left_by core (decided_row core (row_of request))).answer)
-row_decided requests.Device core = (refl, refl)
-row_decided requests.Config core = (refl, refl)
-row_decided requests.Report core = (refl, refl)
-row_decided requests.Configure core = (refl, refl)
-row_decided requests.Status core = (refl, refl)
-row_decided requests.GetConfiguration core = ((core.is_configured, refl), refl)
+by_row : (core : CoreState) (d : Decided) → IsDecidedBy d (decision_of (is_accepted d) (left_by core d).answer) (left_by core d).pending
+by_row core Refuses = (refl, refl)
+by_row core (Reads bytes) = (refl, refl)
+by_row core (Writes pending) = (refl, refl)
 
 -- what is decided on the setup of a request is what its row says
-decide_is : (request : Request) (asking : Asking) (core : CoreState) → decide core (setup_for request asking) ≡ decided_row core (row_of request)
+decide_is : (request : Request) (asking : Asking) (core : CoreState) → FitsRequest request → decide core (setup_for request asking) ≡ decided_row core (row_of request)
 unfolding decide
-decide_is request asking core = ap (decided_on core) (asked_so request asking)
+decide_is request asking core fits = ap (decided_on core) (asked_so request asking fits)
 
-decided_so : (request : Request) (asking : Asking) (setup : Request') (old new : CoreState) (said : Bool) (decision : Decision) → setup ≡ setup_for request asking
+decided_so : (request : Request) (asking : Asking) (setup : Request') (old new : CoreState) (said : Bool) (decision : Decision) → FitsRequest request → setup ≡ setup_for request asking
     → said ≡ is_accepted (decide old setup) → new ≡ left_by old (decide old setup) → decision ≡ decision_of said new.answer → IsDecided request new decision
-decided_so request asking setup old new said decision asks accepts leaves is =
-    let row : decide old setup ≡ decided_row old (row_of request) = ap (decide old) asks ∙ decide_is request asking old in
-    let left : new ≡ left_by old (decided_row old (row_of request)) = leaves ∙ ap (left_by old) row in
-    let says : said ≡ is_accepted (decided_row old (row_of request)) = accepts ∙ ap is_accepted row in
-    let decides : decision ≡ decision_of (is_accepted (decided_row old (row_of request))) (left_by old (decided_row old (row_of request))).answer
-    = is ∙ ap (λ (b : Bool). decision_of b new.answer) says ∙ ap (λ (c : CoreState). decision_of (is_accepted (decided_row old (row_of request))) c.answer) left in
-    subst (λ (c : CoreState). IsDecided request c decision) (sym left)
-    (subst (λ (d : Decision). IsDecided request (left_by old (decided_row old (row_of request))) d) (sym decides) (row_decided request old))
+decided_so request asking setup old new said decision fits asks accepts leaves is =
+    let d = decided_row old (row_of request) in
+    let row : decide old setup ≡ d = ap (decide old) asks ∙ decide_is request asking old fits in
+    let left : new ≡ left_by old d = leaves ∙ ap (left_by old) row in
+    let says : said ≡ is_accepted d = accepts ∙ ap is_accepted row in
+    let decides : decision ≡ decision_of (is_accepted d) (left_by old d).answer
+    = is ∙ ap (λ (b : Bool). decision_of b new.answer) says ∙ ap (λ (c : CoreState). decision_of (is_accepted d) c.answer) left in
+    let goes = left_goes old d in
+    subst (λ (c : CoreState). IsDecided request c decision) (sym left) (record {
+      then = old;
+      same = record { layout = goes.layout; config = goes.config; descriptor = goes.descriptor };
+      by = subst (λ (x : Decision). IsDecidedBy d x (left_by old d).pending) (sym decides) (by_row old d);
+    })
 
 -- ---- what stays behind it
 
 -- an effect leaves what was pending
-pends_on : (core : CoreState) (pending : Pending) → (effected core pending).pending ≡ core.pending
-pends_on core pendings.Nothing = refl
-pends_on core pendings.Configure = refl
+pends_on : (core : CoreState) (bytes : List ℕ) (pending : Pending) → (effected core bytes pending).pending ≡ core.pending
+pends_on core bytes pendings.Nothing = refl
+pends_on core bytes pendings.Configure = refl
+pends_on core bytes (pendings.Keep i) = refl
+pends_on core bytes (pendings.Idle report time) = refl
+pends_on core bytes (pendings.Protocol protocol) = refl
 
 abbrev IsQuiet : Act → Type 0
 IsQuiet Nothing = Unit {0}
 IsQuiet (Decides decision) = ⊥
 IsQuiet TakesEffect = Unit {0}
 
-quiet_pends : (setup : Request') (act : Act) (old new : CoreState) → IsQuiet act → ActsOn setup act old new → new.pending ≡ old.pending
-quiet_pends setup Nothing old new quiet same = ap (λ (c : CoreState). c.pending) same
-quiet_pends setup (Decides decision) old new quiet same = absurd quiet
-quiet_pends setup TakesEffect old new quiet same = ap (λ (c : CoreState). c.pending) same ∙ pends_on old old.pending
+quiet_pends : (setup : Request') (bytes : List ℕ) (act : Act) (old new : CoreState) → IsQuiet act → ActsOn setup bytes act old new → new.pending ≡ old.pending
+quiet_pends setup bytes Nothing old new quiet same = ap (λ (c : CoreState). c.pending) same
+quiet_pends setup bytes (Decides decision) old new quiet same = absurd quiet
+quiet_pends setup bytes TakesEffect old new quiet same = ap (λ (c : CoreState). c.pending) same ∙ pends_on old bytes old.pending
 
 pub decided_stays : (request : Request) (old new : CoreState) (decision : Decision) → Goes old new → new.pending ≡ old.pending → IsDecided request old decision → IsDecided request new decision
-decided_stays requests.Device old new decision goes pends h = (subst (λ config. decision ≡ Accepted (Some (device_bytes (device_info config)))) (sym goes.config) h.0, pends ∙ h.1)
-decided_stays requests.Config old new decision goes pends h = (
-  subst (λ config. decision ≡ Accepted (Some (configuration_bytes (config_info config (length new.descriptor)) config.interval))) (sym goes.config)
-      (subst (λ (d : List ℕ). decision ≡ Accepted (Some (configuration_bytes (config_info old.config (length d)) old.config.interval))) (sym goes.descriptor) h.0),
-  pends ∙ h.1,
-)
-decided_stays requests.Report old new decision goes pends h = (subst (λ (d : List ℕ). decision ≡ Accepted (Some d)) (sym goes.descriptor) h.0, pends ∙ h.1)
-decided_stays requests.Configure old new decision goes pends h = (h.0, pends ∙ h.1)
-decided_stays requests.Status old new decision goes pends h = (h.0, pends ∙ h.1)
-decided_stays requests.GetConfiguration old new decision goes pends h = (h.0, pends ∙ h.1)
+decided_stays request old new decision goes pends h = record {
+  then = h.then;
+  same = record { layout = goes.layout ∙ h.same.layout; config = goes.config ∙ h.same.config; descriptor = goes.descriptor ∙ h.same.descriptor };
+  by = subst (λ (p : Pending). IsDecidedBy (decided_row h.then (row_of request)) decision p) (sym pends) h.by;
+}
 
 piece_quiet : (k : ℕ) (shape : Shape) (fate : Fate) (decision q : Decision) (a : Bool) → IsQuiet (act_at (Piece k) shape fate decision q a)
 piece_quiet k shape TokenLost decision q a = tt
@@ -144,55 +144,55 @@ setup_behind ReplyLost count decision place at behind = absurd (subst IsBehindSe
 setup_behind AckLost count decision place at behind = absurd (subst IsBehindSetup (silent_host (decided count decision place) ∙ at) behind)
 setup_behind Clean count decision place at behind = refl
 
-by_setup : (request : Request) (asking : Asking) (setup : Request') (fate : Fate) (decision : Decision) (place : Place) (old new : CoreState) → setup ≡ setup_for request asking
-    → ActsOn setup (act_at Setup (shape_of setup) fate decision place.decision place.applied) old new → fate ≡ Clean
+by_setup : (request : Request) (asking : Asking) (setup : Request') (bytes : List ℕ) (fate : Fate) (decision : Decision) (place : Place) (old new : CoreState) → FitsRequest request → setup ≡ setup_for request asking
+    → ActsOn setup bytes (act_at Setup (shape_of setup) fate decision place.decision place.applied) old new → fate ≡ Clean
     → IsDecided request new (setup_tried fate (data_pieces (shape_of setup) decision) decision place).decision
-by_setup request asking setup Clean decision place old new asks (said, gives, is) clean = decided_so request asking setup old new said decision asks gives.0 gives.1 is
-by_setup request asking setup TokenLost decision place old new asks acts clean = absurd (cc)
-by_setup request asking setup ReplyLost decision place old new asks acts clean = absurd (cc)
-by_setup request asking setup AckLost decision place old new asks acts clean = absurd (cc)
+by_setup request asking setup bytes Clean decision place old new fits asks (said, gives, is) clean = decided_so request asking setup old new said decision fits asks gives.0 gives.1 is
+by_setup request asking setup bytes TokenLost decision place old new fits asks acts clean = absurd (cc)
+by_setup request asking setup bytes ReplyLost decision place old new fits asks acts clean = absurd (cc)
+by_setup request asking setup bytes AckLost decision place old new fits asks acts clean = absurd (cc)
 
-later : (request : Request) (setup : Request') (fate : Fate) (decision : Decision) (p : Position) (place : Place) (old new : CoreState) → p ≢ Setup
-    → ActsOn setup (act_at p (shape_of setup) fate decision place.decision place.applied) old new → IsDecided request old place.decision
+later : (request : Request) (setup : Request') (bytes : List ℕ) (fate : Fate) (decision : Decision) (p : Position) (place : Place) (old new : CoreState) → p ≢ Setup
+    → ActsOn setup bytes (act_at p (shape_of setup) fate decision place.decision place.applied) old new → IsDecided request old place.decision
     → IsDecided request new (piece_tried (shape_of setup) fate place.decision place).decision
-later request setup fate decision p place old new apart acts h =
+later request setup bytes fate decision p place old new apart acts h =
     let act = act_at p (shape_of setup) fate decision place.decision place.applied in
     subst (λ (d : Decision). IsDecided request new d) (sym (piece_decision (shape_of setup) fate place.decision place))
-    (decided_stays request old new place.decision (acts_go setup act old new acts) (quiet_pends setup act old new (behind_at p (shape_of setup) fate decision apart place.decision place.applied) acts) h)
+    (decided_stays request old new place.decision (acts_go setup bytes act old new acts) (quiet_pends setup bytes act old new (behind_at p (shape_of setup) fate decision apart place.decision place.applied) acts) h)
 
 -- what was decided behind SETUP, after a try
-pub decided_behind : (request : Request) (asking : Asking) (setup : Request') (fate : Fate) (decision : Decision) (p : Position) (place : Place) (old new : CoreState)
-    → setup ≡ setup_for request asking → place.host ≡ p → ActsOn setup (act_at p (shape_of setup) fate decision place.decision place.applied) old new
+pub decided_behind : (request : Request) (asking : Asking) (setup : Request') (bytes : List ℕ) (fate : Fate) (decision : Decision) (p : Position) (place : Place) (old new : CoreState)
+    → FitsRequest request → setup ≡ setup_for request asking → place.host ≡ p → ActsOn setup bytes (act_at p (shape_of setup) fate decision place.decision place.applied) old new
     → (IsBehindSetup p → IsDecided request old place.decision)
     → IsBehindSetup (tried_at p (shape_of setup) fate decision place).host → IsDecided request new (tried_at p (shape_of setup) fate decision place).decision
-decided_behind request asking setup fate decision Setup place old new asks at acts before behind =
-    by_setup request asking setup fate decision place old new asks acts (setup_behind fate (data_pieces (shape_of setup) decision) decision place at behind)
-decided_behind request asking setup fate decision (Piece k) place old new asks at acts before behind =
-    later request setup fate decision (Piece k) place old new (λ e. cc) acts (before tt)
-decided_behind request asking setup fate decision Status place old new asks at acts before behind =
-    later request setup fate decision Status place old new (λ e. cc) acts (before tt)
-decided_behind request asking setup fate decision Past place old new asks at acts before behind =
-    later request setup fate decision Past place old new (λ e. cc) acts (before tt)
+decided_behind request asking setup bytes fate decision Setup place old new fits asks at acts before behind =
+    by_setup request asking setup bytes fate decision place old new fits asks acts (setup_behind fate (data_pieces (shape_of setup) decision) decision place at behind)
+decided_behind request asking setup bytes fate decision (Piece k) place old new fits asks at acts before behind =
+    later request setup bytes fate decision (Piece k) place old new (λ e. cc) acts (before tt)
+decided_behind request asking setup bytes fate decision Status place old new fits asks at acts before behind =
+    later request setup bytes fate decision Status place old new (λ e. cc) acts (before tt)
+decided_behind request asking setup bytes fate decision Past place old new fits asks at acts before behind =
+    later request setup bytes fate decision Past place old new (λ e. cc) acts (before tt)
 
 -- ---- what took effect
 
-configured_by : (old new : CoreState) → new ≡ effected old old.pending → old.pending ≡ pendings.Configure → new.is_configured ≡ true
-configured_by old new same pends = ap (λ (c : CoreState). c.is_configured) (same ∙ ap (effected old) pends)
+configured_by : (bytes : List ℕ) (old new : CoreState) → new ≡ effected old bytes old.pending → old.pending ≡ pendings.Configure → new.is_configured ≡ true
+configured_by bytes old new same pends = ap (λ (c : CoreState). c.is_configured) (same ∙ ap (effected old bytes) pends)
 
 -- the status of a write that arrives
-status_effect : (shape : Shape) (setup : Request') (fate : Fate) (answer : Option (List ℕ)) (decision : Decision) (a : Bool) (old new : CoreState) → shape.reads ≡ false
+status_effect : (shape : Shape) (setup : Request') (bytes : List ℕ) (fate : Fate) (answer : Option (List ℕ)) (decision : Decision) (a : Bool) (old new : CoreState) → shape.reads ≡ false
     → old.pending ≡ pendings.Configure → (a ≡ true → old.is_configured ≡ true)
-    → ActsOn setup (act_at Status shape fate decision (Accepted answer) a) old new → applies shape fate Status || a ≡ true → new.is_configured ≡ true
-status_effect shape setup TokenLost answer decision a old new writes pends effect acts h = (acts_go setup Nothing old new acts).configured (effect h)
-status_effect shape setup Clean answer decision true old new writes pends effect acts h = (acts_go setup Nothing old new acts).configured (effect refl)
-status_effect shape setup ReplyLost answer decision true old new writes pends effect acts h = (acts_go setup Nothing old new acts).configured (effect refl)
-status_effect shape setup AckLost answer decision true old new writes pends effect acts h = (acts_go setup Nothing old new acts).configured (effect refl)
-status_effect shape setup Clean answer decision false old new writes pends effect acts h =
-    configured_by old new (subst (λ (b : Bool). ActsOn setup (if b then Nothing else TakesEffect) old new) writes acts) pends
-status_effect shape setup ReplyLost answer decision false old new writes pends effect acts h =
-    configured_by old new (subst (λ (b : Bool). ActsOn setup (if b then Nothing else TakesEffect) old new) writes acts) pends
-status_effect shape setup AckLost answer decision false old new writes pends effect acts h =
-    configured_by old new (subst (λ (b : Bool). ActsOn setup (if b then Nothing else TakesEffect) old new) writes acts) pends
+    → ActsOn setup bytes (act_at Status shape fate decision (Accepted answer) a) old new → applies shape fate Status || a ≡ true → new.is_configured ≡ true
+status_effect shape setup bytes TokenLost answer decision a old new writes pends effect acts h = (acts_go setup bytes Nothing old new acts).configured (effect h)
+status_effect shape setup bytes Clean answer decision true old new writes pends effect acts h = (acts_go setup bytes Nothing old new acts).configured (effect refl)
+status_effect shape setup bytes ReplyLost answer decision true old new writes pends effect acts h = (acts_go setup bytes Nothing old new acts).configured (effect refl)
+status_effect shape setup bytes AckLost answer decision true old new writes pends effect acts h = (acts_go setup bytes Nothing old new acts).configured (effect refl)
+status_effect shape setup bytes Clean answer decision false old new writes pends effect acts h =
+    configured_by bytes old new (subst (λ (b : Bool). ActsOn setup bytes (if b then Nothing else TakesEffect) old new) writes acts) pends
+status_effect shape setup bytes ReplyLost answer decision false old new writes pends effect acts h =
+    configured_by bytes old new (subst (λ (b : Bool). ActsOn setup bytes (if b then Nothing else TakesEffect) old new) writes acts) pends
+status_effect shape setup bytes AckLost answer decision false old new writes pends effect acts h =
+    configured_by bytes old new (subst (λ (b : Bool). ActsOn setup bytes (if b then Nothing else TakesEffect) old new) writes acts) pends
 
 applies_piece : (shape : Shape) (fate : Fate) (k : ℕ) → applies shape fate (Piece k) ≡ false
 applies_piece shape TokenLost k = refl
@@ -215,33 +215,33 @@ setup_effect ReplyLost count decision place h = let none : false ≡ true = sym 
 setup_effect AckLost count decision place h = let none : false ≡ true = sym (silent_stays (decided count decision place)).applied ∙ h in absurd (cc)
 setup_effect Clean count decision place h = absurd (cc)
 
-pub effect_at : (setup : Request') (fate : Fate) (p : Position) (decision q : Decision) (place : Place) (old new : CoreState) → (shape_of setup).reads ≡ false → place.host ≡ p → place.decision ≡ q
+pub effect_at : (setup : Request') (bytes : List ℕ) (fate : Fate) (p : Position) (decision q : Decision) (place : Place) (old new : CoreState) → (shape_of setup).reads ≡ false → place.host ≡ p → place.decision ≡ q
     → (IsBehindSetup p → old.pending ≡ pendings.Configure) → (place.applied ≡ true → old.is_configured ≡ true)
-    → ActsOn setup (act_at p (shape_of setup) fate decision q place.applied) old new
+    → ActsOn setup bytes (act_at p (shape_of setup) fate decision q place.applied) old new
     → (tried_at p (shape_of setup) fate decision place).applied ≡ true → new.is_configured ≡ true
-effect_at setup fate Setup decision q place old new writes at held pends effect acts h =
+effect_at setup bytes fate Setup decision q place old new writes at held pends effect acts h =
     let e = setup_effect fate (data_pieces (shape_of setup) decision) decision place h in
-    (acts_go setup (act_at Setup (shape_of setup) fate decision q place.applied) old new acts).configured (effect e.1)
-effect_at setup fate (Piece k) decision Refused place old new writes at held pends effect acts h =
-    (acts_go setup (act_at (Piece k) (shape_of setup) fate decision Refused place.applied) old new acts).configured
+    (acts_go setup bytes (act_at Setup (shape_of setup) fate decision q place.applied) old new acts).configured (effect e.1)
+effect_at setup bytes fate (Piece k) decision Refused place old new writes at held pends effect acts h =
+    (acts_go setup bytes (act_at (Piece k) (shape_of setup) fate decision Refused place.applied) old new acts).configured
     (effect (sym (refused_applied (shape_of setup) fate place) ∙ ap (λ (d : Decision). (piece_tried (shape_of setup) fate d place).applied) (sym held) ∙ h))
-effect_at setup fate Status decision Refused place old new writes at held pends effect acts h =
-    (acts_go setup (act_at Status (shape_of setup) fate decision Refused place.applied) old new acts).configured
+effect_at setup bytes fate Status decision Refused place old new writes at held pends effect acts h =
+    (acts_go setup bytes (act_at Status (shape_of setup) fate decision Refused place.applied) old new acts).configured
     (effect (sym (refused_applied (shape_of setup) fate place) ∙ ap (λ (d : Decision). (piece_tried (shape_of setup) fate d place).applied) (sym held) ∙ h))
-effect_at setup fate Past decision Refused place old new writes at held pends effect acts h =
-    (acts_go setup (act_at Past (shape_of setup) fate decision Refused place.applied) old new acts).configured
+effect_at setup bytes fate Past decision Refused place old new writes at held pends effect acts h =
+    (acts_go setup bytes (act_at Past (shape_of setup) fate decision Refused place.applied) old new acts).configured
     (effect (sym (refused_applied (shape_of setup) fate place) ∙ ap (λ (d : Decision). (piece_tried (shape_of setup) fate d place).applied) (sym held) ∙ h))
-effect_at setup fate (Piece k) decision (Accepted answer) place old new writes at held pends effect acts h =
+effect_at setup bytes fate (Piece k) decision (Accepted answer) place old new writes at held pends effect acts h =
     let took = sym (accepted_reaches (shape_of setup) fate answer place).applied ∙ ap (λ (d : Decision). (piece_tried (shape_of setup) fate d place).applied) (sym held) ∙ h in
     let here : applies (shape_of setup) fate (Piece k) || place.applied ≡ true = sym (ap (λ (x : Position). applies (shape_of setup) fate x || place.applied) at) ∙ took in
-    (acts_go setup (act_at (Piece k) (shape_of setup) fate decision (Accepted answer) place.applied) old new acts).configured
+    (acts_go setup bytes (act_at (Piece k) (shape_of setup) fate decision (Accepted answer) place.applied) old new acts).configured
     (effect (or_false (applies (shape_of setup) fate (Piece k)) place.applied (applies_piece (shape_of setup) fate k) here))
-effect_at setup fate Past decision (Accepted answer) place old new writes at held pends effect acts h =
+effect_at setup bytes fate Past decision (Accepted answer) place old new writes at held pends effect acts h =
     let took = sym (accepted_reaches (shape_of setup) fate answer place).applied ∙ ap (λ (d : Decision). (piece_tried (shape_of setup) fate d place).applied) (sym held) ∙ h in
     let here : applies (shape_of setup) fate Past || place.applied ≡ true = sym (ap (λ (x : Position). applies (shape_of setup) fate x || place.applied) at) ∙ took in
-    (acts_go setup (act_at Past (shape_of setup) fate decision (Accepted answer) place.applied) old new acts).configured
+    (acts_go setup bytes (act_at Past (shape_of setup) fate decision (Accepted answer) place.applied) old new acts).configured
     (effect (or_false (applies (shape_of setup) fate Past) place.applied (applies_past (shape_of setup) fate) here))
-effect_at setup fate Status decision (Accepted answer) place old new writes at held pends effect acts h =
+effect_at setup bytes fate Status decision (Accepted answer) place old new writes at held pends effect acts h =
     let took = sym (accepted_reaches (shape_of setup) fate answer place).applied ∙ ap (λ (d : Decision). (piece_tried (shape_of setup) fate d place).applied) (sym held) ∙ h in
     let here : applies (shape_of setup) fate Status || place.applied ≡ true = sym (ap (λ (x : Position). applies (shape_of setup) fate x || place.applied) at) ∙ took in
-    status_effect (shape_of setup) setup fate answer decision place.applied old new writes (pends tt) effect acts here
+    status_effect (shape_of setup) setup bytes fate answer decision place.applied old new writes (pends tt) effect acts here

@@ -1,6 +1,6 @@
 -- A host knows its virtual device behind whatever befalls the two.
 use Rattle.std.proofs.Common.{◌≡◌, ◌⊎◌, inl, inr, ℕ, Bool, true, false, List, [], ◌∷◌, length, take, suc, zero, Option, Some, None, Result, Ok, Err, refl, ap, sym, ◌∙◌, subst, arith}
-use Rattle.std.specs.Prelude.{IfSome, is_some, ◌<◌, ◌≤◌, ◌^◌, ◌+◌, ◌*◌, ◌/◌, ◌%◌, if◌then◌else◌}
+use Rattle.std.specs.Prelude.{IfSome, is_some, ◌<◌, ◌≤◌, ◌^◌, if◌then◌else◌}
 use Rattle.hid_descriptor.specs.Laws.{HasOneReading, AcceptsNoRefused}
 use Rattle.hid_layout.specs.Layout.{Contents}
 use Rattle.usb_transact.specs.declared.transaction.Fate.{Fate}
@@ -24,7 +24,7 @@ use Rattle.usb_control.proofs.TryLemmas.{goes_on}
 use Rattle.hid_requests.specs.declared.request.Request.{Request}
 use Rattle.hid_requests.specs.declared.request.Request.TheVariants as requests
 use Rattle.hid_requests.specs.declared.request.Asking.{Asking}
-use Rattle.hid_requests.specs.Asking.{setup_for}
+use Rattle.hid_requests.specs.Asking.{FitsRequest, sends_of, setup_for}
 use Rattle.hid_requests.specs.Descriptors.{configuration_bytes, device_bytes}
 use Rattle.hid_device.specs.Core.{CoreState}
 use Rattle.hid_device.specs.Deciding.{config_info, core_table, device_info}
@@ -39,33 +39,16 @@ use Rattle.hid_host.specs.Host.{ConcludesAt, ControlSteps, HostEnd, TriesOnce, b
 use Rattle.hid_host.specs.Knowing.{Carries, HasEffect, IsBehindSetup, IsDecided, IsNoRefusal, Knows, KnowsAt, LeavesTransfers, info_of}
 use Rattle.hid_host.specs.Phase.{IfReady, asking_at, may_begin, state_of}
 use Rattle.hid_host.specs.Ready.{Known, known_behind}
+use Rattle.hid_requests.proofs.AskedLemmas.{sends_so, spelled_so}
 use Rattle.hid_host.proofs.HostLemmas.{IsAnswer, learned}
 use Rattle.hid_host.proofs.KnowingLemmas.{ActsOn, Goes, acts_go, decided_behind, decided_stays, effect_at}
 use Rattle.hid_host.proofs.PlacesLemmas.{open_place, past_applied}
 
 -- ---- the setups of requests
 
-word_back : (n : ℕ) → n < 2 ^ 16 → n % 256 + 256 * (n / 256 % 256) ≡ n
-word_back n small = omega arith
-
+-- that of a report descriptor
 abbrev asks_with : ℕ → Setup
 asks_with n = record { request_type = 0x81; request = 6; value = 0x2200; index = 0; length = n }
-
-pub spelled_so : (request : Request) (asking : Asking) → asking.report_length < 2 ^ 16 → IsSpelled (setup_for request asking)
-spelled_so requests.Device asking short = refl
-spelled_so requests.Config asking short = refl
-spelled_so requests.Report asking short = ap asks_with (word_back asking.report_length short)
-spelled_so requests.Configure asking short = refl
-spelled_so requests.Status asking short = refl
-spelled_so requests.GetConfiguration asking short = refl
-
-pub sends_none : (request : Request) (asking : Asking) → length {A = ℕ} [] ≡ (if reads (setup_for request asking) then 0 else (setup_for request asking).length)
-sends_none requests.Device asking = refl
-sends_none requests.Config asking = refl
-sends_none requests.Report asking = refl
-sends_none requests.Configure asking = refl
-sends_none requests.Status asking = refl
-sends_none requests.GetConfiguration asking = refl
 
 -- what the host asks with is what the device has
 asked_with : (request : Request) (phase : HostPhase) (addr : ℕ) (core : CoreState) → KnowsAt phase addr core → may_begin request (state_of phase) ≡ true
@@ -79,6 +62,12 @@ asked_with requests.Report (Ready known) addr core knows needs = absurd (cc)
 asked_with requests.Configure phase addr core knows needs = refl
 asked_with requests.Status phase addr core knows needs = refl
 asked_with requests.GetConfiguration phase addr core knows needs = refl
+asked_with (requests.Idle id time) phase addr core knows needs = refl
+asked_with (requests.GetIdle id) phase addr core knows needs = refl
+asked_with (requests.Protocol boot) phase addr core knows needs = refl
+asked_with requests.GetProtocol phase addr core knows needs = refl
+asked_with (requests.GetReport kind id) phase addr core knows needs = refl
+asked_with (requests.SetReport kind id bytes) phase addr core knows needs = refl
 
 -- ---- what a host knows stays so
 
@@ -106,26 +95,43 @@ pub answer_is : (request : Request) (core : CoreState) (decision : Decision) (by
     → (reads (setup_for request (record { report_length = length core.descriptor })) ≡ true → bytes ≡ answered_bytes (shape_of (setup_for request (record { report_length = length core.descriptor }))) decision)
     → IsAnswer request core bytes
 answer_is requests.Device core decision bytes says got =
-    got refl ∙ ap (answered_bytes (shape_of (setup_for requests.Device (record { report_length = length core.descriptor })))) says.0 ∙ take_all 18 (device_bytes (device_info core.config)) (omega arith)
+    got refl ∙ ap (answered_bytes (shape_of (setup_for requests.Device (record { report_length = length core.descriptor })))) says.by.0 ∙ take_all 18 (device_bytes (device_info says.then.config)) (omega arith)
+    ∙ ap (λ config. device_bytes (device_info config)) (sym says.same.config)
 answer_is requests.Config core decision bytes says got =
-    got refl ∙ ap (answered_bytes (shape_of (setup_for requests.Config (record { report_length = length core.descriptor })))) says.0
-    ∙ take_all 255 (configuration_bytes (info_of core) core.config.interval) (omega arith)
+    got refl ∙ ap (answered_bytes (shape_of (setup_for requests.Config (record { report_length = length core.descriptor })))) says.by.0
+    ∙ take_all 255 (configuration_bytes (info_of says.then) says.then.config.interval) (omega arith)
+    ∙ ap (λ config. configuration_bytes (config_info config (length says.then.descriptor)) config.interval) (sym says.same.config)
+    ∙ ap (λ (d : List ℕ). configuration_bytes (config_info core.config (length d)) core.config.interval) (sym says.same.descriptor)
 answer_is requests.Report core decision bytes says got =
-    got refl ∙ ap (answered_bytes (shape_of (setup_for requests.Report (record { report_length = length core.descriptor })))) says.0 ∙ take_all (length core.descriptor) core.descriptor (omega arith)
+    let all : length says.then.descriptor ≤ length core.descriptor = let same = ap (λ (d : List ℕ). length d) says.same.descriptor in omega (arith, same) in
+    got refl ∙ ap (answered_bytes (shape_of (setup_for requests.Report (record { report_length = length core.descriptor })))) says.by.0
+    ∙ take_all (length core.descriptor) says.then.descriptor all ∙ sym says.same.descriptor
 answer_is requests.Configure core decision bytes says got = tt
 answer_is requests.Status core decision bytes says got = tt
 answer_is requests.GetConfiguration core decision bytes says got = tt
+answer_is (requests.Idle id time) core decision bytes says got = tt
+answer_is (requests.GetIdle id) core decision bytes says got = tt
+answer_is (requests.Protocol boot) core decision bytes says got = tt
+answer_is requests.GetProtocol core decision bytes says got = tt
+answer_is (requests.GetReport kind id) core decision bytes says got = tt
+answer_is (requests.SetReport kind id set) core decision bytes says got = tt
 
 effect_so : (request : Request) (asking : Asking) (setup : Setup) (fate : Fate) (decision : Decision) (place : Place) (old new : CoreState) → setup ≡ setup_for request asking
     → (IsBehindSetup place.host → IsDecided request old place.decision) → (place.applied ≡ true → HasEffect request old)
-    → ActsOn setup (act_of (shape_of setup) fate decision place) old new → (tried (shape_of setup) fate decision place).applied ≡ true → HasEffect request new
+    → ActsOn setup (sends_of request) (act_of (shape_of setup) fate decision place) old new → (tried (shape_of setup) fate decision place).applied ≡ true → HasEffect request new
 effect_so requests.Configure asking setup fate decision place old new asks decided effect acts took =
-    effect_at setup fate place.host decision place.decision place old new (ap (λ (s : Setup). reads s) asks) refl refl (λ behind. (decided behind).1) effect acts took
+    effect_at setup [] fate place.host decision place.decision place old new (ap (λ (s : Setup). reads s) asks) refl refl (λ behind. (decided behind).by.1) effect acts took
 effect_so requests.Device asking setup fate decision place old new asks decided effect acts took = tt
 effect_so requests.Config asking setup fate decision place old new asks decided effect acts took = tt
 effect_so requests.Report asking setup fate decision place old new asks decided effect acts took = tt
 effect_so requests.Status asking setup fate decision place old new asks decided effect acts took = tt
 effect_so requests.GetConfiguration asking setup fate decision place old new asks decided effect acts took = tt
+effect_so (requests.Idle id time) asking setup fate decision place old new asks decided effect acts took = tt
+effect_so (requests.GetIdle id) asking setup fate decision place old new asks decided effect acts took = tt
+effect_so (requests.Protocol boot) asking setup fate decision place old new asks decided effect acts took = tt
+effect_so requests.GetProtocol asking setup fate decision place old new asks decided effect acts took = tt
+effect_so (requests.GetReport kind id) asking setup fate decision place old new asks decided effect acts took = tt
+effect_so (requests.SetReport kind id bytes) asking setup fate decision place old new asks decided effect acts took = tt
 
 -- a transfer behind a try of it
 pub record Tried (next : HostPhase) (transfer : Transfer) (old new : DevControlState CoreState) : Type 0 where
@@ -138,20 +144,21 @@ pub carried : (fate : Fate) (phase next : HostPhase) (t : Transfer) (ends : Host
 carried fate phase next t ends old new short c running transacts same stays =
     let asking : Asking = record { report_length = length old.requests.descriptor } in
     let setup : Setup = t.ends.setup in
-    let spelled : IsSpelled setup = subst IsSpelled (sym c.asked) (spelled_so t.request asking short) in
-    let g = goes_on (PreparesBy core_table) (AppliesBy core_table) core_table.answer_of [] fate c.place t.ends old ends new spelled running c.stands transacts in
+    let spelled : IsSpelled setup = subst IsSpelled (sym c.asked) (spelled_so t.request asking c.fits short) in
+    let g = goes_on (PreparesBy core_table) (AppliesBy core_table) core_table.answer_of (sends_of t.request) fate c.place t.ends old ends new spelled running c.stands transacts in
     let decision : Decision = g.1.0 in
-    let goes = acts_go setup (act_of (shape_of setup) fate decision c.place) old.requests new.requests g.1.1 in
-    let apart = open_place core_table.answer_of (shape_of setup) [] c.place t.ends old c.stands running in
+    let goes = acts_go setup (sends_of t.request) (act_of (shape_of setup) fate decision c.place) old.requests new.requests g.1.1 in
+    let apart = open_place core_table.answer_of (shape_of setup) (sends_of t.request) c.place t.ends old c.stands running in
     record {
       goes = goes;
       carries = record {
         place = g.0;
-        stands = subst (λ (s : Setup). Stands core_table.answer_of (shape_of s) [] g.0 ends new) (sym same) g.2;
+        stands = subst (λ (s : Setup). Stands core_table.answer_of (shape_of s) (sends_of t.request) g.0 ends new) (sym same) g.2;
         asked = same ∙ c.asked ∙ ap (λ (d : List ℕ). setup_for t.request (record { report_length = length d })) (sym goes.descriptor);
+        fits = c.fits;
         needs = λ run. subst (λ (p : HostPhase). may_begin t.request (state_of p) ≡ true) (sym (stays run)) (c.needs running);
         decided = λ behind. subst (λ (p : Place). IsDecided t.request new.requests p.decision) (sym g.1.2)
-            (decided_behind t.request asking setup fate decision c.place.host c.place old.requests new.requests c.asked refl g.1.1 c.decided
+            (decided_behind t.request asking setup (sends_of t.request) fate decision c.place.host c.place old.requests new.requests c.fits c.asked refl g.1.1 c.decided
             (subst (λ (p : Place). IsBehindSetup p.host) g.1.2 behind));
         effect = λ took. effect_so t.request asking setup fate decision c.place old.requests new.requests c.asked c.decided c.effect g.1.1 (sym (ap (λ (p : Place). p.applied) g.1.2) ∙ took);
         applied = λ done writes. ap (λ (p : Place). p.applied) g.1.2
@@ -181,6 +188,12 @@ done_by requests.Config asking setup core applied asks effect took = tt
 done_by requests.Report asking setup core applied asks effect took = tt
 done_by requests.Status asking setup core applied asks effect took = tt
 done_by requests.GetConfiguration asking setup core applied asks effect took = tt
+done_by (requests.Idle id time) asking setup core applied asks effect took = tt
+done_by (requests.GetIdle id) asking setup core applied asks effect took = tt
+done_by (requests.Protocol boot) asking setup core applied asks effect took = tt
+done_by requests.GetProtocol asking setup core applied asks effect took = tt
+done_by (requests.GetReport kind id) asking setup core applied asks effect took = tt
+done_by (requests.SetReport kind id bytes) asking setup core applied asks effect took = tt
 
 -- the bytes of a read that is done
 pub got_so : (ends : HostTransferState) (setup : Setup) (decision : Decision) → ends.setup ≡ setup → (reads ends.setup ≡ true → ends.bytes ≡ answered_bytes (shape_of ends.setup) decision)
@@ -206,11 +219,11 @@ once_known one apart fate host after t old new result lays short knows c running
           let tried_so = carried fate host.phase tr.next t tr.ends old new short c running tr.transacts tr.same not_running in
           let goes = tried_so.goes in
           let d = tried_so.carries in
-          let is_done : IsDone d.place = (done_is core_table.answer_of (shape_of tr.ends.setup) [] d.place tr.ends new d.stands).0 done in
+          let is_done : IsDone d.place = (done_is core_table.answer_of (shape_of tr.ends.setup) (sends_of t.request) d.place tr.ends new d.stands).0 done in
           let behind : IsBehindSetup d.place.host = subst IsBehindSetup (sym is_done.1) tt in
           let answer = answer_is t.request new.requests d.place.decision (bytes_got tr.ends) (d.decided behind)
           (got_so tr.ends (setup_for t.request (record { report_length = length new.requests.descriptor })) d.place.decision d.asked
-          (λ is_read. read_is core_table.answer_of (shape_of tr.ends.setup) [] d.place tr.ends new d.stands is_done is_read)) in
+          (λ is_read. read_is core_table.answer_of (shape_of tr.ends.setup) (sends_of t.request) d.place tr.ends new d.stands is_done is_read)) in
           let effect = done_by t.request (record { report_length = length new.requests.descriptor }) tr.ends.setup new.requests d.place.applied d.asked d.effect (d.applied is_done) in
           let lays_on : Lays new.requests.descriptor new.requests.layout = subst (λ (x : List ℕ). Lays x new.requests.layout) (sym goes.descriptor) (subst (λ l. Lays old.requests.descriptor l) (sym goes.layout) lays) in
           let short_on : length new.requests.descriptor < 2 ^ 16 = subst (λ (x : List ℕ). length x < 2 ^ 16) (sym goes.descriptor) short in
@@ -274,15 +287,16 @@ may_if true may h = absurd (cc)
 may_if false true h = refl
 may_if false false h = absurd (cc)
 
-pub begins_know : (host : HostEnd) (request : Request) (control : DevControlState CoreState) → begin_refusal host request ≡ None → Knows host control → Knows (begun host request) control
-begins_know host request control none knows =
+pub begins_know : (host : HostEnd) (request : Request) (control : DevControlState CoreState) → FitsRequest request → begin_refusal host request ≡ None → Knows host control → Knows (begun host request) control
+begins_know host request control fits none knows =
     let needs : may_begin request (state_of host.phase) ≡ true = may_if (is_some (running host.transfer)) (may_begin request (state_of host.phase)) none in
     record {
       phase = knows.phase;
       transfer = record {
         place = start;
-        stands = begins core_table.answer_of host.addr (setup_for request (asking_at host.phase)) [] control (sends_none request (asking_at host.phase));
+        stands = begins core_table.answer_of host.addr (setup_for request (asking_at host.phase)) (sends_of request) control (sends_so request (asking_at host.phase));
         asked = asked_with request host.phase host.addr control.requests knows.phase needs;
+        fits = fits;
         needs = λ run. needs;
         decided = λ behind. absurd behind;
         effect = λ took. absurd (cc);
@@ -302,6 +316,12 @@ effect_goes requests.Config old new goes h = tt
 effect_goes requests.Report old new goes h = tt
 effect_goes requests.Status old new goes h = tt
 effect_goes requests.GetConfiguration old new goes h = tt
+effect_goes (requests.Idle id time) old new goes h = tt
+effect_goes (requests.GetIdle id) old new goes h = tt
+effect_goes (requests.Protocol boot) old new goes h = tt
+effect_goes requests.GetProtocol old new goes h = tt
+effect_goes (requests.GetReport kind id) old new goes h = tt
+effect_goes (requests.SetReport kind id bytes) old new goes h = tt
 
 carries_on : (phase : HostPhase) (old new : DevControlState CoreState) (o : Option Transfer) → LeavesTransfers old new → IfSome o (λ t. Carries phase t old) → IfSome o (λ t. Carries phase t new)
 carries_on phase old new None l h = tt
@@ -309,8 +329,9 @@ carries_on phase old new (Some t) l c =
     let goes = leaves_goes old new l in
     record {
       place = c.place;
-      stands = kept_is core_table.answer_of (shape_of t.ends.setup) [] c.place t.ends old new c.stands l.answer l.stage;
+      stands = kept_is core_table.answer_of (shape_of t.ends.setup) (sends_of t.request) c.place t.ends old new c.stands l.answer l.stage;
       asked = c.asked ∙ ap (λ (d : List ℕ). setup_for t.request (record { report_length = length d })) (sym goes.descriptor);
+      fits = c.fits;
       needs = c.needs;
       decided = λ behind. decided_stays t.request old.requests new.requests c.place.decision goes l.pending (c.decided behind);
       effect = λ took. effect_goes t.request old.requests new.requests goes (c.effect took);
@@ -338,6 +359,7 @@ carries_so phase next control (Some t) same c = record {
   place = c.place;
   stands = c.stands;
   asked = c.asked;
+  fits = c.fits;
   needs = λ run. ap (may_begin t.request) same ∙ c.needs run;
   decided = c.decided;
   effect = c.effect;

@@ -9,12 +9,11 @@ use Rattle.usb_control.specs.Computed.{control_tried, effect_reached, host_tried
 use Rattle.usb_control.specs.Device.{DevControlState, Effect, Applies}
 use Rattle.usb_control.specs.Host.{HostTransferState, progress_of}
 use Rattle.hid_requests.specs.declared.request.Request.{Request}
-use Rattle.hid_requests.specs.declared.request.Request.TheVariants.{Device, Config, Report, Configure, Status, GetConfiguration}
+use Rattle.hid_requests.specs.declared.request.Request.TheVariants.{Config, Report, Configure}
 use Rattle.hid_device.specs.declared.device.TheConstants.{ENDPOINT}
-use Rattle.hid_device.specs.declared.decisions.Pending.{Pending}
-use Rattle.hid_device.specs.declared.decisions.Pending.TheVariants as pendings
-use Rattle.hid_device.specs.Core.{CoreState, configured_core}
-use Rattle.hid_device.specs.Deciding.{core_table}
+use Rattle.hid_device.specs.Apart.{carries_out}
+use Rattle.hid_device.specs.Core.{CoreState}
+use Rattle.hid_device.specs.Deciding.{core_table, effected}
 use Rattle.hid_host.specs.declared.fault.StackFault.{StackFault}
 use Rattle.hid_host.specs.declared.fault.StackFault.TheVariants.{Memory}
 use Rattle.hid_host.specs.declared.host.Transfer.{Transfer}
@@ -28,12 +27,10 @@ use Rattle.hid_host.specs.Ready.{known_at_start}
 
 -- the phase to which a request that is done leads with this device
 abbrev pub brought : Request → ℕ → CoreState → HostPhase → HostPhase
-brought Device addr core phase = phase
 brought Config addr core phase = Described (info_of core)
 brought Report addr core phase = Parsed (info_of core) core.layout
 brought Configure addr core phase = Ready (known_at_start addr ENDPOINT core.layout)
-brought Status addr core phase = phase
-brought GetConfiguration addr core phase = phase
+brought _ addr core phase = phase
 
 -- the phase behind a try that leaves a transfer at this stage
 abbrev pub brought_at : HostStage → Request → ℕ → CoreState → HostPhase → HostPhase
@@ -55,10 +52,10 @@ abbrev pub host_after : Fate → HostEnd → Transfer → DevControlState CoreSt
 host_after fate host transfer control phase =
     record host { phase = phase; transfer = Some (record transfer { ends = ends_after fate transfer control }) }
 
--- a write that is carried out configures the device where this was asked for
-abbrev pub carries_out : Effect → Pending → Bool
-carries_out (Applies bytes) pendings.Configure = true
-carries_out _ _ = false
+-- a request asks for the configuration
+abbrev pub is_configure : Request → Bool
+is_configure Configure = true
+is_configure _ = false
 
 -- whether a configuration takes effect in a try
 abbrev pub configures : Fate → HostTransferState → DevControlState CoreState → Bool
@@ -69,14 +66,19 @@ configures fate ends control = carries_out (effect_reached core_table ends contr
 abbrev pub answering : CoreState → CoreState → CoreState
 answering core other = record core { answer = other.answer; pending = other.pending }
 
--- the inside after a try, but for what it answers: its rounds begin anew where a configuration takes effect
-abbrev pub configured_if : Bool → CoreState → CoreState
-configured_if true core = configured_core core
-configured_if false core = core
+-- the inside after a try, but for what it answers: a write that takes effect is carried out
+abbrev pub carried_out : Effect → CoreState → CoreState
+carried_out (Applies bytes) core = effected core bytes core.pending
+carried_out _ core = core
+
+-- and with its first packets lost
+abbrev pub brought_about : Fate → HostTransferState → DevControlState CoreState → CoreState
+brought_about TokenLost ends control = control.requests
+brought_about fate ends control = carried_out (effect_reached core_table ends control) control.requests
 
 -- A try of the transfer that runs leads both ends on by functions; where its request is done the host goes on too, but
--- for want of memory. A configuration takes effect for a host that isn't ready yet, and no other request touches the
--- rounds.
+-- for want of memory. What is carried out of a write is all that changes at the device, but for what it answers; a
+-- configuration takes effect for a host that is `Parsed`.
 pub record IsComputed (fate : Fate) (host : HostEnd) (transfer : Transfer) (old : DevControlState CoreState)
     (result : Result Progress StackFault) (after : HostEnd) (new : DevControlState CoreState) : Type 0 where
   pub device_then : new ≡ control_tried core_table fate transfer.ends old
@@ -87,5 +89,5 @@ pub record IsComputed (fate : Fate) (host : HostEnd) (transfer : Transfer) (old 
       ⊎ ((result ≡ Err Memory) × ((ends_after fate transfer old).stage ≡ Done) × TakesMemory transfer.request
       × (after ≡ host_after fate host transfer old host.phase))
   pub needs : may_begin transfer.request (state_of host.phase) ≡ true
-  pub rounds : new.requests ≡ answering (configured_if (configures fate transfer.ends old) old.requests) new.requests
+  pub brings : new.requests ≡ answering (brought_about fate transfer.ends old) new.requests
   pub parsed : configures fate transfer.ends old ≡ true → state_of host.phase ≡ states.Parsed

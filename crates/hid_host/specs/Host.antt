@@ -19,7 +19,7 @@ use Rattle.usb_control.specs.Requests.{PrepareGives, ApplyGives, AnswerOf}
 use Rattle.usb_control.specs.SetupBytes.{reads}
 use Rattle.usb_control.specs.Transaction.{Transacts}
 use Rattle.hid_requests.specs.declared.request.Request.{Request}
-use Rattle.hid_requests.specs.Asking.{setup_for}
+use Rattle.hid_requests.specs.Asking.{sends_of, setup_for}
 use Rattle.hid_host.specs.declared.fault.StackFault.{StackFault}
 use Rattle.hid_host.specs.declared.fault.StackFault.TheVariants.{NotReady, Control}
 use Rattle.hid_host.specs.declared.host.Transfer.{Transfer}
@@ -76,7 +76,7 @@ abbrev pub begun : HostEnd → Request → HostEnd
 begun host request = record host {
   transfer = Some (record {
     request = request;
-    ends = at_start host.addr (setup_for request (asking_at host.phase)) [];
+    ends = at_start host.addr (setup_for request (asking_at host.phase)) (sends_of request);
   });
 }
 

@@ -1,21 +1,22 @@
 -- A host and the virtual device that it brings up: what it knows is what the device was made with, and a transfer between
 -- the two is the one of a request (USB 2.0, 8.5.3, 9.1.1 and 9.4).
-use Rattle.std.specs.Prelude.{◌≡◌, ℕ, Bool, true, false, [], ◌∷◌, length, Some, None, Result, Err, IfSome}
+use Rattle.std.specs.Prelude.{◌≡◌, ℕ, true, false, length, Some, None, Result, Err, IfSome}
 use Rattle.usb_control.specs.declared.descriptors.ConfigInfo.{ConfigInfo}
 use Rattle.usb_control.specs.declared.host.Progress.{Progress}
 use Rattle.usb_control.specs.Device.{DevControlState}
 use Rattle.usb_control.specs.Host.{IsRunning}
 use Rattle.usb_control.specs.Runs.{IsDone}
 use Rattle.usb_control.specs.Standing.{Stands}
-use Rattle.usb_control.specs.Transfer.{Decision, Accepted, Place, Position, Setup, shape_of}
+use Rattle.usb_control.specs.Transfer.{Decision, Accepted, Refused, Place, Position, Setup, shape_of}
 use Rattle.hid_requests.specs.declared.request.Request.{Request}
 use Rattle.hid_requests.specs.declared.request.Request.TheVariants as requests
-use Rattle.hid_requests.specs.Asking.{setup_for}
-use Rattle.hid_requests.specs.Descriptors.{configuration_bytes, device_bytes}
-use Rattle.hid_device.specs.declared.decisions.Pending.TheVariants.{Configure, Nothing}
+use Rattle.hid_requests.specs.Asking.{FitsRequest, row_of, sends_of, setup_for}
+use Rattle.hid_device.specs.declared.decisions.Pending.{Pending}
+use Rattle.hid_device.specs.declared.decisions.Pending.TheVariants.{Nothing}
 use Rattle.hid_device.specs.declared.device.TheConstants.{ENDPOINT}
 use Rattle.hid_device.specs.Core.{CoreState}
-use Rattle.hid_device.specs.Deciding.{config_info, configuration_number, core_table, device_info}
+use Rattle.hid_device.specs.Deciding.{config_info, core_table, decided_row}
+use Rattle.hid_device.specs.Decisions.{Decided, Reads, Refuses, Writes}
 use Rattle.hid_host.specs.declared.fault.StackFault.{StackFault}
 use Rattle.hid_host.specs.declared.fault.StackFault.TheVariants.{BadDescriptor}
 use Rattle.hid_host.specs.declared.host.Transfer.{Transfer}
@@ -42,17 +43,23 @@ abbrev pub IsBehindSetup : Position → Type 0
 IsBehindSetup Setup = ⊥
 IsBehindSetup _ = Unit {0}
 
--- what a device decides on a request: its answer, and what is to be carried out
-abbrev pub IsDecided : Request → CoreState → Decision → Type 0
-IsDecided requests.Device core decision =
-    (decision ≡ Accepted (Some (device_bytes (device_info core.config)))) × (core.pending ≡ Nothing)
-IsDecided requests.Config core decision =
-    (decision ≡ Accepted (Some (configuration_bytes (info_of core) core.config.interval))) × (core.pending ≡ Nothing)
-IsDecided requests.Report core decision = (decision ≡ Accepted (Some core.descriptor)) × (core.pending ≡ Nothing)
-IsDecided requests.Configure core decision = (decision ≡ Accepted None) × (core.pending ≡ Configure)
-IsDecided requests.Status core decision = (decision ≡ Accepted (Some (0 ∷ 0 ∷ []))) × (core.pending ≡ Nothing)
-IsDecided requests.GetConfiguration core decision =
-    ((configured : Bool) × (decision ≡ Accepted (Some (configuration_number configured ∷ [])))) × (core.pending ≡ Nothing)
+-- what is decided by a row of requests: its answer, and what is to be carried out
+abbrev pub IsDecidedBy : Decided → Decision → Pending → Type 0
+IsDecidedBy Refuses decision pending = (decision ≡ Refused) × (pending ≡ Nothing)
+IsDecidedBy (Reads bytes) decision pending = (decision ≡ Accepted (Some bytes)) × (pending ≡ Nothing)
+IsDecidedBy (Writes effect) decision pending = (decision ≡ Accepted None) × (pending ≡ effect)
+
+-- two states are of one device, as it was made
+pub record IsSameDevice (core other : CoreState) : Type 0 where
+  pub layout : core.layout ≡ other.layout
+  pub config : core.config ≡ other.config
+  pub descriptor : core.descriptor ≡ other.descriptor
+
+-- a device decided on a request by its row, as it stood then
+pub record IsDecided (request : Request) (core : CoreState) (decision : Decision) : Type 0 where
+  pub then : CoreState
+  pub same : IsSameDevice core then
+  pub by : IsDecidedBy (decided_row then (row_of request)) decision core.pending
 
 -- what a write has brought about once it took effect
 abbrev pub HasEffect : Request → CoreState → Type 0
@@ -62,9 +69,10 @@ HasEffect _ core = Unit {0}
 -- A transfer is the one of its request, and both ends stand somewhere in it.
 pub record Carries (phase : HostPhase) (transfer : Transfer) (control : DevControlState CoreState) : Type 0 where
   pub place : Place
-  pub stands : Stands core_table.answer_of (shape_of transfer.ends.setup) [] place transfer.ends control
+  pub stands : Stands core_table.answer_of (shape_of transfer.ends.setup) (sends_of transfer.request) place transfer.ends control
   pub asked :
       transfer.ends.setup ≡ setup_for transfer.request (record { report_length = length control.requests.descriptor })
+  pub fits : FitsRequest transfer.request
   -- it began in the state that its request needs
   pub needs : IsRunning transfer.ends.stage → may_begin transfer.request (state_of phase) ≡ true
   -- what the device decided behind SETUP, and has done where it took effect, as it has where the write is done

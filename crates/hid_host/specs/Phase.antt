@@ -2,7 +2,7 @@
 -- choice).
 use Rattle.std.specs.Prelude.{◌≤◌, Bool, true, false}
 use Rattle.hid_requests.specs.declared.request.Request.{Request}
-use Rattle.hid_requests.specs.declared.request.Request.TheVariants.{Device, Config, Report, Configure, Status, GetConfiguration}
+use Rattle.hid_requests.specs.declared.request.Request.TheVariants.{Device, Config, Report, Configure, Status, GetConfiguration, Idle, GetIdle, Protocol, GetProtocol, GetReport, SetReport}
 use Rattle.hid_requests.specs.declared.request.Asking.{Asking}
 use Rattle.usb_packet.specs.declared.packet.TheConstants.{MAX_ENDPOINT}
 use Rattle.hid_host.specs.declared.phase.HostPhase.{HostPhase}
@@ -18,7 +18,13 @@ state_of (Described info) = states.Described
 state_of (Parsed info layout) = states.Parsed
 state_of (Ready known) = states.Ready
 
--- the state in which a request may begin
+-- what concerns its reports is asked of a device whose report descriptor was read
+abbrev pub knows_reports : HostState → Bool
+knows_reports states.Parsed = true
+knows_reports states.Ready = true
+knows_reports _ = false
+
+-- the state in which a request may begin: a protocol is set before the device is configured
 abbrev pub may_begin : Request → HostState → Bool
 may_begin Device state = true
 may_begin Config states.Cold = true
@@ -29,6 +35,13 @@ may_begin Configure states.Parsed = true
 may_begin Configure _ = false
 may_begin Status state = true
 may_begin GetConfiguration state = true
+may_begin (Idle id time) state = knows_reports state
+may_begin (GetIdle id) state = knows_reports state
+may_begin (Protocol boot) states.Parsed = true
+may_begin (Protocol boot) _ = false
+may_begin GetProtocol state = knows_reports state
+may_begin (GetReport kind id) state = knows_reports state
+may_begin (SetReport kind id bytes) state = knows_reports state
 
 -- what a request is asked with: the length of the report descriptor, where the configuration told it
 abbrev pub asking_at : HostPhase → Asking

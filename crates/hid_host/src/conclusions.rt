@@ -114,6 +114,13 @@ pub(crate) fn conclude(
             Ok(())
         }
         Request::Configure => configured(alloc, addr, phase),
-        Request::Status | Request::GetConfiguration => Ok(()),
+        Request::Status
+        | Request::GetConfiguration
+        | Request::Idle { .. }
+        | Request::GetIdle { .. }
+        | Request::Protocol { .. }
+        | Request::GetProtocol
+        | Request::GetReport { .. }
+        | Request::SetReport { .. } => Ok(()),
     }
 }

@@ -188,6 +188,7 @@ impl HostDevice {
 
 impl HostDevice {
     ghost use Rattle.std.specs.Prelude.{Ok, Err, Some, None, OnOk, OnErr, is_some};
+    ghost use Rattle.hid_requests.specs.Asking.{FitsRequest};
     ghost use Rattle.hid_host.specs.declared.fault.StackFault.{StackFault as Refusal};
     ghost use Rattle.hid_host.specs.Host.{ConcludesAt, ControlSteps, ShowsLast, begin_refusal, begun, bytes_got, running};
 
@@ -214,6 +215,7 @@ impl HostDevice {
         ensures only { IfErr result (λ e. (begin_refusal self.old request.now ≡ Some e)
             ⊎ ((begin_refusal self.old request.now ≡ None) × (e ≡ Refusal.Memory))) }
         ensures err { OnErr result (self.new ≡ self.old) }
+        ensures fits { IfOk result (λ _. FitsRequest request.now) }
     {
         if self.is_busy() {
             return Err(StackFault::Control(ControlFault::Busy));
@@ -222,11 +224,11 @@ impl HostDevice {
             return Err(StackFault::NotReady);
         }
         let setup = request.setup(&self.phase.asking());
-        let Ok(ends) = HostTransfer::begin(self.alloc, self.addr, setup, &[]) else {
+        let Ok(ends) = HostTransfer::begin(self.alloc, self.addr, setup, request.sends()) else {
             return Err(StackFault::Memory);
         };
         self.transfer = Some(Transfer {
-            request: *request,
+            request: request.copied(),
             ends,
         });
         Ok(())

@@ -6,6 +6,7 @@ ghost use Rattle.usb_control.specs.declared.host.Progress.{Progress};
 ghost use Rattle.usb_control.specs.Computed.{AppliesBy, PreparesBy};
 ghost use Rattle.usb_control.specs.Device.{DevControlState};
 ghost use Rattle.hid_requests.specs.declared.request.Request.{Request};
+ghost use Rattle.hid_requests.specs.Asking.{FitsRequest};
 ghost use Rattle.hid_cells.specs.declared.change.Change.{Change};
 ghost use Rattle.hid_device.specs.Core.{CoreState, IsSound, changed_core, closed_core, configured_core, framed_core, opening_of};
 ghost use Rattle.hid_device.specs.Deciding.{core_table};
@@ -31,7 +32,7 @@ pub fn hosts_know_their_devices()
 
     // A request that begins, and each try of it, whatever is lost.
     ensures begins { (host : HostEnd) (request : Request) (control : DevControlState CoreState)
-        → begin_refusal host request ≡ None → Knows host control
+        → FitsRequest request → begin_refusal host request ≡ None → Knows host control
         → Knows (begun host request) control }
     ensures steps { (fate : Fate) (host after : HostEnd) (old new : DevControlState CoreState)
         (result : Result Progress StackFault) → IsSound old.requests → Knows host old

@@ -1,5 +1,5 @@
 //! The host of one human interface device: how it comes to know the device by transfers of endpoint 0, and what it makes
-//! of the answers to its polls (USB 2.0, 8.5 and 9.1.1; HID 1.11, 5.6 and 7.1).
+//! of the answers to its polls (USB 2.0, 8.5 and 9.1.1; HID 1.11, 5.6, 7.1 and 7.2).
 //! ```text
 //!   state       begin(Request::..)     what comes of it, where the request is done
 //!   Cold        Config                 the configuration is read         -> Described
@@ -7,7 +7,8 @@
 //!   Parsed      Configure              the device is configured          -> Ready
 //!   Ready       token, reply           Input reports: events
 //! ```
-//! `Device`, `Status` and `GetConfiguration` may be begun in every state. One transfer runs at a time;
+//! `Device`, `Status` and `GetConfiguration` may be begun in every state, `Protocol` in `Parsed`, and the other requests of
+//! reports in `Parsed` and `Ready`; the state stays. One transfer runs at a time;
 //! [`control_step`](HostDevice::control_step) makes one try of it, and the state moves where it is done.
 //!
 //! The rule to know: an answer that can't be read (B1 to B6, L1 to L16), and a want of memory, end the transfer and leave

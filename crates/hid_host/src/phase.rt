@@ -13,11 +13,11 @@ use usb_control::ConfigInfo;
 /// |---|---|---|---|
 /// | `Cold` | nothing | `Config` | a configuration, to `Described` |
 /// | `Described` | what the configuration says | `Report` | a report descriptor, to `Parsed` |
-/// | `Parsed` | the layout of the reports | `Configure` | the status, to `Ready` |
+/// | `Parsed` | the layout of the reports | `Configure`, `Protocol` | the status of `Configure`, to `Ready` |
 /// | `Ready` | the pipe and the view of the controls | polls | nothing |
 ///
-/// `Device`, `Status` and `GetConfiguration` may begin in each, and lead nowhere. An answer that is refused leads
-/// nowhere either.
+/// `Device`, `Status` and `GetConfiguration` may begin in each; `Idle`, `GetIdle`, `GetProtocol`, `GetReport` and
+/// `SetReport` in `Parsed` and `Ready`. They lead nowhere, and an answer that is refused doesn't either.
 #[derive(Clone, Copy, Debug, PartialEq, Eq)]
 pub enum HostState {
     /// It knows nothing of the device.
@@ -73,7 +73,12 @@ impl HostState {
             Request::Device | Request::Status | Request::GetConfiguration => true,
             Request::Config => matches!(self, HostState::Cold),
             Request::Report => matches!(self, HostState::Described),
-            Request::Configure => matches!(self, HostState::Parsed),
+            Request::Configure | Request::Protocol { .. } => matches!(self, HostState::Parsed),
+            Request::Idle { .. }
+            | Request::GetIdle { .. }
+            | Request::GetProtocol
+            | Request::GetReport { .. }
+            | Request::SetReport { .. } => matches!(self, HostState::Parsed | HostState::Ready),
         }
     }
 }

@@ -1,10 +1,14 @@
 -- Worked values of words, each by hand.
-use Rattle.std.proofs.Common.{◌≡◌, [], ◌∷◌, ◌++◌, Ok, refl}
+use Rattle.std.proofs.Common.{◌≡◌, [], ◌∷◌, ◌++◌, Ok, Err, refl}
 use Rattle.std.specs.Prelude.{codes}
-use Rattle.hid_requests.specs.declared.request.Request.TheVariants.{Configure}
+use Rattle.hid_descriptor.specs.declared.report.ReportKind.TheVariants.{Output}
+use Rattle.hex.specs.Hex.{decode_pairs}
+use Rattle.hid_requests.specs.declared.request.Request.TheVariants.{Configure, Idle, SetReport}
+use Rattle.hid_lines.specs.declared.fault.LineFault.TheVariants.{Syntax}
 use Rattle.hid_lines.specs.declared.line.Line.TheVariants.{Begin}
-use Rattle.hid_lines.specs.Words.{words_of}
-use Rattle.hid_lines.specs.Arguments.{begin_said}
+use Rattle.hid_lines.specs.Words.{words_of, hex_of}
+use Rattle.hid_lines.specs.Numbers.{number_of, byte_of}
+use Rattle.hid_lines.specs.Requests.{alone, idle_said, set_report_said, asked_by, request_said, begin_said}
 use Rattle.hid_lines.specs.Line.{said_by, words_said}
 
 -- two words, with a space, a tab and two spaces round them
@@ -13,5 +17,20 @@ two_words = refl
 
 -- a host asks its device to be configured
 a_request : words_said (codes "begin" ∷ codes "1" ∷ codes "configure" ∷ []) ≡ Ok (Begin 1 Configure)
-unfolding words_said said_by begin_said
+unfolding words_said said_by begin_said request_said asked_by alone
 a_request = refl
+
+-- 500 ms without a change, of all reports
+an_idle_time : request_said (codes "idle" ∷ codes "00" ∷ codes "125" ∷ []) ≡ Ok (Idle 0 125)
+unfolding request_said asked_by idle_said byte_of number_of
+an_idle_time = refl
+
+-- the light of Caps Lock
+a_light : request_said (codes "set-report" ∷ codes "output" ∷ codes "0" ∷ codes "02" ∷ []) ≡ Ok (SetReport Output 0 (record { items = 2 ∷ [] }))
+unfolding request_said asked_by set_report_said byte_of number_of hex_of decode_pairs
+a_light = refl
+
+-- 65 bytes and a bad digit: there are too many, whatever they are
+a_longer_report : request_said (codes "set-report" ∷ codes "output" ∷ codes "0" ∷ codes "0000000000000000000000000000000000000000000000000000000000000000000000000000000000000000000000000000000000000000000000000000000000G" ∷ []) ≡ Err Syntax
+unfolding request_said asked_by set_report_said byte_of number_of
+a_longer_report = refl

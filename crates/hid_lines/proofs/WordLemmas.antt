@@ -1,5 +1,5 @@
 -- Words of hex, and how long the words of a line are.
-use Rattle.std.proofs.Common.{◌≡◌, ℕ, suc, ◌+◌, ◌*◌, ◌<◌, ◌≤◌, Bool, false, List, [], ◌∷◌, length, take, get_or, refl, arith, ◌∙◌, None, Result, Ok, Err, IsErrAnd, not, nat_eq, map, Bor}
+use Rattle.std.proofs.Common.{◌≡◌, ℕ, suc, ◌+◌, ◌*◌, ◌/◌, ◌<◌, ◌≤◌, Bool, false, List, [], ◌∷◌, length, take, get_or, refl, arith, ◌∙◌, None, Result, Ok, Err, IsErrAnd, not, nat_eq, map, Bor}
 use Rattle.std.proofs.lemmas.List.Sums.{sum_by-cons, sum_by_more_le}
 use Rattle.std.proofs.lemmas.List.{length-map, get_or-map, take-map}
 use Rattle.std.proofs.lemmas.List.Recursion.{and_fails_at}
@@ -10,7 +10,7 @@ use Rattle.arrayvec.specs.ArrayVec.{ArrayVec}
 use Rattle.hex.specs.Hex.{decode_of}
 use Rattle.hid_lines.specs.declared.fault.LineFault.{LineFault}
 use Rattle.hid_lines.specs.declared.fault.LineFault.TheVariants.{BadHex}
-use Rattle.hid_lines.specs.Words.{hex_of, GivesHex, words_of, is_blank, total_length}
+use Rattle.hid_lines.specs.Words.{hex_of, GivesHex, words_of, is_blank, total_length, byte_count}
 
 -- one word that spells no bytes
 pub no_hex : (words : List (List ℕ)) (i : ℕ) → i < length words → is_ok (decode_of (get_or words i [])) ≡ false → hex_of words ≡ None
@@ -40,11 +40,16 @@ split_length p (b ∷ line) = cond_both (p b) ([] ∷ slice_split p line) (onto_
 pub words_length : (line : List ℕ) → total_length (words_of line) ≤ length line
 words_length line = omega (arith, filtered_length (λ word. not (nat_eq (length word) 0)) (slice_split is_blank line), split_length is_blank line)
 
+-- words spell no more bytes than half of what they have
+halved : (words : List (List ℕ)) → 2 * byte_count words ≤ total_length words
+halved [] = omega arith
+halved (word ∷ words) = omega (arith, halved words, sum_by-cons (λ (w : List ℕ). length w / 2) word words, sum_by-cons (λ (w : List ℕ). length w) word words)
+
 -- what is left of a line has room for the next word
-pub room_left : (words : List (Bor (List ℕ))) (i n : ℕ) (d : Bor (List ℕ)) → i < length words → 2 * n ≤ total_length (map (λ w. w.now) (take i words)) → total_length (map (λ w. w.now) words) ≤ 1024
+pub room_left : (words : List (Bor (List ℕ))) (i n : ℕ) (d : Bor (List ℕ)) → i < length words → n ≡ byte_count (map (λ w. w.now) (take i words)) → total_length (map (λ w. w.now) words) ≤ 1024
     → 2 * n + length (get_or words i d).now ≤ 1024
 room_left words i n d below so all =
     let word = λ (w : Bor (List ℕ)). w.now in
     let more = sum_by_more_le (λ w. length w) (map word words) i [] (omega (arith, length-map words word)) in
     let here = rw (take-map word i words, get_or-map word words i d [] below) at more in
-    omega (arith, here)
+    omega (arith, here, so, halved (map word (take i words)))

@@ -1,5 +1,6 @@
 -- What the words behind a line's first one say (our choice: the script language of docs/SCRIPT.md).
-use Rattle.std.specs.Prelude.{ℕ, List, [], ◌∷◌, Option, None, Some, codes, ℤ}
+use Rattle.std.specs.Prelude.{ℕ, List, [], ◌∷◌, Option, None, Some, Result, Ok, Err, codes, ℤ}
+use Rattle.arrayvec.specs.ArrayVec.{ArrayVec}
 use Rattle.hid_descriptor.specs.declared.usage.Usage.{Usage}
 use Rattle.usb_transact.specs.declared.transaction.Fate.{Fate}
 use Rattle.usb_transact.specs.declared.transaction.Fate.TheVariants.{Clean, TokenLost, ReplyLost, AckLost}
@@ -7,8 +8,8 @@ use Rattle.hid_device.specs.declared.config.Boot.{Boot}
 use Rattle.hid_device.specs.declared.config.Boot.TheVariants.{No, Keyboard, Mouse}
 use Rattle.hid_stack.specs.declared.rig.Start.{Start}
 use Rattle.hid_stack.specs.declared.rig.Start.TheVariants.{Ready, Cold}
-use Rattle.hid_requests.specs.declared.request.Request.{Request}
-use Rattle.hid_requests.specs.declared.request.Request.TheVariants as requests
+use Rattle.hid_lines.specs.declared.fault.LineFault.{LineFault}
+use Rattle.hid_lines.specs.declared.fault.LineFault.TheVariants.{Syntax, BadHex}
 use Rattle.hid_lines.specs.Words.{Word, look_up}
 use Rattle.hid_lines.specs.Numbers.{device_of, usage_of, count_of, signed_of, amount_of}
 
@@ -20,18 +21,21 @@ start_of = look_up ((codes "ready", Ready) ∷ (codes "cold", Cold) ∷ [])
 abbrev pub boot_of : Word → Option Boot
 boot_of = look_up ((codes "plain", No) ∷ (codes "keyboard", Keyboard) ∷ (codes "mouse", Mouse) ∷ [])
 
--- REQUEST
-abbrev pub request_of : Word → Option Request
-request_of = look_up (
-    (codes "device", requests.Device) ∷ (codes "config", requests.Config) ∷ (codes "report", requests.Report)
-    ∷ (codes "configure", requests.Configure) ∷ (codes "status", requests.Status)
-    ∷ (codes "get-configuration", requests.GetConfiguration) ∷ [])
-
 -- FATE
 abbrev pub fate_of : Word → Option Fate
 fate_of = look_up (
     (codes "clean", Clean) ∷ (codes "token", TokenLost) ∷ (codes "reply", ReplyLost)
     ∷ (codes "ack", AckLost) ∷ [])
+
+-- words that are all understood, or no line of the script's
+abbrev pub or_syntax : {A B : Type 0} → (A → B) → Option A → Result B LineFault
+or_syntax make None = Err Syntax
+or_syntax make (Some said) = Ok (make said)
+
+-- words of hex
+abbrev pub with_bytes : {A : Type 0} → (ArrayVec ℕ → A) → Option (List ℕ) → Result A LineFault
+with_bytes make None = Err BadHex
+with_bytes make (Some bytes) = Ok (make (record { items = bytes }))
 
 -- two words that are both understood
 abbrev pub two : {A B : Type 0} → Option A → Option B → Option (A × B)
@@ -73,8 +77,3 @@ poll_said (dev ∷ []) = three (device_of dev) (Some Clean) (Some 1)
 poll_said (dev ∷ fate ∷ []) = three (device_of dev) (fate_of fate) (Some 1)
 poll_said (dev ∷ fate ∷ count ∷ []) = three (device_of dev) (fate_of fate) (count_of count)
 poll_said _ = None
-
--- D REQUEST
-unfoldable pub begin_said : List Word → Option (ℕ × Request)
-begin_said (dev ∷ request ∷ []) = two (device_of dev) (request_of request)
-begin_said _ = None

@@ -1,4 +1,5 @@
 pub mod Words
 pub mod Numbers
 pub mod Arguments
+pub mod Requests
 pub mod Line

@@ -50,6 +50,15 @@ in_count (Some n) = if nat_le 1 n && nat_le n 10000 then Some n else None
 unfoldable pub count_of : Word → Option ℕ
 count_of word = in_count (number_of 10 word)
 
+-- a number that a byte holds
+abbrev pub in_byte : Option ℕ → Option ℕ
+in_byte None = None
+in_byte (Some n) = if nat_lt n (2 ^ 8) then Some n else None
+
+-- ID and TIME: 0 to 255, of any number of digits
+unfoldable pub byte_of : Word → Option ℕ
+byte_of word = in_byte (number_of 10 word)
+
 -- at most 18 digits
 abbrev pub short_number_of : Word → Option ℕ
 short_number_of word = if nat_le (length word) 18 then number_of 10 word else None

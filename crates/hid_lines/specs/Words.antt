@@ -1,5 +1,5 @@
 -- The words of a line, and the bytes that words of hex spell (our choice: the script language of docs/SCRIPT.md).
-use Rattle.std.specs.Prelude.{◌≡◌, ℕ, ◌==◌, Bool, not, ◌||◌, List, [], ◌∷◌, length, filter, sum_by, if◌then◌else◌, Option, None, Some, Result, MatchResult, is_ok}
+use Rattle.std.specs.Prelude.{◌≡◌, ℕ, ◌/◌, ◌==◌, Bool, not, ◌||◌, List, [], ◌∷◌, length, filter, sum_by, if◌then◌else◌, Option, None, Some, Result, MatchResult, is_ok}
 use Rattle.std.specs.List.{slice_split, list_all, flat_map}
 use Rattle.std.specs.Result.{result_unwrap_or}
 use Rattle.std.specs.Str.{bytes_eq}
@@ -34,6 +34,10 @@ hex_of words =
 -- the bytes of all words together
 abbrev pub total_length : List Word → ℕ
 total_length words = sum_by (λ word. length word) words
+
+-- how many bytes words of hex spell, one for two digits, whatever the digits are
+abbrev pub byte_count : List Word → ℕ
+byte_count words = sum_by (λ word. length word / 2) words
 
 -- what was read is what the words spell
 abbrev pub GivesHex : Result (ArrayVec ℕ) LineFault → Option (List ℕ) → Type 0

@@ -1,13 +1,13 @@
 //! What the words behind a line's first one say.
 
 ghost use Rattle.std.specs.Prelude.{◌≡◌, map};
-ghost use Rattle.hid_lines.specs.Arguments.{fate_of, boot_of, start_of, request_of, control_said, set_said, move_said, frame_said, poll_said, begin_said};
+ghost use Rattle.hid_lines.specs.Arguments.{fate_of, boot_of, start_of, control_said, set_said, move_said, frame_said, poll_said};
 
 use super::numbers::{read_amount, read_count, read_device, read_signed, read_usage};
 use super::words::look_up;
 use hid_descriptor::Usage;
 use hid_device::Boot;
-use hid_stack::{Request, Start};
+use hid_stack::Start;
 use usb_transact::Fate;
 
 /// START: what the two ends know of each other at first.
@@ -26,23 +26,6 @@ pub fn read_boot(word: &[u8]) -> Option<Boot>
             (b"plain", Boot::No),
             (b"keyboard", Boot::Keyboard),
             (b"mouse", Boot::Mouse),
-        ],
-        word,
-    )
-}
-
-/// REQUEST: what a host asks of its device (USB 2.0, 9.4).
-fn read_request(word: &[u8]) -> Option<Request>
-    ensures { result ≡ request_of word.now }
-{
-    look_up(
-        &[
-            (b"device", Request::Device),
-            (b"config", Request::Config),
-            (b"report", Request::Report),
-            (b"configure", Request::Configure),
-            (b"status", Request::Status),
-            (b"get-configuration", Request::GetConfiguration),
         ],
         word,
     )
@@ -128,17 +111,4 @@ pub fn read_poll(words: &[&[u8]]) -> Option<(u8, Fate, u16)>
         _ => return None,
     };
     Some((dev, fate, count))
-}
-
-/// `D REQUEST`: a device, and what its host asks.
-#[tactic(auto, unfolding(crate::specs::Arguments::begin_said))]
-pub fn read_begin(words: &[&[u8]]) -> Option<(u8, Request)>
-    ensures { result ≡ begin_said (map (λ word. word.now) words.now) }
-{
-    let [dev, request] = words else {
-        return None;
-    };
-    let dev = read_device(dev)?;
-    let request = read_request(request)?;
-    Some((dev, request))
 }

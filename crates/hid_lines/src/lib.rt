@@ -6,6 +6,7 @@
 //!   press 1 07:04                        Press { dev: 1, usage: 07:04 }
 //!   poll 1 ack 2                         Poll { dev: 1, fate: AckLost, count: 2 }
 //!   begin 1 config                       Begin { dev: 1, request: Config }
+//!   begin 1 idle 0 125                   Begin { dev: 1, request: Idle { id: 0, time: 125 } }
 //!   values 0a Ff10                       Values { bytes: 0A FF 10 }
 //!   # a comment                          Nothing
 //!   values 0                             BadHex
@@ -18,6 +19,7 @@ mod arguments;
 mod fault;
 mod line;
 mod numbers;
+mod requests;
 #[cfg(test)]
 mod tests;
 mod words;

@@ -5,9 +5,10 @@ ghost use Rattle.hid_lines.specs.Words.{total_length};
 ghost use Rattle.hid_lines.specs.Line.{Gives, keyword_of, meaning_of, words_said, said_by, device_said};
 
 use super::arguments::{
-    read_begin, read_boot, read_control, read_frame, read_move, read_poll, read_set, read_start,
+    read_boot, read_control, read_frame, read_move, read_poll, read_set, read_start,
 };
 use super::fault::LineFault;
+use super::requests::read_begin;
 use super::words::{look_up, read_hex, words_of_line};
 use arrayvec::ArrayVec;
 use hid_descriptor::Usage;
@@ -84,7 +85,7 @@ pub enum Line {
         fate: Fate,
         count: u16,
     },
-    /// `begin D REQUEST`: a request that the host begins (USB 2.0, 9.4).
+    /// `begin D REQUEST`: a request that the host begins (USB 2.0, 9.4; HID 1.11, 7.2).
     Begin {
         dev: u8,
         request: Request,
@@ -205,10 +206,7 @@ fn read_arguments(keyword: Keyword, words: &[&[u8]]) -> Result<Line, LineFault>
             let (dev, fate, count) = read_poll(words).ok_or(LineFault::Syntax)?;
             Ok(Line::Control { dev, fate, count })
         }
-        Keyword::Begin => {
-            let (dev, request) = read_begin(words).ok_or(LineFault::Syntax)?;
-            Ok(Line::Begin { dev, request })
-        }
+        Keyword::Begin => read_begin(words),
     }
 }
 

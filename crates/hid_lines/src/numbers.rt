@@ -2,7 +2,7 @@
 
 ghost use Rattle.std.specs.Prelude.{◌≡◌, ◌+◌, ◌-◌, ◌*◌, ◌^◌, ◌<◌, ◌≤◌, min, position, IfSome};
 ghost use Rattle.std.specs.Option.{option_map};
-ghost use Rattle.hid_lines.specs.Numbers.{device_of, number_of, hex_number_of, is_colon, usage_of, count_of, short_number_of, signed_of, amount_of};
+ghost use Rattle.hid_lines.specs.Numbers.{device_of, number_of, hex_number_of, is_colon, usage_of, count_of, byte_of, short_number_of, signed_of, amount_of};
 
 use hid_descriptor::Usage;
 
@@ -70,6 +70,17 @@ pub fn read_count(word: &[u8]) -> Option<u16>
 {
     match read_number(10, word)? {
         count @ 1..=10_000 => Some(count as u16),
+        _ => None,
+    }
+}
+
+/// A Report ID or an idle time, 0 to 255.
+#[tactic(auto, unfolding(crate::specs::Numbers::byte_of))]
+pub fn read_byte(word: &[u8]) -> Option<u8>
+    ensures { result ≡ byte_of word.now }
+{
+    match read_number(10, word)? {
+        byte @ 0..=0xFF => Some(byte as u8),
         _ => None,
     }
 }

@@ -1,7 +1,7 @@
 //! Lines with what they say, worked out by hand from docs/SCRIPT.md.
 
 use crate::{Line, LineFault, parse_line};
-use hid_descriptor::Usage;
+use hid_descriptor::{ReportKind, Usage};
 use hid_device::Boot;
 use hid_stack::{Request, Start};
 use std::test::Fail;
@@ -86,6 +86,30 @@ fn a_line_says_its_request(rt: HostRuntime) -> Result<(), Fail> {
         ),
         _ => assert!(rt; false, "begin"),
     }
+    match parse_line(rt.alloc(), b"begin 7 idle 000 255")? {
+        Line::Begin { dev, request } => assert!(rt;
+            dev == 7 && request == Request::Idle { id: 0, time: 255 },
+            "idle"
+        ),
+        _ => assert!(rt; false, "idle"),
+    }
+    match parse_line(rt.alloc(), b"begin 1 get-report feature 3")? {
+        Line::Begin { request, .. } => {
+            let kind = ReportKind::Feature;
+            assert!(rt; request == Request::GetReport { kind, id: 3 }, "get-report");
+        }
+        _ => assert!(rt; false, "get-report"),
+    }
+    match parse_line(rt.alloc(), b"begin 1 set-report output 2 0205 fF")? {
+        Line::Begin {
+            request: Request::SetReport { kind, id, bytes },
+            ..
+        } => {
+            assert!(rt; kind == ReportKind::Output && id == 2, "set-report");
+            assert_eq!(rt; bytes.as_slice(), [0x02, 0x05, 0xFF].as_slice());
+        }
+        _ => assert!(rt; false, "set-report"),
+    }
     match parse_line(rt.alloc(), b"control 1 token 3")? {
         Line::Control { dev, fate, count } => assert!(rt;
             dev == 1 && fate == Fate::TokenLost && count == 3,
@@ -114,5 +138,52 @@ fn other_words_are_no_line(rt: HostRuntime) {
     for line in NO_LINES {
         let result = parse_line(rt.alloc(), line.as_bytes());
         assert!(rt; matches!(result, Err(LineFault::Syntax)), "{line}");
+    }
+}
+
+/// Requests that are none of the script's, a line each. The last ones have a bad digit too, which is looked at last.
+const NO_REQUESTS: &str = "begin 1 device 0
+begin 1 set-idle 0 1
+begin 1 idle
+begin 1 idle 0
+begin 1 idle 0 256
+begin 1 idle 256 0
+begin 1 idle -1 0
+begin 1 idle 0 0 0
+begin 1 get-idle
+begin 1 get-idle 0 0
+begin 1 protocol
+begin 1 protocol 0
+begin 1 protocol Boot
+begin 1 get-protocol 0
+begin 1 get-report input
+begin 1 get-report 1 0
+begin 1 get-report output 0 02
+begin 1 set-report output
+begin 1 set-report light 0 0G
+begin 1 set-report output 256 0G
+begin 0 set-report output 0 0G
+begin 1 set-report output 0 00000000000000000000000000000000000000000000000000000000000000000000000000000000000000000000000000000000000000000000000000000000 0G";
+
+#[test]
+fn other_words_are_no_request(rt: HostRuntime) {
+    for line in NO_REQUESTS.split('\n') {
+        let result = parse_line(rt.alloc(), line.as_bytes());
+        assert!(rt; matches!(result, Err(LineFault::Syntax)), "{line}");
+    }
+}
+
+/// Lines with a bad digit, or with an odd one: of a report that is set, 64 whole bytes and the half of another.
+const BAD_DIGITS: &str = "layout 0G
+values 0
+device cold plain 05 010
+begin 1 set-report output 0 0G
+begin 1 set-report output 0 00000000000000000000000000000000000000000000000000000000000000000000000000000000000000000000000000000000000000000000000000000000 0";
+
+#[test]
+fn other_digits_are_bad(rt: HostRuntime) {
+    for line in BAD_DIGITS.split('\n') {
+        let result = parse_line(rt.alloc(), line.as_bytes());
+        assert!(rt; matches!(result, Err(LineFault::BadHex)), "{line}");
     }
 }

@@ -1,11 +1,11 @@
 //! The words of a line, and the bytes that words of hex spell.
 
-ghost use Rattle.std.specs.Prelude.{◌≡◌, ◌+◌, ◌*◌, ◌≤◌, IfOk, OnOk, IfErr, map, length, is_ok, [], ◌++◌};
+ghost use Rattle.std.specs.Prelude.{◌≡◌, ◌+◌, ◌*◌, ◌/◌, ◌≤◌, IfOk, OnOk, IfErr, map, length, is_ok, [], ◌++◌};
 ghost use Rattle.std.specs.List.{slice_split};
 ghost use Rattle.std.specs.Result.{result_unwrap_or};
 ghost use Rattle.hex.specs.Hex.{decode_of};
 ghost use Rattle.arrayvec.specs.ArrayVec.{array_vec_len};
-ghost use Rattle.hid_lines.specs.Words.{words_of, is_blank, look_up as under, hex_of, GivesHex, total_length};
+ghost use Rattle.hid_lines.specs.Words.{words_of, is_blank, look_up as under, hex_of, GivesHex, total_length, byte_count};
 
 use super::fault::LineFault;
 use super::line::HEX_LIMIT;
@@ -55,8 +55,8 @@ fn read_hex_word(word: &[u8], bytes: &mut ArrayVec<u8, HEX_LIMIT>) -> Result<(),
     ensures pairs { is_ok result ≡ is_ok (decode_of word.now) }
     ensures bytes { OnOk result (bytes.new.items
         ≡ bytes.old.items ++ result_unwrap_or (decode_of word.now) []) }
-    ensures count { OnOk result (2 * array_vec_len bytes.new
-        ≤ 2 * array_vec_len bytes.old + length word.now) }
+    ensures count { OnOk result (array_vec_len bytes.new
+        ≡ array_vec_len bytes.old + length word.now / 2) }
     ensures err { IfErr result (λ cause. cause ≡ LineFault.BadHex) }
 {
     let count = word.len() / 2;
@@ -66,11 +66,25 @@ fn read_hex_word(word: &[u8], bytes: &mut ArrayVec<u8, HEX_LIMIT>) -> Result<(),
     Ok(())
 }
 
+/// How many bytes hex words spell, one for two digits, whatever the digits are.
+pub fn count_bytes(words: &[&[u8]]) -> usize
+    requires { total_length (map (λ word. word.now) words.now) ≤ 1024 }
+    ensures { result ≡ byte_count (map (λ word. word.now) words.now) }
+{
+    let mut count = 0;
+    for word in words {
+        count += word.len() / 2;
+    }
+    count
+}
+
 /// The bytes that hex words spell, joined.
 #[tactic(auto, unfolding(crate::specs::Words::hex_of))]
 pub fn read_hex(words: &[&[u8]]) -> Result<ArrayVec<u8, HEX_LIMIT>, LineFault>
     requires { total_length (map (λ word. word.now) words.now) ≤ 1024 }
-    ensures { GivesHex result (hex_of (map (λ word. word.now) words.now)) }
+    ensures bytes { GivesHex result (hex_of (map (λ word. word.now) words.now)) }
+    ensures count { IfOk result (λ bytes. array_vec_len bytes
+        ≡ byte_count (map (λ word. word.now) words.now)) }
 {
     let mut bytes = ArrayVec::new();
     for word in words {

@@ -11,10 +11,10 @@ use Rattle.hid_cells.specs.Snapshots.{changed}
 use Rattle.hid_cells.specs.Views.{seen}
 use Rattle.usb_transact.specs.declared.transaction.Fate.{Fate}
 use Rattle.usb_transact.specs.declared.transaction.Fate.TheVariants.{Clean, TokenLost, ReplyLost, AckLost}
-use Rattle.hid_lives.specs.Standing.{Standing, configured, first_due, after_change, after_frame, after_opening}
+use Rattle.hid_lives.specs.Standing.{Standing, configured, first_due, after_change, after_frame, with_idle, after_opening}
 use Rattle.hid_lives.specs.Rounds.{Changes, Frame, Polls, Round, Course, new_round, reaches_host, is_clean, has_crossed, has_closed, polled, part_events, fresh_course, opened_if, closed_by_poll, after_poll}
 use Rattle.hid_lives.specs.Stations.{Station, Open, fresh, opened_by, answered, round_events}
-use Rattle.hid_lives.specs.Lives.{Deed, Own, Configures, Happening, Ended, ended, happenings, course_behind, round_told, view_past, told_from, view_from, toggle_from, befallen_all, told_in}
+use Rattle.hid_lives.specs.Lives.{Deed, Own, Idles, Configures, Happening, Ended, ended, happenings, course_behind, round_told, view_past, told_from, view_from, toggle_from, befallen_all, told_in}
 use Rattle.hid_lives.specs.Following.{FollowsLife, LivesOn}
 
 abbrev course : Standing → Option Round → Course
@@ -123,6 +123,13 @@ frame items deeds rest = record {
   partway = λ d odd view r crossed l. rest.partway (after_frame d) odd view r crossed (relink r crossed d (after_frame d) refl l);
 }
 
+-- idle times that are set, also while a round is open
+idles : (items : List Item) (idle : List ℕ) (deeds : List Deed) → Delivers items deeds → Delivers items (Idles idle ∷ deeds)
+idles items idle deeds rest = record {
+  quiet = λ d odd view. rest.quiet (with_idle idle d) odd view;
+  partway = λ d odd view r crossed l. rest.partway (with_idle idle d) odd view r crossed (relink r crossed d (with_idle idle d) refl l);
+}
+
 -- a configuration ends the open round, and both ends begin anew
 configured_quiet : (items : List Item) (deeds : List Deed) → Delivers items deeds → (d : Standing) (odd : Bool) (view : List Cell) → Lives items (Configures ∷ deeds) odd view [] (station d None odd view) (course d None)
 configured_quiet items deeds rest d odd view =
@@ -218,6 +225,7 @@ delivers items [] = none items
 delivers items (Own (Changes c) ∷ deeds) = change items c deeds (delivers items deeds)
 delivers items (Own Frame ∷ deeds) = frame items deeds (delivers items deeds)
 delivers items (Own (Polls fate) ∷ deeds) = poll items fate deeds (delivers items deeds)
+delivers items (Idles idle ∷ deeds) = idles items idle deeds (delivers items deeds)
 delivers items (Configures ∷ deeds) =
     let rest = delivers items deeds in
     record { quiet = configured_quiet items deeds rest; partway = configured_partway items deeds rest }

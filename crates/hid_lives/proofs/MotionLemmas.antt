@@ -27,7 +27,7 @@ use Rattle.hid_lives.specs.Motion.{Conserves, open_motion, accepted_in, AreBetwe
 use Rattle.hid_lives.specs.Rounds.{OwnStep, Changes, Frame, Polls, part_events}
 use Rattle.hid_lives.specs.Standing.{Standing, first_due}
 use Rattle.hid_lives.specs.Stations.{Station, Open, fresh, opened_by, opened, arrived, answered, after, round_events, events_at, events_in, after_all}
-use Rattle.hid_lives.specs.Lives.{Deed, Own, Configures, owns, befallen, befallen_all, told_in}
+use Rattle.hid_lives.specs.Lives.{Deed, Own, Idles, Configures, owns, befallen, befallen_all, told_in}
 use Rattle.hid_lives.proofs.ScheduleLemmas.{own_told, own_stands}
 use Rattle.hid_lives.proofs.ItemMotionLemmas.{blank_moves, room_moves, shown_moves, minus_moves, split_motion, amount_at, ChangesMotion, changed_motion, has_motion_at, given_append, quiet_changes, told_here, told_elsewhere}
 
@@ -369,6 +369,7 @@ blank_parts_each (item ∷ items) = joined _ _ _ _ (shown_moves (head_of item.fo
 -- what befalls a station leaves it its motions, and between rounds a configuration loses none
 deed_moving : (items : List Item) (s : Station) (x : Deed) → HasMotions items s → HasMotions items (befallen items s x)
 deed_moving items s (Own x) moving = step_moving items s x moving
+deed_moving items s (Idles idle) moving = record { snapshot = moving.snapshot; fixed = moving.fixed; view = moving.view }
 deed_moving items s Configures moving = record {
   snapshot = moving.snapshot;
   fixed = blank_parts_each items;
@@ -386,6 +387,8 @@ lives_keep items s moving (Own x ∷ deeds) between c =
     let added = moved_append c (step_if (is_accepted items s x) x) (accepted_in items (after items s x) deeds) in
     let told = given_append c (events_at items s x) (told_in items (after items s x) deeds) in
     omega (arith, ints, one, rest, added, told)
+lives_keep items s moving (Idles idle ∷ deeds) between c =
+    lives_keep items (befallen items s (Idles idle)) (deed_moving items s (Idles idle) moving) deeds between.1 c
 lives_keep items s moving (Configures ∷ deeds) between c =
     let same : station_motion items s c ≡ station_motion items (befallen items s Configures) c = configured_same items s c between.0 in
     let rest = lives_keep items (befallen items s Configures) (deed_moving items s Configures moving) deeds between.1 c in

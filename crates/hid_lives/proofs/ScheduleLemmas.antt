@@ -5,10 +5,10 @@ use Rattle.hid_layout.specs.Controls.{Item}
 use Rattle.hid_cells.specs.declared.cell.Cell.{Cell}
 use Rattle.hid_cells.specs.declared.event.Event.{Event}
 use Rattle.hid_cells.specs.Views.{seen}
-use Rattle.hid_lives.specs.Rounds.{OwnStep, Round, Course, has_crossed, has_closed, rounds, events_of, view_of, events_of_epoch, part_events, closed_by, after_step, after_steps}
+use Rattle.hid_lives.specs.Rounds.{OwnStep, Round, Course, has_crossed, has_closed, rounds, events_of, view_of, events_of_epoch, part_events, closed_by, still_open, after_step, after_steps}
 use Rattle.hid_lives.specs.Stations.{Station, fresh, after, after_all, events_at, events_in}
-use Rattle.hid_lives.specs.Lives.{owns, Happening, ended, happenings, course_behind, round_told, view_past, told_from, view_from, toggle_from, befallen_all, told_in}
-use Rattle.hid_lives.specs.Following.{course_from, LivesOn, flips, FollowsRounds, StandsByRounds}
+use Rattle.hid_lives.specs.Lives.{Deed, Own, Idles, Configures, owns, Happening, ended, happenings, rounds_ended, AreWithinEpoch, course_after, course_behind, round_told, view_past, told_from, view_from, toggle_from, befallen_all, told_in}
+use Rattle.hid_lives.specs.Following.{course_from, LivesOn, flips, FollowsRounds, StandsByRounds, StandsInEpoch}
 use Rattle.hid_lives.proofs.LifeLemmas.{lives_on}
 
 pub own_told : (items : List Item) (steps : List OwnStep) (s : Station) → told_in items s (owns steps) ≡ events_in items s steps
@@ -60,33 +60,69 @@ toggle_of_rounds holds odd (r ∷ rs) =
       | false ↦ toggle_of_rounds holds odd rs
     ]
 
--- from any station without an open round
-pub delivers_rounds : (items : List Item) (from : Station) (steps : List OwnStep) → from.current ≡ None
-    → events_in items from steps ≡ events_of items from.view (filter has_crossed (rounds items steps (course_from from)))
-delivers_rounds items from steps none_open =
-    sym (own_told items steps from) ∙ (lives_on items from (owns steps) none_open).events
-    ∙ ap (told_from items from.view) (own_rounds items steps (course_from from)) ∙ told_of_rounds items from.view (rounds items steps (course_from from))
+-- Of what befalls a station without an open round, where these rounds come of it and nothing else: they say what is told, and
+-- how the station stands.
+tells_rounds : (items : List Item) (from : Station) (deeds : List Deed) (gone : List Round) → from.current ≡ None → happenings items deeds (course_from from) ≡ ended gone
+    → told_in items from deeds ≡ events_of items from.view (filter has_crossed gone)
+tells_rounds items from deeds gone none_open happened =
+    (lives_on items from deeds none_open).events ∙ ap (told_from items from.view) happened ∙ told_of_rounds items from.view gone
 
-pub stands_by_rounds : (items : List Item) (from : Station) (steps : List OwnStep) → from.current ≡ None → StandsByRounds items from steps (after_all items from steps)
-stands_by_rounds items from steps none_open =
-    let gone : List Round = rounds items steps (course_from from) in
-    let lived : LivesOn items from (owns steps) = lives_on items from (owns steps) none_open in
-    let happened : happenings items (owns steps) (course_from from) ≡ ended gone = own_rounds items steps (course_from from) in
-    let follows : FollowsRounds items from.view from.odd gone (course_behind items (owns steps) (course_from from)) (befallen_all items from (owns steps))
-    = record {
+follows_rounds : (items : List Item) (from : Station) (deeds : List Deed) (gone : List Round) → from.current ≡ None → happenings items deeds (course_from from) ≡ ended gone
+    → FollowsRounds items from.view from.odd gone (course_behind items deeds (course_from from)) (befallen_all items from deeds)
+follows_rounds items from deeds gone none_open happened =
+    let lived : LivesOn items from deeds = lives_on items from deeds none_open in
+    record {
       standing = lived.standing;
       open_round = lived.open_round;
       part = lived.part;
       view = lived.view ∙ ap (view_from items from.view) happened ∙ view_of_rounds items from.view gone;
       toggle = lived.toggle ∙ ap (toggle_from has_closed from.odd) happened ∙ toggle_of_rounds has_closed from.odd gone;
       expects = lived.expects ∙ ap (toggle_from has_crossed from.odd) happened ∙ toggle_of_rounds has_crossed from.odd gone;
-    } in
+    }
+
+-- its own steps
+pub delivers_rounds : (items : List Item) (from : Station) (steps : List OwnStep) → from.current ≡ None
+    → events_in items from steps ≡ events_of items from.view (filter has_crossed (rounds items steps (course_from from)))
+delivers_rounds items from steps none_open =
+    sym (own_told items steps from) ∙ tells_rounds items from (owns steps) (rounds items steps (course_from from)) none_open (own_rounds items steps (course_from from))
+
+pub stands_by_rounds : (items : List Item) (from : Station) (steps : List OwnStep) → from.current ≡ None → StandsByRounds items from steps (after_all items from steps)
+stands_by_rounds items from steps none_open =
+    let gone : List Round = rounds items steps (course_from from) in
     subst (λ (s : Station). StandsByRounds items from steps s) (own_stands items steps from)
-    (subst (λ (c : Course). FollowsRounds items from.view from.odd gone c (befallen_all items from (owns steps))) (own_course items steps (course_from from)) follows)
+    (subst (λ (c : Course). FollowsRounds items from.view from.odd gone c (befallen_all items from (owns steps))) (own_course items steps (course_from from))
+    (follows_rounds items from (owns steps) gone none_open (own_rounds items steps (course_from from))))
 
 -- on a device that was just configured, with any snapshot and idle times
 pub delivers_epoch : (items : List Item) (snapshot : List Cell) (idle : List ℕ) (steps : List OwnStep)
     → events_in items (fresh items snapshot idle) steps ≡ events_of_epoch items snapshot idle steps
 delivers_epoch items snapshot idle steps = delivers_rounds items (fresh items snapshot idle) steps refl
 
+-- whatever befalls it within an epoch, idle times that are set too: nothing but rounds comes of it
+rounds_alone : (gone : List Round) (rest : List Happening) → rest ≡ ended (rounds_ended rest) → ended gone ++ rest ≡ ended (rounds_ended (ended gone ++ rest))
+rounds_alone [] rest h = h
+rounds_alone (round ∷ gone) rest h = ap (λ (hs : List Happening). ended (round ∷ []) ++ hs) (rounds_alone gone rest h)
+
+none_behind : (hs : List Happening) → hs ++ [] ≡ hs
+none_behind [] = refl
+none_behind (h ∷ hs) = ap (λ (rest : List Happening). h ∷ rest) (none_behind hs)
+
+within_epoch : (items : List Item) (deeds : List Deed) (c : Course) → AreWithinEpoch deeds → happenings items deeds c ≡ ended (rounds_ended (happenings items deeds c))
+within_epoch items [] c within =
+    subst (λ (hs : List Happening). hs ≡ ended (rounds_ended hs)) (none_behind (ended (still_open c.current))) (rounds_alone (still_open c.current) [] refl)
+within_epoch items (Own x ∷ deeds) c within = rounds_alone (closed_by items c x) (happenings items deeds (after_step items c x)) (within_epoch items deeds (after_step items c x) within.1)
+within_epoch items (Idles idle ∷ deeds) c within = within_epoch items deeds (course_after items c (Idles idle)) within.1
+within_epoch items (Configures ∷ deeds) c within = absurd within.0
+
+pub epoch_is_told : (items : List Item) (from : Station) (deeds : List Deed) → from.current ≡ None → AreWithinEpoch deeds
+    → told_in items from deeds ≡ events_of items from.view (filter has_crossed (rounds_ended (happenings items deeds (course_from from))))
+epoch_is_told items from deeds none_open within =
+    tells_rounds items from deeds (rounds_ended (happenings items deeds (course_from from))) none_open (within_epoch items deeds (course_from from) within)
+
+pub epoch_stands : (items : List Item) (from : Station) (deeds : List Deed) → from.current ≡ None → AreWithinEpoch deeds → StandsInEpoch items from deeds (befallen_all items from deeds)
+epoch_stands items from deeds none_open within =
+    follows_rounds items from deeds (rounds_ended (happenings items deeds (course_from from))) none_open (within_epoch items deeds (course_from from) within)
+
 pub ruleset schedules = (delivers_rounds, stands_by_rounds, delivers_epoch)
+
+pub ruleset epochs = (epoch_is_told, epoch_stands)

@@ -7,7 +7,7 @@ use Rattle.hid_cells.specs.declared.cell.Cell.{Cell}
 use Rattle.hid_cells.specs.declared.event.Event.{Event}
 use Rattle.hid_lives.specs.Rounds.{OwnStep, Round, Course, has_crossed, has_closed, rounds, after_steps, view_of}
 use Rattle.hid_lives.specs.Stations.{Station, Open, expected}
-use Rattle.hid_lives.specs.Lives.{Deed, Happening, happenings, course_behind, told_from, view_from, toggle_from, befallen_all, told_in}
+use Rattle.hid_lives.specs.Lives.{Deed, Happening, happenings, rounds_ended, course_behind, told_from, view_from, toggle_from, befallen_all, told_in}
 
 -- what a station keeps of the round that is open: its report, and whether it has crossed
 abbrev pub open_of : Round → Open
@@ -61,3 +61,9 @@ abbrev pub StandsByRounds : List Item → Station → List OwnStep → Station �
 StandsByRounds items from steps s =
     FollowsRounds items from.view from.odd
     (rounds items steps (course_from from)) (after_steps items steps (course_from from)) s
+
+-- a station stands as the rounds of an epoch say in which this befalls it
+abbrev pub StandsInEpoch : List Item → Station → List Deed → Station → Type 0
+StandsInEpoch items from deeds s =
+    FollowsRounds items from.view from.odd (rounds_ended (happenings items deeds (course_from from)))
+    (course_behind items deeds (course_from from)) s

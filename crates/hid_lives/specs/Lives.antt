@@ -1,17 +1,19 @@
 -- The life of a device with its host: what befalls the device, and what comes of it and is told (USB 2.0, 8.5.4, 8.6
--- and 9.4.7).
-use Rattle.std.specs.Prelude.{Bool, false, not, if◌then◌else◌, List, [], ◌∷◌, ◌++◌, map}
+-- and 9.4.7; HID 1.11, 7.2.4).
+use Rattle.std.specs.Prelude.{ℕ, Bool, false, not, if◌then◌else◌, List, [], ◌∷◌, ◌++◌, map}
 use Rattle.hid_layout.specs.Controls.{Item}
 use Rattle.hid_cells.specs.declared.cell.Cell.{Cell}
 use Rattle.hid_cells.specs.declared.event.Event.{Event}
 use Rattle.hid_cells.specs.Cells.{blank}
 use Rattle.hid_cells.specs.Views.{seen}
+use Rattle.hid_lives.specs.Standing.{with_idle}
 use Rattle.hid_lives.specs.Rounds.{OwnStep, Round, Course, has_crossed, fresh_course, after_step, closed_by, still_open, part_events}
 use Rattle.hid_lives.specs.Stations.{Station, fresh, after, events_at}
 
--- What befalls a device: what happens at it by itself, or a configuration takes effect.
+-- What befalls a device: what happens at it by itself, idle times are set, or a configuration takes effect.
 pub data Deed : Type 0 where
   Own : OwnStep → Deed
+  Idles : List ℕ → Deed
   Configures : Deed
 
 -- own steps as deeds
@@ -23,9 +25,11 @@ pub data Happening : Type 0 where
   Ended : Round → Happening
   Began : Happening
 
--- The course after a deed: a configuration keeps the snapshot and the idle times alone.
+-- The course after a deed: idle times leave the round that is open, a configuration keeps the snapshot and the idle
+-- times alone.
 abbrev pub course_after : List Item → Course → Deed → Course
 course_after items c (Own x) = after_step items c x
+course_after items c (Idles idle) = record { standing = with_idle idle c.standing; current = c.current }
 course_after items c Configures = fresh_course items c.standing.snapshot c.standing.idle
 
 -- and behind a list of them
@@ -40,12 +44,30 @@ ended rounds = map (λ round. Ended round) rounds
 -- what comes of one deed: a poll ends the round that it closes, a configuration the one that is open
 abbrev pub happens_by : List Item → Course → Deed → List Happening
 happens_by items c (Own x) = ended (closed_by items c x)
+happens_by items c (Idles idle) = []
 happens_by items c Configures = ended (still_open c.current) ++ Began ∷ []
 
 -- What comes of a life, in order; the round that is open at its end ends there.
 abbrev pub happenings : List Item → List Deed → Course → List Happening
 happenings items [] c = ended (still_open c.current)
 happenings items (x ∷ deeds) c = happens_by items c x ++ happenings items deeds (course_after items c x)
+
+-- the rounds that ended, in order
+abbrev pub rounds_ended : List Happening → List Round
+rounds_ended [] = []
+rounds_ended (Ended round ∷ rest) = round ∷ rounds_ended rest
+rounds_ended (Began ∷ rest) = rounds_ended rest
+
+-- A deed within an epoch: whatever doesn't begin another one.
+abbrev pub IsWithinEpoch : Deed → Type 0
+IsWithinEpoch (Own x) = Unit {0}
+IsWithinEpoch (Idles idle) = Unit {0}
+IsWithinEpoch Configures = ⊥
+
+-- and so is each of these
+abbrev pub AreWithinEpoch : List Deed → Type 0
+AreWithinEpoch [] = Unit {0}
+AreWithinEpoch (x ∷ deeds) = IsWithinEpoch x × AreWithinEpoch deeds
 
 -- what a round tells: its part, where it crossed
 abbrev pub round_told : List Item → List Cell → Bool → Round → List Event
@@ -79,6 +101,7 @@ toggle_from changes odd (Began ∷ rest) = toggle_from changes false rest
 -- host that is ready hears nothing of it: it is made anew, or reads the device again.)
 abbrev pub befallen : List Item → Station → Deed → Station
 befallen items s (Own x) = after items s x
+befallen items s (Idles idle) = record s { standing = with_idle idle s.standing }
 befallen items s Configures = fresh items s.standing.snapshot s.standing.idle
 
 -- and after a list of them
@@ -89,6 +112,7 @@ befallen_all items s (x ∷ deeds) = befallen_all items (befallen items s x) dee
 -- the events that a deed delivers
 abbrev pub events_on : List Item → Station → Deed → List Event
 events_on items s (Own x) = events_at items s x
+events_on items s (Idles idle) = []
 events_on items s Configures = []
 
 -- The events of a list of them, one after another.

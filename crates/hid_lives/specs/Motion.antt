@@ -15,7 +15,7 @@ use Rattle.hid_cells.specs.Parts.{is_of, item_at, motion_of}
 use Rattle.hid_cells.specs.Snapshots.{changed}
 use Rattle.hid_lives.specs.Rounds.{OwnStep, Changes, Frame, Polls}
 use Rattle.hid_lives.specs.Stations.{Station, Open, after, after_all, events_in}
-use Rattle.hid_lives.specs.Lives.{Deed, Own, Configures, befallen, befallen_all, told_in}
+use Rattle.hid_lives.specs.Lives.{Deed, Own, Idles, Configures, befallen, befallen_all, told_in}
 
 -- two IDs name the same control
 abbrev pub is_same_control : ControlId → ControlId → Bool
@@ -139,11 +139,13 @@ KeepsAccepted items s steps =
 abbrev pub accepted_in : List Item → Station → List Deed → List OwnStep
 accepted_in items s [] = []
 accepted_in items s (Own x ∷ deeds) = step_if (is_accepted items s x) x ++ accepted_in items (after items s x) deeds
+accepted_in items s (Idles idle ∷ deeds) = accepted_in items (befallen items s (Idles idle)) deeds
 accepted_in items s (Configures ∷ deeds) = accepted_in items (befallen items s Configures) deeds
 
 -- no round is open where a device is configured
 abbrev pub IsBetweenRounds : Station → Deed → Type 0
 IsBetweenRounds s (Own x) = Unit {0}
+IsBetweenRounds s (Idles idle) = Unit {0}
 IsBetweenRounds s Configures = s.current ≡ None
 
 -- and so at each configuration of a life

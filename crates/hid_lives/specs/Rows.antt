@@ -1,5 +1,5 @@
 -- Worked lives of known devices, by what is told of them (USB 2.0, 8.5.4, 8.6 and 9.4.7).
-use Rattle.std.specs.Prelude.{◌≡◌, ℕ, List, [], ◌∷◌, ℤ}
+use Rattle.std.specs.Prelude.{◌≡◌, ℕ, List, [], ◌∷◌, map, ℤ}
 use Rattle.hid_layout.specs.Controls.{Item}
 use Rattle.hid_cells.specs.declared.change.Change.TheVariants as change
 use Rattle.hid_cells.specs.declared.event.Event.{Event}
@@ -7,6 +7,8 @@ use Rattle.hid_cells.specs.declared.event.Event.TheVariants as event
 use Rattle.hid_cells.specs.Cells.{blank}
 use Rattle.hid_cells.specs.Events.{at}
 use Rattle.hid_cells.specs.Samples.{usage}
+use Rattle.hid_cells.specs.Parts.{blank_parts}
+use Rattle.hid_lives.specs.Standing.{Standing}
 use Rattle.hid_lives.specs.Rounds.{OwnStep, Changes, fresh_course}
 use Rattle.hid_lives.specs.Stations.{Station, fresh, after_all}
 use Rattle.hid_lives.specs.Lives.{Deed, happenings, told_from, befallen_all}
@@ -39,3 +41,8 @@ behind items idle deeds = befallen_all items (fresh items (blank items) (idle �
 -- and behind its own steps alone, where no idle time is set
 abbrev pub stands_after : List Item → List OwnStep → Station
 stands_after items steps = after_all items (fresh items (blank items) (0 ∷ [])) steps
+
+-- a device with nothing pressed or moved and no idle times, and so many frames counted for each report
+abbrev pub counted : List Item → List ℕ → Standing
+counted items frames =
+    record { snapshot = blank items; fixed = blank_parts items; frames = frames; idle = map (λ n. 0) frames }

@@ -55,6 +55,11 @@ after_frame d = record {
   idle = d.idle;
 }
 
+-- These idle times are set, one for each Input report. Nothing else changes: frames are counted on, so a report may be
+-- due at once (HID 1.11, 7.2.4; our choice).
+abbrev pub with_idle : List ℕ → Standing → Standing
+with_idle idle d = record { snapshot = d.snapshot; fixed = d.fixed; frames = d.frames; idle = idle }
+
 -- these parts are fixed for a report, their motion is taken out of the snapshot, and its frames are counted anew
 abbrev pub fixed_with : List Item → ℕ → Standing → List Cell → Standing
 fixed_with items r d parts = record {

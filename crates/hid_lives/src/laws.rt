@@ -5,8 +5,8 @@ ghost use Rattle.std.specs.List.{filter};
 ghost use Rattle.hid_layout.specs.Controls.{Item};
 ghost use Rattle.hid_cells.specs.declared.cell.Cell.{Cell};
 ghost use Rattle.hid_cells.specs.Cells.{blank, FitsSnapshot, FitsShown, FitsView};
-ghost use Rattle.hid_lives.specs.Following.{LivesOn, StandsByRounds, course_from};
-ghost use Rattle.hid_lives.specs.Lives.{Deed, happenings, told_from, told_in, befallen_all};
+ghost use Rattle.hid_lives.specs.Following.{LivesOn, StandsByRounds, StandsInEpoch, course_from};
+ghost use Rattle.hid_lives.specs.Lives.{Deed, AreWithinEpoch, happenings, rounds_ended, told_from, told_in, befallen_all};
 ghost use Rattle.hid_lives.specs.Motion.{HasMotions, KeepsMotion, KeepsAccepted, KeepsThroughLife, AreBetweenRounds, are_accepted};
 ghost use Rattle.hid_lives.specs.Rounds.{OwnStep, has_crossed, rounds, events_of, events_of_epoch, fresh_course};
 ghost use Rattle.hid_lives.specs.Stations.{Station, fresh, after_all, events_in};
@@ -41,9 +41,22 @@ pub fn rounds_say_all()
         → from.current ≡ None → StandsByRounds items from steps (after_all items from steps) }
 {}
 
+/// The rounds of an epoch say all too where idle times are set in it, also while a round is open: what is told is the
+/// events of the rounds that crossed, and both ends stand behind it as the rounds say.
+#[tactic(auto, using(crate::proofs::ScheduleLemmas::epochs))]
+pub fn rounds_say_all_of_an_epoch()
+    ensures events { (items : List Item) (from : Station) (deeds : List Deed)
+        → from.current ≡ None → AreWithinEpoch deeds → told_in items from deeds
+        ≡ events_of items from.view (filter has_crossed
+        (rounds_ended (happenings items deeds (course_from from)))) }
+    ensures stands { (items : List Item) (from : Station) (deeds : List Deed)
+        → from.current ≡ None → AreWithinEpoch deeds
+        → StandsInEpoch items from deeds (befallen_all items from deeds) }
+{}
+
 /// Steps neither lose nor double the motion of a control: what a station had of it and what accepted moves added is
-/// what was told of it and what the station still has. A station keeps its motions behind any steps. Configurations
-/// lose no motion either where no round is open.
+/// what was told of it and what the station still has. A station keeps its motions behind any steps. Idle times that
+/// are set lose no motion either, and configurations none where no round is open.
 #[tactic(auto, using(crate::proofs::MotionLemmas::keeps))]
 pub fn motion_is_kept()
     ensures kept { (items : List Item) (s : Station) → HasMotions items s → (steps : List OwnStep)

@@ -2,8 +2,8 @@
 //! told of them (USB 2.0, 8.5.4, 8.6 and 9.4.7; HID 1.11, 7.2.4). Definitions and their laws; no code.
 //! ```text
 //!   what befalls a device               what comes of it               what its host is told
-//!   press, frame, poll, configuration   a round ended, both ends       down 07:04
-//!          |                              begin anew                     ^
+//!   press, frame, poll, idle times,     a round ended, both ends       down 07:04
+//!   configuration                         begin anew                     ^
 //!          |                                ^        |                   |
 //!          +--- Course: standing, round ----+        +--- told_from -----+
 //!          |        no toggle, no view                                   |

@@ -1,14 +1,15 @@
 //! Worked lives: each row is worked out by hand, and a wrong one fails the check.
 
-ghost use Rattle.std.specs.Prelude.{◌≡◌, [], ◌∷◌, ◌++◌, replicate, true, false, None, pos};
+ghost use Rattle.std.specs.Prelude.{◌≡◌, [], ◌∷◌, ◌++◌, replicate, true, false, Some, None, pos};
 ghost use Rattle.hid_cells.specs.declared.event.Event.TheVariants as event;
 ghost use Rattle.hid_cells.specs.Events.{at};
-ghost use Rattle.hid_cells.specs.Samples.{keyboard, mouse, usage};
+ghost use Rattle.hid_cells.specs.Samples.{keyboard, mouse, wheel_and_button, usage};
 ghost use Rattle.usb_transact.specs.declared.transaction.Fate.TheVariants as fate;
-ghost use Rattle.hid_lives.specs.Lives.{Configures, owns};
+ghost use Rattle.hid_lives.specs.Lives.{Configures, Idles, owns};
 ghost use Rattle.hid_lives.specs.Motion.{station_motion};
 ghost use Rattle.hid_lives.specs.Rounds.{Frame as AFrame, Polls};
-ghost use Rattle.hid_lives.specs.Rows.{Tells, behind, press, release, move, key_down, motion_x, stands_after};
+ghost use Rattle.hid_lives.specs.Rows.{Tells, behind, counted, press, release, move, key_down, motion_x, stands_after};
+ghost use Rattle.hid_lives.specs.Standing.{after_frame, first_due, with_idle};
 ghost use Rattle.hid_lives.specs.Stations.{expected};
 
 /// A lost acknowledgement: the report goes once more, and is told once.
@@ -70,4 +71,59 @@ pub fn idle_time_outlives_a_configuration()
     ensures once_without { (behind keyboard 0
         (owns (press 4 4 ∷ Polls fate.Clean ∷ []) ++ Configures
         ∷ owns (Polls fate.Clean ∷ replicate 4 AFrame ++ Polls fate.Clean ∷ []))).odd ≡ true }
+{}
+
+/// An idle time of four frames is set: four frames after its round opened the report goes again, and tells nothing new.
+pub fn idle_time_is_set()
+    ensures nothing_new { Tells keyboard 0
+        (Idles (1 ∷ []) ∷ owns (press 4 4 ∷ Polls fate.Clean
+        ∷ replicate 3 AFrame ++ Polls fate.Clean ∷ AFrame ∷ Polls fate.Clean ∷ []))
+        (key_down 4 ∷ []) }
+    ensures three_frames_are_few { (behind keyboard 0
+        (Idles (1 ∷ []) ∷ owns (press 4 4 ∷ Polls fate.Clean
+        ∷ replicate 3 AFrame ++ Polls fate.Clean ∷ []))).odd ≡ true }
+    ensures four_are_enough { (behind keyboard 0
+        (Idles (1 ∷ []) ∷ owns (press 4 4 ∷ Polls fate.Clean
+        ∷ replicate 3 AFrame ++ Polls fate.Clean ∷ AFrame ∷ Polls fate.Clean ∷ []))).odd ≡ false }
+    ensures of_the_second_report_alone { first_due wheel_and_button
+        (after_frame (with_idle (0 ∷ 1 ∷ []) (counted wheel_and_button (3 ∷ 3 ∷ [])))) ≡ Some 1 }
+    ensures ended_by_none { (behind keyboard 1
+        (owns (replicate 4 AFrame) ++ Idles (0 ∷ []) ∷ owns (Polls fate.Clean ∷ []))).odd ≡ false }
+{}
+
+/// An idle time is set while a round is open: its part and its motion stay, and its report goes once more where the
+/// time since the round opened is over.
+pub fn idle_time_is_set_in_a_round()
+    ensures crossed { Tells mouse 0
+        (owns (press 0 0 ∷ move 2 0 (pos 5) ∷ Polls fate.AckLost ∷ []) ++ Idles (1 ∷ [])
+        ∷ owns (move 2 0 (pos 3) ∷ Polls fate.Clean ∷ Polls fate.Clean ∷ []))
+        (event.Down (at 0 0) (usage 9 1) ∷ motion_x (pos 5) ∷ motion_x (pos 3) ∷ []) }
+    ensures not_crossed { Tells mouse 0
+        (owns (move 2 0 (pos 5) ∷ Polls fate.ReplyLost ∷ []) ++ Idles (1 ∷ [])
+        ∷ owns (move 2 0 (pos 3) ∷ Polls fate.Clean ∷ []))
+        (motion_x (pos 5) ∷ []) }
+    ensures its_motion_is_kept { station_motion mouse (behind mouse 0
+        (owns (move 2 0 (pos 5) ∷ Polls fate.ReplyLost ∷ []) ++ Idles (1 ∷ []) ∷ [])) (at 2 0) ≡ pos 5 }
+    ensures goes_again { (behind keyboard 0
+        (owns (press 4 4 ∷ Polls fate.AckLost ∷ []) ++ Idles (1 ∷ [])
+        ∷ owns (replicate 4 AFrame ++ Polls fate.Clean ∷ Polls fate.Clean ∷ []))).odd ≡ false }
+    ensures nothing_new { Tells keyboard 0
+        (owns (press 4 4 ∷ Polls fate.AckLost ∷ []) ++ Idles (1 ∷ [])
+        ∷ owns (replicate 4 AFrame ++ Polls fate.Clean ∷ Polls fate.Clean ∷ []))
+        (key_down 4 ∷ []) }
+{}
+
+/// Frames are counted on where an idle time is set, so that it may be over at once, and up to 1,020, where the longest
+/// is over.
+pub fn frames_are_counted_on()
+    ensures over_at_once { (behind keyboard 0
+        (owns (replicate 8 AFrame) ++ Idles (2 ∷ []) ∷ owns (Polls fate.Clean ∷ []))).odd ≡ true }
+    ensures not_yet { (behind keyboard 0
+        (owns (replicate 7 AFrame) ++ Idles (2 ∷ []) ∷ owns (Polls fate.Clean ∷ []))).odd ≡ false }
+    ensures counted_out { (behind keyboard 0 (owns (replicate 1030 AFrame))).standing.frames ≡ 1020 ∷ [] }
+    ensures longest_is_over { (behind keyboard 0
+        (owns (replicate 1030 AFrame) ++ Idles (255 ∷ [])
+        ∷ owns (Polls fate.Clean ∷ Polls fate.Clean ∷ []))).odd ≡ true }
+    ensures a_frame_short { (behind keyboard 255
+        (owns (replicate 1019 AFrame ++ Polls fate.Clean ∷ []))).odd ≡ false }
 {}

@@ -13,7 +13,7 @@ use Rattle.hid_cells.specs.declared.cell.Cell.TheVariants.{Vacant, Pressed, Hold
 use Rattle.hid_cells.specs.Cells.{HasRoom, InPart, Suits}
 use Rattle.hid_cells.specs.Parts.{IsInput}
 use Rattle.hid_parts.specs.Sending.{sent}
-use Rattle.hid_parts.specs.Encoding.{IsData, CanSendAll, HasFewPlaces, sent_at, place, AreBytes, IsEncoding}
+use Rattle.hid_parts.specs.Encoding.{IsData, CanSendAll, HasFewPlaces, sent_at, place, AreBytes, IsEncoding, is_data_in, part_numbers}
 use Rattle.std.specs.Int.{bit_at}
 use Rattle.std.proofs.lemmas.Grind.{same_number_lists}
 use Rattle.std.proofs.Math.Nat.{mul-le-mul_left}
@@ -24,6 +24,11 @@ use Rattle.hid_fields.proofs.FieldLemmas.{pattern_of-lt, pattern_of-same}
 use Rattle.hid_fields.proofs.ValueLemmas.{pattern_for-only}
 use Rattle.hid_fields.proofs.WordLemmas.{bit_at-pattern_of, pattern_of-byte}
 use Rattle.hid_parts.specs.Numbers.{number_at, numbers_in}
+use Rattle.hid_parts.specs.Encoded.{bit_among, bit_sent, packed, packed_bytes, part_bytes}
+use Rattle.std.specs.Prelude.{nat_le, nat_lt, if◌then◌else◌}
+use Rattle.std.proofs.lemmas.Bool.Decides.{nat_tests}
+use Rattle.hid_layout.specs.Reports.{report_bytes}
+use Rattle.hid_fields.specs.Value.{pattern_for}
 use Rattle.hid_parts.proofs.NumberLemmas.{numbers_in-length}
 use Rattle.hid_parts.proofs.EncodingLemmas.{cell_numbers, data_if, no_data_if}
 use Rattle.hid_cells.proofs.ItemLemmas.{items_from-at, items_of-length, got}
@@ -213,3 +218,106 @@ byte_then_zeros id n before one bytes none some is small = rw (is, some, none) a
     at : (k d : ℕ) → (let zeros : List ℕ = id ∷ replicate n 0 in k < length zeros → get_or zeros k d < 256)
     at zero d h = small
     at (suc k) d h = all_zeros n k d (omega arith)
+
+-- The bytes as a function, bit by bit.
+
+place_among : (bytes : List ℕ) (at w : ℕ) (signed : Bool) (count n : ℕ) (numbers : List ℤ) → 0 < w → numbers_in bytes at w signed count ≡ numbers → at ≤ n → n < at + w * count
+    → bit_of bytes n ≡ bit_among numbers w (n - at)
+place_among bytes at w signed count n numbers some shows low high =
+    let d = n - at in
+    let j = d / w in
+    let k = d % w in
+    let split : w * j + k ≡ d = omega arith in
+    let small : k < w = omega arith in
+    let within : j < count = below j count k (omega arith) in
+    let v : ℤ = number_at bytes (at + w * j) w signed in
+    let here : slice_get numbers j ≡ Some v = ap (λ (l : List ℤ). slice_get l j) (sym shows) ∙ numbers_in-at bytes at w signed count j within in
+    let pattern : pattern_of bytes (at + w * j) w ≡ pattern_for v w = sym (pattern_for-only v w signed (pattern_of bytes (at + w * j) w) some (pattern_of-lt bytes (at + w * j) w) refl) in
+    let place : (at + w * j) + k ≡ n = omega arith in
+    let bit : bit_at (pattern_of bytes (at + w * j) w) k ≡ bit_of bytes ((at + w * j) + k) = bit_at-pattern_of bytes (at + w * j) w k small in
+    ap (bit_of bytes) (sym place) ∙ sym bit ∙ ap (λ (p : ℕ). bit_at p k) pattern
+    ∙ sym (ap (λ (o : Option ℤ). elim o as (λ _. ℕ) [ None ↦ 0 | Some x ↦ bit_at (pattern_for x w) k ]) here)
+  where
+    below : (j count k : ℕ) → w * j + k < w * count → j < count
+    below j count k h = elim (cases_lt j count) [ inl lt ↦ lt | inr ge ↦ let more = mul-le-mul_left w ge in absurd (omega arith) ]
+
+-- of the items from a place on, where none before it covers the bit
+abbrev AreFrom : Contents → ℕ → List MainItem → Type 0
+AreFrom layout i items = (j : ℕ) → slice_get items j ≡ slice_get layout.items (i + j)
+
+abbrev SentBit : Contents → ℕ → (ℕ → List ℤ) → List ℕ → ℕ → ℕ → MainItem → List MainItem → Bool → Type 0
+SentBit layout r numbers bytes n i item items b =
+    bit_of bytes n ≡ (if b && (nat_le (place layout item) n && nat_lt n (place layout item + item.size * item.count)) then bit_among (numbers i) item.size (n - place layout item) else bit_sent layout r numbers (i + 1) items n)
+
+sent_bits : (layout : Contents) (r : ℕ) (numbers : ℕ → List ℤ) (bytes : List ℕ) (n : ℕ) → IsLayout layout → IsEncoding layout r numbers bytes
+    → (i : ℕ) (items : List MainItem) → i + length items ≡ length layout.items → AreFrom layout i items → AreOutside layout r i n
+    → bit_of bytes n ≡ bit_sent layout r numbers i items n
+unfolding AreOutside
+sent_bits layout r numbers bytes n laid is i [] whole from out =
+    let all : i ≡ length layout.items = omega arith in
+    is.shows.others n (subst (λ (k : ℕ). AreOutside layout r k n) all out)
+sent_bits layout r numbers bytes n laid is i (item ∷ items) whole from out =
+    let rest = sent_bits layout r numbers bytes n laid is (i + 1) items (omega arith) (λ j. from (suc j) ∙ ap (slice_get layout.items) (omega arith)) in
+    by_data (is_data_in r item) refl rest
+  where
+    there : slice_get layout.items i ≡ Some item
+    there = sym (from 0 ∙ ap (slice_get layout.items) (omega arith))
+
+    next : AreOutside layout r (suc i) n → AreOutside layout r (i + 1) n
+    next o = subst (λ (k : ℕ). AreOutside layout r k n) (let e : suc i ≡ i + 1 = omega arith in e) o
+
+    inside : IsData layout r i item → place layout item ≤ n → n < place layout item + item.size * item.count → bit_of bytes n ≡ bit_among (numbers i) item.size (n - place layout item)
+    inside d low high =
+        let has = laid.elements i item d.listed d.no_padding in
+        place_among bytes (place layout item) item.size (is_negative item.min) item.count n (numbers i) has.some_bits (is.shows.elements i item (slice_get_within layout.items i item there) d) low high
+
+    by_bits : IsData layout r i item → (AreOutside layout r (i + 1) n → bit_of bytes n ≡ bit_sent layout r numbers (i + 1) items n) → SentBit layout r numbers bytes n i item items true
+    by_bits d rest = elim (cases_lt n (place layout item)) [
+      | inl under ↦
+          let test : nat_le (place layout item) n && nat_lt n (place layout item + item.size * item.count) ≡ false = grind (arith, nat_tests, under) in
+          rest (next (one_item_more layout r i n item there out (inl under)))
+          ∙ sym (ap (λ (b : Bool). if b then bit_among (numbers i) item.size (n - place layout item) else bit_sent layout r numbers (i + 1) items n) test)
+      | inr low ↦ elim (cases_lt n (place layout item + item.size * item.count)) [
+        | inl high ↦
+            let test : nat_le (place layout item) n && nat_lt n (place layout item + item.size * item.count) ≡ true = grind (arith, nat_tests, low, high) in
+            inside d low high
+            ∙ sym (ap (λ (b : Bool). if b then bit_among (numbers i) item.size (n - place layout item) else bit_sent layout r numbers (i + 1) items n) test)
+        | inr over ↦
+            let test : nat_le (place layout item) n && nat_lt n (place layout item + item.size * item.count) ≡ false = grind (arith, nat_tests, over) in
+            rest (next (one_item_more layout r i n item there out (inr over)))
+            ∙ sym (ap (λ (b : Bool). if b then bit_among (numbers i) item.size (n - place layout item) else bit_sent layout r numbers (i + 1) items n) test)
+      ]
+    ]
+
+    by_data : (b : Bool) → is_data_in r item ≡ b → (AreOutside layout r (i + 1) n → bit_of bytes n ≡ bit_sent layout r numbers (i + 1) items n) → SentBit layout r numbers bytes n i item items b
+    by_data true e rest = by_bits (data_if layout r i item there e) rest
+    by_data false e rest = rest (next (no_item_more layout r i n (no_data_if layout r i item there e) out))
+
+packed_is : (bytes : List ℕ) (bits : ℕ → ℕ) (at w : ℕ) → ((n : ℕ) → bit_of bytes n ≡ bits n) → pattern_of bytes at w ≡ packed bits at w
+packed_is bytes bits at zero same = refl
+packed_is bytes bits at (suc k) same = rw (packed_is bytes bits at k same, same (at + k)) refl
+
+bytes_are : (bytes : List ℕ) (bits : ℕ → ℕ) (i n : ℕ) → length bytes ≡ n → ((j : ℕ) → j < n → get_or bytes j 0 ≡ packed bits (8 * (i + j)) 8) → bytes ≡ packed_bytes bits i n
+bytes_are [] bits i zero len same = refl
+bytes_are [] bits i (suc n) len same = absurd (omega arith)
+bytes_are (b ∷ bytes) bits i zero len same = absurd (omega arith)
+bytes_are (b ∷ bytes) bits i (suc n) len same =
+    let head : b ≡ packed bits (8 * i) 8 = same 0 (omega arith) ∙ ap (λ (k : ℕ). packed bits k 8) (omega arith) in
+    let tail : bytes ≡ packed_bytes bits (i + 1) n = bytes_are bytes bits (i + 1) n (omega arith) (λ j lt. same (suc j) (omega arith) ∙ ap (λ (k : ℕ). packed bits k 8) (omega arith)) in
+    ap (λ (x : ℕ). x ∷ bytes) head ∙ ap (λ (xs : List ℕ). packed bits (8 * i) 8 ∷ xs) tail
+
+-- The bytes that show a part are computed.
+pub bytes_are_of_part : (layout : Contents) (r : ℕ) (parts : List Cell) (bytes : List ℕ) → IsLayout layout → AreBytes bytes → IsEncoding layout r (part_numbers layout parts) bytes → bytes ≡ part_bytes layout r parts
+unfolding AreOutside part_bytes
+bytes_are_of_part layout r parts bytes laid are is = bytes_are bytes sent_bit 0 (report_bytes layout r) is.whole byte
+  where
+    sent_bit : ℕ → ℕ
+    sent_bit = bit_sent layout r (part_numbers layout parts) 0 layout.items
+
+    bit : (n : ℕ) → bit_of bytes n ≡ sent_bit n
+    bit n = sent_bits layout r (part_numbers layout parts) bytes n laid is 0 layout.items (omega arith) (λ j. ap (slice_get layout.items) (omega arith)) (λ i m lt d. absurd (omega arith))
+
+    byte : (j : ℕ) → j < report_bytes layout r → get_or bytes j 0 ≡ packed sent_bit (8 * (0 + j)) 8
+    byte j lt =
+        let e : 8 * j ≡ 8 * (0 + j) = omega arith in
+        sym (pattern_of-byte bytes j (are j 0 (omega (arith, is.whole)))) ∙ packed_is bytes sent_bit (8 * j) 8 bit ∙ ap (λ (k : ℕ). packed sent_bit k 8) e

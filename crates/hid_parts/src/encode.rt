@@ -14,6 +14,7 @@ ghost use Rattle.hid_layout.specs.Sent.{AreCodes};
 ghost use Rattle.hid_cells.specs.Codes.{has_empty_codes};
 ghost use Rattle.hid_parts.specs.Sending.{sent};
 ghost use Rattle.hid_parts.specs.Encoding.{is_data_in, place, bare_report, sent_at, part_numbers, CanSend, CanSendAll, HasFewPlaces, AreBytes, IsEncoding, Shows};
+ghost use Rattle.hid_parts.specs.Encoded.{part_bytes};
 
 use crate::numbers::put_all;
 use crate::send::Sending;
@@ -41,7 +42,7 @@ fn id_of(layout: &Layout, report: usize) -> u8
 }
 
 /// A report of zeros, behind its ID where there are IDs.
-fn bare_report(layout: &Layout, report: usize) -> ArrayVec<u8, 64>
+pub fn bare_report(layout: &Layout, report: usize) -> ArrayVec<u8, 64>
     requires layout { IsLayout layout.now }
     requires report { report < length layout.now.reports }
     ensures items { result.items ≡ bare_report layout.now report }
@@ -158,6 +159,7 @@ pub fn encode_report<C: FieldCodec>(
     ensures only { (other : List ℕ) → AreBytes other
         → IsEncoding layout.now report (part_numbers layout.now shown.now) other
         → other ≡ result.items }
+    ensures bytes { result.items ≡ part_bytes layout.now report shown.now }
 {
     let places = plan_of(layout, report);
     let mut bytes = bare_report(layout, report);

@@ -16,7 +16,7 @@ mod snapshot_tests;
 #[cfg(test)]
 mod tests;
 
-pub use encode::{encode_report, first_bit, is_data};
+pub use encode::{bare_report, encode_report, first_bit, is_data};
 pub use numbers::{MAX_NUMBERS, get_all};
 pub use shown::Shown;
 pub use snapshot::Snapshot;

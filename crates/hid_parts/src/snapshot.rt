@@ -3,14 +3,14 @@
 ghost use Rattle.std.specs.Prelude.{◌≡◌, true, length, IfOk};
 ghost use Rattle.hid_layout.specs.Controls.{items_of};
 ghost use Rattle.hid_cells.specs.Cells.{is_i32, FitsSnapshot, FitsShown, blank};
-ghost use Rattle.hid_cells.specs.Parts.{IsInput, is_changed, shown, taken, has_zeros};
+ghost use Rattle.hid_cells.specs.Parts.{IsInput, is_changed, shown, still, taken, has_zeros};
 ghost use Rattle.hid_cells.specs.Snapshots.{is_pressed, motion_in, with_pressed, with_value, with_motion, is_full, can_hold, has_direction, target, cell_at, Changes, ChangesCell, HasIndex};
 ghost use Rattle.hid_cells.specs.Keys.{keys_at, has_keys_at, key_words, AreKeyWords};
 
 use crate::shown::Shown;
 use hid_cells::{
     Cell, Change, ChangeFault, MemoryFault, blank_cells, is_changed, key_words, show_cells,
-    take_cells,
+    show_still, take_cells,
 };
 use hid_layout::{ControlId, ControlKind, Controls, Layout};
 use std::alloc::Global;
@@ -344,6 +344,19 @@ impl Snapshot {
         ensures fits { FitsShown (items_of layout.now) parts.new }
     {
         show_cells(layout, report, &self.cells, &mut parts.cells);
+    }
+
+    /// Sets the part of an Input report to its still part: what it shows of the snapshot, with every motion 0. The
+    /// parts of the others stay.
+    pub fn still(&self, layout: &Layout, report: usize, parts: &mut Shown)
+        requires input { IsInput layout.now report }
+        requires zeros { has_zeros (items_of layout.now) ≡ true }
+        requires fits { FitsSnapshot (items_of layout.now) self.now }
+        requires room { FitsShown (items_of layout.now) parts.old }
+        ensures still { parts.new ≡ still (items_of layout.now) report self.now parts.old }
+        ensures fits { FitsShown (items_of layout.now) parts.new }
+    {
+        show_still(layout, report, &self.cells, &mut parts.cells);
     }
 
     /// Takes the motion that the part of an Input report carries out of the snapshot. The part is the one that the

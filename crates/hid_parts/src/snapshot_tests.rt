@@ -59,6 +59,13 @@ const NUMBERED: [u8; 30] = [
     0x85, 0x02, 0x05, 0x09, 0x09, 0x01, 0x15, 0x00, 0x25, 0x01, 0x75, 0x01, 0x81, 0x02,
 ];
 
+/// A wheel in report 1, and one in report 2.
+#[rattlefmt::skip]
+const TWO_WHEELS: [u8; 22] = [
+    0x05, 0x01, 0x15, 0x81, 0x25, 0x7F, 0x75, 0x08, 0x95, 0x01,
+    0x85, 0x01, 0x09, 0x38, 0x81, 0x06, 0x85, 0x02, 0x09, 0x38, 0x81, 0x06,
+];
+
 /// A byte of padding.
 const PADDING: [u8; 6] = [0x75, 0x08, 0x95, 0x01, 0x81, 0x01];
 
@@ -75,8 +82,8 @@ const LAST_BUTTON: ControlId = ControlId {
 
 const SLIDER: ControlId = ControlId { item: 1, index: 0 };
 
-/// The button of report 2.
-const BUTTON: ControlId = ControlId { item: 1, index: 0 };
+/// The button or the wheel of report 2.
+const SECOND_REPORT: ControlId = ControlId { item: 1, index: 0 };
 
 const WHEEL: ControlId = ControlId { item: 2, index: 1 };
 
@@ -174,11 +181,12 @@ fn changes_are_made_or_refused(rt: HostRuntime) -> Result<(), Fail> {
     Ok(())
 }
 
-/// Whether report 0 shows these bytes of the snapshot.
+/// Whether report 0 shows these bytes of the snapshot, or of its still part.
 fn shows<F: FieldCodec>(
     layout: &Layout,
     snapshot: &Snapshot,
     parts: &mut Shown,
+    still: bool,
     bytes: &[u8],
 ) -> bool
     requires snapshot { FitsSnapshot (items_of layout.now) snapshot.now }
@@ -188,7 +196,11 @@ fn shows<F: FieldCodec>(
     if !is_input(layout, 0) || !has_zeros(layout) || !has_empty_codes(layout) {
         return false;
     }
-    snapshot.shown(layout, 0, parts);
+    if still {
+        snapshot.still(layout, 0, parts);
+    } else {
+        snapshot.shown(layout, 0, parts);
+    }
     encode_report::<F>(layout, 0, parts).as_slice() == bytes
 }
 
@@ -216,26 +228,39 @@ const SHOWN: [ShownRow; 12] = [
     ("padding",                  &PADDING,         &[],                                               &[0]),
 ];
 
+/// The same of its still part.
+#[rattlefmt::skip]
+const STILL: [ShownRow; 3] = [
+    ("values without a motion",  &VALUES,          &[Change::Set(FIRST, 5), Change::Set(SLIDER, 9), Change::Move(WHEEL, -4)], &[5, 9, 0, 0]),
+    ("more than a field carries", &VALUES,         &[Change::Move(WHEEL, 200)],                    &[8, 3, 0, 0]),
+    ("keys",                     &KEYS,            &[Change::Press(SECOND), Change::Press(A)],                &[0x02, 0x04, 0]),
+];
+
 /// Whether the report shows these bytes by both codecs.
 fn is_shown_so(
     alloc: Global,
     descriptor: &[u8],
     changes: &[Change],
+    still: bool,
     bytes: &[u8],
 ) -> Result<bool, Fail> {
     let layout = Layout::parse(alloc, descriptor)?;
     let mut snapshot = Snapshot::blank(alloc, &layout)?;
     let mut parts = Shown::blank(alloc, &layout)?;
     let changed = change_all(&mut snapshot, &layout, changes).is_ok();
-    let by_words = shows::<WordCodec>(&layout, &snapshot, &mut parts, bytes);
-    let by_bits = shows::<BitCodec>(&layout, &snapshot, &mut parts, bytes);
+    let by_words = shows::<WordCodec>(&layout, &snapshot, &mut parts, still, bytes);
+    let by_bits = shows::<BitCodec>(&layout, &snapshot, &mut parts, still, bytes);
     Ok(changed && by_words && by_bits)
 }
 
 /// The first row that isn't so.
-fn first_unshown(alloc: Global, rows: &[ShownRow]) -> Result<Option<&'static str>, Fail> {
+fn first_unshown(
+    alloc: Global,
+    rows: &[ShownRow],
+    still: bool,
+) -> Result<Option<&'static str>, Fail> {
     for (name, descriptor, changes, bytes) in rows {
-        if !is_shown_so(alloc, descriptor, changes, bytes)? {
+        if !is_shown_so(alloc, descriptor, changes, still, bytes)? {
             return Ok(Some(*name));
         }
     }
@@ -244,7 +269,39 @@ fn first_unshown(alloc: Global, rows: &[ShownRow]) -> Result<Option<&'static str
 
 #[test]
 fn reports_show_their_parts(rt: HostRuntime) -> Result<(), Fail> {
-    assert_eq!(rt; first_unshown(rt.alloc(), &SHOWN)?, None);
+    assert_eq!(rt; first_unshown(rt.alloc(), &SHOWN, false)?, None);
+    Ok(())
+}
+
+#[test]
+fn still_parts_show_no_motion(rt: HostRuntime) -> Result<(), Fail> {
+    assert_eq!(rt; first_unshown(rt.alloc(), &STILL, true)?, None);
+    Ok(())
+}
+
+/// The motions of both wheels, each shown in its report, once the second report is still; and whether it is due.
+fn hold(layout: &Layout, snapshot: &Snapshot, parts: &mut Shown) -> (i64, i64, bool)
+    requires snapshot { FitsSnapshot (items_of layout.now) snapshot.now }
+    requires parts { FitsShown (items_of layout.now) parts.old }
+{
+    if !is_input(layout, 0) || !is_input(layout, 1) || !has_zeros(layout) {
+        return (0, 0, false);
+    }
+    snapshot.shown(layout, 0, parts);
+    snapshot.shown(layout, 1, parts);
+    snapshot.still(layout, 1, parts);
+    let due = snapshot.due(layout, 1, parts);
+    (parts.motion(FIRST), parts.motion(SECOND_REPORT), due)
+}
+
+#[test]
+fn a_still_part_leaves_the_snapshot_and_other_parts(rt: HostRuntime) -> Result<(), Fail> {
+    let layout = Layout::parse(rt.alloc(), &TWO_WHEELS)?;
+    let mut snapshot = Snapshot::blank(rt.alloc(), &layout)?;
+    let mut parts = Shown::blank(rt.alloc(), &layout)?;
+    let moves = [Change::Move(FIRST, 5), Change::Move(SECOND_REPORT, 7)];
+    assert_eq!(rt; change_all(&mut snapshot, &layout, &moves), Ok(()));
+    assert_eq!(rt; hold(&layout, &snapshot, &mut parts), (5, 0, true));
     Ok(())
 }
 
@@ -291,7 +348,7 @@ const DUE: [Due; 11] = [
     ("a value",                     &VALUES, &[],                       &[Change::Set(FIRST, 0)],          true),
     ("null as before",              &VALUES, &[],                       &[Change::Null(FIRST)],            false),
     ("a motion",                    &VALUES, &[],                       &[Change::Move(WHEEL, -1)],        true),
-    ("a button of another report",  &NUMBERED, &[],                     &[Change::Press(BUTTON)],          false),
+    ("a button of another report",  &NUMBERED, &[],                     &[Change::Press(SECOND_REPORT)],          false),
 ];
 
 /// Whether a report is due, of a blank snapshot that is changed so.

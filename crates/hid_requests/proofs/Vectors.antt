@@ -1,9 +1,12 @@
--- Worked requests and descriptors (USB 2.0, 9.3, 9.4 and 9.6; HID 1.11, appendix E): each is computed by hand, and a wrong
+-- Worked requests and descriptors (USB 2.0, 9.3, 9.4 and 9.6; HID 1.11, 7.2 and appendix E): each is computed by hand, and a wrong
 -- one fails the check.
-use Rattle.std.proofs.Common.{◌≡◌, [], ◌∷◌, Some, None, refl}
+use Rattle.std.proofs.Common.{◌≡◌, [], ◌∷◌, true, Some, None, refl}
+use Rattle.hid_descriptor.specs.declared.report.ReportKind.TheVariants.{Feature}
 use Rattle.usb_control.specs.SetupBytes.{setup_bytes, setup_of}
 use Rattle.hid_requests.specs.declared.asked.Asked.TheVariants.{ReportDescriptor}
-use Rattle.hid_requests.specs.declared.request.Request.TheVariants.{Report}
+use Rattle.hid_requests.specs.declared.asked.Asked.TheVariants as rows
+use Rattle.hid_requests.specs.declared.class.Protocol.TheVariants.{Boot}
+use Rattle.hid_requests.specs.declared.request.Request.TheVariants.{Report, Idle, GetReport, Protocol}
 use Rattle.hid_requests.specs.Asked.{asked_of}
 use Rattle.hid_requests.specs.Asking.{setup_for}
 use Rattle.hid_requests.specs.Descriptors.{configuration_bytes, device_bytes}
@@ -21,6 +24,34 @@ report_row = refl
 second_report : asked_of (setup_of (0x81 ∷ 0x06 ∷ 0x01 ∷ 0x22 ∷ 0x00 ∷ 0x00 ∷ 0x3F ∷ 0x00 ∷ [])) ≡ None
 unfolding asked_of
 second_report = refl
+
+-- an idle time of 500 ms for all Input reports (HID 1.11, 7.2.4): its duration is 125
+idle_bytes : setup_bytes (setup_for (Idle 0 125) (record { report_length = 63 }))
+    ≡ 0x21 ∷ 0x0A ∷ 0x00 ∷ 0x7D ∷ 0x00 ∷ 0x00 ∷ 0x00 ∷ 0x00 ∷ []
+idle_bytes = refl
+
+-- the Feature report of ID 7 (7.2.1)
+feature_bytes : setup_bytes (setup_for (GetReport Feature 7) (record { report_length = 63 }))
+    ≡ 0xA1 ∷ 0x01 ∷ 0x07 ∷ 0x03 ∷ 0x00 ∷ 0x00 ∷ 0x40 ∷ 0x00 ∷ []
+feature_bytes = refl
+
+feature_row : asked_of (setup_of (0xA1 ∷ 0x01 ∷ 0x07 ∷ 0x03 ∷ 0x00 ∷ 0x00 ∷ 0x40 ∷ 0x00 ∷ [])) ≡ Some (rows.GetReport Feature 7)
+unfolding asked_of
+feature_row = refl
+
+-- there are no reports of type 4
+fourth_type : asked_of (setup_of (0xA1 ∷ 0x01 ∷ 0x07 ∷ 0x04 ∷ 0x00 ∷ 0x00 ∷ 0x40 ∷ 0x00 ∷ [])) ≡ None
+unfolding asked_of
+fourth_type = refl
+
+-- the boot protocol is 0 (7.2.6)
+boot_bytes : setup_bytes (setup_for (Protocol true) (record { report_length = 63 }))
+    ≡ 0x21 ∷ 0x0B ∷ 0x00 ∷ 0x00 ∷ 0x00 ∷ 0x00 ∷ 0x00 ∷ 0x00 ∷ []
+boot_bytes = refl
+
+boot_row : asked_of (setup_of (0x21 ∷ 0x0B ∷ 0x00 ∷ 0x00 ∷ 0x00 ∷ 0x00 ∷ 0x00 ∷ 0x00 ∷ [])) ≡ Some (rows.SetProtocol Boot)
+unfolding asked_of
+boot_row = refl
 
 -- vendor FFFF, product 0001
 device : device_bytes (record { vendor = 0xFFFF; product = 0x0001 })

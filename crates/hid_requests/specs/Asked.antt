@@ -1,9 +1,11 @@
--- What a setup asks of a device: the standard requests that it answers (USB 2.0, 9.4; HID 1.11, 7.1).
-use Rattle.std.specs.Prelude.{◌≡◌, ℕ, Bool, true, false, ◌&&◌, ◌==◌, if◌then◌else◌, Option, Some, None}
+-- What a setup asks of a device: the standard and class requests that it answers (USB 2.0, 9.4; HID 1.11, 7.1 and 7.2).
+use Rattle.std.specs.Prelude.{◌≡◌, ℕ, ◌/◌, ◌%◌, ◌^◌, Bool, true, false, ◌&&◌, ◌==◌, if◌then◌else◌, Option, Some, None, option_map}
 use Rattle.usb_control.specs.declared.setup.Setup.{Setup}
 use Rattle.usb_control.specs.SetupBytes.{reads}
 use Rattle.hid_requests.specs.declared.asked.Asked.{Asked}
-use Rattle.hid_requests.specs.declared.asked.Asked.TheVariants.{Status, InterfaceStatus, ControlStatus, ReportStatus, DeviceDescriptor, Configuration, HidDescriptor, ReportDescriptor, GetConfiguration, GetInterface, SetConfiguration}
+use Rattle.hid_requests.specs.declared.asked.Asked.TheVariants.{Status, InterfaceStatus, ControlStatus, ReportStatus, DeviceDescriptor, Configuration, HidDescriptor, ReportDescriptor, GetConfiguration, GetInterface, SetConfiguration, GetReport, GetIdle, GetProtocol, SetReport, SetIdle, SetProtocol}
+use Rattle.hid_requests.specs.declared.class.Protocol.TheVariants.{Boot, Report}
+use Rattle.hid_requests.specs.Class.{kind_of}
 
 -- a request with this bmRequestType, bRequest, wValue and wIndex (table 9-2)
 abbrev pub is_row : Setup → ℕ → ℕ → ℕ → ℕ → Bool
@@ -15,12 +17,13 @@ is_row setup type number value index =
 abbrev pub is_bare_row : Setup → ℕ → ℕ → ℕ → ℕ → Bool
 is_bare_row setup type number value index = is_row setup type number value index && (setup.length == 0)
 
--- Its row. bmRequestType is 0x80, 0x81 or 0x82 to read of the device, an interface or an endpoint, and 0x00 to write to
--- the device (table 9-2). bRequest is 0 GET_STATUS, 6 GET_DESCRIPTOR, 8 GET_CONFIGURATION, 9 SET_CONFIGURATION or
--- 10 GET_INTERFACE (table 9-4). wValue of GET_DESCRIPTOR has the type in its high byte, 1 device or 2 configuration
--- (table 9-5), 0x21 HID or 0x22 report (HID 1.11, 7.1), and in its low byte which of that type.
-unfoldable pub asked_of : Setup → Option Asked
-asked_of setup =
+-- Its row among the standard requests. bmRequestType is 0x80, 0x81 or 0x82 to read of the device, an interface or an
+-- endpoint, and 0x00 to write to the device (table 9-2). bRequest is 0 GET_STATUS, 6 GET_DESCRIPTOR,
+-- 8 GET_CONFIGURATION, 9 SET_CONFIGURATION or 10 GET_INTERFACE (table 9-4). wValue of GET_DESCRIPTOR has the type in its
+-- high byte, 1 device or 2 configuration (table 9-5), 0x21 HID or 0x22 report (HID 1.11, 7.1), and in its low byte which
+-- of that type.
+abbrev pub standard_row : Setup → Option Asked
+standard_row setup =
     if is_row setup 0x80 0 0 0 then Some Status
     else if is_row setup 0x81 0 0 0 then Some InterfaceStatus
     else if is_row setup 0x82 0 0 0x00 then Some ControlStatus
@@ -35,12 +38,56 @@ asked_of setup =
     else if is_bare_row setup 0x00 9 1 0 then Some SetConfiguration
     else None
 
+-- a request of interface 0 with this bmRequestType and bRequest, whatever its wValue
+abbrev pub is_class : Setup → ℕ → ℕ → Bool
+is_class setup type number =
+    ((setup.request_type == type) && (setup.request == number)) && (setup.index == 0)
+
+-- and without data
+abbrev pub is_bare_class : Setup → ℕ → ℕ → Bool
+is_bare_class setup type number = is_class setup type number && (setup.length == 0)
+
+-- wValue's high byte
+abbrev pub high_of : Setup → ℕ
+high_of setup = setup.value / 2 ^ 8
+
+-- and its low byte
+abbrev pub low_of : Setup → ℕ
+low_of setup = setup.value % 2 ^ 8
+
+-- Its row among the class requests, all of interface 0. bmRequestType is 0xA1 to read and 0x21 to write (HID 1.11, 7.2).
+-- bRequest is 1 GET_REPORT, 2 GET_IDLE, 3 GET_PROTOCOL, 9 SET_REPORT, 10 SET_IDLE or 11 SET_PROTOCOL. wValue has a Report
+-- ID in its low byte, and in its high byte the type of that report (7.2.1, 7.2.2), 0 (7.2.3) or the idle time (7.2.4);
+-- or it is the protocol (7.2.6).
+abbrev pub class_row : Setup → Option Asked
+class_row setup =
+    if is_class setup 0xA1 1 then option_map (λ kind. GetReport kind (low_of setup)) (kind_of (high_of setup))
+    else if is_row setup 0xA1 2 (low_of setup) 0 then Some (GetIdle (low_of setup))
+    else if is_row setup 0xA1 3 0 0 then Some GetProtocol
+    else if is_class setup 0x21 9 then option_map (λ kind. SetReport kind (low_of setup) setup.length) (kind_of (high_of setup))
+    else if is_bare_class setup 0x21 10 then Some (SetIdle (low_of setup) (high_of setup))
+    else if is_bare_row setup 0x21 11 0 0 then Some (SetProtocol Boot)
+    else if is_bare_row setup 0x21 11 1 0 then Some (SetProtocol Report)
+    else None
+
+-- Its row.
+unfoldable pub asked_of : Setup → Option Asked
+asked_of setup = elim (standard_row setup) [ None ↦ class_row setup | Some asked ↦ Some asked ]
+
 -- whether data of a row go to the host
 abbrev pub is_read : Asked → Bool
 is_read SetConfiguration = false
+is_read (SetReport kind id len) = false
+is_read (SetIdle id time) = false
+is_read (SetProtocol protocol) = false
 is_read _ = true
 
--- a request of a row reads where the row does, and a write has no data
+-- in bytes, the data of a write: those of the report that is set
+abbrev pub written : Asked → ℕ
+written (SetReport kind id len) = len
+written _ = 0
+
+-- a request of a row reads where the row does, and a write has as many bytes as its row
 pub record IsSorted (setup : Setup) (asked : Asked) : Type 0 where
   pub ways : reads setup ≡ is_read asked
-  pub bare : is_read asked ≡ false → setup.length ≡ 0
+  pub bytes : is_read asked ≡ false → setup.length ≡ written asked

@@ -1,3 +1,4 @@
+pub mod Class
 pub mod Asked
 pub mod Asking
 pub mod Descriptors

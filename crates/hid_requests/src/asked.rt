@@ -1,15 +1,18 @@
 //! What a device is asked.
 ghost use Rattle.std.specs.Prelude.{◌≡◌};
-ghost use Rattle.hid_requests.specs.Asked.{asked_of, is_bare_row, is_row};
+ghost use Rattle.hid_requests.specs.Asked.{asked_of, class_row, is_bare_class, is_bare_row, is_class, is_row, standard_row};
 
+use crate::class::{Protocol, kind_of};
 use crate::codes::{
     FIRST_CONFIGURATION, FIRST_DEVICE, FIRST_HID, FIRST_REPORT, GET_CONFIGURATION, GET_DESCRIPTOR,
-    GET_INTERFACE, GET_STATUS, OF_DEVICE, OF_ENDPOINT, OF_INTERFACE, SET_CONFIGURATION, TO_DEVICE,
+    GET_IDLE, GET_INTERFACE, GET_PROTOCOL, GET_REPORT, GET_STATUS, OF_CLASS, OF_DEVICE,
+    OF_ENDPOINT, OF_INTERFACE, SET_CONFIGURATION, SET_IDLE, SET_PROTOCOL, SET_REPORT, TO_CLASS,
+    TO_DEVICE,
 };
+use hid_descriptor::ReportKind;
 use usb_control::Setup;
 
-/// What a device is asked: a row of the requests that it answers (USB 2.0, 9.4; HID 1.11, 7.1). Class requests aren't
-/// among them yet.
+/// What a device is asked: a row of the requests that it answers (USB 2.0, 9.4; HID 1.11, 7.1 and 7.2).
 #[derive(Clone, Copy, Debug, PartialEq, Eq)]
 pub enum Asked {
     /// GET_STATUS of the device.
@@ -34,6 +37,38 @@ pub enum Asked {
     GetInterface,
     /// SET_CONFIGURATION with 1.
     SetConfiguration,
+    /// GET_REPORT (HID 1.11, 7.2.1).
+    GetReport {
+        kind: ReportKind,
+        /// Its Report ID, 0 where it has none.
+        id: u8,
+    },
+    /// GET_IDLE (7.2.3).
+    GetIdle {
+        /// The Report ID, 0 for all Input reports.
+        id: u8,
+    },
+    /// GET_PROTOCOL (7.2.5).
+    GetProtocol,
+    /// SET_REPORT (7.2.2).
+    SetReport {
+        kind: ReportKind,
+        /// Its Report ID, 0 where it has none.
+        id: u8,
+        /// In bytes, the data that come with it.
+        length: u16,
+    },
+    /// SET_IDLE (7.2.4).
+    SetIdle {
+        /// The Report ID, 0 for all Input reports.
+        id: u8,
+        /// In units of 4 ms; 0 is none: the report is sent on change alone.
+        time: u8,
+    },
+    /// SET_PROTOCOL (7.2.6).
+    SetProtocol {
+        protocol: Protocol,
+    },
 }
 
 // A request of this type and number, with this value and index.
@@ -52,11 +87,23 @@ fn is_bare_row(setup: &Setup, request_type: u8, request: u8, value: u16, index: 
     is_row(setup, request_type, request, value, index) && setup.length == 0
 }
 
-/// What a setup asks, where it is of a row that a device answers. Whether it is answered may rest on how the device
-/// stands: see `hid_device`.
-#[tactic(auto, unfolding(crate::specs::Asked::asked_of))]
-pub fn what_is_asked(setup: &Setup) -> Option<Asked>
-    ensures { result ≡ asked_of setup.now }
+// A request of interface 0 of this type and number, whatever its value.
+fn is_class(setup: &Setup, request_type: u8, request: u8) -> bool
+    ensures { result ≡ is_class setup.now request_type request }
+{
+    setup.request_type == request_type && setup.request == request && setup.index == 0
+}
+
+// The same without data.
+fn is_bare_class(setup: &Setup, request_type: u8, request: u8) -> bool
+    ensures { result ≡ is_bare_class setup.now request_type request }
+{
+    is_class(setup, request_type, request) && setup.length == 0
+}
+
+// Its row among the standard requests.
+fn standard_row(setup: &Setup) -> Option<Asked>
+    ensures { result ≡ standard_row setup.now }
 {
     if is_row(setup, OF_DEVICE, GET_STATUS, 0, 0) {
         Some(Asked::Status)
@@ -84,5 +131,52 @@ pub fn what_is_asked(setup: &Setup) -> Option<Asked>
         Some(Asked::SetConfiguration)
     } else {
         None
+    }
+}
+
+// Its row among the class requests. wValue has an ID in its low byte, and the type of a report or an idle time in its high
+// one.
+fn class_row(setup: &Setup) -> Option<Asked>
+    ensures { result ≡ class_row setup.now }
+{
+    let [id, high] = setup.value.to_le_bytes();
+    if is_class(setup, OF_CLASS, GET_REPORT) {
+        let kind = kind_of(high)?;
+        Some(Asked::GetReport { kind, id })
+    } else if is_row(setup, OF_CLASS, GET_IDLE, u16::from(id), 0) {
+        Some(Asked::GetIdle { id })
+    } else if is_row(setup, OF_CLASS, GET_PROTOCOL, 0, 0) {
+        Some(Asked::GetProtocol)
+    } else if is_class(setup, TO_CLASS, SET_REPORT) {
+        let kind = kind_of(high)?;
+        Some(Asked::SetReport {
+            kind,
+            id,
+            length: setup.length,
+        })
+    } else if is_bare_class(setup, TO_CLASS, SET_IDLE) {
+        Some(Asked::SetIdle { id, time: high })
+    } else if is_bare_row(setup, TO_CLASS, SET_PROTOCOL, 0, 0) {
+        Some(Asked::SetProtocol {
+            protocol: Protocol::Boot,
+        })
+    } else if is_bare_row(setup, TO_CLASS, SET_PROTOCOL, 1, 0) {
+        Some(Asked::SetProtocol {
+            protocol: Protocol::Report,
+        })
+    } else {
+        None
+    }
+}
+
+/// What a setup asks, where it is of a row that a device answers. Whether it is answered may rest on how the device
+/// stands: see `hid_device`.
+#[tactic(auto, unfolding(crate::specs::Asked::asked_of))]
+pub fn what_is_asked(setup: &Setup) -> Option<Asked>
+    ensures { result ≡ asked_of setup.now }
+{
+    match standard_row(setup) {
+        Some(asked) => Some(asked),
+        None => class_row(setup),
     }
 }

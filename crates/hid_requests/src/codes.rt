@@ -1,4 +1,4 @@
-//! Numbers of requests and descriptors (USB 2.0, tables 9-2, 9-4 and 9-5; HID 1.11, 7.1).
+//! Numbers of requests and descriptors (USB 2.0, tables 9-2, 9-4 and 9-5; HID 1.11, 7.1 and 7.2).
 
 /// bmRequestType: a read of the device.
 pub const OF_DEVICE: u8 = 0x80;
@@ -11,6 +11,12 @@ pub const OF_ENDPOINT: u8 = 0x82;
 
 /// bmRequestType: a write to the device.
 pub const TO_DEVICE: u8 = 0x00;
+
+/// bmRequestType: a read of an interface, by its class (HID 1.11, 7.2).
+pub const OF_CLASS: u8 = 0xA1;
+
+/// bmRequestType: a write to an interface, by its class.
+pub const TO_CLASS: u8 = 0x21;
 
 /// bRequest.
 pub const GET_STATUS: u8 = 0x00;
@@ -26,6 +32,24 @@ pub const SET_CONFIGURATION: u8 = 0x09;
 
 /// bRequest.
 pub const GET_INTERFACE: u8 = 0x0A;
+
+/// bRequest of a class request (HID 1.11, 7.2).
+pub const GET_REPORT: u8 = 0x01;
+
+/// bRequest of a class request.
+pub const GET_IDLE: u8 = 0x02;
+
+/// bRequest of a class request.
+pub const GET_PROTOCOL: u8 = 0x03;
+
+/// bRequest of a class request.
+pub const SET_REPORT: u8 = 0x09;
+
+/// bRequest of a class request.
+pub const SET_IDLE: u8 = 0x0A;
+
+/// bRequest of a class request.
+pub const SET_PROTOCOL: u8 = 0x0B;
 
 /// The type of a device descriptor.
 pub const DEVICE: u8 = 0x01;

@@ -1,17 +1,19 @@
 //! What follows for both ends: the requests of a host and the rows of a device, the bytes of one and what the other reads.
-ghost use Rattle.std.specs.Prelude.{◌≡◌, ℕ, Some, Ok};
+ghost use Rattle.std.specs.Prelude.{◌≡◌, ℕ, ◌<◌, ◌^◌, Some, Ok, length};
 ghost use Rattle.usb_control.specs.declared.setup.Setup.{Setup};
 ghost use Rattle.usb_control.specs.declared.descriptors.ConfigInfo.{ConfigInfo};
 ghost use Rattle.usb_control.specs.declared.descriptors.DeviceInfo.{DeviceInfo};
+ghost use Rattle.usb_control.specs.SetupBytes.{IsSpelled};
+ghost use Rattle.usb_control.specs.Host.{sent_length};
 ghost use Rattle.usb_control.specs.Descriptors.{IsDevice, ReadsConfig, device_info_of};
 ghost use Rattle.hid_requests.specs.declared.asked.Asked.{Asked};
 ghost use Rattle.hid_requests.specs.declared.request.Request.{Request};
 ghost use Rattle.hid_requests.specs.declared.request.Asking.{Asking};
 ghost use Rattle.hid_requests.specs.Asked.{IsSorted, asked_of};
-ghost use Rattle.hid_requests.specs.Asking.{row_of, setup_for};
+ghost use Rattle.hid_requests.specs.Asking.{FitsRequest, row_of, sends_of, setup_for};
 ghost use Rattle.hid_requests.specs.Descriptors.{FitsConfig, FitsDevice, configuration_bytes, device_bytes};
 
-/// A request reads or writes as its row does, and a write has no data.
+/// A request reads or writes as its row does, and a write has as many bytes as its row.
 #[tactic(auto, using(crate::proofs::AskedLemmas::sorted))]
 pub fn rows_are_sorted()
     ensures { (setup : Setup) (asked : Asked) → asked_of setup ≡ Some asked → IsSorted setup asked }
@@ -20,8 +22,22 @@ pub fn rows_are_sorted()
 /// What a host asks is of the row that it means.
 #[tactic(auto, using(crate::proofs::AskedLemmas::asked_so))]
 pub fn requests_have_rows()
-    ensures { (request : Request) (asking : Asking)
+    ensures { (request : Request) (asking : Asking) → FitsRequest request
         → asked_of (setup_for request asking) ≡ Some (row_of request) }
+{}
+
+/// The data that go with a request are as long as its setup data say, and there are none with a read.
+#[tactic(auto, using(crate::proofs::AskedLemmas::sends_so))]
+pub fn data_are_announced()
+    ensures { (request : Request) (asking : Asking)
+        → length (sends_of request) ≡ sent_length (setup_for request asking) }
+{}
+
+/// What a host asks can be spelled.
+#[tactic(auto, using(crate::proofs::AskedLemmas::spelled_so))]
+pub fn requests_are_spelled()
+    ensures { (request : Request) (asking : Asking) → FitsRequest request → asking.report_length < 2 ^ 16
+        → IsSpelled (setup_for request asking) }
 {}
 
 /// What a host reads of a configuration is what it was made of.

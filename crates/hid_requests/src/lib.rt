@@ -1,5 +1,5 @@
-//! What is asked at endpoint 0, at both ends, and the descriptors that answer it (USB 2.0, 9.4 to 9.6; HID 1.11, 6.2.1 and
-//! 7.1).
+//! What is asked at endpoint 0, at both ends, and the descriptors that answer it (USB 2.0, 9.4 to 9.6; HID 1.11, 6.2.1,
+//! 7.1 and 7.2).
 //! ```text
 //!   host                                          device
 //!   Request --setup--> Setup, 8 bytes ----------> what_is_asked --> Asked, or nothing that it answers
@@ -8,13 +8,16 @@
 //!   Config     80 06 00 02 00 00 FF 00            Configuration      configuration: 34 bytes, four descriptors
 //!   Report     81 06 00 22 00 00 length           ReportDescriptor   the descriptor of the device's reports
 //!   Configure  00 09 01 00 00 00 00 00            SetConfiguration   it takes effect
+//!   Idle       21 0A id time 00 00 00 00          SetIdle            of the class: wValue is two bytes
 //! ```
-//! The rule to know: a row has one wValue and one wIndex, the status of endpoint 0 two; a request with others is nothing
-//! that a device answers. wLength counts in a write alone; the answer to a read is cut to it as it is sent.
+//! The rule to know: a standard row has one wValue and one wIndex, the status of endpoint 0 two; a request with others is
+//! nothing that a device answers. A row of the class has wIndex 0, and in wValue a Report ID with the type of that report
+//! or its idle time, or a protocol. wLength counts in a write alone; the answer to a read is cut to it as it is sent.
 //!
 //! The promise: a request is told as the row that the standard's tables have for it ([`what_is_asked`]), what a host asks
-//! has a row ([`laws::requests_have_rows`]), and what a host reads of a device's configuration is what it was made of
-//! ([`laws::configurations_are_read`]). No call takes memory, and none is refused.
+//! has a row ([`laws::requests_have_rows`]) and as much data as it says ([`laws::data_are_announced`]), and what a host
+//! reads of a device's configuration is what it was made of ([`laws::configurations_are_read`]). No call takes memory, and
+//! none is refused.
 //! ```text
 //!   let setup = Request::Configure.setup(&Asking { report_length: 63 });    // 00 09 01 00 00 00 00 00
 //!   what_is_asked(&setup)                                                   // Some(Asked::SetConfiguration)
@@ -22,12 +25,14 @@
 #![tactic(auto)]
 
 mod asked;
+mod class;
 mod codes;
 mod descriptors;
 pub mod laws;
 mod request;
 
 pub use asked::{Asked, what_is_asked};
+pub use class::Protocol;
 pub use descriptors::{configuration, device_descriptor, hid_descriptor};
 pub use request::{Asking, Request};
 

@@ -1,16 +1,20 @@
 //! What a host asks.
 ghost use Rattle.std.specs.Prelude.{◌≡◌};
 ghost use Rattle.usb_control.specs.SetupBytes.{IsSpelled};
-ghost use Rattle.hid_requests.specs.Asking.{asks, setup_for};
+ghost use Rattle.hid_requests.specs.Asking.{FitsRequest, asks, protocol_of, sends_of, setup_for, word_of};
 
+use crate::class::{Protocol, type_of};
 use crate::codes::{
-    FIRST_CONFIGURATION, FIRST_DEVICE, FIRST_REPORT, GET_CONFIGURATION, GET_DESCRIPTOR, GET_STATUS,
-    OF_DEVICE, OF_INTERFACE, SET_CONFIGURATION, TO_DEVICE,
+    FIRST_CONFIGURATION, FIRST_DEVICE, FIRST_REPORT, GET_CONFIGURATION, GET_DESCRIPTOR, GET_IDLE,
+    GET_PROTOCOL, GET_REPORT, GET_STATUS, OF_CLASS, OF_DEVICE, OF_INTERFACE, SET_CONFIGURATION,
+    SET_IDLE, SET_PROTOCOL, SET_REPORT, TO_CLASS, TO_DEVICE,
 };
+use arrayvec::ArrayVec;
+use hid_descriptor::ReportKind;
 use usb_control::Setup;
 
-/// What a host asks, in the order in which it brings a device up.
-#[derive(Clone, Copy, Debug, PartialEq, Eq)]
+/// What a host asks: the first four bring a device up, in their order.
+#[derive(Debug, Drop, PartialEq, Eq)]
 pub enum Request {
     /// The device descriptor.
     Device,
@@ -24,6 +28,38 @@ pub enum Request {
     Status,
     /// Whether the device is configured.
     GetConfiguration,
+    /// To send a report once more when this time is over without a change (HID 1.11, 7.2.4).
+    Idle {
+        /// The Report ID, 0 for all Input reports.
+        id: u8,
+        /// In units of 4 ms; 0 is none: the report is sent on change alone.
+        time: u8,
+    },
+    /// That time.
+    GetIdle {
+        /// The Report ID, 0 for the lowest Input report.
+        id: u8,
+    },
+    /// To send boot reports, or the device's own (7.2.6).
+    Protocol {
+        boot: bool,
+    },
+    /// Which of these it sends.
+    GetProtocol,
+    /// A report as it is now (7.2.1).
+    GetReport {
+        kind: ReportKind,
+        /// Its Report ID, 0 where it has none.
+        id: u8,
+    },
+    /// To take a report (7.2.2).
+    SetReport {
+        kind: ReportKind,
+        /// Its Report ID, 0 where it has none.
+        id: u8,
+        /// The report, its ID first where it has one.
+        bytes: ArrayVec<u8, 64>,
+    },
 }
 
 /// What a host knows of a device when it asks.
@@ -34,10 +70,12 @@ pub struct Asking {
 }
 
 impl Request {
-    /// The setup data of the request (USB 2.0, 9.4). A configuration is asked for once, with 255 bytes (our choice).
+    /// The setup data of the request (USB 2.0, 9.4; HID 1.11, 7.2). A configuration is asked for once, with 255 bytes, and a
+    /// report with 64 (our choice).
     pub fn setup(&self, asking: &Asking) -> Setup
         ensures setup { result ≡ setup_for self.now asking.now }
         ensures spelled { IsSpelled result }
+        ensures fits { FitsRequest self.now }
     {
         match self {
             Request::Device => asks(OF_DEVICE, GET_DESCRIPTOR, FIRST_DEVICE, 18),
@@ -51,8 +89,87 @@ impl Request {
             Request::Configure => asks(TO_DEVICE, SET_CONFIGURATION, 1, 0),
             Request::Status => asks(OF_DEVICE, GET_STATUS, 0, 2),
             Request::GetConfiguration => asks(OF_DEVICE, GET_CONFIGURATION, 0, 1),
+            Request::Idle { id, time } => asks(TO_CLASS, SET_IDLE, word_of(*time, *id), 0),
+            Request::GetIdle { id } => asks(OF_CLASS, GET_IDLE, u16::from(*id), 1),
+            Request::Protocol { boot } => asks(
+                TO_CLASS,
+                SET_PROTOCOL,
+                u16::from(protocol_of(*boot).number()),
+                0,
+            ),
+            Request::GetProtocol => asks(OF_CLASS, GET_PROTOCOL, 0, 1),
+            Request::GetReport { kind, id } => asks(
+                OF_CLASS,
+                GET_REPORT,
+                word_of(type_of(*kind), *id),
+                64,
+            ),
+            Request::SetReport { kind, id, bytes } => asks(
+                TO_CLASS,
+                SET_REPORT,
+                word_of(type_of(*kind), *id),
+                bytes.len() as u16,
+            ),
         }
     }
+
+    /// The data that go with it: those of the report that is set, and none with any other.
+    pub fn sends(&self) -> &[u8]
+        ensures { result.now ≡ sends_of self.now }
+    {
+        match self {
+            Request::SetReport { bytes, .. } => bytes,
+            _ => &[],
+        }
+    }
+
+    /// The same request once more.
+    pub fn copied(&self) -> Request
+        ensures { result ≡ self.now }
+    {
+        match self {
+            Request::Device => Request::Device,
+            Request::Config => Request::Config,
+            Request::Report => Request::Report,
+            Request::Configure => Request::Configure,
+            Request::Status => Request::Status,
+            Request::GetConfiguration => Request::GetConfiguration,
+            Request::Idle { id, time } => Request::Idle {
+                id: *id,
+                time: *time,
+            },
+            Request::GetIdle { id } => Request::GetIdle { id: *id },
+            Request::Protocol { boot } => Request::Protocol { boot: *boot },
+            Request::GetProtocol => Request::GetProtocol,
+            Request::GetReport { kind, id } => Request::GetReport {
+                kind: *kind,
+                id: *id,
+            },
+            Request::SetReport { kind, id, bytes } => Request::SetReport {
+                kind: *kind,
+                id: *id,
+                bytes: ArrayVec::try_from(bytes.as_slice()).unwrap(),
+            },
+        }
+    }
+}
+
+// The boot protocol, or the report protocol.
+fn protocol_of(boot: bool) -> Protocol
+    ensures { result ≡ protocol_of boot }
+{
+    if boot {
+        Protocol::Boot
+    } else {
+        Protocol::Report
+    }
+}
+
+// A word of this high and low byte.
+fn word_of(high: u8, low: u8) -> u16
+    ensures { result ≡ word_of high low }
+{
+    u16::from_le_bytes([low, high])
 }
 
 // A request with wIndex 0.

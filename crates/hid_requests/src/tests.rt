@@ -1,17 +1,34 @@
-//! Requests in the bytes of USB 2.0, 9.4, and HID 1.11, 7.1; descriptors in the layouts of USB 2.0, 9.6, and those of the
-//! keyboard and the mouse of HID 1.11, appendix E.
+//! Requests in the bytes of USB 2.0, 9.4, and HID 1.11, 7.1 and 7.2; descriptors in the layouts of USB 2.0, 9.6, and
+//! those of the keyboard and the mouse of HID 1.11, appendix E.
 use super::*;
+use arrayvec::ArrayVec;
+use hid_descriptor::ReportKind;
 use usb_control::{ConfigInfo, DeviceInfo, Setup};
 
 /// What a host asks, with its eight bytes and what that asks of a device.
 #[rattlefmt::skip]
-const REQUESTS: [(&str, Request, [u8; 8], Asked); 6] = [
+const REQUESTS: [(&str, Request, [u8; 8], Asked); 14] = [
     ("device",        Request::Device,           [0x80, 0x06, 0x00, 0x01, 0x00, 0x00, 0x12, 0x00], Asked::DeviceDescriptor),
     ("configuration", Request::Config,           [0x80, 0x06, 0x00, 0x02, 0x00, 0x00, 0xFF, 0x00], Asked::Configuration),
     ("report",        Request::Report,           [0x81, 0x06, 0x00, 0x22, 0x00, 0x00, 0x32, 0x01], Asked::ReportDescriptor),
     ("configure",     Request::Configure,        [0x00, 0x09, 0x01, 0x00, 0x00, 0x00, 0x00, 0x00], Asked::SetConfiguration),
     ("status",        Request::Status,           [0x80, 0x00, 0x00, 0x00, 0x00, 0x00, 0x02, 0x00], Asked::Status),
     ("number",        Request::GetConfiguration, [0x80, 0x08, 0x00, 0x00, 0x00, 0x00, 0x01, 0x00], Asked::GetConfiguration),
+    ("idle time",     Request::Idle { id: 3, time: 250 },
+                                                 [0x21, 0x0A, 0x03, 0xFA, 0x00, 0x00, 0x00, 0x00], Asked::SetIdle { id: 3, time: 250 }),
+    ("of all",        Request::Idle { id: 0, time: 1 },
+                                                 [0x21, 0x0A, 0x00, 0x01, 0x00, 0x00, 0x00, 0x00], Asked::SetIdle { id: 0, time: 1 }),
+    ("is asked for",  Request::GetIdle { id: 255 },
+                                                 [0xA1, 0x02, 0xFF, 0x00, 0x00, 0x00, 0x01, 0x00], Asked::GetIdle { id: 255 }),
+    ("boot protocol", Request::Protocol { boot: true },
+                                                 [0x21, 0x0B, 0x00, 0x00, 0x00, 0x00, 0x00, 0x00], Asked::SetProtocol { protocol: Protocol::Boot }),
+    ("own protocol",  Request::Protocol { boot: false },
+                                                 [0x21, 0x0B, 0x01, 0x00, 0x00, 0x00, 0x00, 0x00], Asked::SetProtocol { protocol: Protocol::Report }),
+    ("is asked for",  Request::GetProtocol,      [0xA1, 0x03, 0x00, 0x00, 0x00, 0x00, 0x01, 0x00], Asked::GetProtocol),
+    ("input report",  Request::GetReport { kind: ReportKind::Input, id: 2 },
+                                                 [0xA1, 0x01, 0x02, 0x01, 0x00, 0x00, 0x40, 0x00], Asked::GetReport { kind: ReportKind::Input, id: 2 }),
+    ("feature",       Request::GetReport { kind: ReportKind::Feature, id: 0 },
+                                                 [0xA1, 0x01, 0x00, 0x03, 0x00, 0x00, 0x40, 0x00], Asked::GetReport { kind: ReportKind::Feature, id: 0 }),
 ];
 
 #[test]
@@ -23,12 +40,44 @@ fn a_host_asks_in_the_bytes_of_the_standard(rt: HostRuntime) {
         let setup = request.setup(&asking);
         assert_eq!(rt; setup.to_bytes(), bytes, "{name}");
         assert_eq!(rt; what_is_asked(&setup), Some(asked), "{name}");
+        assert!(rt; request.sends().is_empty(), "{name}");
+        assert_eq!(rt; request.copied(), request, "{name}");
+    }
+}
+
+/// Reports that are set, with their setup data: that of HID 1.11, appendix B.1, with Caps Lock lit, and one of an ID and two
+/// bytes.
+#[rattlefmt::skip]
+const REPORTS: [(ReportKind, u8, &[u8], [u8; 8]); 2] = [
+    (ReportKind::Output,  0, &[0x02],             [0x21, 0x09, 0x00, 0x02, 0x00, 0x00, 0x01, 0x00]),
+    (ReportKind::Feature, 7, &[0x07, 0xAB, 0xCD], [0x21, 0x09, 0x07, 0x03, 0x00, 0x00, 0x03, 0x00]),
+];
+
+#[test]
+fn a_report_goes_with_its_request(rt: HostRuntime) {
+    let asking = Asking { report_length: 63 };
+    for (kind, id, report, wanted) in REPORTS {
+        let mut bytes = ArrayVec::new();
+        assert!(rt; bytes.try_extend_from_slice(report).is_ok());
+        let request = Request::SetReport { kind, id, bytes };
+        let setup = request.setup(&asking);
+        assert_eq!(rt; setup.to_bytes(), wanted);
+        assert_eq!(rt;
+            what_is_asked(&setup),
+            Some(Asked::SetReport {
+                kind,
+                id,
+                length: setup.length
+            })
+        );
+        assert_eq!(rt; request.sends(), report);
+        assert_eq!(rt; request.copied(), request);
     }
 }
 
 /// Setup data, each row beside the nearest that is none.
 #[rattlefmt::skip]
-const ROWS: [(&str, [u8; 8], Option<Asked>); 34] = [
+const ROWS: [(&str, [u8; 8], Option<Asked>); 60] = [
     ("the device's status",             [0x80, 0x00, 0, 0, 0, 0, 2, 0],          Some(Asked::Status)),
     ("with a value",                    [0x80, 0x00, 1, 0, 0, 0, 2, 0],          None),
     ("with an index",                   [0x80, 0x00, 0, 0, 1, 0, 2, 0],          None),
@@ -62,7 +111,33 @@ const ROWS: [(&str, [u8; 8], Option<Asked>); 34] = [
     ("with data",                       [0x00, 0x09, 1, 0, 0, 0, 1, 0],          None),
     ("an address",                      [0x00, 0x05, 1, 0, 0, 0, 0, 0],          None),
     ("a feature",                       [0x02, 0x03, 0, 0, 0x81, 0, 0, 0],       None),
-    ("a report, of the class",          [0xA1, 0x01, 0, 1, 0, 0, 8, 0],          None),
+    ("an input report",                 [0xA1, 0x01, 0, 1, 0, 0, 8, 0],          Some(Asked::GetReport { kind: ReportKind::Input, id: 0 })),
+    ("of ID 2",                         [0xA1, 0x01, 2, 1, 0, 0, 8, 0],          Some(Asked::GetReport { kind: ReportKind::Input, id: 2 })),
+    ("more bytes than any has",         [0xA1, 0x01, 2, 1, 0, 0, 0xFF, 0xFF],    Some(Asked::GetReport { kind: ReportKind::Input, id: 2 })),
+    ("an output report",                [0xA1, 0x01, 255, 2, 0, 0, 8, 0],        Some(Asked::GetReport { kind: ReportKind::Output, id: 255 })),
+    ("a feature report",                [0xA1, 0x01, 0, 3, 0, 0, 8, 0],          Some(Asked::GetReport { kind: ReportKind::Feature, id: 0 })),
+    ("of type 0",                       [0xA1, 0x01, 0, 0, 0, 0, 8, 0],          None),
+    ("of type 4",                       [0xA1, 0x01, 0, 4, 0, 0, 8, 0],          None),
+    ("of interface 1",                  [0xA1, 0x01, 0, 1, 1, 0, 8, 0],          None),
+    ("of the device",                   [0xA0, 0x01, 0, 1, 0, 0, 8, 0],          None),
+    ("an idle time",                    [0xA1, 0x02, 9, 0, 0, 0, 1, 0],          Some(Asked::GetIdle { id: 9 })),
+    ("with a high byte",                [0xA1, 0x02, 9, 1, 0, 0, 1, 0],          None),
+    ("of interface 256",                [0xA1, 0x02, 9, 0, 0, 1, 1, 0],          None),
+    ("the protocol",                    [0xA1, 0x03, 0, 0, 0, 0, 1, 0],          Some(Asked::GetProtocol)),
+    ("with a value",                    [0xA1, 0x03, 1, 0, 0, 0, 1, 0],          None),
+    ("an output report is set",         [0x21, 0x09, 0, 2, 0, 0, 1, 0],          Some(Asked::SetReport { kind: ReportKind::Output, id: 0, length: 1 })),
+    ("an input report is set",          [0x21, 0x09, 1, 1, 0, 0, 65, 0],         Some(Asked::SetReport { kind: ReportKind::Input, id: 1, length: 65 })),
+    ("one of type 4",                   [0x21, 0x09, 0, 4, 0, 0, 1, 0],          None),
+    ("of interface 1",                  [0x21, 0x09, 0, 2, 1, 0, 1, 0],          None),
+    ("an idle time is set",             [0x21, 0x0A, 2, 125, 0, 0, 0, 0],        Some(Asked::SetIdle { id: 2, time: 125 })),
+    ("with data",                       [0x21, 0x0A, 2, 125, 0, 0, 1, 0],        None),
+    ("of interface 1",                  [0x21, 0x0A, 2, 125, 1, 0, 0, 0],        None),
+    ("the boot protocol is set",        [0x21, 0x0B, 0, 0, 0, 0, 0, 0],          Some(Asked::SetProtocol { protocol: Protocol::Boot })),
+    ("the report protocol is set",      [0x21, 0x0B, 1, 0, 0, 0, 0, 0],          Some(Asked::SetProtocol { protocol: Protocol::Report })),
+    ("protocol 2",                      [0x21, 0x0B, 2, 0, 0, 0, 0, 0],          None),
+    ("protocol 256",                    [0x21, 0x0B, 0, 1, 0, 0, 0, 0],          None),
+    ("with data",                       [0x21, 0x0B, 0, 0, 0, 0, 1, 0],          None),
+    ("another request of the class",    [0x21, 0x0C, 0, 0, 0, 0, 0, 0],          None),
 ];
 
 #[test]

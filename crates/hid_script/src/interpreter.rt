@@ -166,7 +166,7 @@ impl Interpreter {
                 self.step(&Step::Control { dev, fate }, writer)
             }
             Line::Begin { dev, request } => {
-                let (dev, request) = (*dev, *request);
+                let (dev, request) = (*dev, request.copied());
                 self.step(&Step::Begin { dev, request }, writer)
             }
         }

@@ -17,8 +17,6 @@ use Rattle.usb_control.specs.Transfer.{Act, Decides, Nothing, TakesEffect, Decis
 use Rattle.usb_control.proofs.LawLemmas.{kept_is}
 use Rattle.usb_control.proofs.MeanwhileLemmas.{goes_by, is_running_runs, runs_so}
 use Rattle.hid_requests.specs.declared.request.Asking.{Asking}
-use Rattle.hid_requests.specs.declared.request.Request.{Request}
-use Rattle.hid_requests.specs.declared.request.Request.TheVariants as requests
 use Rattle.hid_lives.specs.Lives.{Deed}
 use Rattle.hid_lives.specs.Rounds.{OwnStep, Changes, Frame, Polls}
 use Rattle.hid_device.specs.declared.decisions.Pending.{Pending}
@@ -28,14 +26,21 @@ use Rattle.hid_device.specs.Deciding.{core_table}
 use Rattle.hid_host.specs.declared.host.Transfer.{Transfer}
 use Rattle.hid_host.specs.declared.phase.HostState.{HostState}
 use Rattle.hid_host.specs.declared.phase.HostState.TheVariants as states
-use Rattle.hid_host.specs.Bringing.{carries_out, configures}
+use Rattle.hid_requests.specs.Asking.{FitsRequest, sends_of}
+use Rattle.hid_host.specs.Bringing.{is_configure}
 use Rattle.hid_host.specs.Host.{running, running_at}
 use Rattle.hid_host.specs.Knowing.{IsBehindSetup, IsDecided}
 use Rattle.hid_host.proofs.KnowingLemmas.{acts_go, decided_behind, decided_stays}
-use Rattle.hid_stack.specs.Members.{Member, MemberStep, Scheduled, Begins, Controls, configured_deed, control_at, core_at, deeds_in, ends_tried_at, member_after, scheduled_deed, tried_deed, tried_of, tried_to}
-use Rattle.hid_stack.specs.Transfers.{BeginsNone, configurations, ends_at, is_configure, setup_at, tries_of, try_at}
+use Rattle.hid_host.proofs.RoundLemmas.{is_configuring, pends_so}
+use Rattle.hid_stack.specs.Members.{Member, MemberStep, Scheduled, Begins, Controls, brought_deed, control_at, core_at, deeds_in, effect_deed, ends_tried_at, member_after, scheduled_deed, tried_deed, tried_of, tried_to, written_deed}
+use Rattle.hid_stack.specs.Transfers.{BeginsNone, configurations, ends_at, setup_at, tries_of, try_at}
 
 -- ---- one try
+
+-- one more, or as many
+abbrev more : Bool → ℕ → ℕ
+more true n = suc n
+more false n = n
 
 -- only a status takes effect
 effect_behind : (p : Position) (shape : Shape) (fate : Fate) (d held : Decision) (applied : Bool) → is_effect (act_at p shape fate d held applied) ≡ true → IsBehindSetup p
@@ -47,37 +52,36 @@ effect_behind (Piece k) shape fate d held applied h = tt
 effect_behind Status shape fate d held applied h = tt
 effect_behind Past shape fate d held applied h = tt
 
--- what is to be carried out behind SETUP
-abbrev pending_if : Bool → Pending
-pending_if sets = if sets then pendings.Configure else pendings.Nothing
+-- a configuration befalls the device where the effect of a request for it is carried out
+written_as : (core : CoreState) (pending : Pending) (bytes : List ℕ) (rest : List Deed)
+    → configurations (cons_option (written_deed core pending) rest) ≡ more (is_configuring pending) (configurations rest)
+written_as core pendings.Nothing bytes rest = refl
+written_as core pendings.Configure bytes rest = refl
+written_as core (pendings.Keep i) bytes rest = refl
+written_as core (pendings.Idle report time) bytes rest = refl
+written_as core (pendings.Protocol protocol) bytes rest = refl
 
-pends_so : (request : Request) (core : CoreState) (d : Decision) → IsDecided request core d → core.pending ≡ pending_if (is_configure request)
-pends_so requests.Device core d h = h.1
-pends_so requests.Config core d h = h.1
-pends_so requests.Report core d h = h.1
-pends_so requests.Configure core d h = h.1
-pends_so requests.Status core d h = h.1
-pends_so requests.GetConfiguration core d h = h.1
+effect_as : (e : Effect) (core : CoreState) (sets : Bool) (rest : List Deed) → (is_applied e ≡ true → is_configuring core.pending ≡ sets)
+    → configurations (cons_option (effect_deed e core) rest) ≡ more (is_applied e && sets) (configurations rest)
+effect_as (Answers answer stage heard) core sets rest pends = refl
+effect_as (Decides' bytes) core sets rest pends = refl
+effect_as (Applies bytes) core sets rest pends = written_as core core.pending bytes rest ∙ ap (λ (b : Bool). more b (configurations rest)) (pends refl)
 
-carries_as : (e : Effect) (sets : Bool) (pending : Pending) → (is_applied e ≡ true → pending ≡ pending_if sets) → carries_out e pending ≡ (is_applied e && sets)
-carries_as (Answers answer stage heard) sets pending pends = refl
-carries_as (Decides' bytes) sets pending pends = refl
-carries_as (Applies bytes) true pending pends = ap (carries_out (Applies bytes)) (pends refl)
-carries_as (Applies bytes) false pending pends = ap (carries_out (Applies bytes)) (pends refl)
-
-configures_as : (fate : Fate) (ends : HostTransferState) (control : DevControlState CoreState) (sets : Bool) → (takes_effect core_table fate ends control ≡ true → control.requests.pending ≡ pending_if sets)
-    → configures fate ends control ≡ (takes_effect core_table fate ends control && sets)
-configures_as TokenLost ends control sets pends = refl
-configures_as Clean ends control sets pends = carries_as (effect_reached core_table ends control) sets control.requests.pending pends
-configures_as ReplyLost ends control sets pends = carries_as (effect_reached core_table ends control) sets control.requests.pending pends
-configures_as AckLost ends control sets pends = carries_as (effect_reached core_table ends control) sets control.requests.pending pends
+brought_as : (fate : Fate) (ends : HostTransferState) (control : DevControlState CoreState) (sets : Bool) (rest : List Deed)
+    → (takes_effect core_table fate ends control ≡ true → is_configuring control.requests.pending ≡ sets)
+    → configurations (cons_option (brought_deed fate ends control) rest) ≡ more (takes_effect core_table fate ends control && sets) (configurations rest)
+brought_as TokenLost ends control sets rest pends = refl
+brought_as Clean ends control sets rest pends = effect_as (effect_reached core_table ends control) control.requests sets rest pends
+brought_as ReplyLost ends control sets rest pends = effect_as (effect_reached core_table ends control) control.requests sets rest pends
+brought_as AckLost ends control sets rest pends = effect_as (effect_reached core_table ends control) control.requests sets rest pends
 
 -- ---- both ends stand at a place, with what the device decided
 
 pub record Stood (m : Member) (t : Transfer) (place : Place) : Type 0 where
   pub asked : t.ends.setup ≡ setup_at m t.request
   pub spelled : IsSpelled t.ends.setup
-  pub stands : StandAt core_table [] place (ends_at m t)
+  pub fits : FitsRequest t.request
+  pub stands : StandAt core_table (sends_of t.request) place (ends_at m t)
   pub decided : IsBehindSetup place.host → IsDecided t.request (core_at m) place.decision
 
 -- a step of the schedule leaves it
@@ -87,7 +91,8 @@ stood_scheduled x m t place s =
     record {
       asked = s.asked;
       spelled = s.spelled;
-      stands = kept_is core_table.answer_of (shape_of t.ends.setup) [] place t.ends (control_at m) (control_at n) s.stands refl refl;
+      fits = s.fits;
+      stands = kept_is core_table.answer_of (shape_of t.ends.setup) (sends_of t.request) place t.ends (control_at m) (control_at n) s.stands refl refl;
       decided = λ behind. decided_stays t.request (core_at m) (core_at n) place.decision (record { layout = refl; config = refl; descriptor = refl; configured = λ h. h }) refl (s.decided behind);
     }
 
@@ -98,35 +103,31 @@ tried_transfer fate m t = record t { ends = ends_tried_at fate m t }
 abbrev place_behind : Fate → Member → Transfer → Place → Place
 place_behind fate m t place = tried (shape_of t.ends.setup) fate (decision_now core_table (ends_at m t)) place
 
-stood_tried : (fate : Fate) (m : Member) (t : Transfer) (place : Place) (host : HostState) → Stood m t place → GoesBy core_table [] place fate (ends_at m t)
+stood_tried : (fate : Fate) (m : Member) (t : Transfer) (place : Place) (host : HostState) → Stood m t place → GoesBy core_table (sends_of t.request) place fate (ends_at m t)
     → Stood (tried_to fate m t host) (tried_transfer fate m t) (place_behind fate m t place)
 stood_tried fate m t place host s g =
     let n = tried_to fate m t host in
     let control = control_tried core_table fate t.ends (control_at m) in
     let asking : Asking = record { report_length = length m.descriptor } in
-    let goes = acts_go t.ends.setup (act_now core_table place fate (ends_at m t)) (core_at m) control.requests g.acts in
+    let goes = acts_go t.ends.setup (sends_of t.request) (act_now core_table place fate (ends_at m t)) (core_at m) control.requests g.acts in
     record {
       asked = g.asked ∙ s.asked;
       spelled = subst IsSpelled (sym g.asked) s.spelled;
-      stands = kept_is core_table.answer_of (shape_of (ends_tried_at fate m t).setup) [] (place_behind fate m t place) (ends_tried_at fate m t) control (control_at n) g.stands refl refl;
+      fits = s.fits;
+      stands = kept_is core_table.answer_of (shape_of (ends_tried_at fate m t).setup) (sends_of t.request) (place_behind fate m t place) (ends_tried_at fate m t) control (control_at n) g.stands refl refl;
       decided = λ behind. decided_stays t.request control.requests (core_at n) (place_behind fate m t place).decision
           (record { layout = sym goes.layout; config = sym goes.config; descriptor = sym goes.descriptor; configured = λ h. h }) refl
-          (decided_behind t.request asking t.ends.setup fate (decision_now core_table (ends_at m t)) place.host place (core_at m) control.requests s.asked refl g.acts s.decided behind);
+          (decided_behind t.request asking t.ends.setup (sends_of t.request) fate (decision_now core_table (ends_at m t)) place.host place (core_at m) control.requests s.fits s.asked refl g.acts s.decided behind);
     }
 
-try_configures : (fate : Fate) (m : Member) (t : Transfer) (place : Place) → Stood m t place → GoesBy core_table [] place fate (ends_at m t)
-    → configures fate t.ends (control_at m) ≡ (is_effect (act_now core_table place fate (ends_at m t)) && is_configure t.request)
-try_configures fate m t place s g =
-    configures_as fate t.ends (control_at m) (is_configure t.request)
+try_configures : (fate : Fate) (m : Member) (t : Transfer) (place : Place) (rest : List Deed) → Stood m t place → GoesBy core_table (sends_of t.request) place fate (ends_at m t)
+    → configurations (cons_option (brought_deed fate t.ends (control_at m)) rest) ≡ more (is_effect (act_now core_table place fate (ends_at m t)) && is_configure t.request) (configurations rest)
+try_configures fate m t place rest s g =
+    brought_as fate t.ends (control_at m) (is_configure t.request) rest
     (λ takes. pends_so t.request (core_at m) place.decision (s.decided (effect_behind place.host (shape_of t.ends.setup) fate (decision_now core_table (ends_at m t)) place.decision place.applied (sym g.takes ∙ takes))))
-    ∙ ap (λ (b : Bool). b && is_configure t.request) g.takes
+    ∙ ap (λ (b : Bool). more (b && is_configure t.request) (configurations rest)) g.takes
 
 -- ---- whole lists
-
--- one more, or as many
-abbrev more : Bool → ℕ → ℕ
-more true n = suc n
-more false n = n
 
 -- the effects that count for a request
 abbrev pub counts_for : Bool → ℕ → List Act → ℕ
@@ -146,10 +147,6 @@ one_act false n TakesEffect rest = refl
 none_counts : (sets : Bool) (n : ℕ) → counts_for sets n [] ≡ 0 + n
 none_counts true n = omega arith
 none_counts false n = omega arith
-
-one_deed : (b : Bool) (deeds : List Deed) → configurations (cons_option (configured_deed b) deeds) ≡ more b (configurations deeds)
-one_deed true deeds = refl
-one_deed false deeds = refl
 
 more_before : (b : Bool) (m n : ℕ) → m + more b n ≡ more b m + n
 more_before true m n = omega arith
@@ -203,7 +200,7 @@ try_counts : (fate : Fate) (steps : List MemberStep) (m : Member) (t : Transfer)
 try_counts fate steps m t place n none s runs later =
     let shape = shape_of t.ends.setup in
     let sets = is_configure t.request in
-    let g = goes_by core_table [] place fate (ends_at m t) s.spelled (is_running_runs t.ends.stage runs) s.stands in
+    let g = goes_by core_table (sends_of t.request) place fate (ends_at m t) s.spelled (is_running_runs t.ends.stage runs) s.stands in
     let act = act_now core_table place fate (ends_at m t) in
     let k = tried_of fate m (Some t) in
     let behind = place_behind fate m t place in
@@ -211,19 +208,18 @@ try_counts fate steps m t place n none s runs later =
     let once : Bool = is_effect act && sets in
     let rest : counts_for sets (more once n) (acts (shape_of (ends_tried_at fate m t).setup) xs behind) ≡ configurations (deeds_in k steps) + more once n
     = later k (tried_transfer fate m t) behind (more once n) refl none (stood_tried fate m t place k.host s g) in
-    ap (counts_for sets n) (open_acts shape (fate, decision_now core_table (ends_at m t)) xs place (sym (runs_so core_table [] place (ends_at m t) s.stands) ∙ runs))
+    ap (counts_for sets n) (open_acts shape (fate, decision_now core_table (ends_at m t)) xs place (sym (runs_so core_table (sends_of t.request) place (ends_at m t) s.stands) ∙ runs))
     ∙ one_act sets n act (acts shape xs behind)
     ∙ ap (λ (s : Shape). counts_for sets (more once n) (acts s xs behind)) (sym (ap shape_of g.asked))
     ∙ rest
     ∙ more_before once (configurations (deeds_in k steps)) n
-    ∙ ap (λ (c : ℕ). c + n) (sym (one_deed once (deeds_in k steps)))
-    ∙ ap (λ (b : Bool). configurations (cons_option (configured_deed b) (deeds_in k steps)) + n) (sym (try_configures fate m t place s g))
+    ∙ ap (λ (c : ℕ). c + n) (sym (try_configures fate m t place (deeds_in k steps) s g))
 
 over_counts : (fate : Fate) (steps : List MemberStep) (m : Member) (t : Transfer) (place : Place) (n : ℕ) → m.transfer ≡ Some t → BeginsNone steps → Stood m t place → is_running t.ends.stage ≡ false → Behind steps
     → Counts fate steps m t place n None (Some t)
 over_counts fate steps m t place n has none s over later =
     let shape = shape_of t.ends.setup in
-    let closed : is_open place ≡ false = sym (runs_so core_table [] place (ends_at m t) s.stands) ∙ over in
+    let closed : is_open place ≡ false = sym (runs_so core_table (sends_of t.request) place (ends_at m t) s.stands) ∙ over in
     ap (counts_for (is_configure t.request) n) (closed_acts shape (try_at fate m (Some t) ++ tries_of m steps) place closed ∙ sym (closed_acts shape (tries_of m steps) place closed))
     ∙ later m t place n has none s
 

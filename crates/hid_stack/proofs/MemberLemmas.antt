@@ -1,10 +1,14 @@
 -- What the steps of one device make of it and its host.
-use Rattle.std.proofs.Common.{ℕ, ◌≡◌, ◌++◌, ◌∙◌, Bool, true, false, List, [], ◌∷◌, Option, Some, None, map, refl, sym, ap, subst}
+use Rattle.std.proofs.Common.{ℕ, ◌≡◌, ◌++◌, ◌∙◌, List, [], ◌∷◌, Option, Some, None, map, refl, sym, ap, subst}
 use Rattle.std.specs.List.{cons_option}
 use Rattle.hid_layout.specs.Controls.{Item, items_of}
 use Rattle.usb_transact.specs.declared.transaction.Fate.{Fate}
+use Rattle.usb_transact.specs.declared.transaction.Fate.TheVariants.{Clean, TokenLost, ReplyLost, AckLost}
+use Rattle.usb_control.specs.Computed.{effect_reached}
+use Rattle.usb_control.specs.Device.{Answers, Applies, Decides, DevControlState, Effect}
+use Rattle.usb_control.specs.Host.{HostTransferState}
 use Rattle.hid_requests.specs.declared.request.Request.{Request}
-use Rattle.hid_lives.specs.Lives.{Deed, Own, befallen, befallen_all, owns, told_in}
+use Rattle.hid_lives.specs.Lives.{Deed, Own, Idles, Configures, befallen, befallen_all, owns, told_in}
 use Rattle.hid_lives.specs.Motion.{AreBetweenRounds}
 use Rattle.hid_lives.specs.Rounds.{OwnStep, Changes, Frame, Polls}
 use Rattle.hid_lives.specs.Stations.{Station, after_all}
@@ -12,11 +16,14 @@ use Rattle.hid_host.specs.declared.fault.StackFault.{StackFault}
 use Rattle.hid_host.specs.declared.host.Transfer.{Transfer}
 use Rattle.hid_host.specs.declared.phase.HostState.{HostState}
 use Rattle.hid_host.specs.declared.phase.HostState.TheVariants as states
-use Rattle.hid_host.specs.Bringing.{configures}
 use Rattle.hid_host.specs.Host.{running}
-use Rattle.hid_stack.specs.Members.{Member, MemberStep, Scheduled, Begins, Controls, befallen_by, begin_refusal_at, begun_unless, configured_deed, control_at, deed_at, deeds_in, events_by, member_after, member_after_all, scheduled_deed, tried_deed, tried_of, unconcluded_of}
+use Rattle.hid_stack.specs.Members.{Member, MemberStep, Scheduled, Begins, Controls, befallen_by, begin_refusal_at, begun_unless, brought_deed, control_at, deed_at, deeds_in, effect_deed, events_by, member_after, member_after_all, scheduled_deed, tried_deed, tried_of, unconcluded_of, written_deed}
 use Rattle.hid_layout.specs.Layout.{Contents}
 use Rattle.hid_device.specs.declared.config.Config.{Config}
+use Rattle.hid_device.specs.declared.decisions.Pending.{Pending}
+use Rattle.hid_device.specs.declared.decisions.Pending.TheVariants as pendings
+use Rattle.hid_device.specs.Core.{CoreState}
+use Rattle.hid_device.specs.Deciding.{core_table}
 use Rattle.hid_stack.specs.Laws.{IsMadeAs}
 use Rattle.hid_stack.specs.Sums.{IsBetween}
 
@@ -81,14 +88,39 @@ pub unconcluded_station : (fate : Fate) (m : Member) (o : Option Transfer) → (
 unconcluded_station fate m None = refl
 unconcluded_station fate m (Some t) = refl
 
--- transfers deliver nothing
-configured_quiet : (items : List Item) (s : Station) (b : Bool) → events_by items s (configured_deed b) ≡ []
-configured_quiet items s true = refl
-configured_quiet items s false = refl
+-- what a try brings about is no step of the schedule
+abbrev pub IsEffect : Option Deed → Type 0
+IsEffect (Some (Own x)) = ⊥
+IsEffect _ = Unit {0}
+
+written_effect : (core : CoreState) (pending : Pending) → IsEffect (written_deed core pending)
+written_effect core pendings.Nothing = tt
+written_effect core pendings.Configure = tt
+written_effect core (pendings.Keep i) = tt
+written_effect core (pendings.Idle report time) = tt
+written_effect core (pendings.Protocol protocol) = tt
+
+is_effect : (effect : Effect) (core : CoreState) → IsEffect (effect_deed effect core)
+is_effect (Answers answer stage heard) core = tt
+is_effect (Decides bytes) core = tt
+is_effect (Applies bytes) core = written_effect core core.pending
+
+pub brings_effect : (fate : Fate) (ends : HostTransferState) (control : DevControlState CoreState) → IsEffect (brought_deed fate ends control)
+brings_effect TokenLost ends control = tt
+brings_effect Clean ends control = is_effect (effect_reached core_table ends control) control.requests
+brings_effect ReplyLost ends control = is_effect (effect_reached core_table ends control) control.requests
+brings_effect AckLost ends control = is_effect (effect_reached core_table ends control) control.requests
+
+-- so transfers deliver nothing
+quiet_effect : (items : List Item) (s : Station) (o : Option Deed) → IsEffect o → events_by items s o ≡ []
+quiet_effect items s None is = refl
+quiet_effect items s (Some (Own x)) is = absurd is
+quiet_effect items s (Some (Idles idle)) is = refl
+quiet_effect items s (Some Configures) is = refl
 
 pub tried_quiet : (items : List Item) (s : Station) (fate : Fate) (m : Member) (o : Option Transfer) → events_by items s (tried_deed fate m o) ≡ []
 tried_quiet items s fate m None = refl
-tried_quiet items s fate m (Some t) = configured_quiet items s (configures fate t.ends (control_at m))
+tried_quiet items s fate m (Some t) = quiet_effect items s (brought_deed fate t.ends (control_at m)) (brings_effect fate t.ends (control_at m))
 
 -- ---- lists of steps
 

@@ -120,7 +120,14 @@ ready_member d home c s = record {
   descriptor = c.descriptor;
   layout = c.layout;
   station = s;
-  endpoint = record { is_configured = c.is_configured; answer = c.answer; pending = c.pending; stage = d.control.stage };
+  endpoint = record {
+    is_configured = c.is_configured;
+    protocol = c.protocol;
+    outputs = c.outputs;
+    answer = c.answer;
+    pending = c.pending;
+    stage = d.control.stage;
+  };
   host = states.Ready;
   transfer = home.transfer;
 }
@@ -163,6 +170,7 @@ closed_sound c r s = record {
   each_frames = s.each_frames;
   each_idle = s.each_idle;
   of_input = tt;
+  outputs = s.outputs;
 }
 
 -- an ACK that arrives closes the round

@@ -11,7 +11,7 @@ use Rattle.hid_layout.specs.Controls.{Item, items_of}
 use Rattle.hid_layout.specs.Layout.{Contents}
 use Rattle.usb_transact.specs.declared.transaction.Fate.{Fate}
 use Rattle.hid_layout.specs.declared.control.ControlId.{ControlId}
-use Rattle.hid_lives.specs.Lives.{Deed, Configures, befallen, befallen_all, told_in}
+use Rattle.hid_lives.specs.Lives.{Deed, Own, Idles, Configures, befallen, befallen_all, told_in}
 use Rattle.hid_lives.specs.Motion.{AreBetweenRounds, given_motion, Conserves, station_motion, accepted_in, HasMotions}
 use Rattle.hid_lives.specs.Rounds.{Changes, Polls}
 use Rattle.hid_lives.specs.Rounds as own_steps
@@ -20,18 +20,17 @@ use Rattle.hid_host.specs.declared.fault.StackFault.{StackFault}
 use Rattle.hid_host.specs.declared.fault.StackFault.TheVariants.{NoDevice, NotReady, Refused, BadDescriptor, Report, TooManyDevices, Memory}
 use Rattle.hid_host.specs.declared.fault.StackFault.TheVariants as faults
 use Rattle.hid_host.specs.declared.host.Transfer.{Transfer}
-use Rattle.hid_host.specs.Bringing.{configures}
 use Rattle.hid_host.specs.Host.{running}
 use Rattle.hid_host.specs.declared.phase.HostState.{HostState}
 use Rattle.hid_host.specs.declared.phase.HostState.TheVariants as states
 use Rattle.hid_stack.specs.declared.step.Step.{Step}
 use Rattle.hid_stack.specs.declared.step.Step.TheVariants.{Change, Frame, Poll, Begin, Control}
 use Rattle.hid_stack.specs.declared.step.Delivered.{Delivered}
-use Rattle.hid_stack.specs.Members.{Member, MemberStep, Scheduled, Begins, Controls, befallen_by, configured_deed, control_at, deed_at, deeds_in, member_after, member_after_all, scheduled_deed, tried_deed, unconcluded_of}
+use Rattle.hid_stack.specs.Members.{Member, MemberStep, Scheduled, Begins, Controls, befallen_by, brought_deed, control_at, deed_at, deeds_in, member_after, member_after_all, scheduled_deed, tried_deed, unconcluded_of}
 use Rattle.hid_stack.specs.Rig.{member_at, with_member, one_after, one_unconcluded, refused_after, bus_after, bus_after_all, delivered_in, member_step, member_steps, from_device}
 use Rattle.hid_stack.specs.Sums.{AllHaveMotions, ConfiguresBetweenRounds, IsBetween, RefusedKeepMotion, SumsUp}
 use Rattle.hid_stack.proofs.Isolation.{isolated, same_or_not, states as states_of, with_other, with_same}
-use Rattle.hid_stack.proofs.MemberLemmas.{between_append, between_one, layout_stays, layouts_stay, station_is, stations, unconcluded_layout, unconcluded_station}
+use Rattle.hid_stack.proofs.MemberLemmas.{IsEffect, between_append, between_one, brings_effect, layout_stays, layouts_stay, station_is, stations, unconcluded_layout, unconcluded_station}
 use Rattle.hid_lives.proofs.ItemMotionLemmas.{given_append}
 use Rattle.hid_lives.proofs.MotionLemmas.{lived_has, lives_keep}
 
@@ -180,16 +179,20 @@ between_more members mid steps i d lt before first one device m h =
 abbrev motion_at : Member → ControlId → ℤ
 motion_at m c = station_motion (items_of m.layout) m.station c
 
-configured_keeps : (items : List Item) (s : Station) (b : Bool) (c : ControlId) → HasMotions items s → IsBetween s (configured_deed b) → station_motion items (befallen_by items s (configured_deed b)) c ≡ station_motion items s c
-configured_keeps items s false c has between = refl
-configured_keeps items s true c has between =
+effect_keeps : (items : List Item) (s : Station) (o : Option Deed) (c : ControlId) → HasMotions items s → IsEffect o → IsBetween s o → station_motion items (befallen_by items s o) c ≡ station_motion items s c
+effect_keeps items s None c has is between = refl
+effect_keeps items s (Some (Own x)) c has is between = absurd is
+effect_keeps items s (Some (Idles idle)) c has is between =
+    let sum : Conserves c [] (station_motion items s c) [] (station_motion items (befallen items s (Idles idle)) c) = lives_keep items s has (Idles idle ∷ []) (between, tt) c in
+    omega (arith, ints, sum)
+effect_keeps items s (Some Configures) c has is between =
     let sum : Conserves c [] (station_motion items s c) [] (station_motion items (befallen items s Configures) c) = lives_keep items s has (Configures ∷ []) (between, tt) c in
     omega (arith, ints, sum)
 
 tried_keeps : (fate : Fate) (m : Member) (o : Option Transfer) (c : ControlId) → HasItsMotions m → IsBetween m.station (tried_deed fate m o)
     → station_motion (items_of m.layout) (befallen_by (items_of m.layout) m.station (tried_deed fate m o)) c ≡ motion_at m c
 tried_keeps fate m None c has between = refl
-tried_keeps fate m (Some t) c has between = configured_keeps (items_of m.layout) m.station (configures fate t.ends (control_at m)) c has between
+tried_keeps fate m (Some t) c has between = effect_keeps (items_of m.layout) m.station (brought_deed fate t.ends (control_at m)) c has (brings_effect fate t.ends (control_at m)) between
 
 unconcluded_keeps : (fate : Fate) (m : Member) (c : ControlId) → HasItsMotions m → IsBetween m.station (deed_at m (Controls fate)) → motion_at (unconcluded_of fate m (running m.transfer)) c ≡ motion_at m c
 unconcluded_keeps fate m c has between =

@@ -15,15 +15,22 @@ use Rattle.usb_control.specs.declared.fault.ControlFault.TheVariants.{NoTransfer
 use Rattle.usb_control.specs.declared.host.HostStage.{HostStage}
 use Rattle.usb_control.specs.declared.host.HostStage.TheVariants as stages
 use Rattle.usb_control.specs.declared.host.Progress.{Progress}
-use Rattle.usb_control.specs.Computed.{AppliesBy, PreparesBy, control_tried, host_tried}
-use Rattle.usb_control.specs.Device.{DevControlState}
+use Rattle.usb_control.specs.Computed.{AppliesBy, PreparesBy, control_tried, effect_reached, host_tried}
+use Rattle.usb_control.specs.Device.{Answers, Applies, Decides, DevControlState, Effect}
 use Rattle.usb_control.specs.Host.{HostTransferState, progress_of}
 use Rattle.hid_requests.specs.declared.request.Request.{Request}
 use Rattle.hid_requests.specs.declared.request.Request.TheVariants as requests
 use Rattle.hid_lives.specs.Stations.{Station, Open}
 use Rattle.hid_device.specs.declared.device.TheConstants.{ENDPOINT}
-use Rattle.hid_device.specs.Core.{CoreState, IsSound}
-use Rattle.hid_device.specs.Deciding.{core_table}
+use Rattle.hid_requests.specs.declared.class.Protocol.{Protocol}
+use Rattle.hid_lives.specs.Lives.{Deed, Own, Idles, Configures, befallen}
+use Rattle.hid_lives.specs.Standing.{with_idle}
+use Rattle.hid_device.specs.declared.decisions.Pending.{Pending}
+use Rattle.hid_device.specs.declared.decisions.Pending.TheVariants as pendings
+use Rattle.hid_device.specs.Apart.{carries_out}
+use Rattle.hid_device.specs.Core.{CoreState, IsSound, configured_core}
+use Rattle.hid_device.specs.Outputs.{kept}
+use Rattle.hid_device.specs.Deciding.{core_table, effected, idle_set}
 use Rattle.hid_device.specs.Device.{DeviceState, core_of}
 use Rattle.hid_device.specs.Laying.{Lays}
 use Rattle.hid_host.specs.declared.fault.StackFault.{StackFault}
@@ -33,13 +40,13 @@ use Rattle.hid_host.specs.declared.phase.HostPhase.{HostPhase}
 use Rattle.hid_host.specs.declared.phase.HostPhase.TheVariants.{Cold, Described, Parsed, Ready}
 use Rattle.hid_host.specs.declared.phase.HostState.{HostState}
 use Rattle.hid_host.specs.declared.phase.HostState.TheVariants as states
-use Rattle.hid_host.specs.Bringing.{IsComputed, TakesMemory, answering, brought, brought_at, configured_if, configures, ends_after}
+use Rattle.hid_host.specs.Bringing.{IsComputed, TakesMemory, answering, brought, brought_about, brought_at, carried_out, configures, ends_after}
 use Rattle.hid_host.specs.Host.{ControlSteps, HostEnd, TriesOnce, running}
 use Rattle.hid_host.specs.Knowing.{IsNoRefusal, Knows, KnowsAt}
 use Rattle.hid_host.specs.Phase.{may_begin, state_of}
 use Rattle.hid_host.specs.Ready.{Known, known_at_start}
 use Rattle.hid_device.specs.declared.config.Config.{Config}
-use Rattle.hid_stack.specs.Members.{Endpoint, Member, befallen_by, configured_deed, control_at, core_at, endpoint_of, ends_tried_at, state_at, state_behind, tried_deed, tried_to}
+use Rattle.hid_stack.specs.Members.{Endpoint, Member, befallen_by, brought_deed, control_at, core_at, effect_deed, endpoint_of, ends_tried_at, state_at, state_behind, tried_deed, tried_to, written_deed}
 use Rattle.hid_stack.specs.Slot.{ArePaired, IsEven, IsUntouched, StandTogether, TriesTransfer, joint, round_between, station_of}
 use Rattle.hid_stack.specs.Sums.{IsBetween}
 
@@ -76,18 +83,18 @@ ends_apart Clean ends core stage heard = refl
 ends_apart ReplyLost ends core stage heard = refl
 ends_apart AckLost ends core stage heard = refl
 
-configures_apart : (fate : Fate) (ends : HostTransferState) (core : CoreState) (stage : Stage) (heard : Heard)
-    → configures fate ends (heard_as core stage heard) ≡ configures fate ends (heard_as core stage hears.Nothing)
-configures_apart TokenLost ends core stage heard = refl
-configures_apart Clean ends core stage heard = refl
-configures_apart ReplyLost ends core stage heard = refl
-configures_apart AckLost ends core stage heard = refl
+deed_apart : (fate : Fate) (ends : HostTransferState) (core : CoreState) (stage : Stage) (heard : Heard)
+    → brought_deed fate ends (heard_as core stage heard) ≡ brought_deed fate ends (heard_as core stage hears.Nothing)
+deed_apart TokenLost ends core stage heard = refl
+deed_apart Clean ends core stage heard = refl
+deed_apart ReplyLost ends core stage heard = refl
+deed_apart AckLost ends core stage heard = refl
 
 -- so both sides of a try are those of the member
 pub record SameTry (fate : Fate) (device : DeviceState) (host : HostEnd) (t : Transfer) : Type 0 where
   pub endpoint : endpoint_of (control_tried core_table fate t.ends device.control) ≡ endpoint_of (control_tried core_table fate t.ends (control_at (joint device host)))
   pub ends : ends_after fate t device.control ≡ ends_tried_at fate (joint device host) t
-  pub effect : configures fate t.ends device.control ≡ configures fate t.ends (control_at (joint device host))
+  pub deed : brought_deed fate t.ends device.control ≡ brought_deed fate t.ends (control_at (joint device host))
 
 same_try : (fate : Fate) (device : DeviceState) (host : HostEnd) (t : Transfer) → SameTry fate device host t
 same_try fate device host t =
@@ -96,44 +103,116 @@ same_try fate device host t =
     record {
       endpoint = heard_apart fate t.ends (core_of device) c.stage c.heard ∙ ap (λ (x : DevControlState CoreState). endpoint_of (control_tried core_table fate t.ends x)) back;
       ends = ends_apart fate t.ends (core_of device) c.stage c.heard ∙ ap (host_tried core_table fate t.ends) back;
-      effect = configures_apart fate t.ends (core_of device) c.stage c.heard ∙ ap (configures fate t.ends) back;
+      deed = deed_apart fate t.ends (core_of device) c.stage c.heard ∙ ap (brought_deed fate t.ends) back;
     }
 
--- ---- the station behind a try
-
--- a try leaves what the device was made with
-answering_config : (b : Bool) (core other : CoreState) → (answering (configured_if b core) other).config ≡ core.config
-answering_config true core other = refl
-answering_config false core other = refl
-
-answering_descriptor : (b : Bool) (core other : CoreState) → (answering (configured_if b core) other).descriptor ≡ core.descriptor
-answering_descriptor true core other = refl
-answering_descriptor false core other = refl
-
-answering_layout : (b : Bool) (core other : CoreState) → (answering (configured_if b core) other).layout ≡ core.layout
-answering_layout true core other = refl
-answering_layout false core other = refl
+-- ---- the device behind a try
 
 -- the rounds of a device that isn't polled yet
 pub record NoRounds (core : CoreState) : Type 0 where
   pub no_round : core.current ≡ None
   pub even : core.toggle ≡ false
 
-answering_none : (b : Bool) (core other : CoreState) → NoRounds core → NoRounds (answering (configured_if b core) other)
-answering_none true core other none = record { no_round = refl; even = refl }
-answering_none false core other none = record { no_round = none.no_round; even = none.even }
+-- what a try leaves of a device where this befalls it: a configuration takes effect for a host that isn't ready
+pub record Leaves (core then : CoreState) (deed : Option Deed) : Type 0 where
+  pub config : then.config ≡ core.config
+  pub descriptor : then.descriptor ≡ core.descriptor
+  pub layout : then.layout ≡ core.layout
+  pub none : NoRounds core → NoRounds then
+  pub station : (phase : HostPhase) → (deed ≡ Some Configures → state_of phase ≡ states.Parsed)
+      → station_of then phase ≡ befallen_by (items_of core.layout) (station_of core phase) deed
+  pub configured : (deed ≡ Some Configures → ⊥) → then.is_configured ≡ core.is_configured
+  pub rounds : (deed ≡ Some Configures → ⊥) → (then.current ≡ core.current) × (then.toggle ≡ core.toggle)
 
--- a configuration takes effect for a host that isn't ready
-station_with : (b : Bool) (core other : CoreState) (phase : HostPhase) → (b ≡ true → state_of phase ≡ states.Parsed)
-    → station_of (answering (configured_if b core) other) phase ≡ befallen_by (items_of core.layout) (station_of core phase) (configured_deed b)
-station_with true core other Cold parsed = let wrong = parsed refl in absurd (cc)
-station_with true core other (Described info) parsed = let wrong = parsed refl in absurd (cc)
-station_with true core other (Parsed info layout) parsed = refl
-station_with true core other (Ready known) parsed = let wrong = parsed refl in absurd (cc)
-station_with false core other Cold parsed = refl
-station_with false core other (Described info) parsed = refl
-station_with false core other (Parsed info layout) parsed = refl
-station_with false core other (Ready known) parsed = refl
+-- the station but for what is kept at endpoint 0
+station_kept : (core other : CoreState) (protocol : Protocol) (outputs : List (List ℕ)) (phase : HostPhase)
+    → station_of (answering (record core { protocol = protocol; outputs = outputs }) other) phase ≡ station_of core phase
+station_kept core other protocol outputs Cold = refl
+station_kept core other protocol outputs (Described info) = refl
+station_kept core other protocol outputs (Parsed info layout) = refl
+station_kept core other protocol outputs (Ready known) = refl
+
+idles_set : (core other : CoreState) (idle : List ℕ) (phase : HostPhase)
+    → station_of (answering (record core { standing = with_idle idle core.standing }) other) phase ≡ befallen (items_of core.layout) (station_of core phase) (Idles idle)
+idles_set core other idle Cold = refl
+idles_set core other idle (Described info) = refl
+idles_set core other idle (Parsed info layout) = refl
+idles_set core other idle (Ready known) = refl
+
+configured_with : (core other : CoreState) (phase : HostPhase) → state_of phase ≡ states.Parsed
+    → station_of (answering (configured_core core) other) phase ≡ befallen (items_of core.layout) (station_of core phase) Configures
+configured_with core other Cold parsed = absurd (cc)
+configured_with core other (Described info) parsed = absurd (cc)
+configured_with core other (Parsed info layout) parsed = refl
+configured_with core other (Ready known) parsed = absurd (cc)
+
+nothing_leaves : (core other : CoreState) (protocol : Protocol) (outputs : List (List ℕ)) → Leaves core (answering (record core { protocol = protocol; outputs = outputs }) other) None
+nothing_leaves core other protocol outputs = record {
+  config = refl;
+  descriptor = refl;
+  layout = refl;
+  none = λ n. record { no_round = n.no_round; even = n.even };
+  station = λ phase parsed. station_kept core other protocol outputs phase;
+  configured = λ apart. refl;
+  rounds = λ apart. (refl, refl);
+}
+
+written_leaves : (core other : CoreState) (bytes : List ℕ) (pending : Pending) → Leaves core (answering (effected core bytes pending) other) (written_deed core pending)
+written_leaves core other bytes pendings.Nothing = nothing_leaves core other core.protocol core.outputs
+written_leaves core other bytes (pendings.Keep i) = nothing_leaves core other core.protocol (kept core.outputs i bytes)
+written_leaves core other bytes (pendings.Protocol protocol) = nothing_leaves core other protocol core.outputs
+written_leaves core other bytes (pendings.Idle report time) = record {
+  config = refl;
+  descriptor = refl;
+  layout = refl;
+  none = λ n. record { no_round = n.no_round; even = n.even };
+  station = λ phase parsed. idles_set core other (idle_set core.standing.idle report time) phase;
+  configured = λ apart. refl;
+  rounds = λ apart. (refl, refl);
+}
+written_leaves core other bytes pendings.Configure = record {
+  config = refl;
+  descriptor = refl;
+  layout = refl;
+  none = λ n. record { no_round = refl; even = refl };
+  station = λ phase parsed. configured_with core other phase (parsed refl);
+  configured = λ apart. absurd (apart refl);
+  rounds = λ apart. absurd (apart refl);
+}
+
+effect_leaves : (effect : Effect) (core other : CoreState) → Leaves core (answering (carried_out effect core) other) (effect_deed effect core)
+effect_leaves (Answers answer stage heard) core other = nothing_leaves core other core.protocol core.outputs
+effect_leaves (Decides bytes) core other = nothing_leaves core other core.protocol core.outputs
+effect_leaves (Applies bytes) core other = written_leaves core other bytes core.pending
+
+brought_leaves : (fate : Fate) (ends : HostTransferState) (control : DevControlState CoreState) (other : CoreState) → Leaves control.requests (answering (brought_about fate ends control) other) (brought_deed fate ends control)
+brought_leaves TokenLost ends control other = nothing_leaves control.requests other control.requests.protocol control.requests.outputs
+brought_leaves Clean ends control other = effect_leaves (effect_reached core_table ends control) control.requests other
+brought_leaves ReplyLost ends control other = effect_leaves (effect_reached core_table ends control) control.requests other
+brought_leaves AckLost ends control other = effect_leaves (effect_reached core_table ends control) control.requests other
+
+pub leaves_by : (fate : Fate) (ends : HostTransferState) (control : DevControlState CoreState) (then : CoreState) → then ≡ answering (brought_about fate ends control) then
+    → Leaves control.requests then (brought_deed fate ends control)
+leaves_by fate ends control then is = subst (λ (c : CoreState). Leaves control.requests c (brought_deed fate ends control)) (sym is) (brought_leaves fate ends control then)
+
+-- a configuration is brought about where this is told
+written_configures : (bytes : List ℕ) (core : CoreState) (pending : Pending) → written_deed core pending ≡ Some Configures → carries_out (Applies bytes) pending ≡ true
+written_configures bytes core pendings.Nothing h = absurd (cc)
+written_configures bytes core pendings.Configure h = refl
+written_configures bytes core (pendings.Keep i) h = absurd (cc)
+written_configures bytes core (pendings.Idle report time) h = absurd (cc)
+written_configures bytes core (pendings.Protocol protocol) h = absurd (cc)
+
+effect_configures : (effect : Effect) (core : CoreState) → effect_deed effect core ≡ Some Configures → carries_out effect core.pending ≡ true
+effect_configures (Answers answer stage heard) core h = absurd (cc)
+effect_configures (Decides bytes) core h = absurd (cc)
+effect_configures (Applies bytes) core h = written_configures bytes core core.pending h
+
+brought_configures : (fate : Fate) (ends : HostTransferState) (control : DevControlState CoreState) → brought_deed fate ends control ≡ Some Configures → configures fate ends control ≡ true
+brought_configures TokenLost ends control h = absurd (cc)
+brought_configures Clean ends control h = effect_configures (effect_reached core_table ends control) control.requests h
+brought_configures ReplyLost ends control h = effect_configures (effect_reached core_table ends control) control.requests h
+brought_configures AckLost ends control h = effect_configures (effect_reached core_table ends control) control.requests h
 
 -- where the host goes on, the station stays: it becomes ready with its initial view, and no round is open
 configured_at : (core : CoreState) (addr : ℕ) (phase : HostPhase) → core.current ≡ None → station_of core (Ready (known_at_start addr ENDPOINT core.layout)) ≡ station_of core Cold
@@ -146,6 +225,12 @@ brought_station : (request : Request) (addr : ℕ) (core : CoreState) (phase : H
 brought_station requests.Device addr core phase needs none = refl
 brought_station requests.Status addr core phase needs none = refl
 brought_station requests.GetConfiguration addr core phase needs none = refl
+brought_station (requests.Idle id time) addr core phase needs none = refl
+brought_station (requests.GetIdle id) addr core phase needs none = refl
+brought_station (requests.Protocol boot) addr core phase needs none = refl
+brought_station requests.GetProtocol addr core phase needs none = refl
+brought_station (requests.GetReport kind id) addr core phase needs none = refl
+brought_station (requests.SetReport kind id set) addr core phase needs none = refl
 brought_station requests.Config addr core Cold needs none = refl
 brought_station requests.Config addr core (Described info) needs none = absurd (cc)
 brought_station requests.Config addr core (Parsed info layout) needs none = absurd (cc)
@@ -178,6 +263,12 @@ state_brought requests.Report addr core phase = refl
 state_brought requests.Configure addr core phase = refl
 state_brought requests.Status addr core phase = refl
 state_brought requests.GetConfiguration addr core phase = refl
+state_brought (requests.Idle id time) addr core phase = refl
+state_brought (requests.GetIdle id) addr core phase = refl
+state_brought (requests.Protocol boot) addr core phase = refl
+state_brought requests.GetProtocol addr core phase = refl
+state_brought (requests.GetReport kind id) addr core phase = refl
+state_brought (requests.SetReport kind id set) addr core phase = refl
 
 state_brought_at : (stage : HostStage) (request : Request) (addr : ℕ) (core : CoreState) (phase : HostPhase) → state_of (brought_at stage request addr core phase) ≡ state_at stage request (state_of phase)
 state_brought_at stages.Done request addr core phase = state_brought request addr core phase
@@ -197,39 +288,39 @@ unready_none device (Described info) together is = absurd (cc)
 unready_none device (Parsed info layout) together is = record { no_round = together.no_round; even = together.even }
 unready_none device (Ready known) together is = absurd (cc)
 
-ready_effect : (b : Bool) (known : Known) → (b ≡ true → state_of (Ready known) ≡ states.Parsed) → b ≡ false
-ready_effect true known parsed = let wrong = parsed refl in absurd (cc)
-ready_effect false known parsed = refl
+ready_apart : (deed : Option Deed) (known : Known) → (deed ≡ Some Configures → state_of (Ready known) ≡ states.Parsed) → deed ≡ Some Configures → ⊥
+ready_apart deed known parsed is = let wrong = parsed is in absurd (cc)
 
 -- with the host where it was
-still_together : (b : Bool) (device device_then : DeviceState) (phase : HostPhase) → (b ≡ true → state_of phase ≡ states.Parsed) → core_of device_then ≡ answering (configured_if b (core_of device)) (core_of device_then)
+still_together : (device device_then : DeviceState) (phase : HostPhase) (deed : Option Deed) → (deed ≡ Some Configures → state_of phase ≡ states.Parsed) → Leaves (core_of device) (core_of device_then) deed
     → device_then.addr ≡ device.addr → IsSound (core_of device_then) → StandTogether device phase → StandTogether device_then phase
-still_together b device device_then phase parsed is home sound together = by_phase phase parsed together
+still_together device device_then phase deed parsed l home sound together = by_phase phase parsed together
   where
     untouched : IsUntouched (core_of device) → IsUntouched (core_of device_then)
     untouched u =
-        let none = answering_none b (core_of device) (core_of device_then) (record { no_round = u.no_round; even = u.even }) in
-        record { sound = sound; no_round = ap (λ (c : CoreState). c.current) is ∙ none.no_round; even = ap (λ (c : CoreState). c.toggle) is ∙ none.even }
+        let none = l.none (record { no_round = u.no_round; even = u.even }) in
+        record { sound = sound; no_round = none.no_round; even = none.even }
 
-    paired : (known : Known) → b ≡ false → ArePaired device known → ArePaired device_then known
-    paired known none pair =
-        let same : core_of device_then ≡ answering (core_of device) (core_of device_then) = is ∙ ap (λ (x : Bool). answering (configured_if x (core_of device)) (core_of device_then)) none in
+    paired : (known : Known) → (deed ≡ Some Configures → ⊥) → ArePaired device known → ArePaired device_then known
+    paired known apart pair =
+        let same = l.rounds apart in
         record {
-          configured = ap (λ (c : CoreState). c.is_configured) same ∙ pair.configured;
-          layout = pair.layout ∙ sym (ap (λ (c : CoreState). c.layout) same);
+          configured = l.configured apart ∙ pair.configured;
+          layout = pair.layout ∙ sym l.layout;
           addr = pair.addr ∙ sym home;
           endp = pair.endp;
-          even = subst (λ (c : CoreState). IsEven c.toggle known.pipe.expects c.current) (sym same) pair.even;
+          even = subst (λ (b : Bool). IsEven b known.pipe.expects (core_of device_then).current) (sym same.1)
+              (subst (λ (o : Option ℕ). IsEven (core_of device).toggle known.pipe.expects o) (sym same.0) pair.even);
           sound = sound;
           laid = pair.laid;
           fits = pair.fits;
         }
 
-    by_phase : (p : HostPhase) → (b ≡ true → state_of p ≡ states.Parsed) → StandTogether device p → StandTogether device_then p
+    by_phase : (p : HostPhase) → (deed ≡ Some Configures → state_of p ≡ states.Parsed) → StandTogether device p → StandTogether device_then p
     by_phase Cold needs t = untouched t
     by_phase (Described info) needs t = untouched t
     by_phase (Parsed info layout) needs t = untouched t
-    by_phase (Ready known) needs t = paired known (ready_effect b known needs) t
+    by_phase (Ready known) needs t = paired known (ready_apart deed known needs) t
 
 -- with the host gone on
 laid_by : (descriptor : List ℕ) (layout : Contents) → Lays descriptor layout → IsLayout layout
@@ -256,6 +347,12 @@ goes_together : (request : Request) (addr : ℕ) (device : DeviceState) (phase :
 goes_together requests.Device addr device phase needs sound none knows t = t
 goes_together requests.Status addr device phase needs sound none knows t = t
 goes_together requests.GetConfiguration addr device phase needs sound none knows t = t
+goes_together (requests.Idle id time) addr device phase needs sound none knows t = t
+goes_together (requests.GetIdle id) addr device phase needs sound none knows t = t
+goes_together (requests.Protocol boot) addr device phase needs sound none knows t = t
+goes_together requests.GetProtocol addr device phase needs sound none knows t = t
+goes_together (requests.GetReport kind id) addr device phase needs sound none knows t = t
+goes_together (requests.SetReport kind id set) addr device phase needs sound none knows t = t
 goes_together requests.Config addr device Cold needs sound none knows t = t
 goes_together requests.Config addr device (Described info) needs sound none knows t = absurd (cc)
 goes_together requests.Config addr device (Parsed info layout) needs sound none knows t = absurd (cc)
@@ -323,23 +420,21 @@ host_in fate host t control phase = record host { phase = phase; transfer = Some
 
 -- the member behind a try, where the host's phase leaves the station
 joint_tried : (fate : Fate) (device device_then : DeviceState) (host : HostEnd) (t : Transfer) (phase : HostPhase) (next : HostState) → device_then.control ≡ control_tried core_table fate t.ends device.control
-    → core_of device_then ≡ answering (configured_if (configures fate t.ends device.control) (core_of device)) (core_of device_then)
-    → (configures fate t.ends device.control ≡ true → state_of host.phase ≡ states.Parsed) → device_then.addr ≡ device.addr
+    → Leaves (core_of device) (core_of device_then) (brought_deed fate t.ends device.control)
+    → (brought_deed fate t.ends device.control ≡ Some Configures → state_of host.phase ≡ states.Parsed) → device_then.addr ≡ device.addr
     → station_of (core_of device_then) phase ≡ station_of (core_of device_then) host.phase → state_of phase ≡ next
     → joint device_then (host_in fate host t device.control phase) ≡ tried_to fate (joint device host) t next
-joint_tried fate device device_then host t phase next control_is rounds parsed home stays state =
+joint_tried fate device device_then host t phase next control_is l parsed home stays state =
     let m = joint device host in
-    let b : Bool = configures fate t.ends device.control in
     let same = same_try fate device host t in
     parts_same m t device_then.addr (core_of device_then).config (core_of device_then).descriptor (core_of device_then).layout
-    (station_of (core_of device_then) phase) (befallen_by (items_of m.layout) m.station (configured_deed (configures fate t.ends (control_at m))))
+    (station_of (core_of device_then) phase) (befallen_by (items_of m.layout) m.station (brought_deed fate t.ends (control_at m)))
     (endpoint_of device_then.control) (endpoint_of (control_tried core_table fate t.ends (control_at m))) (state_of phase) next (ends_after fate t device.control) (ends_tried_at fate m t) (record {
       home = home;
-      config_is = ap (λ (c : CoreState). c.config) rounds ∙ answering_config b (core_of device) (core_of device_then);
-      descriptor_is = ap (λ (c : CoreState). c.descriptor) rounds ∙ answering_descriptor b (core_of device) (core_of device_then);
-      layout_is = ap (λ (c : CoreState). c.layout) rounds ∙ answering_layout b (core_of device) (core_of device_then);
-      station = stays ∙ ap (λ (c : CoreState). station_of c host.phase) rounds ∙ station_with b (core_of device) (core_of device_then) host.phase parsed
-          ∙ ap (λ (x : Bool). befallen_by (items_of m.layout) m.station (configured_deed x)) same.effect;
+      config_is = l.config;
+      descriptor_is = l.descriptor;
+      layout_is = l.layout;
+      station = stays ∙ l.station host.phase parsed ∙ ap (λ (x : Option Deed). befallen_by (items_of m.layout) m.station x) same.deed;
       endpoint = ap endpoint_of control_is ∙ same.endpoint;
       host = state;
       ends_are = same.ends;
@@ -361,16 +456,16 @@ goes_on fate device device_then host host_then t progress c told moved knows tog
     let phase = brought_at stage t.request host.addr core host.phase in
     let same = same_try fate device host t in
     let stage_is : stage ≡ (ends_tried_at fate (joint device host) t).stage = ap (λ (e : HostTransferState). e.stage) same.ends in
-    let none : state_of host.phase ≡ states.Parsed → NoRounds core = λ is.
-    let before = answering_none (configures fate t.ends device.control) (core_of device) core (unready_none device host.phase together is) in
-    record { no_round = ap (λ (x : CoreState). x.current) c.rounds ∙ before.no_round; even = ap (λ (x : CoreState). x.toggle) c.rounds ∙ before.even } in
+    let l = leaves_by fate t.ends device.control core c.brings in
+    let parsed : brought_deed fate t.ends device.control ≡ Some Configures → state_of host.phase ≡ states.Parsed = λ is. c.parsed (brought_configures fate t.ends device.control is) in
+    let none : state_of host.phase ≡ states.Parsed → NoRounds core = λ is. l.none (unready_none device host.phase together is) in
     let known : KnowsAt phase device_then.addr core = subst (λ (a : ℕ). KnowsAt phase a core) (home ∙ sym stays) (subst (λ (h : HostEnd). KnowsAt h.phase h.addr core) moved knows.phase) in
-    let here = still_together (configures fate t.ends device.control) device device_then host.phase c.parsed c.rounds stays sound together in
+    let here = still_together device device_then host.phase (brought_deed fate t.ends device.control) parsed l stays sound together in
     record {
       tries = (
         told ∙ ap progress_of stage_is,
         ap (joint device_then) moved
-            ∙ joint_tried fate device device_then host t phase (state_at stage t.request (state_of host.phase)) c.device_then c.rounds c.parsed stays
+            ∙ joint_tried fate device device_then host t phase (state_at stage t.request (state_of host.phase)) c.device_then l parsed stays
             (brought_at_station stage t.request host.addr core host.phase c.needs (λ is. (none is).no_round)) (state_brought_at stage t.request host.addr core host.phase)
             ∙ ap (λ (x : HostStage). tried_to fate (joint device host) t (state_at x t.request (state_of host.phase))) stage_is,
       );
@@ -382,13 +477,15 @@ finds_none : (fate : Fate) (device device_then : DeviceState) (host host_then : 
     → StandTogether device host.phase → device_then.addr ≡ device.addr → IsSound (core_of device_then) → Tried fate device device_then host host_then t (Err fault)
 finds_none fate device device_then host host_then t fault c memory done takes moved together stays sound =
     let same = same_try fate device host t in
+    let l = leaves_by fate t.ends device.control (core_of device_then) c.brings in
+    let parsed : brought_deed fate t.ends device.control ≡ Some Configures → state_of host.phase ≡ states.Parsed = λ is. c.parsed (brought_configures fate t.ends device.control is) in
     record {
       tries = (
         memory,
         (sym (ap (λ (e : HostTransferState). e.stage) same.ends) ∙ done, takes),
-        ap (joint device_then) moved ∙ joint_tried fate device device_then host t host.phase (state_of host.phase) c.device_then c.rounds c.parsed stays refl refl,
+        ap (joint device_then) moved ∙ joint_tried fate device device_then host t host.phase (state_of host.phase) c.device_then l parsed stays refl refl,
       );
-      together = subst (λ (h : HostEnd). StandTogether device_then h.phase) (sym moved) (still_together (configures fate t.ends device.control) device device_then host.phase c.parsed c.rounds stays sound together);
+      together = subst (λ (h : HostEnd). StandTogether device_then h.phase) (sym moved) (still_together device device_then host.phase (brought_deed fate t.ends device.control) parsed l stays sound together);
     }
 
 tried_by : (fate : Fate) (device device_then : DeviceState) (host host_then : HostEnd) (t : Transfer) (result : Result Progress StackFault) → IsComputed fate host t device.control result host_then device_then.control
@@ -410,15 +507,17 @@ unready_current device (Described info) together is = absurd (cc)
 unready_current device (Parsed info layout) together is = ap (round_between (core_of device).toggle (core_of device).toggle) together.no_round
 unready_current device (Ready known) together is = absurd (cc)
 
-configured_between : (s : Station) (b : Bool) → (b ≡ true → s.current ≡ None) → IsBetween s (configured_deed b)
-configured_between s true none = none refl
-configured_between s false none = tt
+deed_between : (s : Station) (deed : Option Deed) → (deed ≡ Some Configures → s.current ≡ None) → IsBetween s deed
+deed_between s None none = tt
+deed_between s (Some (Own x)) none = tt
+deed_between s (Some (Idles idle)) none = tt
+deed_between s (Some Configures) none = none refl
 
 between_rounds : (fate : Fate) (device : DeviceState) (host : HostEnd) (t : Transfer) → (configures fate t.ends device.control ≡ true → state_of host.phase ≡ states.Parsed)
-    → StandTogether device host.phase → IsBetween (joint device host).station (configured_deed (configures fate t.ends (control_at (joint device host))))
+    → StandTogether device host.phase → IsBetween (joint device host).station (brought_deed fate t.ends (control_at (joint device host)))
 between_rounds fate device host t parsed together =
-    configured_between (joint device host).station (configures fate t.ends (control_at (joint device host)))
-    (λ is. unready_current device host.phase together (parsed ((same_try fate device host t).effect ∙ is)))
+    deed_between (joint device host).station (brought_deed fate t.ends (control_at (joint device host)))
+    (λ is. unready_current device host.phase together (parsed (brought_configures fate t.ends device.control ((same_try fate device host t).deed ∙ is))))
 
 -- ---- a control step
 
@@ -500,7 +599,7 @@ steps_by fate device control host host_then (Some t) result know compute is step
       between = between_rounds fate device host t c.parsed together;
       together = done.together;
       home = host_stays_at fate device control host host_then t result c ∙ home;
-      layout = ap (λ (x : CoreState). x.layout) c.rounds ∙ answering_layout (configures fate t.ends device.control) (core_of device) control.requests;
+      layout = (leaves_by fate t.ends device.control control.requests c.brings).layout;
     }
 
 pub steps_so : (fate : Fate) (device : DeviceState) (old control : DevControlState CoreState) (host host_then : HostEnd) (result : Result Progress StackFault) → StepsKnow → StepsCompute

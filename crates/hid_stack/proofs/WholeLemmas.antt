@@ -15,7 +15,9 @@ use Rattle.usb_control.proofs.RunLemmas.{is_once}
 use Rattle.hid_requests.specs.declared.request.Asking.{Asking}
 use Rattle.hid_device.specs.Laying.{Lays}
 use Rattle.hid_host.specs.declared.fault.StackFault.{StackFault}
-use Rattle.hid_host.proofs.LawLemmas.{sends_none, short_so, spelled_so}
+use Rattle.hid_requests.specs.Asking.{FitsRequest, sends_of}
+use Rattle.hid_requests.proofs.AskedLemmas.{sends_so, spelled_so}
+use Rattle.hid_host.proofs.LawLemmas.{short_so}
 use Rattle.hid_requests.specs.declared.request.Request.{Request}
 use Rattle.hid_device.specs.Core.{CoreState}
 use Rattle.hid_device.specs.Deciding.{core_table}
@@ -104,11 +106,11 @@ follows (Controls fate ∷ steps) m t has none =
 -- ---- a request from its begin on
 
 abbrev first_of : Member → Request → Transfer
-first_of m request = record { request = request; ends = at_start m.addr (setup_at m request) [] }
+first_of m request = record { request = request; ends = at_start m.addr (setup_at m request) (sends_of request) }
 
-pub whole : (m : Member) (request : Request) (steps : List MemberStep) → Lays m.descriptor m.layout → begin_refusal_at m request ≡ None → BeginsNone steps
+pub whole : (m : Member) (request : Request) (steps : List MemberStep) → Lays m.descriptor m.layout → FitsRequest request → begin_refusal_at m request ≡ None → BeginsNone steps
     → IsWhole m request steps
-whole m request steps lays allowed none =
+whole m request steps lays fits allowed none =
     let asking : Asking = record { report_length = length m.descriptor } in
     let t = first_of m request in
     let begun : Member = record m { transfer = Some t } in
@@ -117,14 +119,14 @@ whole m request steps lays allowed none =
     let b = f.behind in
     let shape = shape_of (setup_at m request) in
     let turns = turns_by begun steps in
-    let first : StandAt core_table [] start (ends_at begun t) = begins core_table.answer_of m.addr (setup_at m request) [] (control_at begun) (sends_none request asking) in
-    let stands = places_are_run core_table [] start (ends_at begun t) turns (spelled_so request asking (short_so m.descriptor m.layout lays)) (leave_answers steps begun) first in
+    let first : StandAt core_table (sends_of request) start (ends_at begun t) = begins core_table.answer_of m.addr (setup_at m request) (sends_of request) (control_at begun) (sends_so request asking) in
+    let stands = places_are_run core_table (sends_of request) start (ends_at begun t) turns (spelled_so request asking fits (short_so m.descriptor m.layout lays)) (leave_answers steps begun) first in
     let asked : b.transfer.ends.setup ≡ setup_at m request = sym (ap (λ (e : Ends CoreState). e.host.setup) b.ends_are) ∙ setup_stays core_table (ends_at begun t) turns in
-    let there : StandAt core_table [] (run shape (tries_of begun steps) start) (ends_at (member_after_all begun steps) b.transfer)
-    = subst (λ (xs : List (Fate × Decision)). StandAt core_table [] (run shape xs start) (ends_at (member_after_all begun steps) b.transfer)) f.tries
-    (subst (λ (e : Ends CoreState). StandAt core_table [] (run shape (tries_in core_table (ends_at begun t) turns) start) e) b.ends_are stands) in
+    let there : StandAt core_table (sends_of request) (run shape (tries_of begun steps) start) (ends_at (member_after_all begun steps) b.transfer)
+    = subst (λ (xs : List (Fate × Decision)). StandAt core_table (sends_of request) (run shape xs start) (ends_at (member_after_all begun steps) b.transfer)) f.tries
+    (subst (λ (e : Ends CoreState). StandAt core_table (sends_of request) (run shape (tries_in core_table (ends_at begun t) turns) start) e) b.ends_are stands) in
     let once = is_once shape (tries_of begun steps) in
-    let none_yet : Stood begun t start = record { asked = refl; spelled = spelled_so request asking (short_so m.descriptor m.layout lays); stands = first; decided = λ behind. absurd behind } in
+    let none_yet : Stood begun t start = record { asked = refl; spelled = spelled_so request asking fits (short_so m.descriptor m.layout lays); fits = fits; stands = first; decided = λ behind. absurd behind } in
     let took : configurations (deeds_in begun steps) ≡ configured_by request (acts shape (tries_of begun steps) start)
     = let same = counted steps begun t start 0 refl none none_yet in
     let zero : configurations (deeds_in begun steps) + 0 ≡ configurations (deeds_in begun steps) = omega arith in
@@ -137,16 +139,16 @@ whole m request steps lays allowed none =
       once = once;
       stands = there;
       read = λ done is_read.
-          let here = subst (λ (s : Setup). Stands core_table.answer_of (shape_of s) [] (run shape (tries_of begun steps) start) b.transfer.ends (control_at (member_after_all begun steps))) asked there in
-          read_is core_table.answer_of shape [] (run shape (tries_of begun steps) start) b.transfer.ends (control_at (member_after_all begun steps)) here
-          ((done_is core_table.answer_of shape [] (run shape (tries_of begun steps) start) b.transfer.ends (control_at (member_after_all begun steps)) here).0 done) is_read
+          let here = subst (λ (s : Setup). Stands core_table.answer_of (shape_of s) (sends_of request) (run shape (tries_of begun steps) start) b.transfer.ends (control_at (member_after_all begun steps))) asked there in
+          read_is core_table.answer_of shape (sends_of request) (run shape (tries_of begun steps) start) b.transfer.ends (control_at (member_after_all begun steps)) here
+          ((done_is core_table.answer_of shape (sends_of request) (run shape (tries_of begun steps) start) b.transfer.ends (control_at (member_after_all begun steps)) here).0 done) is_read
           ∙ ap (answered_bytes shape) once.decided;
       took = took;
       configured = λ is_configure done.
-          let here = subst (λ (s : Setup). Stands core_table.answer_of (shape_of s) [] (run shape (tries_of begun steps) start) b.transfer.ends (control_at (member_after_all begun steps))) asked there in
+          let here = subst (λ (s : Setup). Stands core_table.answer_of (shape_of s) (sends_of request) (run shape (tries_of begun steps) start) b.transfer.ends (control_at (member_after_all begun steps))) asked there in
           let writes : shape.reads ≡ false = ap (λ (q : Request). (shape_of (setup_at m q)).reads) is_configure in
           took ∙ ap (λ (q : Request). configured_by q (acts shape (tries_of begun steps) start)) is_configure
-          ∙ once.once ((done_is core_table.answer_of shape [] (run shape (tries_of begun steps) start) b.transfer.ends (control_at (member_after_all begun steps)) here).0 done) writes;
+          ∙ once.once ((done_is core_table.answer_of shape (sends_of request) (run shape (tries_of begun steps) start) b.transfer.ends (control_at (member_after_all begun steps)) here).0 done) writes;
     })
 
 -- ---- a Configure that finds no memory
@@ -169,12 +171,12 @@ same_transfer fate n (Some t) = refl
 one_transfer : (a b : Transfer) → Some a ≡ Some b → a ≡ b
 one_transfer a b e = cc
 
-pub unconcluded_once : (m : Member) (request : Request) (steps : List MemberStep) → Lays m.descriptor m.layout → begin_refusal_at m request ≡ None → BeginsNone steps
+pub unconcluded_once : (m : Member) (request : Request) (steps : List MemberStep) → Lays m.descriptor m.layout → FitsRequest request → begin_refusal_at m request ≡ None → BeginsNone steps
     → IsUnconcludedOnce m request steps
-unconcluded_once m request steps lays allowed none fate ended is_configure is done =
+unconcluded_once m request steps lays fits allowed none fate ended is_configure is done =
     let begun = member_after m (Begins request) in
     let n = member_after_all begun steps in
-    let w = whole m request (steps ++ Controls fate ∷ []) lays allowed (begins_none fate steps none) in
+    let w = whole m request (steps ++ Controls fate ∷ []) lays fits allowed (begins_none fate steps none) in
     let there : Some w.transfer ≡ Some ended
     = sym w.is ∙ ap (λ (k : Member). k.transfer) (behind_one steps begun (Controls fate)) ∙ same_transfer fate n (running n.transfer) ∙ is in
     w.configured is_configure (ap (λ (t : Transfer). t.ends.stage) (one_transfer w.transfer ended there) ∙ done)

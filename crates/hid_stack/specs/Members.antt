@@ -8,26 +8,28 @@ use Rattle.hid_layout.specs.Controls.{Item, items_of}
 use Rattle.hid_cells.specs.declared.event.Event.{Event}
 use Rattle.hid_usages.specs.Cells.{blank}
 use Rattle.usb_transact.specs.declared.transaction.Fate.{Fate}
+use Rattle.usb_transact.specs.declared.transaction.Fate.TheVariants.{TokenLost}
 use Rattle.usb_control.specs.declared.device.Heard.TheVariants as hears
 use Rattle.usb_control.specs.declared.device.Stage.{Stage}
 use Rattle.usb_control.specs.declared.device.Stage.TheVariants as stages
 use Rattle.usb_control.specs.declared.fault.ControlFault.TheVariants.{Busy}
 use Rattle.usb_control.specs.declared.host.HostStage.{HostStage}
 use Rattle.usb_control.specs.declared.host.HostStage.TheVariants.{Done}
-use Rattle.usb_control.specs.Computed.{control_tried, host_tried}
-use Rattle.usb_control.specs.Device.{DevControlState}
+use Rattle.usb_control.specs.Computed.{control_tried, effect_reached, host_tried}
+use Rattle.usb_control.specs.Device.{Applies, DevControlState, Effect}
 use Rattle.usb_control.specs.Host.{HostTransferState, at_start}
 use Rattle.hid_requests.specs.declared.request.Request.{Request}
 use Rattle.hid_requests.specs.declared.request.Request.TheVariants as requests
-use Rattle.hid_requests.specs.Asking.{setup_for}
-use Rattle.hid_lives.specs.Lives.{Deed, Own, Configures, befallen, events_on}
+use Rattle.hid_requests.specs.declared.class.Protocol.{Protocol}
+use Rattle.hid_requests.specs.Asking.{sends_of, setup_for}
+use Rattle.hid_lives.specs.Lives.{Deed, Own, Idles, Configures, befallen, events_on}
 use Rattle.hid_lives.specs.Rounds.{OwnStep, Changes, Frame, Polls}
 use Rattle.hid_lives.specs.Stations.{Station, fresh}
 use Rattle.hid_device.specs.declared.config.Config.{Config}
 use Rattle.hid_device.specs.declared.decisions.Pending.{Pending}
 use Rattle.hid_device.specs.declared.decisions.Pending.TheVariants as pendings
 use Rattle.hid_device.specs.Core.{CoreState}
-use Rattle.hid_device.specs.Deciding.{core_table}
+use Rattle.hid_device.specs.Deciding.{core_table, idle_set}
 use Rattle.hid_device.specs.Inputs.{input_count}
 use Rattle.hid_device.specs.Making.{new_core}
 use Rattle.hid_host.specs.declared.fault.StackFault.{StackFault}
@@ -35,14 +37,16 @@ use Rattle.hid_host.specs.declared.fault.StackFault.TheVariants.{NotReady, Contr
 use Rattle.hid_host.specs.declared.host.Transfer.{Transfer}
 use Rattle.hid_host.specs.declared.phase.HostState.{HostState}
 use Rattle.hid_host.specs.declared.phase.HostState.TheVariants as states
-use Rattle.hid_host.specs.Bringing.{configures}
 use Rattle.hid_host.specs.Host.{running}
 use Rattle.hid_host.specs.Phase.{may_begin}
 
--- What endpoint 0 of a device keeps: whether SET_CONFIGURATION took effect; of the last request the answer, where it
--- has one, and what is carried out when its status is asked for; and how far its transfer has come.
+-- What endpoint 0 of a device keeps: whether SET_CONFIGURATION took effect; its protocol, and the Output and Feature
+-- reports that were set last; of the last request the answer, where it has one, and what is carried out when its status
+-- is asked for; and how far its transfer has come.
 pub record Endpoint : Type 0 where
   pub is_configured : Bool
+  pub protocol : Protocol
+  pub outputs : List (List ℕ)
   pub answer : Option (List ℕ)
   pub pending : Pending
   pub stage : Stage
@@ -69,9 +73,15 @@ pub data MemberStep : Type 0 where
 -- ---- devices that were just attached
 
 -- endpoint 0 of a device that no request has reached
-abbrev pub new_endpoint : Bool → Endpoint
-new_endpoint is_configured =
-    record { is_configured = is_configured; answer = None; pending = pendings.Nothing; stage = stages.Idle }
+abbrev pub new_endpoint : Bool → CoreState → Endpoint
+new_endpoint is_configured core = record {
+  is_configured = is_configured;
+  protocol = core.protocol;
+  outputs = core.outputs;
+  answer = None;
+  pending = pendings.Nothing;
+  stage = stages.Idle;
+}
 
 -- both ends are freshly configured, nothing is pressed and nothing has moved
 abbrev pub fresh_member : ℕ → Config → List ℕ → Contents → Member
@@ -81,7 +91,7 @@ fresh_member addr config descriptor layout = record {
   descriptor = descriptor;
   layout = layout;
   station = fresh (items_of layout) (blank (items_of layout)) (replicate (input_count layout.reports) 0);
-  endpoint = new_endpoint true;
+  endpoint = new_endpoint true (new_core config descriptor layout);
   host = states.Ready;
   transfer = None;
 }
@@ -99,7 +109,7 @@ cold_member addr config descriptor layout = record {
     odd = false;
     view = blank (items_of layout);
   };
-  endpoint = new_endpoint false;
+  endpoint = new_endpoint false (new_core config descriptor layout);
   host = states.Cold;
   transfer = None;
 }
@@ -116,6 +126,8 @@ core_at m = record {
   standing = m.station.standing;
   current = option_map (λ round. round.report) m.station.current;
   toggle = m.station.odd;
+  protocol = m.endpoint.protocol;
+  outputs = m.endpoint.outputs;
   answer = m.endpoint.answer;
   pending = m.endpoint.pending;
 }
@@ -128,6 +140,8 @@ control_at m = record { requests = core_at m; stage = m.endpoint.stage; heard = 
 abbrev pub endpoint_of : DevControlState CoreState → Endpoint
 endpoint_of control = record {
   is_configured = control.requests.is_configured;
+  protocol = control.requests.protocol;
+  outputs = control.requests.outputs;
   answer = control.requests.answer;
   pending = control.requests.pending;
   stage = control.stage;
@@ -146,15 +160,26 @@ scheduled_deed host (Changes change) = Some (Own (Changes change))
 scheduled_deed host Frame = Some (Own Frame)
 scheduled_deed host (Polls fate) = polled_deed host fate
 
--- a try in which a configuration takes effect
-abbrev pub configured_deed : Bool → Option Deed
-configured_deed true = Some Configures
-configured_deed false = None
+-- a write that is carried out: a configuration, or idle times that are set
+abbrev pub written_deed : CoreState → Pending → Option Deed
+written_deed core pendings.Configure = Some Configures
+written_deed core (pendings.Idle report time) = Some (Idles (idle_set core.standing.idle report time))
+written_deed core _ = None
+
+-- what the packets of a try bring about
+abbrev pub effect_deed : Effect → CoreState → Option Deed
+effect_deed (Applies bytes) core = written_deed core core.pending
+effect_deed _ core = None
+
+-- where they arrive
+abbrev pub brought_deed : Fate → HostTransferState → DevControlState CoreState → Option Deed
+brought_deed TokenLost ends control = None
+brought_deed fate ends control = effect_deed (effect_reached core_table ends control) control.requests
 
 -- a try of the transfer that runs, where one does
 abbrev pub tried_deed : Fate → Member → Option Transfer → Option Deed
 tried_deed fate m None = None
-tried_deed fate m (Some t) = configured_deed (configures fate t.ends (control_at m))
+tried_deed fate m (Some t) = brought_deed fate t.ends (control_at m)
 
 -- What befalls a device by a step, where something does.
 abbrev pub deed_at : Member → MemberStep → Option Deed
@@ -187,18 +212,17 @@ begun_unless (Some fault) m request = m
 begun_unless None m request = record m {
   transfer = Some (record {
     request = request;
-    ends = at_start m.addr (setup_for request (record { report_length = length m.descriptor })) [];
+    ends = at_start m.addr (setup_for request (record { report_length = length m.descriptor }))
+        (sends_of request);
   });
 }
 
 -- the state to which a request that is done leads
 abbrev pub state_behind : Request → HostState → HostState
-state_behind requests.Device host = host
 state_behind requests.Config host = states.Described
 state_behind requests.Report host = states.Parsed
 state_behind requests.Configure host = states.Ready
-state_behind requests.Status host = host
-state_behind requests.GetConfiguration host = host
+state_behind _ host = host
 
 -- and that behind a try that leaves its transfer at a stage
 abbrev pub state_at : HostStage → Request → HostState → HostState

@@ -1,5 +1,5 @@
 -- A request of a device's host, with anything between its tries: what both ends make of it (USB 2.0, 8.5.3 and 9.2.6).
-use Rattle.std.specs.Prelude.{◌≡◌, ℕ, suc, Bool, true, false, if◌then◌else◌, List, [], ◌∷◌, ◌++◌, length, Option, Some, None}
+use Rattle.std.specs.Prelude.{◌≡◌, ℕ, suc, true, if◌then◌else◌, List, [], ◌∷◌, ◌++◌, length, Option, Some, None}
 use Rattle.usb_transact.specs.declared.transaction.Fate.{Fate}
 use Rattle.usb_control.specs.declared.host.HostStage.TheVariants.{Done}
 use Rattle.usb_control.specs.declared.setup.Setup.{Setup}
@@ -8,11 +8,12 @@ use Rattle.usb_control.specs.Runs.{IsOnce, acts, effects, last_decision, run}
 use Rattle.usb_control.specs.Transfer.{Act, Decision, Refused, answered_bytes, shape_of, start}
 use Rattle.hid_requests.specs.declared.request.Request.{Request}
 use Rattle.hid_requests.specs.declared.request.Request.TheVariants.{Configure}
-use Rattle.hid_requests.specs.Asking.{setup_for}
-use Rattle.hid_lives.specs.Lives.{Deed, Own, Configures}
+use Rattle.hid_requests.specs.Asking.{sends_of, setup_for}
+use Rattle.hid_lives.specs.Lives.{Deed, Own, Idles, Configures}
 use Rattle.hid_device.specs.Core.{CoreState}
 use Rattle.hid_device.specs.Deciding.{core_table}
 use Rattle.hid_host.specs.declared.host.Transfer.{Transfer}
+use Rattle.hid_host.specs.Bringing.{is_configure}
 use Rattle.hid_host.specs.Host.{running}
 use Rattle.hid_stack.specs.Members.{Member, MemberStep, Scheduled, Begins, Controls, control_at, deeds_in, member_after, member_after_all, unconcluded_of}
 
@@ -47,12 +48,8 @@ BeginsNone (Controls fate ∷ steps) = BeginsNone steps
 abbrev pub configurations : List Deed → ℕ
 configurations [] = 0
 configurations (Own x ∷ deeds) = configurations deeds
+configurations (Idles idle ∷ deeds) = configurations deeds
 configurations (Configures ∷ deeds) = suc (configurations deeds)
-
--- a request asks for the configuration
-abbrev pub is_configure : Request → Bool
-is_configure Configure = true
-is_configure _ = false
 
 -- how often a request configures its device, by what its tries do there
 abbrev pub configured_by : Request → List Act → ℕ
@@ -68,7 +65,8 @@ pub record IsWholeFrom (m : Member) (request : Request) (steps : List MemberStep
   pub of : transfer.request ≡ request
   pub asked : transfer.ends.setup ≡ setup_at m request
   pub once : IsOnce (shape_of (setup_at m request)) (tries_of begun steps)
-  pub stands : StandAt core_table [] (run (shape_of (setup_at m request)) (tries_of begun steps) start)
+  pub stands : StandAt core_table (sends_of request)
+      (run (shape_of (setup_at m request)) (tries_of begun steps) start)
       (ends_at (member_after_all begun steps) transfer)
   pub read : transfer.ends.stage ≡ Done → (shape_of (setup_at m request)).reads ≡ true
       → transfer.ends.bytes ≡ answered_bytes (shape_of (setup_at m request))

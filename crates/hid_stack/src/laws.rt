@@ -2,6 +2,7 @@
 
 ghost use Rattle.std.specs.Prelude.{◌≡◌, ◌++◌, List, None};
 ghost use Rattle.hid_requests.specs.declared.request.Request.{Request};
+ghost use Rattle.hid_requests.specs.Asking.{FitsRequest};
 ghost use Rattle.hid_device.specs.Laying.{Lays};
 ghost use Rattle.hid_stack.specs.declared.step.Step.{Step as BusStep};
 ghost use Rattle.hid_stack.specs.declared.step.Delivered.{Delivered};
@@ -74,11 +75,11 @@ pub fn motion_sums_up()
 /// device as often as a request for it took effect: once where it is done, also where the host then found no memory.
 pub fn transfers_are_whole()
     ensures whole { (m : Member) (request : Request) (steps : List MemberStep)
-        → Lays m.descriptor m.layout → begin_refusal_at m request ≡ None → BeginsNone steps
-        → IsWhole m request steps }
+        → Lays m.descriptor m.layout → FitsRequest request → begin_refusal_at m request ≡ None
+        → BeginsNone steps → IsWhole m request steps }
     ensures unconcluded { (m : Member) (request : Request) (steps : List MemberStep)
-        → Lays m.descriptor m.layout → begin_refusal_at m request ≡ None → BeginsNone steps
-        → IsUnconcludedOnce m request steps }
+        → Lays m.descriptor m.layout → FitsRequest request → begin_refusal_at m request ≡ None
+        → BeginsNone steps → IsUnconcludedOnce m request steps }
 {}
 
 /// No step changes what a device was made with.

@@ -208,9 +208,9 @@ impl Rig {
                 let i = self.place(dev)?;
                 self.slots[i].poll(dev, fate, out)
             }
-            Step::Begin { dev, request } => {
+            Step::Begin { dev, ref request } => {
                 let i = self.place(dev)?;
-                match self.slots[i].begin(&request) {
+                match self.slots[i].begin(request) {
                     Ok(()) => Ok(Told::Quiet),
                     Err(fault) => Err(fault),
                 }

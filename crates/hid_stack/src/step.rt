@@ -7,7 +7,7 @@ use usb_transact::{Fate, Took};
 
 /// A step of the bus: one control change, one frame, a request that begins, or one whole transaction with what is lost of
 /// it.
-#[derive(Clone, Copy, Debug, PartialEq, Eq)]
+#[derive(Debug, Drop, PartialEq, Eq)]
 pub enum Step {
     /// A control of a device changes.
     Change {

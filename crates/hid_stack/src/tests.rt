@@ -415,7 +415,7 @@ fn a_cold_device_is_brought_up(rt: HostRuntime) -> Result<(), Fail> {
     let mut out = Vec::new(rt.alloc());
     for (request, tries) in BRINGS_UP {
         let told = asked(&mut rig, request, tries, &mut out)?;
-        assert!(rt; told == Told::Transfer(Progress::Done), "{request:?}");
+        assert!(rt; told == Told::Transfer(Progress::Done), "{tries} tries");
     }
     assert!(rt; rig.host(1)?.state() == HostState::Ready);
     rig.step(&step_of(Act::Press(4, 4)), &mut out)?;

@@ -1,4 +1,4 @@
--- Reports of the boot keyboard and mouse (HID 1.11, appendices B and E), read as they show their parts, worked out by hand.
+-- Reports of the boot keyboard and mouse (HID 1.11, appendices B and E), written from their parts and read as they show them, worked out by hand.
 use Rattle.std.specs.Prelude.{◌≡◌, ℕ, Bool, true, false, List, [], ◌∷◌, ◌++◌, replicate, Ok, pos, negsuc, refl}
 use Rattle.hid_descriptor.specs.declared.shape.Shape.TheVariants.{Padding, Variable, Array}
 use Rattle.hid_descriptor.specs.declared.report.ReportKind.TheVariants.{Input, Output}
@@ -10,6 +10,8 @@ use Rattle.hid_cells.specs.declared.cell.Cell.TheVariants.{Vacant, Pressed, Move
 use Rattle.hid_cells.specs.declared.event.Event.TheVariants as event
 use Rattle.hid_cells.specs.Cells.{blank}
 use Rattle.hid_parts.specs.Encoding.{part_numbers}
+use Rattle.hid_parts.specs.Encoded.{part_bytes}
+use Rattle.hid_cells.specs.Parts.{still}
 use Rattle.hid_cells.specs.Events.{at}
 use Rattle.hid_views.specs.Reading.{report_named}
 use Rattle.hid_cells.specs.Samples.{usage}
@@ -45,6 +47,15 @@ mouse_seen = refl
 mouse_told : read_events mouse 0 mouse_bytes (blank (items_of mouse)) ≡ event.Down (at 0 0) (usage 9 1) ∷ event.Motion (at 2 0) (usage 1 0x30) (pos 127) ∷ event.Motion (at 2 1) (usage 1 0x31) (negsuc 126) ∷ []
 unfolding items_from spread
 mouse_told = refl
+
+mouse_written : part_bytes mouse 0 mouse_parts ≡ mouse_bytes
+unfolding part_bytes items_from spread
+mouse_written = refl
+
+-- its still part: the button alone, of 200 to the right and 3 up too
+mouse_still : part_bytes mouse 0 (still (items_of mouse) 0 (Pressed (true ∷ false ∷ false ∷ []) ∷ Vacant ∷ Moved (pos 200 ∷ negsuc 2 ∷ []) ∷ []) mouse_parts) ≡ 0x01 ∷ 0 ∷ 0 ∷ []
+unfolding part_bytes items_from spread
+mouse_still = refl
 
 mouse_sent : part_numbers mouse mouse_parts 2 ≡ pos 127 ∷ negsuc 126 ∷ []
 unfolding items_from spread
@@ -85,6 +96,15 @@ keyboard_sent : part_numbers keyboard keyboard_parts 4 ≡ pos 4 ∷ pos 0 ∷ p
 unfolding first_passing keys_from rollover_from
 keyboard_sent = refl
 
+keyboard_written : part_bytes keyboard 0 keyboard_parts ≡ keyboard_bytes
+unfolding part_bytes items_from first_passing keys_from rollover_from spread
+keyboard_written = refl
+
+-- the key alone, in place of a part that showed the left Shift too
+keyboard_still : part_bytes keyboard 0 (still (items_of keyboard) 0 (Pressed (replicate 8 false) ∷ Vacant ∷ Vacant ∷ Vacant ∷ Pressed four_down ∷ []) keyboard_parts) ≡ 0 ∷ 0 ∷ 4 ∷ 0 ∷ 0 ∷ 0 ∷ 0 ∷ 0 ∷ []
+unfolding part_bytes items_from first_passing keys_from rollover_from spread
+keyboard_still = refl
+
 keyboard_seen : read_view keyboard 0 keyboard_bytes (blank (items_of keyboard)) ≡ seen (items_of keyboard) 0 (blank (items_of keyboard)) keyboard_parts
 unfolding items_from spread keys_from rollover_from
 keyboard_seen = refl
@@ -100,6 +120,10 @@ rolled_parts = Pressed (replicate 8 false) ∷ Vacant ∷ Vacant ∷ Vacant ∷ 
 rolled_sent : part_numbers keyboard rolled_parts 4 ≡ replicate 6 (pos 1)
 unfolding first_passing keys_from rollover_from
 rolled_sent = refl
+
+rolled_written : part_bytes keyboard 0 rolled_parts ≡ 0 ∷ 0 ∷ 1 ∷ 1 ∷ 1 ∷ 1 ∷ 1 ∷ 1 ∷ []
+unfolding part_bytes items_from first_passing keys_from rollover_from spread
+rolled_written = refl
 
 rolled_told : read_events keyboard 0 (0 ∷ 0 ∷ 1 ∷ 1 ∷ 1 ∷ 1 ∷ 1 ∷ 1 ∷ []) keyboard_parts ≡ event.Up (at 0 1) (usage 7 0xE1) ∷ []
 unfolding items_from spread keys_from rollover_from
@@ -127,3 +151,17 @@ button_told = refl
 wheel_told : read_events numbered 0 (1 ∷ 0xFF ∷ []) (blank (items_of numbered)) ≡ event.Motion (at 0 0) (usage 1 0x38) (negsuc 0) ∷ []
 unfolding items_from spread
 wheel_told = refl
+
+-- one to the left, and the button, each behind the ID of its report
+wheel_written : part_bytes numbered 0 (Moved (negsuc 0 ∷ []) ∷ Pressed (true ∷ []) ∷ []) ≡ 1 ∷ 0xFF ∷ []
+unfolding part_bytes items_from spread
+wheel_written = refl
+
+button_written : part_bytes numbered 1 (Moved (negsuc 0 ∷ []) ∷ Pressed (true ∷ []) ∷ []) ≡ 2 ∷ 1 ∷ []
+unfolding part_bytes items_from spread
+button_written = refl
+
+-- the still part of a report leaves the motion of another
+button_still : still (items_of numbered) 1 (Moved (negsuc 0 ∷ []) ∷ Pressed (true ∷ []) ∷ []) (Moved (pos 9 ∷ []) ∷ Pressed (false ∷ []) ∷ []) ≡ Moved (pos 9 ∷ []) ∷ Pressed (true ∷ []) ∷ []
+unfolding items_from spread
+button_still = refl

@@ -2,10 +2,12 @@
 //! ```text
 //!   press 4 4, release 4 4        a control by its item and index: nothing, or why it can't be
 //!   move 2 0 -200, set 2 0 1
-//!   configure, frame              nothing
+//!   configure, frame, frames 4    nothing
 //!   fixed 2 0                     the motion that is fixed of a control
+//!   kept output 1                 the report that was set last: output, feature or input, and its ID
 //!   reset, apply, answer          endpoint 0 is reset, carries out what is pending, or shows the answer that is fixed
-//!   ask 80 06 00 01 00 00 12 00   a host's transfer of these setup data, each try clean: the bytes read, or the fault
+//!   ask 80 06 00 01 00 00 12 00   a host's transfer of these setup data, each try clean: the bytes read, or the fault; what
+//!                                 it writes stands behind them
 //!   69 81 00                      a packet: its answer
 //! ```
 //! Behind it, where a round is open, `round 0.1`: its report, and 1 where its data go out as DATA1.
@@ -13,7 +15,7 @@
 use crate::{Boot, Config, Device, DeviceFault, KEYBOARD, MOUSE};
 use arrayvec::ArrayVec;
 use hid_cells::Change;
-use hid_layout::ControlId;
+use hid_layout::{ControlId, ReportKind};
 use std::alloc::Global;
 use std::fmt::Write;
 use std::test::Fail;
@@ -29,12 +31,28 @@ const TWO_REPORTS: [u8; 35] = [
     0x81, 0x02, 0xC0,
 ];
 
+/// A button in Input report 1, another in Input report 3, two bytes in Output report 1 and three in Feature report 2.
+#[rattlefmt::skip]
+const SEVERAL_REPORTS: [u8; 47] = [
+    0x05, 0x09, 0x85, 0x01, 0x09, 0x01, 0x15, 0x00, 0x25, 0x01, 0x75, 0x01, 0x95, 0x01, 0x81, 0x02,
+    0x09, 0x02, 0x26, 0xFF, 0x00, 0x75, 0x08, 0x95, 0x02, 0x91, 0x02,
+    0x85, 0x02, 0x09, 0x03, 0x95, 0x03, 0xB1, 0x02,
+    0x85, 0x03, 0x09, 0x04, 0x25, 0x01, 0x75, 0x01, 0x95, 0x01, 0x81, 0x02,
+];
+
+/// One byte in an Output report without an ID, and nothing else.
+const NO_INPUT: [u8; 14] = [
+    0x05, 0x08, 0x09, 0x01, 0x15, 0x00, 0x25, 0x01, 0x75, 0x08, 0x95, 0x01, 0x91, 0x02,
+];
+
 /// A device of vendor FEFF and product 0001, polled each 10 frames, at address 1: `keyboard` and `mouse` are boot devices;
 /// `mouse 127` is a plain mouse at that address.
 fn device_of(alloc: Global, kind: &str) -> Result<Device, DeviceFault> {
     let descriptor: &[u8] = match kind {
         "keyboard" | "plain keyboard" => &KEYBOARD,
         "two reports" => &TWO_REPORTS,
+        "several reports" => &SEVERAL_REPORTS,
+        "no input" => &NO_INPUT,
         _ => &MOUSE,
     };
     let addr = if kind == "mouse 127" { 127 } else { 1 };
@@ -114,13 +132,23 @@ fn run(transfer: &mut HostTransfer, device: &mut Device) {
     }
 }
 
-/// A read, or a write without data, of these setup data.
-fn transferred(alloc: Global, device: &mut Device, request: &[u8; 8]) -> Result<String, Fail> {
+/// A transfer of these setup data, with these data where it writes.
+fn transferred(
+    alloc: Global,
+    device: &mut Device,
+    request: &[u8; 8],
+    data: &[u8],
+) -> Result<String, Fail> {
     let setup = Setup::from_bytes(request);
-    if !setup.is_read() && setup.length != 0 {
-        return Ok(format!(in alloc; "data ")?);
+    let sent = if setup.is_read() {
+        0
+    } else {
+        usize::from(setup.length)
+    };
+    if data.len() != sent {
+        return Ok(format!(in alloc; "{sent} bytes are to be sent ")?);
     }
-    let mut transfer = HostTransfer::begin(alloc, 1, setup, &[])?;
+    let mut transfer = HostTransfer::begin(alloc, 1, setup, data)?;
     run(&mut transfer, device);
     match transfer.outcome() {
         Outcome::Running => Ok(format!(in alloc; "running ")?),
@@ -132,8 +160,8 @@ fn transferred(alloc: Global, device: &mut Device, request: &[u8; 8]) -> Result<
 /// What is answered to a packet, or to a transfer of setup data.
 fn answered(alloc: Global, device: &mut Device, words: &[&str]) -> Result<String, Fail> {
     let bytes = bytes_of(words);
-    match (words.first(), <[u8; 8]>::try_from(bytes.as_slice())) {
-        (Some(&"ask"), Ok(request)) => transferred(alloc, device, &request),
+    match (words.first(), bytes.split_first_chunk::<8>()) {
+        (Some(&"ask"), Some((request, data))) => transferred(alloc, device, request, data),
         _ => hex(alloc, &given(device, &bytes)),
     }
 }
@@ -146,6 +174,19 @@ fn changed(alloc: Global, device: &mut Device, change: Change) -> Result<String,
     }
 }
 
+/// A report that was set last, by its kind and ID.
+fn kept(alloc: Global, device: &Device, kind: &str, id: &str) -> Result<String, Fail> {
+    let kind = match kind {
+        "output" => ReportKind::Output,
+        "feature" => ReportKind::Feature,
+        _ => ReportKind::Input,
+    };
+    match device.outputs(kind, id.parse()?) {
+        Some(bytes) => hex(alloc, bytes),
+        None => Ok(format!(in alloc; "none ")?),
+    }
+}
+
 /// Does it, and tells what is answered.
 fn done(alloc: Global, device: &mut Device, act: &str) -> Result<String, Fail> {
     let words: Vec<&str> = act.split(' ').collect(alloc)?;
@@ -155,6 +196,15 @@ fn done(alloc: Global, device: &mut Device, act: &str) -> Result<String, Fail> {
     if let ["fixed", item, index] = *words {
         let control = control_of(item, index)?;
         return Ok(format!(in alloc; "{} ", device.fixed().motion(control))?);
+    }
+    if let ["kept", kind, id] = *words {
+        return kept(alloc, device, kind, id);
+    }
+    if let ["frames", count] = *words {
+        for _ in 0..count.parse()? {
+            device.frame();
+        }
+        return Ok(String::new(alloc));
     }
     match act {
         "configure" => device.configure(),

@@ -23,7 +23,7 @@ const SCHEDULES: [(&str, &str, &str); 11] = [
         the report descriptor:       ask 81 06 00 22 00 00 3F 00 > 05 01 09 06 A1 01 05 07 19 E0 29 E7 15 00 25 01 75 01 95 08 81 02 95 01 75 08 81 01 95 05 75 01 05 08 19 01 29 05 91 02 95 01 75 03 91 01 95 06 75 08 15 00 25 65 05 07 19 00 29 65 81 00 C0
         its first 2 bytes:           ask 81 06 00 22 00 00 02 00 > 05 01
         a string:                    ask 80 06 00 03 00 00 FF 00 > C1
-        a report, of the class:      ask A1 01 00 01 00 00 08 00 > C1
+        a vendor's request:          ask C1 01 00 01 00 00 08 00 > C1
     "),
     ("reads after SET_CONFIGURATION", "keyboard", "
         a configuration:             configure >
@@ -40,7 +40,7 @@ const SCHEDULES: [(&str, &str, &str); 11] = [
         the report descriptor:       ask 81 06 00 22 00 00 3F 00 > 05 01 09 06 A1 01 05 07 19 E0 29 E7 15 00 25 01 75 01 95 08 81 02 95 01 75 08 81 01 95 05 75 01 05 08 19 01 29 05 91 02 95 01 75 03 91 01 95 06 75 08 15 00 25 65 05 07 19 00 29 65 81 00 C0
         its first 2 bytes:           ask 81 06 00 22 00 00 02 00 > 05 01
         a string:                    ask 80 06 00 03 00 00 FF 00 > C1
-        a report, of the class:      ask A1 01 00 01 00 00 08 00 > C1
+        a vendor's request:          ask C1 01 00 01 00 00 08 00 > C1
     "),
     ("a device is configured when the status is asked for", "keyboard", "
         a key:              press 4 4                  >

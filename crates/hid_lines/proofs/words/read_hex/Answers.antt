@@ -3,8 +3,8 @@ use Rattle.std.proofs.lemmas.List.{length-map, get_or-map}
 use Rattle.hid_lines.proofs.WordLemmas.{hex_ends, room_left}
 use Rattle.hid_lines.proofs.words.read_hex.Goals as goal
 
-pub returns-in_err-read_hex_word : goal.returns-in_err-read_hex_word
-returns-in_err-read_hex_word c =
+pub returns-in_err-read_hex_word-clause-bytes : goal.returns-in_err-read_hex_word-clause-bytes
+returns-in_err-read_hex_word-clause-bytes c =
     let below : c.loop-word.word-index < length c.args.words.now = omega arith in
     let word = λ (w : Bor (List ℕ)). w.now in
     hex_ends (map word c.args.words.now) c.loop-word.word-index c.in_err-read_hex_word.field-0.0 c.from_residual.result (omega (arith, length-map c.args.words.now word))

@@ -5,7 +5,7 @@ use Rattle.hid_layout.specs.Reports.{report_bytes}
 use Rattle.hid_parts.specs.Encoding.{part_numbers, bare_report}
 use Rattle.hid_cells.proofs.PlanLemmas.{input_there, along_next, along_step, along_end}
 use Rattle.hid_parts.proofs.EncodingLemmas.{encoded, other_passed, shows_put, whole_report}
-use Rattle.hid_parts.proofs.ReportLemmas.{can_send_all, only_one}
+use Rattle.hid_parts.proofs.ReportLemmas.{can_send_all, only_one, bytes_are_of_part}
 use Rattle.hid_parts.proofs.encode.encode_report.Goals as goal
 
 pub bare_report-bytes-requires-clause-report : goal.bare_report-bytes-requires-clause-report
@@ -40,3 +40,7 @@ returns-clause-shows g c =
 pub returns-clause-only : goal.returns-clause-only
 returns-clause-only g c = λ other bytes is.
     only_one c.args.layout.now c.args.report (part_numbers c.args.layout.now c.args.shown.now) other c.loop-place.bytes.items c.plan_of-places.ensures.layout bytes c.loop-place.invariant.bytes is (returns-clause-shows g c)
+
+pub returns-clause-bytes : goal.returns-clause-bytes
+returns-clause-bytes g c =
+    bytes_are_of_part c.args.layout.now c.args.report c.args.shown.now c.loop-place.bytes.items c.plan_of-places.ensures.layout c.loop-place.invariant.bytes (returns-clause-shows g c)

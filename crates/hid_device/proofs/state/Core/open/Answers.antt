@@ -22,7 +22,9 @@ invariant_of-self c =
         each_frames = length-set c.self.inside.frames.items c.args.report 0 ∙ before.each_frames;
         each_idle = before.each_idle;
         of_input = omega (arith, frames, before.each_frames, c.requires.input);
+        outputs = before.outputs;
       };
+      room = c.self.invariant.room;
       armed = subst (λ (bytes : Option (List ℕ)). IsArmed c.self.inside.layout c.shown.new.parts (Some c.args.report) bytes) (sym armed)
           (record { are_bytes = are_bytes; shows = c.encode_report-bytes.ensures.shows; only = c.encode_report-bytes.ensures.only });
     }

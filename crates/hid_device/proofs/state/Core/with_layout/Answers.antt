@@ -3,12 +3,15 @@ use Rattle.std.proofs.lemmas.Grind.{common_steps}
 use Rattle.usb_transact.specs.Device.{DevPipeState}
 use Rattle.hid_device.specs.Laying.{Lays}
 use Rattle.hid_device.specs.Core.{IsArmed}
+use Rattle.hid_device.specs.Outputs.{AreOutputs, bare_outputs}
 use Rattle.hid_device.proofs.InputLemmas.{inputs_first}
+use Rattle.hid_device.proofs.OutputLemmas.{bare_are}
 use Rattle.hid_device.proofs.state.Core.with_layout.Goals as goal
 
 pub invariant_of-result : goal.invariant_of-result
 invariant_of-result c =
     let kept : c.in_ok-descriptor.descriptor.items ≡ c.args.descriptor.now = search rules in
+    let outputs : c.in_ok-outputs.outputs.items ≡ bare_outputs c.args.layout = c.in_ok-outputs.ensures in
     let armed : c.new.result.armed ≡ None = ap (λ (pipe : DevPipeState). pipe.armed) c.new.ensures in
     record {
       sound = record {
@@ -21,6 +24,8 @@ invariant_of-result c =
         each_frames = grind (arith, common_steps);
         each_idle = grind (arith, common_steps);
         of_input = tt;
+        outputs = subst (λ (outputs : List (List ℕ)). AreOutputs c.args.layout outputs) (sym outputs) (bare_are c.args.layout);
       };
+      room = c.in_ok-still.ensures.fits;
       armed = subst (λ (bytes : Option (List ℕ)). IsArmed c.args.layout c.in_ok-fixed.fixed None bytes) (sym armed) tt;
     }

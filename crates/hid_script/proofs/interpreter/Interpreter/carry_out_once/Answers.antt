@@ -49,4 +49,4 @@ returns-in-Control g c = rw c.in-Control.is c.step-in-Control.ensures
 
 pub returns-in-Begin : goal.returns-in-Begin
 unfolding Once
-returns-in-Begin g c = rw c.in-Begin.is c.step-in-Begin.ensures
+returns-in-Begin g c = rw c.in-Begin.is (rw c.copied-request.ensures at c.step-in-Begin.ensures)

@@ -1,6 +1,7 @@
-use Rattle.std.proofs.Common.{◌≡◌, ◌++◌, ◌∙◌, ap, arith, refl, take, subst, Err}
+use Rattle.std.proofs.Common.{◌≡◌, ◌++◌, ◌+◌, ◌≤◌, ◌∙◌, [], ◌∷◌, None, ap, arith, refl, sym, take, subst, Err, vec_len, vec_capacity}
 use Rattle.std.proofs.lemmas.Grind.{common_steps}
-use Rattle.hid_stack.specs.Rig.{NoneIsRefused, bus_after_all, delivered_in}
+use Rattle.hid_stack.specs.declared.step.Step.{Step}
+use Rattle.hid_stack.specs.Rig.{HasRoomFor, IsRefusal, NoneIsRefused, bus_after, bus_after_all, delivered_at, delivered_in, most_events, refusal, refused_after}
 use Rattle.hid_stack.specs.Sums.{AllHaveMotions, ConfiguresBetweenRounds}
 use Rattle.hid_stack.proofs.Isolation.{ran_more, told_more, devices_live, headline, isolated, keeps_to_rounds}
 use Rattle.hid_stack.proofs.RoomLemmas.{goes_on_more, most_more, not_refused, room_at, stopped, stops_at}
@@ -8,14 +9,20 @@ use Rattle.hid_stack.proofs.SumLemmas.{between_more, sums_stop, sums_up}
 use Rattle.hid_stack.proofs.rig.Rig.run.Goals as goal
 
 pub loop-at-preserved : goal.loop-at-preserved
-loop-at-preserved c = record {
-  now = ran_more _ _ _ _ _ _ c.loop-at-test.true c.loop-at.invariant.now c.in-Ok.ensures.after;
-  told = told_more _ _ _ _ _ _ _ _ c.loop-at-test.true c.loop-at.invariant.now c.loop-at.invariant.told c.in-Ok.ensures.events;
-  few = most_more _ _ _ _ _ _ _ _ c.loop-at-test.true c.loop-at.invariant.now c.loop-at.invariant.few c.step.ensures.few;
-  goes_on = goes_on_more _ _ _ _ _ c.loop-at-test.true c.loop-at.invariant.now c.loop-at.invariant.goes_on (not_refused _ c.step.result c.in-Ok.field-0 c.in-Ok.is c.step.ensures.refused);
-  between = between_more _ _ _ _ _ c.loop-at-test.true c.loop-at.invariant.now c.loop-at.invariant.between c.step.ensures.between;
-  capacity = omega (arith, c.loop-at.invariant.capacity, c.step.ensures.capacity);
-}
+loop-at-preserved c =
+    let is = c.index-steps-at.is in
+    record {
+      now = ran_more _ _ _ _ _ _ c.loop-at-test.true c.loop-at.invariant.now (c.in-Ok.ensures.after ∙ ap (bus_after c.loop-at.self) is);
+      told = told_more _ _ _ _ _ _ _ _ c.loop-at-test.true c.loop-at.invariant.now c.loop-at.invariant.told
+          (c.in-Ok.ensures.events ∙ ap (λ (x : Step). c.loop-at.out.items ++ delivered_at c.loop-at.self x) is);
+      few = most_more _ _ _ _ _ _ _ _ c.loop-at-test.true c.loop-at.invariant.now c.loop-at.invariant.few
+          (subst (λ (x : Step). vec_len c.step.new.out ≤ vec_len c.loop-at.out + most_events c.loop-at.self x) is c.step.ensures.few);
+      goes_on = goes_on_more _ _ _ _ _ c.loop-at-test.true c.loop-at.invariant.now c.loop-at.invariant.goes_on
+          (subst (λ (x : Step). refusal c.loop-at.self x ≡ None) is (not_refused _ c.step.result c.in-Ok.field-0 c.in-Ok.is c.step.ensures.refused));
+      between = between_more _ _ _ _ _ c.loop-at-test.true c.loop-at.invariant.now c.loop-at.invariant.between
+          (subst (λ (x : Step). ConfiguresBetweenRounds c.loop-at.self (x ∷ [])) is c.step.ensures.between);
+      capacity = omega (arith, c.loop-at.invariant.capacity, c.step.ensures.capacity);
+    }
 
 pub returns-clause-headline : goal.returns-clause-headline
 returns-clause-headline c =
@@ -55,10 +62,13 @@ returns-clause-goes_on c =
 -- where a step is refused, the steps before it stand
 
 pub returns-in-Err-clause-stops : goal.returns-in-Err-clause-stops
-returns-in-Err-clause-stops c = stops_at _ _ _ _ _ _ c.loop-at-test.true c.loop-at.invariant.goes_on c.loop-at.invariant.now c.in-Err.ensures.only
+returns-in-Err-clause-stops c = stops_at _ _ _ _ _ _ c.loop-at-test.true c.loop-at.invariant.goes_on c.loop-at.invariant.now
+    (subst (λ (x : Step). IsRefusal c.loop-at.self x c.in-Err.fault) c.index-steps-at.is c.in-Err.ensures.only)
 
 pub returns-in-Err-clause-err_after : goal.returns-in-Err-clause-err_after
-returns-in-Err-clause-err_after c = stopped _ _ _ _ _ _ _ c.loop-at-test.true c.loop-at.invariant.now c.in-Err.ensures.err
+returns-in-Err-clause-err_after c =
+    stopped _ _ _ _ _ _ _ c.loop-at-test.true c.loop-at.invariant.now
+    (c.in-Err.ensures.err ∙ ap (λ (x : Step). refused_after c.loop-at.self x c.in-Err.fault) c.index-steps-at.is)
 
 pub returns-in-Err-clause-err_headline : goal.returns-in-Err-clause-err_headline
 returns-in-Err-clause-err_headline c =
@@ -85,4 +95,6 @@ returns-in-Err-clause-err_conserves c =
 
 pub returns-in-Err-clause-room : goal.returns-in-Err-clause-room
 returns-in-Err-clause-room c scheduled room memory =
-    c.step.ensures.room (room_at _ _ _ _ _ _ _ _ _ c.loop-at-test.true c.loop-at.invariant.now c.loop-at.invariant.few c.loop-at.invariant.capacity scheduled room) (c.in-Err.is ∙ ap Err memory)
+    c.step.ensures.room
+    (subst (λ (x : Step). HasRoomFor c.loop-at.self x (vec_len c.loop-at.out) (vec_capacity c.loop-at.out)) (sym c.index-steps-at.is)
+    (room_at _ _ _ _ _ _ _ _ _ c.loop-at-test.true c.loop-at.invariant.now c.loop-at.invariant.few c.loop-at.invariant.capacity scheduled room)) (c.in-Err.is ∙ ap Err memory)

@@ -1,0 +1,98 @@
+-- What is kept of Output and Feature reports: as many bytes of each as it has.
+use Rattle.std.proofs.Common.{◌≡◌, ℕ, ◌+◌, ◌-◌, ◌<◌, Bool, true, false, ◌==◌, ◌&&◌, List, length, get_or, zero, suc, Option, Some, None, refl, ap, sym, ◌∙◌, subst, arith}
+use Rattle.std.specs.Prelude.{slice_get, slice_set, option_map}
+use Rattle.std.specs.List.{range_with_len}
+use Rattle.std.proofs.lemmas.Bool.Decides.{nat_tests}
+use Rattle.std.proofs.lemmas.List.{length-drop, length-replicate, length-set}
+use Rattle.std.proofs.lemmas.List.FromFn.{length-map-range_with_len}
+use Rattle.std.proofs.lemmas.Option.{slice_get-get_or, slice_get-map, slice_get_within}
+use Rattle.std.proofs.lemmas.List.Quantifiers.{position-Some}
+use Rattle.hid_descriptor.specs.declared.report.Report.{Report}
+use Rattle.hid_descriptor.specs.declared.report.ReportKind.TheVariants.{Input}
+use Rattle.hid_descriptor.specs.Kinds.{same_kind}
+use Rattle.hid_layout.specs.Controls.{is_input, is_input_report}
+use Rattle.hid_layout.specs.Layout.{Contents}
+use Rattle.hid_layout.specs.Reports.{report_bytes}
+use Rattle.hid_cells.proofs.ItemLemmas.{set_here, set_there}
+use Rattle.hid_parts.specs.Encoding.{bare_report}
+use Rattle.hid_device.specs.Inputs.{input_count}
+use Rattle.hid_device.specs.Outputs.{AreOutputs, bare_outputs, in_place_of, is_named, kept, kept_bytes, number_of}
+
+bare_length : (layout : Contents) (r : ℕ) → length (bare_report layout r) ≡ report_bytes layout r
+bare_length layout r = by_ids layout.numbered refl
+  where
+    by_ids : (b : Bool) → layout.numbered ≡ b → length (bare_report layout r) ≡ report_bytes layout r
+    by_ids true ids = rw ids (omega (arith, length-replicate {A = ℕ}))
+    by_ids false none = rw none (omega (arith, length-replicate {A = ℕ}))
+
+-- an element of numbers one behind the other is the first and its place
+number_at : (first count i n : ℕ) → slice_get (range_with_len first count) i ≡ Some n → n ≡ first + i
+number_at first zero i n at = absurd (cc)
+number_at first (suc count) zero n at = let e : first ≡ n = cc in omega (arith, e)
+number_at first (suc count) (suc i) n at = let e : n ≡ first + 1 + i = number_at (first + 1) count i n at in omega (arith, e)
+
+mapped_at : {A : Type 0} (f : ℕ → A) (o : Option ℕ) (x : A) (n : ℕ) → ((m : ℕ) → o ≡ Some m → m ≡ n) → option_map f o ≡ Some x → x ≡ f n
+mapped_at f None x n is h = absurd (cc)
+mapped_at f (Some m) x n is h = let e : f m ≡ x = cc in sym e ∙ ap f (is m refl)
+
+pub bare_are : (layout : Contents) → AreOutputs layout (bare_outputs layout)
+bare_are layout =
+    let first : ℕ = input_count layout.reports in
+    let count : ℕ = length layout.reports - first in
+    record {
+      each = length-map-range_with_len (bare_report layout) first count ∙ sym (length-drop first layout.reports);
+      whole = λ i output at.
+          let is : output ≡ bare_report layout (first + i) = mapped_at (bare_report layout) (slice_get (range_with_len first count) i) output (first + i)
+          (number_at first count i) (sym (slice_get-map (bare_report layout) (range_with_len first count) i) ∙ at) in
+          ap (λ (bytes : List ℕ). length bytes) is ∙ bare_length layout (first + i);
+    }
+
+same_length : (output bytes : List ℕ) → length (in_place_of output bytes) ≡ length output
+same_length output bytes = by_test (length bytes == length output) refl
+  where
+    by_test : (b : Bool) → (length bytes == length output) ≡ b → length (in_place_of output bytes) ≡ length output
+    by_test true e = rw e (grind (arith, nat_tests, e))
+    by_test false e = rw e refl
+
+pub kept_are : (layout : Contents) (outputs : List (List ℕ)) (i : ℕ) (bytes : List ℕ) → AreOutputs layout outputs → AreOutputs layout (kept outputs i bytes)
+kept_are layout outputs i bytes are = by_place (slice_get outputs i) refl
+  where
+    by_place : (o : Option (List ℕ)) → slice_get outputs i ≡ o
+        → AreOutputs layout (elim o [ None ↦ outputs | Some output ↦ slice_set outputs i (in_place_of output bytes) ])
+    by_place None at = are
+    by_place (Some output) at = record {
+      each = length-set outputs i (in_place_of output bytes) ∙ are.each;
+      whole = λ k other there. at_place k other there (k == i) refl;
+    }
+      where
+        within : i < length outputs
+        within = slice_get_within outputs i output at
+
+        at_place : (k : ℕ) (other : List ℕ) → slice_get (slice_set outputs i (in_place_of output bytes)) k ≡ Some other → (b : Bool) → (k == i) ≡ b
+            → length other ≡ kept_bytes layout k
+        at_place k other there true e =
+            let same : i ≡ k = grind (arith, nat_tests, e) in
+            let here : slice_get (slice_set outputs i (in_place_of output bytes)) k ≡ Some (in_place_of output bytes)
+            = subst (λ (j : ℕ). slice_get (slice_set outputs i (in_place_of output bytes)) j ≡ Some (in_place_of output bytes)) same (set_here outputs i (in_place_of output bytes) within) in
+            let is : in_place_of output bytes ≡ other = cc in
+            sym (ap (λ (l : List ℕ). length l) is) ∙ same_length output bytes ∙ are.whole i output at ∙ ap (kept_bytes layout) same
+        at_place k other there false e =
+            are.whole k other (sym (set_there outputs i k (in_place_of output bytes) (λ same. absurd (grind (arith, nat_tests, e, same)))) ∙ there)
+
+pub kept_is : (outputs : List (List ℕ)) (i : ℕ) (bytes output new : List ℕ) → slice_get outputs i ≡ Some output → new ≡ in_place_of output bytes
+    → slice_set outputs i new ≡ kept outputs i bytes
+kept_is outputs i bytes output new at is = ap (λ (x : List ℕ). slice_set outputs i x) is ∙ by_place (slice_get outputs i) at
+  where
+    by_place : (o : Option (List ℕ)) → o ≡ Some output
+        → slice_set outputs i (in_place_of output bytes) ≡ (elim o [ None ↦ outputs | Some there ↦ slice_set outputs i (in_place_of there bytes) ])
+    by_place None h = absurd (cc)
+    by_place (Some there) h = let e : output ≡ there = cc in ap (λ (x : List ℕ). slice_set outputs i (in_place_of x bytes)) e
+
+-- the report that is found by its kind is of that kind
+pub named_input : (reports : List Report) (id r : ℕ) → number_of reports Input id ≡ Some r → is_input reports r ≡ true
+named_input reports id r found =
+    let d : Report = record { kind = Input; id = id; bits = 0 } in
+    let p = position-Some (is_named Input id) reports r d found in
+    let named : same_kind (get_or reports r d).kind Input && ((get_or reports r d).id == id) ≡ true = p.1 in
+    let kind : same_kind (get_or reports r d).kind Input ≡ true = grind (arith, named) in
+    ap is_input_report (slice_get-get_or reports r d p.0) ∙ kind

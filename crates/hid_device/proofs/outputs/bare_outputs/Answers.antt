@@ -1,0 +1,21 @@
+use Rattle.std.proofs.Common.{◌≡◌, ◌≤◌, ℕ, ◌+◌, ◌-◌, ◌++◌, List, ◌∷◌, [], map, ap, sym, ◌∙◌, arith}
+use Rattle.std.specs.List.{range_with_len}
+use Rattle.std.proofs.lemmas.Grind.{common_steps}
+use Rattle.std.proofs.lemmas.List.FromFn.{map-range_with_len_more}
+use Rattle.hid_parts.specs.Encoding.{bare_report}
+use Rattle.hid_device.specs.Inputs.{input_count}
+use Rattle.hid_device.proofs.outputs.bare_outputs.Goals as goal
+
+pub loop-report-preserved : goal.loop-report-preserved
+loop-report-preserved c =
+    let first : ℕ = input_count c.args.layout.now.reports in
+    let done : ℕ = c.loop-report.report - first in
+    let from : first ≤ c.loop-report.report = c.loop-report.invariant.from in
+    let next : c.loop-report.report + 1 - first ≡ done + 1 = omega (arith, from) in
+    let pushed : c.push.new.self.items ≡ c.loop-report.outputs.items ++ bare_report c.args.layout.now c.loop-report.report ∷ [] = grind (arith, common_steps) in
+    record {
+      from = omega (arith, from);
+      bare = pushed ∙ ap (λ (xs : List (List ℕ)). xs ++ bare_report c.args.layout.now c.loop-report.report ∷ []) c.loop-report.invariant.bare
+          ∙ sym (map-range_with_len_more (bare_report c.args.layout.now) first done c.loop-report.report (omega (arith, from)))
+          ∙ ap (λ (n : ℕ). map (bare_report c.args.layout.now) (range_with_len first n)) (sym next);
+    }

@@ -1,0 +1,45 @@
+use Rattle.std.proofs.Common.{◌≡◌, ◌<◌, ℕ, List, length, Some, sym, ap, ◌∙◌, subst, arith}
+use Rattle.std.specs.Prelude.{slice_get, slice_set}
+use Rattle.std.proofs.lemmas.Option.{slice_get-get_or}
+use Rattle.std.proofs.lemmas.Grind.{common_steps}
+use Rattle.hid_device.specs.declared.decisions.Pending.TheVariants.{Keep}
+use Rattle.hid_device.specs.contracts.state.Core.{the_view}
+use Rattle.hid_device.specs.Core.{CoreState}
+use Rattle.hid_device.specs.Deciding.{effected}
+use Rattle.hid_device.specs.Outputs.{AreOutputs, kept}
+use Rattle.hid_device.proofs.OutputLemmas.{kept_are, kept_is}
+use Rattle.hid_device.proofs.state.Core.keep.Goals as goal
+
+pub invariant_of-self : goal.invariant_of-self
+invariant_of-self c =
+    let before = c.self.invariant.sound in
+    let within : c.args.place < length c.self.inside.outputs.items = grind (arith, common_steps) in
+    let there : slice_get c.self.inside.outputs.items c.args.place ≡ Some c.index_mut.result.now = slice_get-get_or c.self.inside.outputs.items c.args.place c.index_mut.result.now within ∙ ap Some (sym c.index_mut.ensures.value) in
+    let set : slice_set c.self.inside.outputs.items c.args.place c.keep.new.self ≡ kept c.self.inside.outputs.items c.args.place c.args.bytes.now
+    = kept_is c.self.inside.outputs.items c.args.place c.args.bytes.now c.index_mut.result.now c.keep.new.self there c.keep.ensures in
+    record {
+      sound = record {
+        lays = before.lays;
+        empty_codes = before.empty_codes;
+        zeros = before.zeros;
+        inputs_first = before.inputs_first;
+        snapshot = before.snapshot;
+        fixed = before.fixed;
+        each_frames = before.each_frames;
+        each_idle = before.each_idle;
+        of_input = before.of_input;
+        outputs = subst (λ (outputs : List (List ℕ)). AreOutputs c.self.inside.layout outputs) (sym set)
+            (kept_are c.self.inside.layout c.self.inside.outputs.items c.args.place c.args.bytes.now before.outputs);
+      };
+      armed = c.self.invariant.armed;
+      room = c.self.invariant.room;
+    }
+
+pub returns-then-place-len : goal.returns-then-place-len
+returns-then-place-len c =
+    let within : c.args.place < length c.self.inside.outputs.items = grind (arith, common_steps) in
+    let there : slice_get c.self.inside.outputs.items c.args.place ≡ Some c.index_mut.result.now = slice_get-get_or c.self.inside.outputs.items c.args.place c.index_mut.result.now within ∙ ap Some (sym c.index_mut.ensures.value) in
+    let set : slice_set c.self.inside.outputs.items c.args.place c.keep.new.self ≡ kept c.self.inside.outputs.items c.args.place c.args.bytes.now
+    = kept_is c.self.inside.outputs.items c.args.place c.args.bytes.now c.index_mut.result.now c.keep.new.self there c.keep.ensures in
+    ap (λ (outputs : List (List ℕ)). record (the_view c.self.inside) { outputs = outputs }) set
+    ∙ ap (λ (core : CoreState). effected core c.args.bytes.now (Keep c.args.place)) c.self.view_is

@@ -1,0 +1,41 @@
+-- What endpoint 0 of a device and its polls leave of one another (USB 2.0, 8.5.3, 8.5.4 and 9.1.1.5; HID 1.11, 7.2).
+use Rattle.std.specs.Prelude.{◌≡◌, Bool, true, false}
+use Rattle.usb_control.specs.Device.{Effect, Applies}
+use Rattle.hid_device.specs.declared.decisions.Pending.{Pending}
+use Rattle.hid_device.specs.declared.decisions.Pending.TheVariants.{Configure}
+use Rattle.hid_device.specs.Standing.{with_idle}
+use Rattle.hid_device.specs.Core.{CoreState}
+use Rattle.hid_device.specs.Device.{DeviceState, core_of}
+
+-- a write that is carried out configures the device where this was asked for
+abbrev pub carries_out : Effect → Pending → Bool
+carries_out (Applies bytes) Configure = true
+carries_out _ _ = false
+
+-- What polls go by stays: the snapshot, the parts last fixed, the frames that were counted, the open round, the toggle, and
+-- whether the device is configured. What requests set, and the request itself, may be others.
+abbrev pub LeavesRounds : CoreState → CoreState → Type 0
+LeavesRounds old new =
+    new ≡ record old {
+      standing = with_idle new.standing.idle old.standing;
+      protocol = new.protocol;
+      outputs = new.outputs;
+      answer = new.answer;
+      pending = new.pending;
+    }
+
+-- What requests go by stays: the idle times, the protocol, the Output and Feature reports, whether the device is
+-- configured, the answer that was fixed, and what is to be carried out.
+abbrev pub LeavesRequests : CoreState → CoreState → Type 0
+LeavesRequests old new =
+    new ≡ record old {
+      standing = with_idle old.standing.idle new.standing;
+      current = new.current;
+      toggle = new.toggle;
+    }
+
+-- and so does the stage of endpoint 0
+pub record LeavesEndpoint (old new : DeviceState) : Type 0 where
+  pub address : new.addr ≡ old.addr
+  pub stage : new.control.stage ≡ old.control.stage
+  pub requests : LeavesRequests (core_of old) (core_of new)

@@ -1,0 +1,106 @@
+//! The reports of a layout by kind and ID, and what is kept of those that a host sets (HID 1.11, 7.2.1 and 7.2.2).
+
+ghost use Rattle.std.specs.Prelude.{◌≡◌, ◌<◌, ◌≤◌, length, position, IfOk, IfSome, true};
+ghost use Rattle.hid_layout.specs.Controls.{is_input};
+ghost use Rattle.hid_descriptor.specs.declared.report.ReportKind.TheVariants.{Input};
+ghost use Rattle.hid_parts.specs.Encoding.{bare_report};
+ghost use Rattle.hid_device.specs.Outputs.{bare_outputs, in_place_of, is_named, kept_place, kept_reports, number_of};
+
+use crate::inputs::input_count;
+use arrayvec::ArrayVec;
+use hid_layout::{Layout, Report, ReportKind};
+use hid_parts::bare_report;
+use std::alloc::{AllocError, Global};
+use std::marker::Model;
+
+/// An Output or Feature report as a host set it last, its ID first where it has one; at first zeros.
+#[derive(Drop)]
+pub(crate) struct KeptReport {
+    bytes: ArrayVec<u8, 64>,
+}
+
+impl Model for KeptReport {
+    ghost use Rattle.std.specs.Prelude.{List, ℕ};
+
+    ghost Value = { List ℕ };
+
+    ghost view = { λ r. r.bytes.items };
+}
+
+impl KeptReport {
+    /// In bytes, its length.
+    pub(crate) fn len(&self) -> usize
+        ensures length { result ≡ length self.now }
+        ensures short { result ≤ 64 }
+    {
+        self.bytes.len()
+    }
+
+    pub(crate) fn bytes(&self) -> &[u8]
+        ensures bytes { result.now ≡ self.now }
+        ensures short { length result.now ≤ 64 }
+    {
+        &self.bytes
+    }
+
+    /// It is set to these bytes, where they are as many as it has.
+    pub(crate) fn keep(&mut self, bytes: &[u8])
+        ensures { self.new ≡ in_place_of self.old bytes.now }
+    {
+        if bytes.len() == self.bytes.len() {
+            self.bytes = ArrayVec::try_from(bytes).unwrap();
+        }
+    }
+}
+
+/// A report of a layout as it is at first: zeros, behind its ID where it has one.
+fn bare(layout: &Layout, report: usize) -> KeptReport
+    requires { report < length layout.now.reports }
+    ensures { result ≡ bare_report layout.now report }
+{
+    let _items = layout.items(); // with what holds of every layout, as that a report has at most 64 bytes
+    KeptReport {
+        bytes: bare_report(layout, report),
+    }
+}
+
+/// One for each Output and Feature report, in the order of the layout.
+pub(crate) fn bare_outputs(alloc: Global, layout: &Layout) -> Result<Vec<KeptReport>, AllocError>
+    ensures { IfOk result (λ outputs. outputs.items ≡ bare_outputs layout.now) }
+{
+    let mut outputs = Vec::new(alloc);
+    for report in input_count(layout)..layout.reports().len() {
+        outputs.push(bare(layout, report))?;
+    }
+    Ok(outputs)
+}
+
+fn is_named(report: &Report, kind: ReportKind, id: u8) -> bool
+    ensures { result ≡ is_named kind id report.now }
+{
+    report.kind.is(kind) && report.id == id
+}
+
+/// The place of the first of these reports that is of this kind and ID.
+fn place_among(reports: &[Report], kind: ReportKind, id: u8) -> Option<usize>
+    ensures place { result ≡ position (is_named kind id) reports.now }
+    ensures within { IfSome result (λ i. i < length reports.now) }
+{
+    reports.iter().position(|report| is_named(report, kind, id))
+}
+
+/// The number of the Input report with this ID.
+pub(crate) fn input_with(layout: &Layout, id: u8) -> Option<usize>
+    ensures number { result ≡ number_of layout.now.reports Input id }
+    ensures input { IfSome result (λ r. is_input layout.now.reports r ≡ true) }
+{
+    place_among(layout.reports(), ReportKind::Input, id)
+}
+
+/// The place of the report of this kind and ID among the Output and Feature reports.
+pub(crate) fn kept_place(layout: &Layout, kind: ReportKind, id: u8) -> Option<usize>
+    ensures place { result ≡ kept_place layout.now.reports kind id }
+    ensures within { IfSome result (λ i. i < length (kept_reports layout.now.reports)) }
+{
+    place_among(&layout.reports()[input_count(layout)..], kind, id)
+}

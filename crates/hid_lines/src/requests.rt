@@ -1,0 +1,215 @@
+//! What the words behind `begin` say: a device, and what its host asks.
+
+ghost use Rattle.std.specs.Prelude.{◌≡◌, ◌≤◌, map};
+ghost use Rattle.hid_lines.specs.Words.{total_length};
+ghost use Rattle.hid_lines.specs.Requests.{request_word_of, kind_of, boot_protocol_of, alone as alone_said, idle_said, id_said, protocol_said, report_said, set_report_said, asked_by, request_said, begin_said};
+
+use super::fault::LineFault;
+use super::line::Line;
+use super::numbers::{read_byte, read_device};
+use super::words::{count_bytes, look_up, read_hex};
+use arrayvec::ArrayVec;
+use hid_descriptor::ReportKind;
+use hid_stack::Request;
+
+/// The most bytes of a report that is set.
+const REPORT_LIMIT: usize = 64;
+
+#[derive(Clone, Copy, Debug)]
+enum RequestWord {
+    Device,
+    Config,
+    Report,
+    Configure,
+    Status,
+    GetConfiguration,
+    Idle,
+    GetIdle,
+    Protocol,
+    GetProtocol,
+    GetReport,
+    SetReport,
+}
+
+fn read_request_word(word: &[u8]) -> Option<RequestWord>
+    ensures { result ≡ request_word_of word.now }
+{
+    look_up(
+        &[
+            (b"device", RequestWord::Device),
+            (b"config", RequestWord::Config),
+            (b"report", RequestWord::Report),
+            (b"configure", RequestWord::Configure),
+            (b"status", RequestWord::Status),
+            (b"get-configuration", RequestWord::GetConfiguration),
+            (b"idle", RequestWord::Idle),
+            (b"get-idle", RequestWord::GetIdle),
+            (b"protocol", RequestWord::Protocol),
+            (b"get-protocol", RequestWord::GetProtocol),
+            (b"get-report", RequestWord::GetReport),
+            (b"set-report", RequestWord::SetReport),
+        ],
+        word,
+    )
+}
+
+/// TYPE: which of a device's reports are meant (HID 1.11, 7.2.1).
+fn read_kind(word: &[u8]) -> Option<ReportKind>
+    ensures { result ≡ kind_of word.now }
+{
+    look_up(
+        &[
+            (b"input", ReportKind::Input),
+            (b"output", ReportKind::Output),
+            (b"feature", ReportKind::Feature),
+        ],
+        word,
+    )
+}
+
+// Whether a protocol is the boot protocol (7.2.6).
+fn read_boot_protocol(word: &[u8]) -> Option<bool>
+    ensures { result ≡ boot_protocol_of word.now }
+{
+    look_up(&[(b"boot", true), (b"report", false)], word)
+}
+
+// A request with no words behind it.
+#[tactic(auto, unfolding(crate::specs::Requests::alone))]
+fn alone(request: Request, words: &[&[u8]]) -> Result<Request, LineFault>
+    ensures { result ≡ alone_said request (map (λ word. word.now) words.now) }
+{
+    if words.is_empty() {
+        Ok(request)
+    } else {
+        Err(LineFault::Syntax)
+    }
+}
+
+/// `ID TIME`: an idle time that is set (7.2.4).
+#[tactic(auto, unfolding(crate::specs::Requests::idle_said))]
+fn read_idle(words: &[&[u8]]) -> Option<(u8, u8)>
+    ensures { result ≡ idle_said (map (λ word. word.now) words.now) }
+{
+    let [id, time] = words else {
+        return None;
+    };
+    let id = read_byte(id)?;
+    let time = read_byte(time)?;
+    Some((id, time))
+}
+
+/// `ID`: a report by its Report ID.
+#[tactic(auto, unfolding(crate::specs::Requests::id_said))]
+fn read_id(words: &[&[u8]]) -> Option<u8>
+    ensures { result ≡ id_said (map (λ word. word.now) words.now) }
+{
+    let [id] = words else {
+        return None;
+    };
+    read_byte(id)
+}
+
+/// `boot` or `report`: whether a protocol that is set is the boot protocol.
+#[tactic(auto, unfolding(crate::specs::Requests::protocol_said))]
+fn read_protocol(words: &[&[u8]]) -> Option<bool>
+    ensures { result ≡ protocol_said (map (λ word. word.now) words.now) }
+{
+    let [protocol] = words else {
+        return None;
+    };
+    read_boot_protocol(protocol)
+}
+
+/// `TYPE ID`: a report that is asked for (7.2.1).
+#[tactic(auto, unfolding(crate::specs::Requests::report_said))]
+fn read_report(words: &[&[u8]]) -> Option<(ReportKind, u8)>
+    ensures { result ≡ report_said (map (λ word. word.now) words.now) }
+{
+    let [kind, id] = words else {
+        return None;
+    };
+    let kind = read_kind(kind)?;
+    let id = read_byte(id)?;
+    Some((kind, id))
+}
+
+/// `TYPE ID HEX`: a report that is set (7.2.2). How many bytes there are is looked at before their digits.
+#[tactic(auto, unfolding(crate::specs::Requests::set_report_said))]
+fn read_set_report(words: &[&[u8]]) -> Result<Request, LineFault>
+    requires { total_length (map (λ word. word.now) words.now) ≤ 1024 }
+    ensures { result ≡ set_report_said (map (λ word. word.now) words.now) }
+{
+    let [kind, id, hex @ ..] = words else {
+        return Err(LineFault::Syntax);
+    };
+    let kind = read_kind(kind).ok_or(LineFault::Syntax)?;
+    let id = read_byte(id).ok_or(LineFault::Syntax)?;
+    if count_bytes(hex) > REPORT_LIMIT {
+        return Err(LineFault::Syntax);
+    }
+    let report = read_hex(hex)?;
+    let bytes = ArrayVec::try_from(report.as_slice()).unwrap();
+    Ok(Request::SetReport { kind, id, bytes })
+}
+
+// What the words behind the first one of a request say.
+#[tactic(auto, unfolding(crate::specs::Requests::asked_by))]
+fn read_asked(word: RequestWord, words: &[&[u8]]) -> Result<Request, LineFault>
+    requires { total_length (map (λ word. word.now) words.now) ≤ 1024 }
+    ensures { result ≡ asked_by word (map (λ word. word.now) words.now) }
+{
+    match word {
+        RequestWord::Device => alone(Request::Device, words),
+        RequestWord::Config => alone(Request::Config, words),
+        RequestWord::Report => alone(Request::Report, words),
+        RequestWord::Configure => alone(Request::Configure, words),
+        RequestWord::Status => alone(Request::Status, words),
+        RequestWord::GetConfiguration => alone(Request::GetConfiguration, words),
+        RequestWord::Idle => {
+            let (id, time) = read_idle(words).ok_or(LineFault::Syntax)?;
+            Ok(Request::Idle { id, time })
+        }
+        RequestWord::GetIdle => {
+            let id = read_id(words).ok_or(LineFault::Syntax)?;
+            Ok(Request::GetIdle { id })
+        }
+        RequestWord::Protocol => {
+            let boot = read_protocol(words).ok_or(LineFault::Syntax)?;
+            Ok(Request::Protocol { boot })
+        }
+        RequestWord::GetProtocol => alone(Request::GetProtocol, words),
+        RequestWord::GetReport => {
+            let (kind, id) = read_report(words).ok_or(LineFault::Syntax)?;
+            Ok(Request::GetReport { kind, id })
+        }
+        RequestWord::SetReport => read_set_report(words),
+    }
+}
+
+/// `REQUEST`: what a host asks of its device (USB 2.0, 9.4; HID 1.11, 7.2).
+#[tactic(auto, unfolding(crate::specs::Requests::request_said))]
+fn read_request(words: &[&[u8]]) -> Result<Request, LineFault>
+    requires { total_length (map (λ word. word.now) words.now) ≤ 1024 }
+    ensures { result ≡ request_said (map (λ word. word.now) words.now) }
+{
+    let [first, rest @ ..] = words else {
+        return Err(LineFault::Syntax);
+    };
+    let word = read_request_word(first).ok_or(LineFault::Syntax)?;
+    read_asked(word, rest)
+}
+
+/// `D REQUEST`: a device, and what its host asks.
+#[tactic(auto, unfolding(crate::specs::Requests::begin_said))]
+pub fn read_begin(words: &[&[u8]]) -> Result<Line, LineFault>
+    requires { total_length (map (λ word. word.now) words.now) ≤ 1024 }
+    ensures { result ≡ begin_said (map (λ word. word.now) words.now) }
+{
+    let [dev, request @ ..] = words else {
+        return Err(LineFault::Syntax);
+    };
+    let dev = read_device(dev).ok_or(LineFault::Syntax)?;
+    let request = read_request(request)?;
+    Ok(Line::Begin { dev, request })
+}
