@@ -2,6 +2,7 @@
 
 HIDRUN := bin/hidrun
 HIDPLAY := bin/hidplay
+HIDMAP := bin/hidmap
 SCRIPT ?= examples/layouts/mouse.script
 ARGS ?=
 COUNT ?= 20000
@@ -9,7 +10,7 @@ PREFIX ?= /usr/local
 DESTDIR ?=
 VERSION := 0.2.0
 
-.PHONY: run test try hidrun hidplay examples library library-test library-check library-cost install documents memory refusals mutants descriptors clean
+.PHONY: run test try hidrun hidplay hidmap examples library library-test library-check library-cost install documents memory refusals mutants descriptors clean
 
 # Runs the mouse example on the proved program.
 run: $(HIDRUN)
@@ -21,7 +22,7 @@ test:
 	rm -rf bin/build/rooms
 	rt ci
 	$(MAKE) --no-print-directory documents
-	$(MAKE) --no-print-directory hidrun hidplay examples
+	$(MAKE) --no-print-directory hidrun hidplay hidmap examples
 
 # Runs a script without a proof: make try SCRIPT=FILE ARGS=--trace
 try:
@@ -54,6 +55,18 @@ $(HIDPLAY): $(PLAYS)
 	mkdir -p bin
 	cp $(PLAYS) $@
 
+# The proved program that draws reports.
+hidmap: $(HIDMAP)
+
+MAPS := crates/hidmap/out/hidmap
+
+$(MAPS): crates.txt $(SOURCES)
+	tools/build hidmap
+
+$(HIDMAP): $(MAPS)
+	mkdir -p bin
+	cp $(MAPS) $@
+
 # The C library: bin/lib/libhidstack.a and the shared libhidstack.so.$(VERSION), of the proved crate.
 library: bin/lib/libhidstack.a
 
@@ -78,26 +91,32 @@ library-cost: library
 	tools/library-cost
 
 # Programs, library, header, pkg-config file and manual pages: make install PREFIX=/usr/local DESTDIR=
-install: $(HIDRUN) $(HIDPLAY) library
+install: $(HIDRUN) $(HIDPLAY) $(HIDMAP) library
 	install -Dm755 $(HIDRUN) $(DESTDIR)$(PREFIX)/bin/hidrun
 	install -Dm755 $(HIDPLAY) $(DESTDIR)$(PREFIX)/bin/hidplay
+	install -Dm755 $(HIDMAP) $(DESTDIR)$(PREFIX)/bin/hidmap
 	install -Dm644 bin/lib/libhidstack.a $(DESTDIR)$(PREFIX)/lib/libhidstack.a
 	install -Dm755 bin/lib/libhidstack.so.$(VERSION) $(DESTDIR)$(PREFIX)/lib/libhidstack.so.$(VERSION)
 	cp -P bin/lib/libhidstack.so bin/lib/libhidstack.so.0 $(DESTDIR)$(PREFIX)/lib
 	install -Dm644 include/hidstack.h $(DESTDIR)$(PREFIX)/include/hidstack.h
 	install -Dm644 packaging/hidrun.1 $(DESTDIR)$(PREFIX)/share/man/man1/hidrun.1
 	install -Dm644 packaging/hidplay.1 $(DESTDIR)$(PREFIX)/share/man/man1/hidplay.1
+	install -Dm644 packaging/hidmap.1 $(DESTDIR)$(PREFIX)/share/man/man1/hidmap.1
 	install -Dm644 packaging/hidstack.3 $(DESTDIR)$(PREFIX)/share/man/man3/hidstack.3
 	mkdir -p $(DESTDIR)$(PREFIX)/lib/pkgconfig
 	sed 's|@PREFIX@|$(PREFIX)|; s|@VERSION@|$(VERSION)|' packaging/hidstack.pc.in > $(DESTDIR)$(PREFIX)/lib/pkgconfig/hidstack.pc
 
-# Holds what examples are to print of layouts and reports against a second reader, and runs each on its proved program,
-# and some scripts on a full device.
-examples: $(HIDRUN) $(HIDPLAY)
+# The seventeen real devices, and the examples of pictures.
+PICTURED := $(shell grep -l '^N:' examples/recordings/*.hid) $(wildcard examples/pictures/*.hid)
+
+# Holds what examples are to print of layouts and reports against a second reader, and each page against the same
+# reader and a browser, runs each on its proved program, and some scripts on a full device.
+examples: $(HIDRUN) $(HIDPLAY) $(HIDMAP)
 	tools/second-reader examples/*/*.script
 	tools/check-recordings examples/*/*.hid
+	tools/check-pictures $(HIDMAP) $(PICTURED)
 	tools/check-full-device $(HIDRUN)
-	tools/check-examples $(HIDRUN) $(HIDPLAY)
+	tools/check-examples $(HIDRUN) $(HIDPLAY) $(HIDMAP)
 
 # Looks whether each file, function, clause, definition and wrong body that documents cite is there, and then whether it
 # tells a wrong name.

@@ -2,35 +2,16 @@
 use Rattle.std.specs.Prelude.{ℕ, Bool, true, false, List, [], ◌∷◌, ◌++◌, codes}
 use Rattle.std.specs.Fmt.{decimal}
 use Rattle.hid_descriptor.specs.declared.fault.Cause as layouts
-use Rattle.hid_descriptor.specs.declared.fault.Cause.TheVariants.{Truncated, TooLong, PopEmpty, PushDepth, CollectionDepth, EndWithout, Unclosed, BadReportId, MixedReportId, BadRange, BadSize, BadUsageRange, UnpairedUsage, Delimiter, ReportTooLong, TooMany, Memory}
+use Rattle.hid_descriptor.specs.declared.fault.Cause.TheVariants.{Memory}
 use Rattle.hid_descriptor.specs.Codes.{layout_fault_text}
 use Rattle.hid_cells.specs.declared.fault.ReportFault.{ReportFault}
 use Rattle.hid_cells.specs.declared.fault.ReportFault.TheVariants.{Short, UnknownReport}
+use Rattle.hid_notation.specs.Causes.{layout_words}
 use Rattle.hid_usages.specs.Faults.{report_code}
 use Rattle.hid_recording.specs.declared.fault.Refusal.{Refusal}
 use Rattle.hid_recording.specs.declared.fault.Refusal.TheVariants.{Syntax, BadHex, BadCount, BadDevice, BadTime, NoLayout, Layout, Report}
 use Rattle.hid_recording.specs.declared.fault.Cause.{Cause}
 use Rattle.hid_recording.specs.declared.fault.Cause.TheVariants as causes
-
--- why a descriptor is refused
-abbrev pub layout_words : layouts.Cause → List ℕ
-layout_words Truncated = codes "the descriptor ends in the middle of an item"
-layout_words TooLong = codes "a descriptor of over 4096 bytes"
-layout_words PopEmpty = codes "a Pop without a Push"
-layout_words PushDepth = codes "over 8 open Pushes"
-layout_words CollectionDepth = codes "over 16 open collections"
-layout_words EndWithout = codes "an End Collection without its Collection"
-layout_words Unclosed = codes "a Collection is open at the end"
-layout_words BadReportId = codes "a Report ID of 0, or over 255"
-layout_words MixedReportId = codes "some items have a Report ID, and some have none"
-layout_words BadRange = codes "no number is in the range of a field"
-layout_words BadSize = codes "a data field of 0 bits, or over 32"
-layout_words BadUsageRange = codes "a Usage Minimum over its Maximum, or on another page"
-layout_words UnpairedUsage = codes "a Usage Minimum or Maximum without the other"
-layout_words Delimiter = codes "a Delimiter"
-layout_words ReportTooLong = codes "a report of over 64 bytes"
-layout_words TooMany = codes "too many items, fields, usages or Report IDs"
-layout_words Memory = codes "memory was wanting"
 
 -- want of memory is no refusal
 abbrev pub is_memory : layouts.Cause → Bool

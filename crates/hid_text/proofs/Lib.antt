@@ -1,4 +1,3 @@
-pub mod TextLemmas
 pub mod ValueLemmas
 pub mod PollLemmas
 mod Vectors

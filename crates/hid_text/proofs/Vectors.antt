@@ -5,33 +5,12 @@ use Rattle.std.specs.Fmt.{digits}
 use Rattle.hid_descriptor.specs.declared.report.ReportKind.TheVariants.{Input}
 use Rattle.hid_layout.specs.declared.main_item.MainItem.{MainItem}
 use Rattle.hid_descriptor.specs.declared.shape.Shape.TheVariants.{Variable}
-use Rattle.hid_text.specs.Text.{hex_text, usage_text, range_text}
+use Rattle.hid_notation.specs.Text.{hex_text, range_text}
 use Rattle.hid_text.specs.LayoutText.{item_head, item_line}
 use Rattle.hid_text.specs.ValuesText.{value_line}
 use Rattle.hid_text.specs.TransferText.{transfer_text}
 use Rattle.usb_control.specs.declared.fault.ControlFault.TheVariants.{BusFault}
 use Rattle.usb_control.specs.declared.host.Progress.TheVariants.{Running, Done, Failed}
-
--- two digits at least, and no more than there are
-two_digits : hex_text 0x0A ≡ codes "0A"
-unfolding hex_text digits
-two_digits = refl
-
-four_digits : hex_text 0xFF00 ≡ codes "FF00"
-unfolding hex_text digits
-four_digits = refl
-
-the_x_axis : usage_text (record { page = 0x01; id = 0x30 }) ≡ codes "01:30"
-unfolding hex_text digits
-the_x_axis = refl
-
-three_buttons : range_text (record { page = 0x09; id = 0x01 }, record { page = 0x09; id = 0x03 }) ≡ codes "09:01-09:03"
-unfolding range_text hex_text digits
-three_buttons = refl
-
-one_button : range_text (record { page = 0x09; id = 0x03 }, record { page = 0x09; id = 0x03 }) ≡ codes "09:03"
-unfolding range_text hex_text digits
-one_button = refl
 
 -- a number below 0, and a usage that there isn't
 a_value : value_line 2 1 (negsuc 126) None ≡ codes "value 2.1 -127 -" ++ 10 ∷ []

@@ -13,7 +13,7 @@ use Rattle.hid_layout.specs.Layout.{Contents}
 use Rattle.hid_descriptor.specs.Flags.{has_flag, RELATIVE, NULL_STATE}
 use Rattle.hid_layout.specs.Reports.{report_bytes}
 use Rattle.hid_descriptor.specs.Usages.{Entry}
-use Rattle.hid_text.specs.Text.{usage_or_dash, range_text, joined_below}
+use Rattle.hid_notation.specs.Text.{usage_or_dash, range_text, joined_below}
 
 -- the name of a kind of reports
 abbrev pub kind_word : ReportKind → List ℕ

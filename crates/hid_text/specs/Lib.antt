@@ -1,4 +1,3 @@
-pub mod Text
 pub mod LayoutText
 pub mod ValuesText
 pub mod EventText

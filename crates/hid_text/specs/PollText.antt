@@ -7,7 +7,7 @@ use Rattle.usb_packet.specs.declared.packet.Packet.TheVariants.{Token, Data, Ack
 use Rattle.usb_packet.specs.Spelling.{data_pid, pid_of}
 use Rattle.usb_transact.specs.declared.host.Took.{Took}
 use Rattle.usb_transact.specs.declared.host.Took.TheVariants as host
-use Rattle.hid_text.specs.Text.{bytes_text}
+use Rattle.hid_notation.specs.Text.{bytes_text}
 
 -- a packet that a device sends; it sends no other to answer a poll
 abbrev pub packet_words : Packet → List ℕ

@@ -4,7 +4,7 @@ use Rattle.std.specs.Fmt.{decimal}
 use Rattle.usb_control.specs.Fault.{control_code_of}
 use Rattle.usb_control.specs.declared.host.Progress.{Progress}
 use Rattle.usb_control.specs.declared.host.Progress.TheVariants.{Running, Done, Failed}
-use Rattle.hid_text.specs.Text.{bytes_text}
+use Rattle.hid_notation.specs.Text.{bytes_text}
 
 -- how far a transfer has come: where it is done with the bytes that it got, where it failed with the code
 abbrev pub progress_words : Progress → List ℕ → List ℕ

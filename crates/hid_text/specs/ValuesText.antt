@@ -10,7 +10,7 @@ use Rattle.hid_layout.specs.declared.main_item.Element.{Element}
 use Rattle.hid_layout.specs.Reports.{element_in}
 use Rattle.hid_descriptor.specs.Usages.{Entry, usage_list}
 use Rattle.hid_usages.specs.Reading.{usage_named, element_number}
-use Rattle.hid_text.specs.Text.{usage_or_dash, joined_below}
+use Rattle.hid_notation.specs.Text.{usage_or_dash, joined_below}
 
 -- a variable item has a usage for each element, and where it has fewer the last one is for the rest (HID 1.11, 6.2.2.8)
 unfoldable pub usage_of_element : List Usage → ℕ → Option Usage

@@ -3,7 +3,7 @@
 ghost use Rattle.std.specs.Prelude.{Some};
 ghost use Rattle.hid_text.specs.EventText.{event_text};
 
-use super::text::UsageText;
+use hid_notation::UsageText;
 use hid_usages::Event;
 use std::fmt;
 

@@ -4,8 +4,8 @@ ghost use Rattle.std.specs.Prelude.{◌≡◌, ◌++◌, ◌<◌, length, Some, 
 ghost use Rattle.hid_descriptor.specs.Flags.{has_flag, RELATIVE};
 ghost use Rattle.hid_text.specs.LayoutText.{kind_word, report_name, collection_text, shape_word, range_words, entries_text, details_text, path_text, item_head, item_line, report_line, report_at, item_at, layout_lines, layout_text};
 
-use super::text::{RangeText, UsageOrDash};
 use hid_layout::{Collection, Layout, MainItem, Report, ReportKind, Shape, Usage};
+use hid_notation::{RangeText, UsageOrDash};
 use std::alloc::AllocError;
 use std::fmt;
 

@@ -17,12 +17,10 @@ mod event_text;
 mod layout_text;
 mod poll_text;
 mod step_text;
-mod text;
 mod transfer_text;
 mod values_text;
 
 pub use event_text::EventText;
 pub use layout_text::print_layout;
 pub use step_text::print_step;
-pub use text::UsageText;
 pub use values_text::print_values;

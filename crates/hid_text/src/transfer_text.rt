@@ -3,7 +3,7 @@
 ghost use Rattle.std.specs.Prelude.{◌≡◌, ◌++◌, OnOk, string_bytes};
 ghost use Rattle.hid_text.specs.TransferText.{progress_text, transfer_text};
 
-use super::text::print_bytes;
+use hid_notation::print_bytes;
 use std::alloc::AllocError;
 use usb_control::Progress;
 

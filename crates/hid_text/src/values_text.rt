@@ -3,13 +3,13 @@
 ghost use Rattle.std.specs.Prelude.{◌≡◌, ◌++◌, ◌<◌, ◌≤◌, length, IfSome, OnOk, slice_get, string_bytes};
 ghost use Rattle.hid_descriptor.specs.Usages.{usage_list};
 ghost use Rattle.hid_layout.specs.Reports.{report_bytes};
-ghost use Rattle.hid_text.specs.Text.{joined_below};
+ghost use Rattle.hid_notation.specs.Text.{joined_below};
 ghost use Rattle.hid_usages.specs.Reading.{usage_named};
 ghost use Rattle.hid_text.specs.ValuesText.{usage_of_element, usage_shown, value_line, value_at, values_at, values_text};
 
-use super::text::UsageOrDash;
 use hid_fields::WordCodec;
 use hid_layout::{Layout, MainItem, Shape, Usage, usage_at, usage_count};
+use hid_notation::UsageOrDash;
 use hid_usages::element_value;
 use std::alloc::AllocError;
 

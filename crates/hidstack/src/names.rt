@@ -1,13 +1,13 @@
 //! Causes and usages as text.
 
 ghost use Rattle.std.specs.Prelude.{◌≡◌, ◌≤◌, ◌++◌, length, drop};
-ghost use Rattle.hid_text.specs.Text.{usage_text};
+ghost use Rattle.hid_notation.specs.Text.{usage_text};
 ghost use Rattle.hidstack.specs.Texts.{Tells, TellsCause, TellsUsage};
 
 use crate::status::{MEMORY, NO_ROOM, NONE, OK};
 use hid_layout::Usage;
+use hid_notation::UsageText;
 use hid_session::cause_with;
-use hid_text::UsageText;
 use std::alloc::Global;
 
 /// Writes a text over the first bytes of a room.

@@ -1,6 +1,6 @@
 use Rattle.std.proofs.Common.{◌≡◌, ◌++◌, length}
 use Rattle.std.specs.Prelude.{string_bytes, slice_get}
-use Rattle.hid_text.specs.Text.{joined_below}
+use Rattle.hid_notation.specs.Text.{joined_below}
 use Rattle.hid_text.specs.LayoutText.{report_at, item_at}
 use Rattle.hid_text.proofs.layout_text.print_lines.Given as goal
 

@@ -1,6 +1,6 @@
 use Rattle.std.proofs.Common.{◌≡◌, ◌++◌}
 use Rattle.std.specs.Prelude.{string_bytes}
-use Rattle.hid_text.specs.Text.{joined_below}
+use Rattle.hid_notation.specs.Text.{joined_below}
 use Rattle.hid_text.specs.ValuesText.{value_at}
 use Rattle.hid_text.proofs.values_text.print_elements.Given as goal
 

@@ -1,0 +1,24 @@
+-- Why a descriptor is refused, in words (our choice: docs/RECORDINGS.md).
+use Rattle.std.specs.Prelude.{ℕ, List, codes}
+use Rattle.hid_descriptor.specs.declared.fault.Cause as layouts
+use Rattle.hid_descriptor.specs.declared.fault.Cause.TheVariants.{Truncated, TooLong, PopEmpty, PushDepth, CollectionDepth, EndWithout, Unclosed, BadReportId, MixedReportId, BadRange, BadSize, BadUsageRange, UnpairedUsage, Delimiter, ReportTooLong, TooMany, Memory}
+
+-- why a descriptor is refused
+abbrev pub layout_words : layouts.Cause → List ℕ
+layout_words Truncated = codes "the descriptor ends in the middle of an item"
+layout_words TooLong = codes "a descriptor of over 4096 bytes"
+layout_words PopEmpty = codes "a Pop without a Push"
+layout_words PushDepth = codes "over 8 open Pushes"
+layout_words CollectionDepth = codes "over 16 open collections"
+layout_words EndWithout = codes "an End Collection without its Collection"
+layout_words Unclosed = codes "a Collection is open at the end"
+layout_words BadReportId = codes "a Report ID of 0, or over 255"
+layout_words MixedReportId = codes "some items have a Report ID, and some have none"
+layout_words BadRange = codes "no number is in the range of a field"
+layout_words BadSize = codes "a data field of 0 bits, or over 32"
+layout_words BadUsageRange = codes "a Usage Minimum over its Maximum, or on another page"
+layout_words UnpairedUsage = codes "a Usage Minimum or Maximum without the other"
+layout_words Delimiter = codes "a Delimiter"
+layout_words ReportTooLong = codes "a report of over 64 bytes"
+layout_words TooMany = codes "too many items, fields, usages or Report IDs"
+layout_words Memory = codes "memory was wanting"

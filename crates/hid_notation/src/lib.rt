@@ -1,0 +1,15 @@
+//! How numbers, bytes, usages and refusals of descriptors are written.
+//! ```text
+//!   HexText(0x0A)                   0A
+//!   print_bytes(&[0x05, 0x01])       05 01
+//!   UsageText(page 1, ID 30)        01:30
+//!   RangeText(09:01, 09:03)         09:01-09:03
+//! ```
+//! What is written is the stated text, byte for byte: `specs/Text.antt` and `specs/Causes.antt`.
+#![tactic(auto)]
+
+mod causes;
+mod text;
+
+pub use causes::layout_words;
+pub use text::{HexText, RangeText, UsageOrDash, UsageText, print_bytes};

@@ -1,0 +1,169 @@
+//! Draws the reports of a device: a page with a picture of each report's bits.
+//! ```text
+//!   hidmap [OPTIONS] [FILE]
+//!
+//!   FILE, or standard input --> descriptor_in --> Layout::parse --> hid_picture::draw --> standard output
+//!     binary, hex, or R:                             |
+//!                                                    +-- refused --> draw_refused --> standard output
+//!                                                                    and in words --> standard error
+//! ```
+//! The exit status is 0; 1 where the descriptor, or the text that it stands in, is refused; 2 for a wrong command line,
+//! and for a report that there isn't; 3 where a file can't be read, standard output can't be written, or memory was
+//! wanting.
+#![tactic(auto)]
+
+ghost use Rattle.std.specs.Prelude.{◌≤◌, length};
+ghost use Rattle.hidmap.specs.declared.TheConstants.{LONGEST};
+
+mod input;
+#[cfg(test)]
+mod tests;
+mod words;
+
+use clap::error::ErrorKind;
+use hid_layout::{Cause, Layout, LayoutFault};
+use hid_notation::layout_words;
+use hid_picture::{Form, draw, draw_refused};
+use input::{InputFault, descriptor_in};
+use std::alloc::Global;
+use std::io::{self, Read, Write};
+use std::process::ExitCode;
+use std::{env, fs};
+use words::{Asked, asked_by};
+
+/// All was drawn.
+const FINE: u8 = 0;
+
+/// The descriptor, or its text, is refused.
+const REFUSED: u8 = 1;
+
+/// The command line is wrong, or there is no such report.
+const WRONG_USAGE: u8 = 2;
+
+/// A file, standard output or memory failed.
+const OUTSIDE: u8 = 3;
+
+/// The longest input: a descriptor of 4,096 bytes takes 12,300 in an R: line, and what lies behind it is of no use.
+const LONGEST: usize = 1 << 24;
+
+fn main(rt: HostRuntime) -> ExitCode {
+    let alloc = rt.alloc();
+    let Ok(args) = env::args(&rt) else {
+        return ExitCode::from(OUTSIDE);
+    };
+    let words: Result<Vec<String>, _> = args.collect(alloc);
+    let Ok(words) = words else {
+        return ExitCode::from(OUTSIDE);
+    };
+    match asked_by(alloc, words.as_slice()) {
+        Ok(asked) => ExitCode::from(draw_file(&rt, &asked)),
+        Err(error) => ExitCode::from(tell_words(&rt, &error)),
+    }
+}
+
+/// Help and version go to standard output, and what is wrong with the words to standard error.
+fn tell_words(rt: &HostRuntime, error: &clap::Error) -> u8 {
+    match error.kind() {
+        ErrorKind::DisplayHelp | ErrorKind::DisplayVersion => {
+            if print!(rt; "{error}").is_ok() {
+                FINE
+            } else {
+                OUTSIDE
+            }
+        }
+        ErrorKind::OutOfMemory => OUTSIDE,
+        _ => {
+            let _ = eprint!(rt; "{error}");
+            WRONG_USAGE
+        }
+    }
+}
+
+/// The bytes of a file, or of standard input where the name is `-`.
+fn read_named(rt: &HostRuntime, name: &str) -> io::Result<Vec<u8>> {
+    if name != "-" {
+        return fs::read(rt, name);
+    }
+    let mut bytes = Vec::new(rt.alloc());
+    rt.stdin().read_to_end(&mut bytes)?;
+    Ok(bytes)
+}
+
+/// Draws the descriptor of a file, and tells what stands against it.
+fn draw_file(rt: &HostRuntime, asked: &Asked<'_>) -> u8 {
+    let name = asked.file;
+    let Ok(bytes) = read_named(rt, name) else {
+        let _ = eprintln!(rt; "hidmap: {name}: it can't be read");
+        return OUTSIDE;
+    };
+    if bytes.len() > LONGEST {
+        let _ = eprintln!(rt; "hidmap: {name}: over {LONGEST} bytes");
+        return REFUSED;
+    }
+    match descriptor_in(rt.alloc(), bytes.as_slice()) {
+        Ok(descriptor) => draw_bytes(rt, asked, descriptor.as_slice()),
+        Err(InputFault::Memory) => OUTSIDE,
+        Err(fault) => {
+            let _ = eprintln!(rt; "hidmap: {name}: {fault}");
+            REFUSED
+        }
+    }
+}
+
+/// Draws a descriptor, or what it is refused for.
+fn draw_bytes(rt: &HostRuntime, asked: &Asked<'_>, descriptor: &[u8]) -> u8 {
+    if descriptor.len() > LONGEST {
+        return REFUSED;
+    }
+    match Layout::parse(rt.alloc(), descriptor) {
+        Ok(layout) => draw_layout(rt, &layout, descriptor, asked.form),
+        Err(
+            LayoutFault {
+                cause: Cause::Memory,
+                ..
+            },
+        ) => OUTSIDE,
+        Err(fault) => {
+            let name = asked.file;
+            let words = layout_words(fault.cause);
+            let _ = eprintln!(rt; "hidmap: {name}: {fault}: {words}");
+            draw_fault(rt, descriptor, fault, asked.form)
+        }
+    }
+}
+
+/// Writes what is drawn of a layout.
+fn draw_layout(rt: &HostRuntime, layout: &Layout, descriptor: &[u8], form: Form) -> u8
+    requires { length descriptor.now ≤ LONGEST }
+{
+    match draw(rt.alloc(), layout, descriptor, form) {
+        Ok(Some(text)) => write_out(rt, &text, FINE),
+        Ok(None) => {
+            let count = layout.reports().len();
+            let _ = eprintln!(rt; "hidmap: there is no such report: of {count}, the first is 0");
+            WRONG_USAGE
+        }
+        Err(_) => OUTSIDE,
+    }
+}
+
+/// Writes the page of a refusal, where a page is asked for.
+fn draw_fault(rt: &HostRuntime, descriptor: &[u8], fault: LayoutFault, form: Form) -> u8
+    requires { length descriptor.now ≤ LONGEST }
+{
+    match form {
+        Form::Svg(_) | Form::Characters => REFUSED,
+        Form::Page => match draw_refused(rt.alloc(), descriptor, fault) {
+            Ok(text) => write_out(rt, &text, REFUSED),
+            Err(_) => OUTSIDE,
+        },
+    }
+}
+
+/// Writes a text to standard output: the status, or that it failed.
+fn write_out(rt: &HostRuntime, text: &String, status: u8) -> u8 {
+    match rt.stdout().write_all(text.as_bytes()) {
+        Ok(()) => status,
+        Err(_) => OUTSIDE,
+    }
+}

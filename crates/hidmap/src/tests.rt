@@ -1,0 +1,70 @@
+//! Where descriptors stand, and what the words of a command line ask for, by hand from docs/PICTURES.md.
+
+use super::input::{InputFault, descriptor_in};
+use super::words::asked_by;
+use hid_picture::Form;
+use std::alloc::{AllocError, Global};
+use std::test::Fail;
+
+/// Bytes of a file, and the descriptor in them.
+#[rattlefmt::skip]
+const FILES: [(&str, &[u8], Result<&[u8], InputFault>); 12] = [
+    ("binary",                         b"\x05\x01\x09\x02",              Ok(b"\x05\x01\x09\x02")),
+    ("binary that ends in a line feed", b"\x09\x0A",                     Ok(b"\x09\x0A")),
+    ("hex digits",                     b"0501 09 02\n",                  Ok(b"\x05\x01\x09\x02")),
+    ("both cases, and lines",          b"a1 01\r\nC0",                   Ok(b"\xA1\x01\xC0")),
+    ("an odd digit",                   b"05 0",                          Err(InputFault::BadHex)),
+    ("a line of hid-recorder",         b"# a mouse\nN: x\nR: 2 05 01\nE: 1 1 00\n", Ok(b"\x05\x01")),
+    ("the first of two",               b"R: 1 c0\nR: 2 05 01\n",         Ok(b"\xC0")),
+    ("no space, and a return",         b"R:1 C0\r\n",                    Ok(b"\xC0")),
+    ("a wrong count",                  b"R: 3 05 01",                    Err(InputFault::BadCount)),
+    ("no count",                       b"R:",                            Ok(b"")),
+    ("no hex",                         b"R: 1 g0",                       Err(InputFault::BadHex)),
+    ("nothing",                        b"",                              Ok(b"")),
+];
+
+#[test]
+fn files_have_their_descriptor(rt: HostRuntime) -> Result<(), Fail> {
+    for (name, bytes, want) in FILES {
+        match (descriptor_in(rt.alloc(), bytes), want) {
+            (Ok(found), Ok(want)) => assert!(rt; found.as_slice() == want, "{name}"),
+            (Err(found), Err(want)) => assert_eq!(rt; found, want, "{name}"),
+            _ => assert!(rt; false, "{name}"),
+        }
+    }
+    Ok(())
+}
+
+fn words_of(alloc: Global, line: &str) -> Result<Vec<String>, AllocError> {
+    line.split(' ')
+        .map(|word| String::from_str(alloc, word))
+        .try_collect(alloc)
+}
+
+/// Command lines with what they ask for and of which file, or nothing where they are wrong.
+#[rattlefmt::skip]
+const WORDS: [(&str, Option<(Form, &str)>); 7] = [
+    ("hidmap",              Some((Form::Page, "-"))),
+    ("hidmap a.hid",        Some((Form::Page, "a.hid"))),
+    ("hidmap --text",       Some((Form::Characters, "-"))),
+    ("hidmap --svg 2 a",    Some((Form::Svg(2), "a"))),
+    ("hidmap --svg x a",    None),
+    ("hidmap --svg",        None),
+    ("hidmap a b",          None),
+];
+
+#[test]
+fn words_ask_for_what_they_say(rt: HostRuntime) -> Result<(), Fail> {
+    for (line, want) in WORDS {
+        let words = words_of(rt.alloc(), line)?;
+        match (asked_by(rt.alloc(), words.as_slice()), want) {
+            (Ok(asked), Some((form, file))) => {
+                assert_eq!(rt; asked.form, form, "{line}");
+                assert!(rt; asked.file == file, "{line}");
+            }
+            (Err(_), None) => {}
+            _ => assert!(rt; false, "{line}"),
+        }
+    }
+    Ok(())
+}

@@ -1,0 +1,51 @@
+//! The words of the command line.
+
+use clap::{Arg, ArgAction, Command, Error, value_parser};
+use hid_picture::Form;
+use std::alloc::Global;
+
+/// What the words ask for.
+#[derive(Clone, Copy)]
+pub struct Asked<'a> {
+    pub form: Form,
+    /// The file; `-` is standard input.
+    pub file: &'a str,
+}
+
+const CODES: &str =
+    "A descriptor is read as binary, as hex digits, or from the first R: line of hid-recorder.\nL1 to L16 are why it is refused: docs/RECORDINGS.md. The pictures: docs/PICTURES.md.";
+
+fn command<'a>(alloc: Global) -> Result<Command<'a>, Error> {
+    let svg = Arg::new(alloc, "svg")
+        .long("svg")
+        .value_name("N")
+        .value_parser(value_parser!(u16))
+        .help("Draw the picture of the report N alone, as SVG; the first is 0");
+    let text = Arg::new(alloc, "text")
+        .long("text")
+        .action(ArgAction::SetTrue)
+        .help("Draw the pictures in characters");
+    let file = Arg::new(alloc, "FILE").help(
+        "The report descriptor; - and no FILE are standard input",
+    );
+    let command = Command::new(alloc, "hidmap")
+        .version("0.2.0")
+        .about("Draws where each field stands in the reports of a USB HID device, as an HTML page")
+        .after_help(CODES)
+        .arg(svg)?
+        .arg(text)?
+        .arg(file)?;
+    Ok(command)
+}
+
+/// What the words behind the first ask for, which is the program's name.
+pub fn asked_by<'a>(alloc: Global, words: &'a [String]) -> Result<Asked<'a>, Error> {
+    let matches = command(alloc)?.try_get_matches_from(words)?;
+    let form = match matches.get_one::<u16>("svg") {
+        Some(report) => Form::Svg(usize::from(report)),
+        None if matches.get_flag("text") => Form::Characters,
+        None => Form::Page,
+    };
+    let file = matches.get_str("FILE").unwrap_or("-");
+    Ok(Asked { form, file })
+}
