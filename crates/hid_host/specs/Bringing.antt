@@ -71,7 +71,7 @@ abbrev pub carried_out : Effect → CoreState → CoreState
 carried_out (Applies bytes) core = effected core bytes core.pending
 carried_out _ core = core
 
--- and with its first packets lost
+-- and nothing, where its first packets are lost
 abbrev pub brought_about : Fate → HostTransferState → DevControlState CoreState → CoreState
 brought_about TokenLost ends control = control.requests
 brought_about fate ends control = carried_out (effect_reached core_table ends control) control.requests

@@ -55,13 +55,13 @@ pub record IsSameDevice (core other : CoreState) : Type 0 where
   pub config : core.config ≡ other.config
   pub descriptor : core.descriptor ≡ other.descriptor
 
--- a device decided on a request by its row, as it stood then
+-- what was decided on a request is what its row says of some state of the device, as it was made
 pub record IsDecided (request : Request) (core : CoreState) (decision : Decision) : Type 0 where
   pub then : CoreState
   pub same : IsSameDevice core then
   pub by : IsDecidedBy (decided_row then (row_of request)) decision core.pending
 
--- what a write has brought about once it took effect
+-- what a write that took effect has brought about, where a host relies on it: a configuration
 abbrev pub HasEffect : Request → CoreState → Type 0
 HasEffect requests.Configure core = core.is_configured ≡ true
 HasEffect _ core = Unit {0}

@@ -57,8 +57,8 @@ configured_by request acts = if is_configure request then effects 0 acts else 0
 
 -- Behind its tries both ends of a request that began at this member stand where these lead, whatever came between them.
 -- So a read that is done gave the device's answer as it was fixed at the last SETUP that arrived, cut to what was asked
--- for; and a write took effect as `IsOnce` says: exactly once where it is done, else once at most, and never where it was
--- refused. What befell the device says so too: it was configured as often.
+-- for; and by the places of its tries a write took effect as `IsOnce` says: exactly once where it is done, else once at
+-- most, and never where it was refused. Of a request for a configuration what befell the device says so too.
 pub record IsWholeFrom (m : Member) (request : Request) (steps : List MemberStep) (begun : Member) : Type 0 where
   pub transfer : Transfer
   pub is : (member_after_all begun steps).transfer ≡ Some transfer

@@ -70,9 +70,10 @@ pub fn motion_sums_up()
 {}
 
 /// Whatever befalls a device between the tries of a request: both ends stand where its tries lead; a read that is done gave
-/// the device's answer as it was fixed at the last SETUP that arrived, cut to what was asked for; a write that is done took
-/// effect exactly once, one that failed or runs once at most, and one that was refused never. A configuration befell the
-/// device as often as a request for it took effect: once where it is done, also where the host then found no memory.
+/// the device's answer as it was fixed at the last SETUP that arrived, cut to what was asked for; by the places of its tries
+/// a write that is done took effect exactly once, one that failed or runs once at most, and one that was refused never. A
+/// configuration befell the device as often as a request for it took effect: once where it is done, also where the host
+/// then found no memory.
 pub fn transfers_are_whole()
     ensures whole { (m : Member) (request : Request) (steps : List MemberStep)
         → Lays m.descriptor m.layout → FitsRequest request → begin_refusal_at m request ≡ None
