@@ -22,7 +22,7 @@ test:
 	rm -rf bin/build/rooms
 	rt ci
 	$(MAKE) --no-print-directory documents
-	$(MAKE) --no-print-directory hidrun hidplay hidmap examples
+	$(MAKE) --no-print-directory hidrun hidplay hidmap examples memory
 
 # Runs a script without a proof: make try SCRIPT=FILE ARGS=--trace
 try:
@@ -128,9 +128,10 @@ documents:
 descriptors: $(HIDRUN)
 	tools/second-reader --random $(COUNT) $(HIDRUN)
 
-# Runs the mouse example with each of its allocations refused in turn, without a proof. It takes some minutes.
-memory:
-	tools/refuse-memory 48
+# Runs each example script with each of its allocations refused in turn, on the proved program: half a minute. It wants a
+# C compiler, and says where there is none.
+memory: $(HIDRUN)
+	tools/refuse-memory $(HIDRUN)
 
 # Lists at which goal and clause each wrong body is refused: make refusals CRATES="usb_packet hid_items" (none: all)
 refusals:
