@@ -34,3 +34,7 @@ hex_padded n small = ⊎_elim
     hex_byte true n (omega arith) ∙ rw (high, low) (sym first ∙ sym (cond-true _ _ _ (lt-ltb n 16 one))))
     (λ two. long_enough (digits 16 true n) (two_digits n two small) ∙ sym (cond-false _ _ _ (le-ltb n 16 two)))
     (cases_lt n 16)
+
+-- a byte has two digits
+pub byte_in_digits : (n : ℕ) → n < 256 → hex_text n ≡ digit_glyph true (n / 16) ∷ digit_glyph true (n % 16) ∷ []
+byte_in_digits n small = sym (hex_padded n (omega arith)) ∙ hex_byte true n small

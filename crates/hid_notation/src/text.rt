@@ -1,6 +1,7 @@
 //! Numbers in hex, bytes and usages, as they are printed.
 
-ghost use Rattle.std.specs.Prelude.{◌≡◌, ◌++◌, Some, OnOk, string_bytes};
+ghost use Rattle.std.specs.Prelude.{◌≡◌, ◌++◌, ◌<◌, ◌∷◌, [], true, Some, OnOk, string_bytes};
+ghost use Rattle.std.specs.Fmt.{digit_glyph};
 ghost use Rattle.hid_notation.specs.Text.{hex_text, bytes_text, usage_text, usage_or_dash, range_text};
 
 use hid_layout::Usage;
@@ -20,13 +21,30 @@ impl fmt::Display for HexText {
     }
 }
 
-/// Adds each byte behind a space.
+/// Adds a number below 16 in upper-case hex.
+fn push_digit(text: &mut String, digit: u8) -> Result<(), AllocError>
+    requires { digit < 16 }
+    ensures { OnOk result (string_bytes text.new ≡ string_bytes text.old ++ digit_glyph true digit ∷ []) }
+{
+    let zero = if digit < 10 { b'0' } else { b'A' - 10 };
+    text.push(char::from(zero + digit))
+}
+
+/// Adds a byte behind a space.
+fn push_byte(text: &mut String, byte: u8) -> Result<(), AllocError>
+    ensures { OnOk result (string_bytes text.new ≡ string_bytes text.old ++ 32 ∷ hex_text byte) }
+{
+    text.push(' ')?;
+    push_digit(text, byte / 16)?;
+    push_digit(text, byte % 16)
+}
+
+/// Adds each byte behind a space. Reports are printed by it, so it writes digits without a formatter.
 pub fn print_bytes(text: &mut String, bytes: &[u8]) -> Result<(), AllocError>
     ensures { OnOk result (string_bytes text.new ≡ string_bytes text.old ++ bytes_text bytes.now) }
 {
     for byte in bytes {
-        let byte = HexText(u16::from(*byte));
-        write!(text, " {byte}")?;
+        push_byte(text, *byte)?;
     }
     Ok(())
 }
