@@ -1,6 +1,6 @@
 -- Words that stand for themselves in a page, whatever their bytes are (HTML Living Standard, 13.1.2 and 13.1.4).
 use Rattle.std.specs.Prelude.{ℕ, ◌==◌, Bool, not, ◌&&◌, ◌||◌, nat_le, List, [], ◌∷◌, if◌then◌else◌, codes}
-use Rattle.std.specs.List.{flat_map, list_all}
+use Rattle.std.specs.List.{flat_map}
 
 -- ASCII that prints, from the space to the tilde
 abbrev pub is_printed : ℕ → Bool

@@ -1,13 +1,6 @@
 pub mod Areas
-pub mod Label
 pub mod Escape
-pub mod Items
-pub mod Makers
-pub mod Pieces
-pub mod Frames
-pub mod Words
+pub mod Lines
 pub mod Svg
 pub mod Terminal
-pub mod ItemTable
-pub mod Page
-pub mod Drawing
+pub mod Words

@@ -1,10 +1,8 @@
 -- The picture of a report: a row of eight bits for each byte, bit 7 at the left as in the tables of the standard (HID
 -- 1.11, B.1 and 8.3; colors and measures are our choice: docs/PICTURES.md).
-use Rattle.std.specs.Prelude.{ℕ, ◌+◌, ◌-◌, ◌*◌, ◌/◌, ◌%◌, Bool, List, [], ◌∷◌, ◌++◌, length, slice_get, Option, None, Some, codes, if◌then◌else◌, ◌==◌}
+use Rattle.std.specs.Prelude.{ℕ, ◌+◌, ◌-◌, ◌*◌, ◌%◌, Bool, true, nat_lt, if◌then◌else◌, List, [], ◌∷◌, ◌++◌, length, slice_get, Option, None, Some, codes}
 use Rattle.std.specs.List.{flat_map}
 use Rattle.std.specs.Fmt.{decimal}
-use Rattle.hid_descriptor.specs.declared.collection.Collection.{Collection}
-use Rattle.hid_descriptor.specs.declared.limits.TheConstants.{MAX_OPEN_COLLECTIONS}
 use Rattle.hid_descriptor.specs.declared.report.Report.{Report}
 use Rattle.hid_descriptor.specs.declared.shape.Shape.{Shape}
 use Rattle.hid_descriptor.specs.declared.shape.Shape.TheVariants.{Padding, Variable, Array}
@@ -12,17 +10,20 @@ use Rattle.hid_layout.specs.declared.main_item.MainItem.{MainItem}
 use Rattle.hid_layout.specs.Layout.{Contents}
 use Rattle.hid_layout.specs.Reports.{report_bytes}
 use Rattle.hid_notation.specs.Text.{joined_below}
-use Rattle.hid_picture.specs.declared.frames.Frame.{Frame}
-use Rattle.hid_picture.specs.declared.pieces.Part.{Part}
-use Rattle.hid_picture.specs.declared.pieces.Part.TheVariants.{ReportId, Field, Filler}
-use Rattle.hid_picture.specs.declared.pieces.Piece.{Piece}
+use Rattle.hid_pieces.specs.declared.frames.Frame.{Frame}
+use Rattle.hid_pieces.specs.declared.pieces.Part.{Part}
+use Rattle.hid_pieces.specs.declared.pieces.Part.TheVariants.{ReportId, Field, Filler}
+use Rattle.hid_pieces.specs.declared.pieces.Piece.{Piece}
 use Rattle.hid_picture.specs.declared.areas.Area.{Area}
 use Rattle.hid_picture.specs.declared.svg.TheConstants.{STYLE, OPENING, EDGE}
-use Rattle.hid_picture.specs.declared.areas.TheConstants.{BIT, ROW, CELL, TOP, LEFT, STEP, RIGHT}
+use Rattle.hid_picture.specs.declared.areas.TheConstants.{LINE, RIGHT}
+use Rattle.hid_picture.specs.declared.lines.TheConstants.{NAME_COLUMNS}
 use Rattle.hid_picture.specs.Escape.{escaped}
-use Rattle.hid_picture.specs.Frames.{deepest}
-use Rattle.hid_picture.specs.Words.{report_name, count_text, collection_text, piece_name, part_details, part_flags, place_text}
-use Rattle.hid_picture.specs.Areas.{left_of, piece_area, frame_area, bit_middle, name_left, name_top}
+use Rattle.hid_pieces.specs.Frames.{deepest}
+use Rattle.hid_pieces.specs.Words.{report_name, count_text, piece_name, part_details, part_flags, place_text}
+use Rattle.hid_picture.specs.Areas.{left_of, cell_height, row_top, piece_area, frame_area, bit_middle, name_left}
+use Rattle.hid_picture.specs.Lines.{line_count, both_counts, columns_of, line_of, lines_in_front, rows_of}
+use Rattle.hid_picture.specs.Words.{frame_name}
 
 -- where an area lies, as attributes
 unfoldable pub area_text : Area → List ℕ
@@ -49,43 +50,57 @@ part_class layout ReportId = codes " class='p'"
 part_class layout Filler = codes " class='p'"
 part_class layout (Field item element) = field_class item (slice_get layout.items item)
 
+-- what is said of a part behind its place: the filler has nothing, and only fields have flags
+unfoldable pub part_saying : Contents → ℕ → Part → List ℕ
+part_saying layout r ReportId = codes "; " ++ part_details layout r ReportId
+part_saying layout r Filler = []
+part_saying layout r (Field i j) =
+    codes "; " ++ part_details layout r (Field i j) ++ codes "; " ++ part_flags layout (Field i j)
+
 -- what a cell is read as: its name, its place, what is said of it and its flags
 unfoldable pub cell_title : Contents → ℕ → Piece → List ℕ
 cell_title layout r piece =
-    codes "<title>" ++ escaped (piece_name layout piece) ++ codes ": " ++ place_text piece ++ codes "; "
-    ++ part_details layout r piece.part ++ codes "; " ++ part_flags layout piece.part ++ codes "</title>"
+    codes "<title>" ++ escaped (piece_name layout piece) ++ codes ": " ++ place_text piece
+    ++ part_saying layout r piece.part ++ codes "</title>"
+
+-- the class of a line: a name, or what is said of it
+abbrev pub line_class : ℕ → ℕ → List ℕ
+line_class count k = if nat_lt k count then codes "n" else codes "d"
+
+-- where a line of a cell begins
+unfoldable pub line_head : ℕ → ℕ → ℕ → List ℕ
+line_head count k y =
+    codes "<text class='" ++ line_class count k ++ codes "' x='6' y='" ++ decimal y ++ codes "'>"
+
+-- a line of two texts, one below the other
+unfoldable pub text_line : List ℕ → List ℕ → ℕ → ℕ → List ℕ
+text_line name details columns k =
+    line_head (line_count name columns) k (15 + LINE * k) ++ escaped (line_of name details columns k) ++ codes "</text>"
+
+-- the lines of two texts
+unfoldable pub text_lines : List ℕ → List ℕ → ℕ → List ℕ
+text_lines name details columns = joined_below (both_counts name details columns) (text_line name details columns)
 
 -- what a cell shows: its name, and what is said of it
 unfoldable pub cell_words : Contents → ℕ → Piece → List ℕ
 cell_words layout r piece =
-    codes "<text class='n' x='6' y='15'>" ++ escaped (piece_name layout piece)
-    ++ codes "</text><text class='d' x='6' y='29'>" ++ part_details layout r piece.part ++ codes "</text>"
+    text_lines (piece_name layout piece) (part_details layout r piece.part) (columns_of true piece)
+
+-- the edge of a cell
+unfoldable pub edge_text : ℕ → List ℕ
+edge_text height = EDGE.now ++ decimal (height - 2) ++ codes "' rx='3'/>"
 
 -- a cell begins with its class, and with the area in which it lies
-unfoldable pub cell_head : Contents → ℕ → Piece → List ℕ
-cell_head layout left piece =
-    codes "<a" ++ part_class layout piece.part ++ codes "><svg" ++ area_text (piece_area left piece)
-    ++ EDGE.now
+unfoldable pub cell_head : Contents → ℕ → List ℕ → Piece → List ℕ
+cell_head layout depth rows piece =
+    codes "<a" ++ part_class layout piece.part ++ codes "><svg" ++ area_text (piece_area depth rows piece)
+    ++ edge_text (cell_height rows piece.byte)
 
 -- a cell stands where its piece says
-unfoldable pub cell_text : Contents → ℕ → ℕ → Piece → List ℕ
-cell_text layout r left piece =
-    cell_head layout left piece ++ cell_title layout r piece ++ cell_words layout r piece
+unfoldable pub cell_text : Contents → ℕ → ℕ → List ℕ → Piece → List ℕ
+cell_text layout r depth rows piece =
+    cell_head layout depth rows piece ++ cell_title layout r piece ++ cell_words layout r piece
     ++ codes "</svg></a>" ++ 10 ∷ []
-
--- the collection at a level of a path, where there is one
-abbrev pub level_name : Option Collection → List ℕ
-level_name None = []
-level_name (Some collection) = collection_text collection
-
--- the collection at a level of the path of an item that there may be
-abbrev pub path_name : ℕ → Option MainItem → Option (List Collection) → List ℕ
-path_name level (Some item) (Some path) = level_name (slice_get path (level - 1))
-path_name level _ _ = []
-
--- what a frame is called
-unfoldable pub frame_name : Contents → Frame → List ℕ
-frame_name layout frame = path_name frame.level (slice_get layout.items frame.item) (slice_get layout.paths frame.item)
 
 -- what a frame is read as
 unfoldable pub frame_title : Contents → Frame → List ℕ
@@ -97,16 +112,32 @@ frame_title layout frame =
 unfoldable pub label_head : ℕ → ℕ → List ℕ
 label_head x y = codes "<text class='o' x='" ++ decimal x ++ codes "' y='" ++ decimal y ++ codes "'>"
 
--- the name beside a frame
-unfoldable pub frame_label : Contents → ℕ → Frame → List ℕ
-frame_label layout depth frame =
-    label_head (name_left depth) (name_top frame) ++ escaped (frame_name layout frame) ++ codes "</text></g>" ++ 10 ∷ []
+-- a line of the name beside a frame
+unfoldable pub label_line : ℕ → ℕ → List ℕ → ℕ → List ℕ
+label_line depth top name k =
+    label_head (name_left depth) (top + LINE * k) ++ escaped (line_of name [] NAME_COLUMNS k) ++ codes "</text>"
+
+-- the lines of the name beside a frame
+unfoldable pub label_lines : ℕ → ℕ → List ℕ → List ℕ
+label_lines depth top name =
+    joined_below (line_count name NAME_COLUMNS) (label_line depth top name) ++ codes "</g>" ++ 10 ∷ []
+
+-- the name beside a frame stands at its first byte, below so many other lines
+unfoldable pub frame_label : Contents → ℕ → List ℕ → ℕ → Frame → List ℕ
+frame_label layout depth rows front frame =
+    label_lines depth (row_top depth rows frame.first + 11 + LINE * front) (frame_name layout frame)
 
 -- the frame of a collection, with its name beside it
-unfoldable pub frame_text : Contents → ℕ → Frame → List ℕ
-frame_text layout depth frame =
-    frame_title layout frame ++ codes "<rect class='o' rx='4'" ++ area_text (frame_area depth frame) ++ codes "/>"
-    ++ frame_label layout depth frame
+unfoldable pub frame_text : Contents → ℕ → List ℕ → ℕ → Frame → List ℕ
+frame_text layout depth rows front frame =
+    frame_title layout frame ++ codes "<rect class='o' rx='4'" ++ area_text (frame_area depth rows frame) ++ codes "/>"
+    ++ frame_label layout depth rows front frame
+
+-- a frame that there may be, its name below those of the frames in front of it that begin in its first byte
+unfoldable pub frame_behind : Contents → ℕ → List ℕ → List Frame → ℕ → Option Frame → List ℕ
+frame_behind layout depth rows frames k None = []
+frame_behind layout depth rows frames k (Some frame) =
+    frame_text layout depth rows (lines_in_front layout frames frame.first k) frame
 
 -- the number above a bit
 unfoldable pub bit_number : ℕ → ℕ → List ℕ
@@ -115,21 +146,22 @@ bit_number left k =
     ++ codes "</text>"
 
 -- the number beside a byte
-unfoldable pub byte_number : ℕ → List ℕ
-byte_number b =
-    codes "<text class='r' x='0' y='" ++ decimal (TOP + ROW * b + 22) ++ codes "'>byte " ++ decimal b ++ codes "</text>"
+unfoldable pub byte_number : ℕ → List ℕ → ℕ → List ℕ
+byte_number depth rows b =
+    codes "<text class='r' x='0' y='" ++ decimal (row_top depth rows b + 22) ++ codes "'>byte " ++ decimal b
+    ++ codes "</text>"
 
 -- the numbers above the bits
 unfoldable pub bit_ruler : ℕ → List ℕ
 bit_ruler left = joined_below 8 (bit_number left)
 
 -- the numbers beside the bytes
-unfoldable pub byte_ruler : ℕ → List ℕ
-byte_ruler bytes = joined_below bytes byte_number
+unfoldable pub byte_ruler : ℕ → List ℕ → ℕ → List ℕ
+byte_ruler depth rows bytes = joined_below bytes (byte_number depth rows)
 
 -- the rulers of a report
-unfoldable pub rulers : ℕ → ℕ → List ℕ
-rulers left bytes = bit_ruler left ++ byte_ruler bytes ++ 10 ∷ []
+unfoldable pub rulers : ℕ → List ℕ → ℕ → List ℕ
+rulers depth rows bytes = bit_ruler (left_of depth) ++ byte_ruler depth rows bytes ++ 10 ∷ []
 
 -- the measures of a picture
 unfoldable pub measures : ℕ → ℕ → List ℕ
@@ -146,25 +178,30 @@ description numbered bytes report =
     ++ codes ", a row each, bit 7 at the left; each cell is a field.</desc>"
 
 -- what a picture begins with
-unfoldable pub picture_head : Bool → ℕ → ℕ → Report → List ℕ
-picture_head numbered depth bytes report =
-    opening (name_left depth + RIGHT) (TOP + ROW * bytes) ++ description numbered bytes report
+unfoldable pub picture_head : Bool → ℕ → List ℕ → ℕ → Report → List ℕ
+picture_head numbered depth rows bytes report =
+    opening (name_left depth + RIGHT) (row_top depth rows bytes) ++ description numbered bytes report
     ++ codes "<style>" ++ STYLE.now ++ codes "</style>" ++ 10 ∷ []
 
 -- the frames of a report
-unfoldable pub frames_text : Contents → ℕ → List Frame → List ℕ
-frames_text layout depth frames = flat_map (λ frame. frame_text layout depth frame) frames
+unfoldable pub frames_text : Contents → ℕ → List ℕ → List Frame → List ℕ
+frames_text layout depth rows frames =
+    joined_below (length frames) (λ k. frame_behind layout depth rows frames k (slice_get frames k))
 
 -- the cells of a report
-unfoldable pub cells_text : Contents → ℕ → ℕ → List Piece → List ℕ
-cells_text layout r left pieces = flat_map (λ piece. cell_text layout r left piece) pieces
+unfoldable pub cells_text : Contents → ℕ → ℕ → List ℕ → List Piece → List ℕ
+cells_text layout r depth rows pieces = flat_map (λ piece. cell_text layout r depth rows piece) pieces
+
+-- the picture of a report of so many bytes, by its frames, its pieces and the lines of its rows
+unfoldable pub picture_by : Contents → ℕ → ℕ → List Frame → List Piece → Report → ℕ → List ℕ → List ℕ
+picture_by layout r bytes frames pieces report depth rows =
+    picture_head layout.numbered depth rows bytes report ++ rulers depth rows bytes
+    ++ frames_text layout depth rows frames ++ cells_text layout r depth rows pieces ++ codes "</svg>" ++ 10 ∷ []
 
 -- the picture of a report of so many bytes, by its frames and its pieces
 unfoldable pub picture_of : Contents → ℕ → ℕ → List Frame → List Piece → Report → List ℕ
 picture_of layout r bytes frames pieces report =
-    picture_head layout.numbered (deepest frames) bytes report ++ rulers (left_of (deepest frames)) bytes
-    ++ frames_text layout (deepest frames) frames ++ cells_text layout r (left_of (deepest frames)) pieces
-    ++ codes "</svg>" ++ 10 ∷ []
+    picture_by layout r bytes frames pieces report (deepest frames) (rows_of layout r bytes frames pieces)
 
 -- the picture of a report that there may be
 abbrev pub picture_at : Contents → ℕ → List Frame → List Piece → Option Report → List ℕ

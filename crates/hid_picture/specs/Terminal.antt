@@ -1,5 +1,5 @@
 -- The picture of a report in characters: a row for each byte, ten columns for each bit (our choice: docs/PICTURES.md).
-use Rattle.std.specs.Prelude.{ℕ, zero, suc, ◌+◌, ◌-◌, ◌*◌, Bool, true, false, not, ◌==◌, ◌&&◌, ◌||◌, nat_le, nat_lt, List, [], ◌∷◌, ◌++◌, length, slice_get, unwrap_or, if◌then◌else◌, Option, None, Some, codes}
+use Rattle.std.specs.Prelude.{ℕ, ◌-◌, ◌*◌, Bool, true, false, ◌==◌, ◌&&◌, ◌||◌, nat_le, nat_lt, List, [], ◌∷◌, ◌++◌, length, slice_get, unwrap_or, if◌then◌else◌, Option, None, Some, codes}
 use Rattle.std.specs.List.{flat_map, list_any}
 use Rattle.std.specs.Fmt.{decimal}
 use Rattle.hid_descriptor.specs.Usages.{Entry}
@@ -8,17 +8,18 @@ use Rattle.hid_layout.specs.declared.main_item.MainItem.{MainItem}
 use Rattle.hid_layout.specs.Layout.{Contents}
 use Rattle.hid_layout.specs.Reports.{report_bytes}
 use Rattle.hid_notation.specs.Text.{joined_below}
-use Rattle.hid_picture.specs.declared.frames.Frame.{Frame}
-use Rattle.hid_picture.specs.declared.pieces.Piece.{Piece}
+use Rattle.hid_pieces.specs.declared.frames.Frame.{Frame}
+use Rattle.hid_pieces.specs.declared.pieces.Piece.{Piece}
 use Rattle.hid_picture.specs.declared.glyphs.TheConstants as glyphs
 use Rattle.hid_picture.specs.Escape.{printed}
-use Rattle.hid_picture.specs.Frames.{deepest}
-use Rattle.hid_picture.specs.Svg.{frame_name}
-use Rattle.hid_picture.specs.Words.{report_name, count_text, piece_name, part_details, entry_text, flags_text}
+use Rattle.hid_pieces.specs.Frames.{deepest}
+use Rattle.hid_picture.specs.Lines.{byte_at, columns_of, line_of, row_lines}
+use Rattle.hid_picture.specs.Words.{frame_name}
+use Rattle.hid_pieces.specs.Words.{report_name, count_text, piece_name, part_details, entry_text, flags_text}
 
 -- so many columns of words: what has room, and spaces
 unfoldable pub fitted : List ℕ → ℕ → List ℕ
-fitted words columns = joined_below columns (λ k. printed (unwrap_or (slice_get words k) 32) ∷ [])
+fitted words columns = joined_below columns (λ k. printed (byte_at words k) ∷ [])
 
 -- whether a cell of a byte begins or ends in front of a bit
 abbrev pub is_edge : List Piece → ℕ → ℕ → Bool
@@ -83,31 +84,22 @@ side_at frames level byte = if is_held frames level byte then glyphs.SIDE.now el
 unfoldable pub sides : List Frame → ℕ → ℕ → List ℕ
 sides frames depth byte = joined_below depth (λ i. side_at frames (depth - i) byte)
 
--- what a line of a cell says: its name, and in the second line what is said of it
-abbrev pub line_words : Contents → ℕ → Bool → Piece → List ℕ
-line_words layout r second piece =
-    if second then part_details layout r piece.part else piece_name layout piece
-
--- a line of a cell
-unfoldable pub cell_line : Contents → ℕ → Bool → Piece → List ℕ
-cell_line layout r second piece =
-    glyphs.SIDE.now ++ fitted (line_words layout r second piece) (10 * (piece.high - piece.low) - 1)
+-- a line of a cell: its name, and below it what is said of it
+unfoldable pub cell_line : Contents → ℕ → ℕ → Piece → List ℕ
+cell_line layout r k piece =
+    glyphs.SIDE.now
+    ++ fitted (line_of (piece_name layout piece) (part_details layout r piece.part) (columns_of false piece) k)
+    (columns_of false piece)
 
 -- a line of a piece that there may be, where it lies in the byte
-abbrev pub byte_cell : Contents → ℕ → Bool → ℕ → Option Piece → List ℕ
-byte_cell layout r second byte None = []
-byte_cell layout r second byte (Some piece) =
-    if piece.byte == byte then cell_line layout r second piece else []
+abbrev pub byte_cell : Contents → ℕ → ℕ → ℕ → Option Piece → List ℕ
+byte_cell layout r k byte None = []
+byte_cell layout r k byte (Some piece) = if piece.byte == byte then cell_line layout r k piece else []
 
 -- a line of the cells of a byte, the last one first
-unfoldable pub cells_line : Contents → ℕ → Bool → ℕ → List Piece → List ℕ
-cells_line layout r second byte pieces =
-    joined_below (length pieces) (λ i. byte_cell layout r second byte (slice_get pieces ((length pieces - 1) - i)))
-
--- a line of a row
-unfoldable pub row_line : Contents → ℕ → Bool → ℕ → List Frame → List Piece → List ℕ
-row_line layout r second byte frames pieces =
-    cells_line layout r second byte pieces ++ glyphs.SIDE.now ++ sides frames (deepest frames) byte ++ 10 ∷ []
+unfoldable pub cells_line : Contents → ℕ → ℕ → ℕ → List Piece → List ℕ
+cells_line layout r k byte pieces =
+    joined_below (length pieces) (λ i. byte_cell layout r k byte (slice_get pieces ((length pieces - 1) - i)))
 
 -- the line above a row
 unfoldable pub line_above : ℕ → List Frame → List Piece → List ℕ
@@ -119,11 +111,21 @@ unfoldable pub row_number : ℕ → List ℕ
 row_number byte =
     (if nat_lt byte 10 then codes " " else []) ++ decimal byte ++ 32 ∷ []
 
--- a row: the line above it, the names, and what is said of them
+-- what stands in front of a line of a row: the number of the byte in front of the first
+abbrev pub line_number : ℕ → ℕ → List ℕ
+line_number byte k = if k == 0 then row_number byte else codes "   "
+
+-- a line of a row
+unfoldable pub row_line : Contents → ℕ → ℕ → List Frame → List Piece → ℕ → List ℕ
+row_line layout r byte frames pieces k =
+    line_number byte k ++ cells_line layout r k byte pieces ++ glyphs.SIDE.now ++ sides frames (deepest frames) byte
+    ++ 10 ∷ []
+
+-- a row: the line above it, and the lines of its cells
 unfoldable pub row_text : Contents → ℕ → List Frame → List Piece → ℕ → List ℕ
 row_text layout r frames pieces byte =
-    line_above byte frames pieces ++ row_number byte ++ row_line layout r false byte frames pieces
-    ++ codes "   " ++ row_line layout r true byte frames pieces
+    line_above byte frames pieces
+    ++ joined_below (row_lines layout r false byte pieces) (row_line layout r byte frames pieces)
 
 -- a frame by its name and its bytes, indented by its level
 unfoldable pub frame_line : Contents → Frame → List ℕ

@@ -1,39 +1,26 @@
-//! Pictures of reports: where each field stands, and which items of the descriptor made it.
+//! Pictures of reports, as SVG and in characters.
 //! ```text
-//!   Layout ---- pieces_of ---> pieces   what of a field lies in one byte
-//!   items ----- frames ------> frames   the bytes of each collection
-//!   pieces, frames ----------> a picture as SVG, or in characters
-//!   pictures, fields, items -> a page
+//!   pieces, frames --- print_picture ---> SVG: a cell for each piece, in its area
+//!   pieces, frames --- print_terminal --> the same in characters
 //!
 //!      ┌─────────────────────────────────────────────────┬─────────┬─────────┬─────────┐╮╮
 //!    0 │padding                                          │Button 3 │Button 2 │Button 1 │││
 //!      │5 bits                                           │0..1     │0..1     │0..1     │││
 //!      ├─────────────────────────────────────────────────┴─────────┴─────────┴─────────┤││
 //! ```
-//! The rule to know: a cell stands where the layout says: `pieces_of` of `specs/Pieces.antt` takes `element_of` of the
-//! layout. Of the descriptor come only places: those of the items that made a field, and of the collections round it.
-//! [`draw`] gives exactly the stated text (`IsDrawn`), and [`draw_refused`] the page of a refusal (`IsRefusal`).
+//! The rule to know: a cell stands where its piece says (`piece_area` of `specs/Areas.antt`): a row for each byte, bit 7
+//! at the left. Each call adds exactly the stated text (`picture_at`, `terminal_at`).
 //! Words that a device's bytes choose are escaped, and can't end a tag or an attribute: [`words_are_inert`].
 #![tactic(auto)]
 
 mod areas;
-mod drawing;
 mod escape;
-mod field_table;
-mod frames;
 mod glyphs;
-mod item_table;
-mod items;
-mod label;
-mod listed;
-mod makers;
-mod page;
-mod pieces;
+mod lines;
 mod svg;
 mod terminal;
-#[cfg(test)]
-mod tests;
 mod words;
 
-pub use drawing::{Form, draw, draw_refused};
 pub use escape::{push_escaped, words_are_inert};
+pub use svg::print_picture;
+pub use terminal::print_terminal;

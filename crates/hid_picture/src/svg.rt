@@ -1,35 +1,36 @@
 //! The picture of a report: a row of eight bits for each byte, bit 7 at the left.
 
-ghost use Rattle.std.specs.Prelude.{◌≡◌, ◌++◌, ◌-◌, ◌<◌, ◌≤◌, length, slice_get, Some, OnOk, string_bytes};
-ghost use Rattle.hid_picture.specs.Areas.{left_of};
+ghost use Rattle.std.specs.Prelude.{◌≡◌, ◌++◌, ◌<◌, ◌≤◌, ◌^◌, length, slice_get, Some, OnOk, string_bytes};
 ghost use Rattle.hid_picture.specs.Escape.{escaped};
-ghost use Rattle.hid_picture.specs.Frames.{deepest};
-ghost use Rattle.hid_picture.specs.Words.{piece_name};
-ghost use Rattle.hid_picture.specs.Svg.{area_text, color_class, field_class, part_class, cell_title, cell_words, cell_head, cell_text, level_name, frame_name, frame_title, label_head, frame_label, frame_text, frames_text, cells_text, bit_number, bit_ruler, byte_number, byte_ruler, rulers, measures, opening, description, picture_head, picture_of, picture_at};
+ghost use Rattle.hid_pieces.specs.Frames.{deepest};
+ghost use Rattle.hid_pieces.specs.Words.{piece_name};
+ghost use Rattle.hid_picture.specs.Words.{frame_name};
+ghost use Rattle.hid_picture.specs.Svg.{area_text, color_class, field_class, part_class, part_saying, cell_title, line_class, line_head, text_line, text_lines, cell_words, edge_text, cell_head, cell_text, frame_title, label_head, label_line, label_lines, frame_label, frame_behind, frames_text, cells_text, bit_number, bit_ruler, byte_number, byte_ruler, rulers, measures, opening, description, picture_head, picture_by, picture_at};
 
 use crate::areas::{
-    Area, RIGHT, ROW, TOP, bit_middle, frame_area, left_of, name_left, name_top, piece_area,
+    Area, LINE, RIGHT, bit_middle, cell_height, frame_area, left_of, name_left, piece_area, row_top,
 };
 use crate::escape::push_escaped;
-use crate::frames::{Frame, deepest};
-use crate::listed::{item_at, report_at};
-use crate::pieces::{Part, Piece};
-use crate::words::{
-    print_collection, print_count, print_part_details, print_part_flags, print_piece_name,
-    print_place, print_report_name,
+use crate::lines::{
+    NAME_COLUMNS, both_counts, columns_of, line_count, line_of, lines_in_front, rows_of,
 };
-use hid_layout::{Collection, Layout, MainItem, Report, Shape};
+use crate::words::print_frame_name;
+use hid_layout::{Layout, MainItem, Report, Shape};
+use hid_pieces::{
+    Frame, Part, Piece, deepest, item_at, print_count, print_part_details, print_part_flags,
+    print_piece_name, print_place, print_report_name, report_at,
+};
 use std::alloc::{AllocError, Global};
 
 /// What a picture begins with.
 pub const OPENING: &str = "<svg xmlns='http://www.w3.org/2000/svg' class='m' role='group'";
 
-/// The edge of a cell.
-pub const EDGE: &str = "><rect x='0' y='1' width='100%' height='34' rx='3'/>";
+/// The edge of a cell up to its height.
+pub const EDGE: &str = "><rect x='0' y='1' width='100%' height='";
 
 /// How a picture is drawn, also where it stands alone.
 #[rattlefmt::skip]
-pub const STYLE: &str = ".m{--ink:#1b1b1b;--soft:#5c5c5c;--line:#767676;--frame:#8a5a00;--pad:#eee;--k0:#cfe3ff;--k1:#ffe0bd;--k2:#d3f0c8;--k3:#f6d2e4;--k4:#e2daf8;--k5:#fdf0a6;font:12px system-ui,sans-serif;width:100%;max-width:1200px;height:auto}@media (prefers-color-scheme:dark){.m{--ink:#f0f0f0;--soft:#b4b4b4;--line:#9a9a9a;--frame:#e0b050;--pad:#2c2c2c;--k0:#1d3f6b;--k1:#6b431a;--k2:#24501a;--k3:#662344;--k4:#42337a;--k5:#5c5200}}@media print{.m{--ink:#000;--soft:#333;--line:#000;--frame:#555;--pad:#fff;--k0:#fff;--k1:#fff;--k2:#fff;--k3:#fff;--k4:#fff;--k5:#fff}}text{fill:var(--ink)}.n{font-weight:600}.d{font-size:11px}.r{fill:var(--soft);font-size:11px}text.o{fill:var(--frame);font-size:11px}rect{stroke:var(--line);stroke-width:1.5;fill:var(--pad)}.p rect{stroke-dasharray:3 3}.k0 rect{fill:var(--k0)}.k1 rect{fill:var(--k1)}.k2 rect{fill:var(--k2)}.k3 rect{fill:var(--k3)}.k4 rect{fill:var(--k4)}.k5 rect{fill:var(--k5)}rect.o{fill:none;stroke:var(--frame)}a:hover rect,a:focus rect{stroke:var(--ink);stroke-width:4}";
+pub const STYLE: &str = ".m{color-scheme:light dark;background:var(--paper);--paper:#fff;--ink:#1b1b1b;--soft:#5c5c5c;--line:#767676;--frame:#8a5a00;--pad:#eee;--k0:#cfe3ff;--k1:#ffe0bd;--k2:#d3f0c8;--k3:#f6d2e4;--k4:#e2daf8;--k5:#fdf0a6;font:12px system-ui,sans-serif;width:100%;max-width:1200px;height:auto}@media (prefers-color-scheme:dark){.m{--paper:#161616;--ink:#f0f0f0;--soft:#b4b4b4;--line:#9a9a9a;--frame:#e0b050;--pad:#2c2c2c;--k0:#1d3f6b;--k1:#6b431a;--k2:#24501a;--k3:#662344;--k4:#42337a;--k5:#5c5200}}@media print{.m{--paper:#fff;--ink:#000;--soft:#333;--line:#000;--frame:#555;--pad:#fff;--k0:#fff;--k1:#fff;--k2:#fff;--k3:#fff;--k4:#fff;--k5:#fff}}text{fill:var(--ink)}.n{font-weight:600}.d{font-size:11px}.r{fill:var(--soft);font-size:11px}text.o{fill:var(--frame);font-size:11px}rect{stroke:var(--line);stroke-width:1.5;fill:var(--pad)}.p rect{stroke-dasharray:3 3}.k0 rect{fill:var(--k0)}.k1 rect{fill:var(--k1)}.k2 rect{fill:var(--k2)}.k3 rect{fill:var(--k3)}.k4 rect{fill:var(--k4)}.k5 rect{fill:var(--k5)}rect.o{fill:none;stroke:var(--frame)}a:hover rect,a:focus rect{stroke:var(--ink);stroke-width:4}";
 
 /// Adds where an area lies, as attributes.
 #[tactic(auto, unfolding(crate::specs::Svg::area_text))]
@@ -101,6 +102,28 @@ fn print_escaped_name(
     push_escaped(text, name.as_bytes())
 }
 
+/// Adds what is said of a part behind its place.
+#[tactic(auto, unfolding(crate::specs::Svg::part_saying))]
+fn print_saying(text: &mut String, layout: &Layout, r: usize, part: Part) -> Result<(), AllocError>
+    requires { r < length layout.now.reports }
+    ensures { OnOk result (string_bytes text.new
+        ≡ string_bytes text.old ++ part_saying layout.now r part) }
+{
+    match part {
+        Part::Filler => Ok(()),
+        Part::ReportId => {
+            text.push_str("; ")?;
+            print_part_details(text, layout, r, part)
+        }
+        Part::Field { .. } => {
+            text.push_str("; ")?;
+            print_part_details(text, layout, r, part)?;
+            text.push_str("; ")?;
+            print_part_flags(text, layout, part)
+        }
+    }
+}
+
 /// Adds what a cell is read as.
 #[tactic(auto, unfolding(crate::specs::Svg::cell_title))]
 fn print_title(
@@ -118,11 +141,62 @@ fn print_title(
     print_escaped_name(alloc, text, layout, piece)?;
     text.push_str(": ")?;
     print_place(text, piece)?;
-    text.push_str("; ")?;
-    print_part_details(text, layout, r, piece.part)?;
-    text.push_str("; ")?;
-    print_part_flags(text, layout, piece.part)?;
+    print_saying(text, layout, r, piece.part)?;
     text.push_str("</title>")
+}
+
+/// The class of a line.
+fn line_class(count: u16, k: u16) -> &'static str
+    ensures { result.now ≡ line_class count k }
+{
+    if k < count { "n" } else { "d" }
+}
+
+/// Adds where a line of a cell begins.
+#[tactic(auto, unfolding(crate::specs::Svg::line_head))]
+fn print_line_head(text: &mut String, count: u16, k: u16, y: u64) -> Result<(), AllocError>
+    ensures { OnOk result (string_bytes text.new
+        ≡ string_bytes text.old ++ line_head count k y) }
+{
+    text.push_str("<text class='")?;
+    text.push_str(line_class(count, k))?;
+    text.push_str("' x='6' y='")?;
+    write!(text, "{y}")?;
+    text.push_str("'>")
+}
+
+/// Adds a line of two texts, one below the other.
+#[tactic(auto, unfolding(crate::specs::Svg::text_line))]
+fn print_text_line(
+    text: &mut String,
+    name: &[u8],
+    details: &[u8],
+    columns: usize,
+    k: u16,
+) -> Result<(), AllocError>
+    ensures { OnOk result (string_bytes text.new
+        ≡ string_bytes text.old ++ text_line name.now details.now columns k) }
+{
+    print_line_head(text, line_count(name, columns), k, 15 + LINE * u64::from(k))?;
+    push_escaped(text, line_of(name, details, columns, k))?;
+    text.push_str("</text>")
+}
+
+/// Adds the lines of two texts.
+#[tactic(auto, unfolding(crate::specs::Svg::text_lines))]
+fn print_text_lines(
+    text: &mut String,
+    name: &[u8],
+    details: &[u8],
+    columns: usize,
+) -> Result<(), AllocError>
+    ensures { OnOk result (string_bytes text.new
+        ≡ string_bytes text.old ++ text_lines name.now details.now columns) }
+{
+    for k in 0..both_counts(name, details, columns) {
+        print_text_line(text, name, details, columns, k)?;
+    }
+    Ok(())
 }
 
 /// Adds what a cell shows.
@@ -138,11 +212,27 @@ fn print_words(
     ensures { OnOk result (string_bytes text.new
         ≡ string_bytes text.old ++ cell_words layout.now r piece.now) }
 {
-    text.push_str("<text class='n' x='6' y='15'>")?;
-    print_escaped_name(alloc, text, layout, piece)?;
-    text.push_str("</text><text class='d' x='6' y='29'>")?;
-    print_part_details(text, layout, r, piece.part)?;
-    text.push_str("</text>")
+    let mut name = String::new(alloc);
+    print_piece_name(&mut name, layout, piece)?;
+    let mut details = String::new(alloc);
+    print_part_details(&mut details, layout, r, piece.part)?;
+    print_text_lines(
+        text,
+        name.as_bytes(),
+        details.as_bytes(),
+        columns_of(true, piece),
+    )
+}
+
+/// Adds the edge of a cell.
+#[tactic(auto, unfolding(crate::specs::Svg::edge_text))]
+fn print_edge(text: &mut String, height: u64) -> Result<(), AllocError>
+    ensures { OnOk result (string_bytes text.new ≡ string_bytes text.old ++ edge_text height) }
+{
+    let inner = height.saturating_sub(2);
+    text.push_str(EDGE)?;
+    write!(text, "{inner}")?;
+    text.push_str("' rx='3'/>")
 }
 
 /// Adds the class of a cell and the area in which it lies.
@@ -150,18 +240,18 @@ fn print_words(
 fn print_cell_head(
     text: &mut String,
     layout: &Layout,
-    left: u64,
+    depth: usize,
+    rows: &[u16],
     piece: &Piece,
 ) -> Result<(), AllocError>
-    requires { left ≤ 1000 }
     ensures { OnOk result (string_bytes text.new
-        ≡ string_bytes text.old ++ cell_head layout.now left piece.now) }
+        ≡ string_bytes text.old ++ cell_head layout.now depth rows.now piece.now) }
 {
     text.push_str("<a")?;
     print_part_class(text, layout, piece.part)?;
     text.push_str("><svg")?;
-    print_area(text, piece_area(left, piece))?;
-    text.push_str(EDGE)
+    print_area(text, piece_area(depth, rows, piece))?;
+    print_edge(text, cell_height(rows, piece.byte))
 }
 
 /// Adds a cell, which stands where its piece says.
@@ -171,42 +261,18 @@ fn print_cell(
     text: &mut String,
     layout: &Layout,
     r: usize,
-    left: u64,
+    depth: usize,
+    rows: &[u16],
     piece: &Piece,
 ) -> Result<(), AllocError>
-    requires report { r < length layout.now.reports }
-    requires left { left ≤ 1000 }
+    requires { r < length layout.now.reports }
     ensures { OnOk result (string_bytes text.new
-        ≡ string_bytes text.old ++ cell_text layout.now r left piece.now) }
+        ≡ string_bytes text.old ++ cell_text layout.now r depth rows.now piece.now) }
 {
-    print_cell_head(text, layout, left, piece)?;
+    print_cell_head(text, layout, depth, rows, piece)?;
     print_title(alloc, text, layout, r, piece)?;
     print_words(alloc, text, layout, r, piece)?;
     text.push_str("</svg></a>\n")
-}
-
-/// Adds the collection at a level of a path, where there is one.
-fn print_level(text: &mut String, path: &[Collection], level: usize) -> Result<(), AllocError>
-    ensures { OnOk result (string_bytes text.new
-        ≡ string_bytes text.old ++ level_name (slice_get path.now (level - 1))) }
-{
-    let k = level.saturating_sub(1);
-    if k >= path.len() {
-        return Ok(());
-    }
-    print_collection(text, &path[k])
-}
-
-/// Adds what a frame is called.
-#[tactic(auto, unfolding(crate::specs::Svg::frame_name))]
-pub fn print_frame_name(text: &mut String, layout: &Layout, frame: &Frame) -> Result<(), AllocError>
-    ensures { OnOk result (string_bytes text.new
-        ≡ string_bytes text.old ++ frame_name layout.now frame.now) }
-{
-    if frame.item >= layout.items().len() {
-        return Ok(());
-    }
-    print_level(text, layout.path(frame.item), frame.level)
 }
 
 /// Adds what a frame is called, as it stands in a page.
@@ -249,40 +315,84 @@ fn print_label_head(text: &mut String, x: u64, y: u64) -> Result<(), AllocError>
     write!(text, "<text class='o' x='{x}' y='{y}'>")
 }
 
+/// Adds a line of the name beside a frame.
+#[tactic(auto, unfolding(crate::specs::Svg::label_line))]
+fn print_label_line(
+    text: &mut String,
+    depth: usize,
+    top: u64,
+    name: &[u8],
+    k: u16,
+) -> Result<(), AllocError>
+    requires { top ≤ 2 ^ 60 }
+    ensures { OnOk result (string_bytes text.new
+        ≡ string_bytes text.old ++ label_line depth top name.now k) }
+{
+    print_label_head(text, name_left(depth), top + LINE * u64::from(k))?;
+    push_escaped(text, line_of(name, &[], NAME_COLUMNS, k))?;
+    text.push_str("</text>")
+}
+
 /// Adds the name beside a frame.
+#[tactic(auto, unfolding(crate::specs::Svg::label_lines))]
+fn print_label_lines(
+    text: &mut String,
+    depth: usize,
+    top: u64,
+    name: &[u8],
+) -> Result<(), AllocError>
+    requires { top ≤ 2 ^ 60 }
+    ensures { OnOk result (string_bytes text.new
+        ≡ string_bytes text.old ++ label_lines depth top name.now) }
+{
+    for k in 0..line_count(name, NAME_COLUMNS) {
+        print_label_line(text, depth, top, name, k)?;
+    }
+    text.push_str("</g>\n")
+}
+
+/// Adds the name beside a frame, below so many other lines.
 #[tactic(auto, unfolding(crate::specs::Svg::frame_label))]
 fn print_frame_label(
     alloc: Global,
     text: &mut String,
     layout: &Layout,
     depth: usize,
+    rows: &[u16],
+    front: u16,
     frame: &Frame,
 ) -> Result<(), AllocError>
     ensures { OnOk result (string_bytes text.new
-        ≡ string_bytes text.old ++ frame_label layout.now depth frame.now) }
+        ≡ string_bytes text.old ++ frame_label layout.now depth rows.now front frame.now) }
 {
-    print_label_head(text, name_left(depth), name_top(frame))?;
-    print_escaped_frame(alloc, text, layout, frame)?;
-    text.push_str("</text></g>\n")
+    let mut name = String::new(alloc);
+    print_frame_name(&mut name, layout, frame)?;
+    let top = row_top(depth, rows, frame.first) + 11 + LINE * u64::from(front);
+    print_label_lines(text, depth, top, name.as_bytes())
 }
 
 /// Adds the frame of a collection, with its name beside it.
-#[tactic(auto, unfolding(crate::specs::Svg::frame_text))]
+#[tactic(auto, unfolding(crate::specs::Svg::frame_behind, crate::specs::Svg::frame_text))]
 fn print_frame(
     alloc: Global,
     text: &mut String,
     layout: &Layout,
     depth: usize,
+    rows: &[u16],
+    frames: &[Frame],
+    k: usize,
     frame: &Frame,
 ) -> Result<(), AllocError>
-    ensures { OnOk result (string_bytes text.new
-        ≡ string_bytes text.old ++ frame_text layout.now depth frame.now) }
+    requires { k ≤ length frames.now }
+    ensures { OnOk result (string_bytes text.new ≡ string_bytes text.old
+        ++ frame_behind layout.now depth rows.now frames.now k (Some frame.now)) }
 {
+    let front = lines_in_front(alloc, layout, frames, frame.first, k)?;
     print_frame_title(alloc, text, layout, frame)?;
     text.push_str("<rect class='o' rx='4'")?;
-    print_area(text, frame_area(depth, frame))?;
+    print_area(text, frame_area(depth, rows, frame))?;
     text.push_str("/>")?;
-    print_frame_label(alloc, text, layout, depth, frame)
+    print_frame_label(alloc, text, layout, depth, rows, front, frame)
 }
 
 /// Adds the number above a bit.
@@ -300,11 +410,16 @@ fn print_bit_number(text: &mut String, left: u64, k: u64) -> Result<(), AllocErr
 
 /// Adds the number beside a byte.
 #[tactic(auto, unfolding(crate::specs::Svg::byte_number))]
-fn print_byte_number(text: &mut String, b: u64) -> Result<(), AllocError>
-    requires { b ≤ 64 }
-    ensures { OnOk result (string_bytes text.new ≡ string_bytes text.old ++ byte_number b) }
+fn print_byte_number(
+    text: &mut String,
+    depth: usize,
+    rows: &[u16],
+    b: u32,
+) -> Result<(), AllocError>
+    ensures { OnOk result (string_bytes text.new
+        ≡ string_bytes text.old ++ byte_number depth rows.now b) }
 {
-    let y = TOP + ROW * b + 22;
+    let y = row_top(depth, rows, b) + 22;
     write!(text, "<text class='r' x='0' y='{y}'>byte {b}</text>")
 }
 
@@ -322,25 +437,29 @@ fn print_bit_ruler(text: &mut String, left: u64) -> Result<(), AllocError>
 
 /// Adds the numbers beside the bytes.
 #[tactic(auto, unfolding(crate::specs::Svg::byte_ruler))]
-fn print_byte_ruler(text: &mut String, bytes: u64) -> Result<(), AllocError>
-    requires { bytes ≤ 64 }
-    ensures { OnOk result (string_bytes text.new ≡ string_bytes text.old ++ byte_ruler bytes) }
+fn print_byte_ruler(
+    text: &mut String,
+    depth: usize,
+    rows: &[u16],
+    bytes: u32,
+) -> Result<(), AllocError>
+    ensures { OnOk result (string_bytes text.new
+        ≡ string_bytes text.old ++ byte_ruler depth rows.now bytes) }
 {
     for b in 0..bytes {
-        print_byte_number(text, b)?;
+        print_byte_number(text, depth, rows, b)?;
     }
     Ok(())
 }
 
 /// Adds the rulers of a report.
 #[tactic(auto, unfolding(crate::specs::Svg::rulers))]
-fn print_rulers(text: &mut String, left: u64, bytes: u64) -> Result<(), AllocError>
-    requires left { left ≤ 1000 }
-    requires bytes { bytes ≤ 64 }
-    ensures { OnOk result (string_bytes text.new ≡ string_bytes text.old ++ rulers left bytes) }
+fn print_rulers(text: &mut String, depth: usize, rows: &[u16], bytes: u32) -> Result<(), AllocError>
+    ensures { OnOk result (string_bytes text.new
+        ≡ string_bytes text.old ++ rulers depth rows.now bytes) }
 {
-    print_bit_ruler(text, left)?;
-    print_byte_ruler(text, bytes)?;
+    print_bit_ruler(text, left_of(depth))?;
+    print_byte_ruler(text, depth, rows, bytes)?;
     text.push_str("\n")
 }
 
@@ -387,18 +506,26 @@ fn print_head(
     text: &mut String,
     numbered: bool,
     depth: usize,
-    bytes: u64,
+    rows: &[u16],
+    bytes: u32,
     report: &Report,
 ) -> Result<(), AllocError>
-    requires { bytes ≤ 64 }
     ensures { OnOk result (string_bytes text.new
-        ≡ string_bytes text.old ++ picture_head numbered depth bytes report.now) }
+        ≡ string_bytes text.old ++ picture_head numbered depth rows.now bytes report.now) }
 {
-    print_opening(text, name_left(depth) + RIGHT, TOP + ROW * bytes)?;
-    print_description(text, numbered, bytes, report)?;
+    print_opening(text, name_left(depth) + RIGHT, row_top(depth, rows, bytes))?;
+    print_description(text, numbered, u64::from(bytes), report)?;
     text.push_str("<style>")?;
     text.push_str(STYLE)?;
     text.push_str("</style>\n")
+}
+
+/// The frame at a place.
+fn frame_at(frames: &[Frame], k: usize) -> &Frame
+    requires { k < length frames.now }
+    ensures { slice_get frames.now k ≡ Some result.now }
+{
+    &frames[k]
 }
 
 /// Adds the frames of a report.
@@ -408,13 +535,23 @@ fn print_frames(
     text: &mut String,
     layout: &Layout,
     depth: usize,
+    rows: &[u16],
     frames: &[Frame],
 ) -> Result<(), AllocError>
     ensures { OnOk result (string_bytes text.new
-        ≡ string_bytes text.old ++ frames_text layout.now depth frames.now) }
+        ≡ string_bytes text.old ++ frames_text layout.now depth rows.now frames.now) }
 {
-    for frame in frames {
-        print_frame(alloc, text, layout, depth, frame)?;
+    for k in 0..frames.len() {
+        print_frame(
+            alloc,
+            text,
+            layout,
+            depth,
+            rows,
+            frames,
+            k,
+            frame_at(frames, k),
+        )?;
     }
     Ok(())
 }
@@ -426,47 +563,47 @@ fn print_cells(
     text: &mut String,
     layout: &Layout,
     r: usize,
-    left: u64,
+    depth: usize,
+    rows: &[u16],
     pieces: &[Piece],
 ) -> Result<(), AllocError>
-    requires report { r < length layout.now.reports }
-    requires left { left ≤ 1000 }
+    requires { r < length layout.now.reports }
     ensures { OnOk result (string_bytes text.new
-        ≡ string_bytes text.old ++ cells_text layout.now r left pieces.now) }
+        ≡ string_bytes text.old ++ cells_text layout.now r depth rows.now pieces.now) }
 {
     for piece in pieces {
-        print_cell(alloc, text, layout, r, left, piece)?;
+        print_cell(alloc, text, layout, r, depth, rows, piece)?;
     }
     Ok(())
 }
 
-/// Adds the picture of a report of so many bytes.
-#[tactic(auto, unfolding(crate::specs::Svg::picture_of))]
-fn print_sized(
+/// Adds the picture of a report by the lines of its rows.
+#[tactic(auto, unfolding(crate::specs::Svg::picture_by))]
+fn print_by(
     alloc: Global,
     text: &mut String,
     layout: &Layout,
     r: usize,
-    bytes: u64,
+    bytes: u32,
     frames: &[Frame],
     pieces: &[Piece],
     report: &Report,
+    rows: &[u16],
 ) -> Result<(), AllocError>
-    requires report { r < length layout.now.reports }
-    requires bytes { bytes ≤ 64 }
+    requires { r < length layout.now.reports }
     ensures { OnOk result (string_bytes text.new ≡ string_bytes text.old
-        ++ picture_of layout.now r bytes frames.now pieces.now report.now) }
+        ++ picture_by layout.now r bytes frames.now pieces.now report.now (deepest frames.now) rows.now) }
 {
     let depth = deepest(frames);
-    let left = left_of(depth);
-    print_head(text, layout.numbered(), depth, bytes, report)?;
-    print_rulers(text, left, bytes)?;
-    print_frames(alloc, text, layout, depth, frames)?;
-    print_cells(alloc, text, layout, r, left, pieces)?;
+    print_head(text, layout.numbered(), depth, rows, bytes, report)?;
+    print_rulers(text, depth, rows, bytes)?;
+    print_frames(alloc, text, layout, depth, rows, frames)?;
+    print_cells(alloc, text, layout, r, depth, rows, pieces)?;
     text.push_str("</svg>\n")
 }
 
 /// Adds the picture of a report, by its frames and its pieces.
+#[tactic(auto, unfolding(crate::specs::Svg::picture_of))]
 pub fn print_picture(
     alloc: Global,
     text: &mut String,
@@ -480,6 +617,7 @@ pub fn print_picture(
         ++ picture_at layout.now r frames.now pieces.now (slice_get layout.now.reports r)) }
 {
     let report = report_at(layout, r);
-    let bytes = layout.report_bytes(r) as u64;
-    print_sized(alloc, text, layout, r, bytes, frames, pieces, report)
+    let bytes = layout.report_bytes(r) as u32;
+    let rows = rows_of(alloc, layout, r, bytes, frames, pieces)?;
+    print_by(alloc, text, layout, r, bytes, frames, pieces, report, &rows)
 }

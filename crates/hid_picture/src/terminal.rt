@@ -2,41 +2,30 @@
 
 ghost use Rattle.std.specs.Prelude.{◌≡◌, ◌++◌, ◌-◌, ◌<◌, codes, length, slice_get, unwrap_or, Some, OnOk, string_bytes};
 ghost use Rattle.hid_notation.specs.Text.{joined_below};
-ghost use Rattle.hid_picture.specs.Terminal.{fitted, is_edge, is_edge_above, end_corner, corner, corner_at, edge_line, is_held, is_held_on, bracket, bracket_at, brackets, side_at, sides, line_words, cell_line, byte_cell, cells_line, row_line, line_above, row_number, row_text, frame_line, frame_lines, usage_lines, item_lines, field_lines, fields_text, terminal_head, rows_text, terminal_of, terminal_at};
+ghost use Rattle.hid_picture.specs.Terminal.{fitted, is_edge, is_edge_above, end_corner, corner, corner_at, edge_line, is_held, is_held_on, bracket, bracket_at, brackets, side_at, sides, cell_line, byte_cell, cells_line, line_number, row_line, line_above, row_number, row_text, frame_line, frame_lines, usage_lines, item_lines, field_lines, fields_text, terminal_head, rows_text, terminal_of, terminal_at};
 
 use crate::escape::push_printed;
-use crate::frames::{Frame, deepest};
 use crate::glyphs::{
     BIT_LINE, BIT_RULER, BLANK, CROSS, DOWNWARD, FLAT, FRAME_FIRST, FRAME_LAST, LEFT_BOTH,
     LEFT_FIRST, LEFT_LAST, RIGHT_BOTH, RIGHT_FIRST, RIGHT_LAST, SIDE, UPWARD,
 };
-use crate::listed::{item_at, report_at};
-use crate::pieces::{Piece, piece_at};
-use crate::svg::print_frame_name;
-use crate::words::{
-    print_count, print_entry, print_flags, print_part_details, print_piece_name, print_report_name,
-};
+use crate::lines::{byte_at, columns_of, line_of, row_lines};
+use crate::words::print_frame_name;
 use hid_layout::{Layout, MainItem, Report, Usage};
+use hid_pieces::{
+    Frame, Piece, deepest, item_at, piece_at, print_count, print_entry, print_flags,
+    print_part_details, print_piece_name, print_report_name, report_at,
+};
 use std::alloc::{AllocError, Global};
-
-/// The byte of a word at a column, and a space behind its end.
-fn column_of(words: &[u8], k: usize) -> u8
-    ensures { result ≡ unwrap_or (slice_get words.now k) 32 }
-{
-    match words.get(k) {
-        None => b' ',
-        Some(byte) => *byte,
-    }
-}
 
 /// Adds so many columns of words: what has room, and spaces.
 #[tactic(auto, unfolding(crate::specs::Terminal::fitted))]
-fn push_fitted(text: &mut String, words: &[u8], columns: u64) -> Result<(), AllocError>
+fn push_fitted(text: &mut String, words: &[u8], columns: usize) -> Result<(), AllocError>
     ensures { OnOk result (string_bytes text.new
         ≡ string_bytes text.old ++ fitted words.now columns) }
 {
-    for k in 0..columns as usize {
-        push_printed(text, column_of(words, k))?;
+    for k in 0..columns {
+        push_printed(text, byte_at(words, k))?;
     }
     Ok(())
 }
@@ -213,25 +202,6 @@ fn print_sides(
     Ok(())
 }
 
-/// Adds what a line of a cell says.
-fn print_line_words(
-    text: &mut String,
-    layout: &Layout,
-    r: usize,
-    second: bool,
-    piece: &Piece,
-) -> Result<(), AllocError>
-    requires { r < length layout.now.reports }
-    ensures { OnOk result (string_bytes text.new
-        ≡ string_bytes text.old ++ line_words layout.now r second piece.now) }
-{
-    if second {
-        print_part_details(text, layout, r, piece.part)
-    } else {
-        print_piece_name(text, layout, piece)
-    }
-}
-
 /// Adds a line of a cell.
 #[tactic(auto, unfolding(crate::specs::Terminal::cell_line))]
 fn print_cell_line(
@@ -239,18 +209,24 @@ fn print_cell_line(
     text: &mut String,
     layout: &Layout,
     r: usize,
-    second: bool,
+    k: u16,
     piece: &Piece,
 ) -> Result<(), AllocError>
     requires { r < length layout.now.reports }
     ensures { OnOk result (string_bytes text.new
-        ≡ string_bytes text.old ++ cell_line layout.now r second piece.now) }
+        ≡ string_bytes text.old ++ cell_line layout.now r k piece.now) }
 {
-    let mut words = String::new(alloc);
-    print_line_words(&mut words, layout, r, second, piece)?;
+    let mut name = String::new(alloc);
+    print_piece_name(&mut name, layout, piece)?;
+    let mut details = String::new(alloc);
+    print_part_details(&mut details, layout, r, piece.part)?;
+    let columns = columns_of(false, piece);
     text.push_str(SIDE)?;
-    let bits = u64::from(piece.high.saturating_sub(piece.low));
-    push_fitted(text, words.as_bytes(), (10 * bits).saturating_sub(1))
+    push_fitted(
+        text,
+        line_of(name.as_bytes(), details.as_bytes(), columns, k),
+        columns,
+    )
 }
 
 /// Adds a line of a piece, where it lies in the byte.
@@ -259,18 +235,18 @@ fn print_byte_cell(
     text: &mut String,
     layout: &Layout,
     r: usize,
-    second: bool,
+    k: u16,
     byte: u32,
     piece: &Piece,
 ) -> Result<(), AllocError>
     requires { r < length layout.now.reports }
     ensures { OnOk result (string_bytes text.new
-        ≡ string_bytes text.old ++ byte_cell layout.now r second byte (Some piece.now)) }
+        ≡ string_bytes text.old ++ byte_cell layout.now r k byte (Some piece.now)) }
 {
     if piece.byte != byte {
         return Ok(());
     }
-    print_cell_line(alloc, text, layout, r, second, piece)
+    print_cell_line(alloc, text, layout, r, k, piece)
 }
 
 /// Adds a line of the cells of a byte, the last one first.
@@ -280,41 +256,19 @@ fn print_cells_line(
     text: &mut String,
     layout: &Layout,
     r: usize,
-    second: bool,
+    k: u16,
     byte: u32,
     pieces: &[Piece],
 ) -> Result<(), AllocError>
     requires { r < length layout.now.reports }
     ensures { OnOk result (string_bytes text.new
-        ≡ string_bytes text.old ++ cells_line layout.now r second byte pieces.now) }
+        ≡ string_bytes text.old ++ cells_line layout.now r k byte pieces.now) }
 {
     for i in 0..pieces.len() {
         let piece = piece_at(pieces, pieces.len() - 1 - i);
-        print_byte_cell(alloc, text, layout, r, second, byte, piece)?;
+        print_byte_cell(alloc, text, layout, r, k, byte, piece)?;
     }
     Ok(())
-}
-
-/// Adds a line of a row.
-#[tactic(auto, unfolding(crate::specs::Terminal::row_line))]
-fn print_row_line(
-    alloc: Global,
-    text: &mut String,
-    layout: &Layout,
-    r: usize,
-    second: bool,
-    byte: u32,
-    frames: &[Frame],
-    pieces: &[Piece],
-) -> Result<(), AllocError>
-    requires { r < length layout.now.reports }
-    ensures { OnOk result (string_bytes text.new
-        ≡ string_bytes text.old ++ row_line layout.now r second byte frames.now pieces.now) }
-{
-    print_cells_line(alloc, text, layout, r, second, byte, pieces)?;
-    text.push_str(SIDE)?;
-    print_sides(text, frames, deepest(frames), byte)?;
-    text.push_str("\n")
 }
 
 /// Adds the line above a row.
@@ -345,7 +299,41 @@ fn print_row_number(text: &mut String, byte: u32) -> Result<(), AllocError>
     write!(text, "{byte} ")
 }
 
-/// Adds a row: the line above it, the names, and what is said of them.
+/// Adds what stands in front of a line of a row.
+fn print_line_number(text: &mut String, byte: u32, k: u16) -> Result<(), AllocError>
+    ensures { OnOk result (string_bytes text.new ≡ string_bytes text.old ++ line_number byte k) }
+{
+    if k == 0 {
+        print_row_number(text, byte)
+    } else {
+        text.push_str("   ")
+    }
+}
+
+/// Adds a line of a row.
+#[tactic(auto, unfolding(crate::specs::Terminal::row_line))]
+fn print_row_line(
+    alloc: Global,
+    text: &mut String,
+    layout: &Layout,
+    r: usize,
+    frames: &[Frame],
+    pieces: &[Piece],
+    byte: u32,
+    k: u16,
+) -> Result<(), AllocError>
+    requires { r < length layout.now.reports }
+    ensures { OnOk result (string_bytes text.new
+        ≡ string_bytes text.old ++ row_line layout.now r byte frames.now pieces.now k) }
+{
+    print_line_number(text, byte, k)?;
+    print_cells_line(alloc, text, layout, r, k, byte, pieces)?;
+    text.push_str(SIDE)?;
+    print_sides(text, frames, deepest(frames), byte)?;
+    text.push_str("\n")
+}
+
+/// Adds a row: the line above it, and the lines of its cells.
 #[tactic(auto, unfolding(crate::specs::Terminal::row_text))]
 fn print_row(
     alloc: Global,
@@ -361,10 +349,11 @@ fn print_row(
         ≡ string_bytes text.old ++ row_text layout.now r frames.now pieces.now byte) }
 {
     print_line_above(text, byte, frames, pieces)?;
-    print_row_number(text, byte)?;
-    print_row_line(alloc, text, layout, r, false, byte, frames, pieces)?;
-    text.push_str("   ")?;
-    print_row_line(alloc, text, layout, r, true, byte, frames, pieces)
+    let lines = row_lines(alloc, layout, r, false, byte, pieces)?;
+    for k in 0..lines {
+        print_row_line(alloc, text, layout, r, frames, pieces, byte, k)?;
+    }
+    Ok(())
 }
 
 /// Adds the indentation of a level.

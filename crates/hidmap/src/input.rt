@@ -1,4 +1,5 @@
-//! Where a descriptor stands in a file: binary, hex digits, or an `R:` line of hid-recorder.
+//! Where a descriptor stands in a file: binary; or in text as hex digits, an `R:` line of hid-recorder, an array of C, or
+//! what usbhid-dump prints.
 
 use std::alloc::{AllocError, Global};
 use std::fmt;
@@ -10,6 +11,10 @@ pub enum InputFault {
     BadHex,
     /// The count of an `R:` line isn't that of its bytes.
     BadCount,
+    /// An element of an array isn't `0x` with one or two hex digits.
+    BadArray,
+    /// Text in which no descriptor is found.
+    NoDescriptor,
     Memory,
 }
 
@@ -24,6 +29,18 @@ impl fmt::Display for InputFault {
         match self {
             InputFault::BadHex => write!(f, "a byte isn't two hex digits"),
             InputFault::BadCount => write!(f, "the count of the R: line isn't that of its bytes"),
+            InputFault::BadArray => {
+                write!(
+                    f,
+                    "an element of the array isn't 0x with one or two hex digits"
+                )
+            }
+            InputFault::NoDescriptor => {
+                write!(
+                    f,
+                    "text without a descriptor: hex digits, an R: line, an array of C or what usbhid-dump prints is expected"
+                )
+            }
             InputFault::Memory => write!(f, "memory was wanting"),
         }
     }
@@ -107,16 +124,164 @@ fn read_counted(alloc: Global, text: &[u8]) -> Result<Vec<u8>, InputFault> {
     Ok(bytes)
 }
 
-/// The descriptor in the bytes of a file: of the first line that begins with `R:`; else what they spell, where they are
-/// hex digits and spaces alone; else the bytes as they are.
-pub fn descriptor_in(alloc: Global, bytes: &[u8]) -> Result<Vec<u8>, InputFault> {
-    for line in bytes.split(|byte| *byte == b'\n') {
-        if let Some(text) = behind_letter(line) {
-            return read_counted(alloc, text);
+/// The elements of an array of C, between its braces where it has them, as hex digits, two for each.
+fn read_array(alloc: Global, text: &[u8]) -> Result<Vec<u8>, InputFault> {
+    let code = without_comments(alloc, text)?;
+    let mut digits = Vec::new(alloc);
+    for word in between_braces(code.as_slice()).split(|byte| is_space(*byte) || *byte == b',') {
+        match word {
+            [] => {}
+            [b'0', b'x' | b'X', low] => {
+                digits.push(b'0').map_err(AllocError::from)?;
+                digits.push(*low).map_err(AllocError::from)?;
+            }
+            [b'0', b'x' | b'X', high, low] => {
+                digits.push(*high).map_err(AllocError::from)?;
+                digits.push(*low).map_err(AllocError::from)?;
+            }
+            _ => return Err(InputFault::BadArray),
         }
     }
-    if is_hex_text(bytes) {
-        return read_hex(alloc, bytes);
+    match read_hex(alloc, digits.as_slice()) {
+        Err(InputFault::BadHex) => Err(InputFault::BadArray),
+        read => read,
+    }
+}
+
+/// What stands between the last opening brace and the first closing one behind it.
+fn between_braces(text: &[u8]) -> &[u8] {
+    let mut inner = text;
+    for part in text.split(|byte| *byte == b'{') {
+        inner = part;
+    }
+    match inner.split(|byte| *byte == b'}').next() {
+        Some(part) => part,
+        None => inner,
+    }
+}
+
+/// Where a byte of C stands.
+#[derive(Clone, Copy, PartialEq, Eq)]
+enum Place {
+    Code,
+    /// Behind `//`.
+    Line,
+    /// Behind `/*`.
+    Block,
+}
+
+/// The text of C without its comments.
+fn without_comments(alloc: Global, text: &[u8]) -> Result<Vec<u8>, InputFault> {
+    let mut code = Vec::new(alloc);
+    let mut place = Place::Code;
+    let mut last = b' ';
+    for byte in text {
+        let before = last;
+        last = *byte;
+        match (place, before, *byte) {
+            (Place::Code, b'/', b'/') => {
+                let _slash = code.pop();
+                place = Place::Line;
+            }
+            (Place::Code, b'/', b'*') => {
+                let _slash = code.pop();
+                place = Place::Block;
+                last = b' ';
+            }
+            (Place::Code, _, _) => code.push(*byte).map_err(AllocError::from)?,
+            (Place::Line, _, b'\n') => place = Place::Code,
+            (Place::Block, b'*', b'/') => {
+                place = Place::Code;
+                last = b' ';
+            }
+            (Place::Line | Place::Block, _, _) => {}
+        }
+    }
+    Ok(code)
+}
+
+/// Whether `0x` stands in the text.
+fn has_prefix(text: &[u8]) -> bool {
+    let mut last = b' ';
+    for byte in text {
+        if last == b'0' && matches!(*byte, b'x' | b'X') {
+            return true;
+        }
+        last = *byte;
+    }
+    false
+}
+
+/// Whether a line is one that usbhid-dump prints in front of a descriptor.
+fn is_heading(line: &[u8]) -> bool {
+    line.split(|byte| is_space(*byte) || *byte == b':')
+        .any(|word| word == b"DESCRIPTOR".as_slice())
+}
+
+/// The lines of hex digits behind the first heading of usbhid-dump, where there is one.
+fn read_dump(alloc: Global, text: &[u8]) -> Result<Option<Vec<u8>>, InputFault> {
+    let mut digits = Vec::new(alloc);
+    let mut is_behind = false;
+    for line in text.split(|byte| *byte == b'\n') {
+        if is_behind {
+            if !is_hex_text(line) {
+                break;
+            }
+            digits.extend_from_slice(line)?;
+        } else {
+            is_behind = is_heading(line);
+        }
+    }
+    if is_behind {
+        return Ok(Some(read_hex(alloc, digits.as_slice())?));
+    }
+    Ok(None)
+}
+
+/// Whether the bytes are text: UTF-8 in which something is printed, with no control bytes but spaces. A descriptor with
+/// a collection isn't, since it has the byte C0.
+fn is_text(bytes: &[u8]) -> bool {
+    let mut some = false;
+    for byte in bytes {
+        if *byte < b' ' || *byte == 127 {
+            if !is_space(*byte) {
+                return false;
+            }
+        } else if *byte != b' ' {
+            some = true;
+        }
+    }
+    some && std::str::from_utf8(bytes).is_ok()
+}
+
+/// The descriptor in text.
+fn descriptor_in_text(alloc: Global, text: &[u8]) -> Result<Vec<u8>, InputFault> {
+    for line in text.split(|byte| *byte == b'\n') {
+        if let Some(counted) = behind_letter(without_spaces(line)) {
+            return read_counted(alloc, counted);
+        }
+    }
+    if is_hex_text(text) {
+        return read_hex(alloc, text);
+    }
+    if let Some(dumped) = read_dump(alloc, text)? {
+        return Ok(dumped);
+    }
+    if has_prefix(text) {
+        return read_array(alloc, text);
+    }
+    Err(InputFault::NoDescriptor)
+}
+
+/// The descriptor in the bytes of a file: in text the one of the first line that begins with `R:`; else what its digits
+/// spell; else the one that usbhid-dump or C writes. Other bytes are taken as they are.
+pub fn descriptor_in(alloc: Global, bytes: &[u8]) -> Result<Vec<u8>, InputFault> {
+    let text = match bytes {
+        [0xEF, 0xBB, 0xBF, rest @ ..] => rest,
+        _ => bytes,
+    };
+    if is_text(text) {
+        return descriptor_in_text(alloc, text);
     }
     let bytes = Vec::from_slice(alloc, bytes)?;
     Ok(bytes)

@@ -2,7 +2,7 @@
 //! ```text
 //!   hidmap [OPTIONS] [FILE]
 //!
-//!   FILE, or standard input --> descriptor_in --> Layout::parse --> hid_picture::draw --> standard output
+//!   FILE, or standard input --> descriptor_in --> Layout::parse --> hid_page::draw --> standard output
 //!     binary, hex, or R:                             |
 //!                                                    +-- refused --> draw_refused --> standard output
 //!                                                                    and in words --> standard error
@@ -23,7 +23,7 @@ mod words;
 use clap::error::ErrorKind;
 use hid_layout::{Cause, Layout, LayoutFault};
 use hid_notation::layout_words;
-use hid_picture::{Form, draw, draw_refused};
+use hid_page::{Form, draw, draw_refused};
 use input::{InputFault, descriptor_in};
 use std::alloc::Global;
 use std::io::{self, Read, Write};

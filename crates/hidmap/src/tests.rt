@@ -2,13 +2,13 @@
 
 use super::input::{InputFault, descriptor_in};
 use super::words::asked_by;
-use hid_picture::Form;
+use hid_page::Form;
 use std::alloc::{AllocError, Global};
 use std::test::Fail;
 
 /// Bytes of a file, and the descriptor in them.
 #[rattlefmt::skip]
-const FILES: [(&str, &[u8], Result<&[u8], InputFault>); 12] = [
+const FILES: [(&str, &[u8], Result<&[u8], InputFault>); 25] = [
     ("binary",                         b"\x05\x01\x09\x02",              Ok(b"\x05\x01\x09\x02")),
     ("binary that ends in a line feed", b"\x09\x0A",                     Ok(b"\x09\x0A")),
     ("hex digits",                     b"0501 09 02\n",                  Ok(b"\x05\x01\x09\x02")),
@@ -21,6 +21,19 @@ const FILES: [(&str, &[u8], Result<&[u8], InputFault>); 12] = [
     ("no count",                       b"R:",                            Ok(b"")),
     ("no hex",                         b"R: 1 g0",                       Err(InputFault::BadHex)),
     ("nothing",                        b"",                              Ok(b"")),
+    ("spaces in front",                b" \t R: 1 C0\n",                 Ok(b"\xC0")),
+    ("a byte order mark",              b"\xEF\xBB\xBFR: 1 C0\n",         Ok(b"\xC0")),
+    ("one in front of digits",         b"\xEF\xBB\xBF05 01",             Ok(b"\x05\x01")),
+    ("binary with the bytes of R:",    b"\x05\x01\x0A\x52\x3A\xC0",      Ok(b"\x05\x01\x0A\x52\x3A\xC0")),
+    ("elements of C",                  b"0x05, 0x1,\n0xA1,0X02",         Ok(b"\x05\x01\xA1\x02")),
+    ("an array of C",                  b"u8 d[2] = { // {0x07}\n 0x05, /* 9 */ 0x01 };", Ok(b"\x05\x01")),
+    ("an element of one digit too many", b"0x05, 0x012",                 Err(InputFault::BadArray)),
+    ("an element in decimal",          b"0x05, 1",                       Err(InputFault::BadArray)),
+    ("an element without digits",      b"0x05, 0xgg",                    Err(InputFault::BadArray)),
+    ("what usbhid-dump prints",        b"003:002:000:DESCRIPTOR         1.5\n 05 01\n C0\n\n003:002:001:DESCRIPTOR 1.6\n 09 02\n", Ok(b"\x05\x01\xC0")),
+    ("half a byte of it",              b"003:002:000:DESCRIPTOR 1.5\n 05 0\n", Err(InputFault::BadHex)),
+    ("other text",                     b"Usage Page (Desktop)\n",        Err(InputFault::NoDescriptor)),
+    ("a line in the middle",           b"x R: 1 C0\n",                   Err(InputFault::NoDescriptor)),
 ];
 
 #[test]

@@ -1,7 +1,7 @@
 //! The words of the command line.
 
 use clap::{Arg, ArgAction, Command, Error, value_parser};
-use hid_picture::Form;
+use hid_page::Form;
 use std::alloc::Global;
 
 /// What the words ask for.

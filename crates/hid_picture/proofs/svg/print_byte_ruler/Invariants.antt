@@ -6,4 +6,5 @@ use Rattle.hid_picture.proofs.svg.print_byte_ruler.Given as goal
 
 -- the bytes so far
 abbrev pub invariant-loop-b : goal.invariant-loop-b
-invariant-loop-b l = string_bytes l.text ≡ string_bytes l.fn.text ++ joined_below l.b byte_number
+invariant-loop-b l =
+    string_bytes l.text ≡ string_bytes l.fn.text ++ joined_below l.b (byte_number l.depth l.rows)

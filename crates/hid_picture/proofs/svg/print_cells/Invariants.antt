@@ -8,4 +8,5 @@ use Rattle.hid_picture.proofs.svg.print_cells.Given as goal
 abbrev pub invariant-loop-piece : goal.invariant-loop-piece
 invariant-loop-piece l =
     string_bytes l.text
-    ≡ string_bytes l.fn.text ++ flat_map (λ piece. cell_text l.layout l.r l.left piece) (take l.piece-index l.pieces)
+    ≡ string_bytes l.fn.text
+    ++ flat_map (λ piece. cell_text l.layout l.r l.depth l.rows piece) (take l.piece-index l.pieces)

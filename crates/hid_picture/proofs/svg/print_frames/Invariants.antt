@@ -1,11 +1,12 @@
-use Rattle.std.proofs.Common.{◌≡◌, ◌++◌, take}
-use Rattle.std.specs.Prelude.{string_bytes}
-use Rattle.std.specs.List.{flat_map}
-use Rattle.hid_picture.specs.Svg.{frame_text}
+use Rattle.std.proofs.Common.{◌≡◌, ◌++◌}
+use Rattle.std.specs.Prelude.{string_bytes, slice_get}
+use Rattle.hid_notation.specs.Text.{joined_below}
+use Rattle.hid_picture.specs.Svg.{frame_behind}
 use Rattle.hid_picture.proofs.svg.print_frames.Given as goal
 
 -- the frames so far
-abbrev pub invariant-loop-frame : goal.invariant-loop-frame
-invariant-loop-frame l =
+abbrev pub invariant-loop-k : goal.invariant-loop-k
+invariant-loop-k l =
     string_bytes l.text
-    ≡ string_bytes l.fn.text ++ flat_map (λ frame. frame_text l.layout l.depth frame) (take l.frame-index l.frames)
+    ≡ string_bytes l.fn.text
+    ++ joined_below l.k (λ k. frame_behind l.layout l.depth l.rows l.frames k (slice_get l.frames k))

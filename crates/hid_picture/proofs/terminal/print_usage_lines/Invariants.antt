@@ -1,7 +1,7 @@
 use Rattle.std.proofs.Common.{◌≡◌, ◌++◌, take, [], ◌∷◌}
 use Rattle.std.specs.Prelude.{string_bytes, codes}
 use Rattle.std.specs.List.{flat_map}
-use Rattle.hid_picture.specs.Words.{entry_text}
+use Rattle.hid_pieces.specs.Words.{entry_text}
 use Rattle.hid_picture.proofs.terminal.print_usage_lines.Given as goal
 
 -- the usages so far

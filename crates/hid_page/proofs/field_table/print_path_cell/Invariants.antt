@@ -1,0 +1,13 @@
+use Rattle.std.proofs.Common.{◌≡◌, ◌++◌, take}
+use Rattle.std.specs.Prelude.{string_bytes, codes}
+use Rattle.std.specs.List.{flat_map}
+use Rattle.hid_picture.specs.Escape.{escaped}
+use Rattle.hid_pieces.specs.Words.{collection_text}
+use Rattle.hid_page.proofs.field_table.print_path_cell.Given as goal
+
+-- the collections so far
+abbrev pub invariant-loop-collection : goal.invariant-loop-collection
+invariant-loop-collection l =
+    string_bytes l.text
+    ≡ string_bytes l.fn.text
+    ++ flat_map (λ collection. escaped (collection_text collection) ++ codes "<br>") (take l.collection-index l.path)

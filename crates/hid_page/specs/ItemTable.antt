@@ -1,0 +1,116 @@
+-- The items of a descriptor as a table (HID 1.11, 6.2.2; the words are those of the standard).
+use Rattle.std.specs.Prelude.{ℕ, ◌+◌, ◌/◌, ◌%◌, ◌^◌, nat_le, drop, ℤ, pos, Bool, ◌==◌, ◌||◌, List, [], ◌∷◌, ◌++◌, length, slice_get, map, if◌then◌else◌, Option, None, Some, codes}
+use Rattle.std.specs.Borrow.{Bor}
+use Rattle.std.specs.Fmt.{decimal, signed_decimal}
+use Rattle.hid_descriptor.specs.Items.{Spelled, is_main, is_field, USAGE_PAGE, COLLECTION}
+use Rattle.hid_descriptor.specs.declared.usage.Usage.{Usage}
+use Rattle.hid_items.specs.Spelling.{data_of, prefix_of, unsigned_of, signed_of}
+use Rattle.hid_items.specs.declared.spelling.Item.{Item}
+use Rattle.hid_notation.specs.Text.{hex_text, bytes_text, joined_below}
+use Rattle.hid_page.specs.declared.item_table.TheConstants.{ITEM_NAMES, ITEMS_HEAD, TABLE_END}
+use Rattle.hid_picture.specs.Escape.{escaped}
+use Rattle.hid_pieces.specs.Frames.{round_below}
+use Rattle.hid_pieces.specs.Items.{spelled_at}
+use Rattle.hid_pieces.specs.Label.{usage_label}
+use Rattle.hid_pieces.specs.Makers.{global_place}
+use Rattle.hid_pieces.specs.Words.{flags_text, collection_name}
+
+-- what a table of names has under a prefix
+abbrev pub named_in : List (ℕ × List ℕ) → ℕ → List ℕ
+named_in [] prefix = codes "Reserved"
+named_in (row ∷ rows) prefix = if prefix == row.0 then row.1 else named_in rows prefix
+
+-- prefixes and names
+abbrev pub names_of : List (ℕ × Bor (List ℕ)) → List (ℕ × List ℕ)
+names_of rows = map (λ row. (row.0, row.1.now)) rows
+
+-- the name of an item
+unfoldable pub item_name : ℕ → List ℕ
+item_name prefix = named_in (map (λ row. (row.0, row.1.now)) ITEM_NAMES) prefix
+
+-- the next main item from a place on
+abbrev pub next_main : ℕ → List Item → ℕ
+next_main place [] = place
+next_main place (item ∷ items) = if is_main item.bytes.now then place else next_main (place + 1) items
+
+-- the prefix of long items, and of a reserved short one
+abbrev pub LONG : ℕ
+LONG = 0xFC
+
+-- the number of a short item; 0 of a long one
+abbrev pub number_of : Spelled → ℕ
+number_of item = if prefix_of item == LONG then 0 else unsigned_of (data_of item)
+
+-- the same in two's complement
+abbrev pub signed_number : Spelled → ℤ
+signed_number item = if prefix_of item == LONG then pos 0 else signed_of (data_of item)
+
+-- the number of an item that there may be
+abbrev pub number_at : List Item → Option ℕ → ℕ
+number_at items None = 0
+number_at items (Some k) = number_of (spelled_at items k)
+
+-- the page in force at the next main item
+abbrev pub page_at : List Item → ℕ → ℕ
+page_at items k = number_at items (global_place items (next_main k (drop k items)) USAGE_PAGE) % 2 ^ 16
+
+-- the usage that a local item names: one of four bytes has its page in the high word
+abbrev pub usage_on : ℕ → Spelled → Usage
+usage_on page item =
+    if length item == 5 then record { page = number_of item / 2 ^ 16; id = number_of item % 2 ^ 16 }
+    else record { page = page; id = number_of item % 2 ^ 16 }
+
+-- a number with a sign: a minimum, a maximum or an exponent
+abbrev pub is_signed : ℕ → Bool
+is_signed prefix = prefix == 0x14 || (prefix == 0x24 || (prefix == 0x34 || (prefix == 0x44 || prefix == 0x54)))
+
+-- a usage, or an end of a range of usages
+abbrev pub is_usage : ℕ → Bool
+is_usage prefix = prefix == 0x08 || (prefix == 0x18 || prefix == 0x28)
+
+-- the number of an item: a page in hex, and others in decimal
+abbrev pub number_text : ℕ → Spelled → List ℕ
+number_text prefix item =
+    if is_signed prefix then signed_decimal (signed_number item)
+    else if prefix == USAGE_PAGE then hex_text (number_of item % 2 ^ 16)
+    else decimal (number_of item)
+
+-- what the data of an item say: flags, a kind of collections, a usage or a number
+unfoldable pub data_text : ℕ → Spelled → List ℕ
+data_text page item =
+    if nat_le (length item) 1 then []
+    else if is_field item then 32 ∷ flags_text (number_of item % 2 ^ 9)
+    else if prefix_of item == COLLECTION then 32 ∷ collection_name (number_of item % 2 ^ 8)
+    else if is_usage (prefix_of item) then 32 ∷ escaped (usage_label (usage_on page item))
+    else if prefix_of item == LONG then []
+    else 32 ∷ number_text (prefix_of item) item
+
+-- a row begins with the place of the item, to which links lead
+unfoldable pub item_head : ℕ → List ℕ
+item_head at =
+    codes "<tr id='at" ++ decimal at ++ codes "'><th scope='row'>" ++ decimal at ++ codes "</th><td><code>"
+
+-- an item is indented by the collections round it
+unfoldable pub item_words : List Item → ℕ → Spelled → List ℕ
+item_words items k item =
+    joined_below (round_below items k k) (λ i. codes "&emsp;") ++ item_name (prefix_of item)
+    ++ data_text (page_at items k) item
+
+-- the row of an item: its place, its bytes, and what it is
+unfoldable pub item_row : List Item → ℕ → Item → List ℕ
+item_row items k item =
+    item_head item.at ++ bytes_text item.bytes.now ++ codes "</code></td><td>" ++ item_words items k item.bytes.now
+    ++ codes "</td></tr>" ++ 10 ∷ []
+
+-- the row of an item that there may be
+abbrev pub row_at : List Item → ℕ → Option Item → List ℕ
+row_at items k None = []
+row_at items k (Some item) = item_row items k item
+
+-- the rows of the first items
+unfoldable pub item_rows : List Item → ℕ → List ℕ
+item_rows items count = joined_below count (λ k. row_at items k (slice_get items k))
+
+-- the first items of a descriptor as a table
+unfoldable pub item_table : List Item → ℕ → List ℕ
+item_table items count = ITEMS_HEAD.now ++ item_rows items count ++ TABLE_END.now

@@ -1,0 +1,3 @@
+pub mod ItemTable
+pub mod Page
+pub mod Drawing

@@ -1,0 +1,189 @@
+-- The page of a descriptor: the picture of each report, its fields as a table, and the items with their places (our
+-- choice: docs/PICTURES.md).
+use Rattle.std.specs.Prelude.{ℕ, ◌+◌, ◌/◌, ◌%◌, Bool, ◌==◌, List, [], ◌∷◌, ◌++◌, length, slice_get, if◌then◌else◌, Option, None, Some, codes, pos, int_lt}
+use Rattle.std.specs.List.{flat_map}
+use Rattle.std.specs.Fmt.{decimal, signed_decimal}
+use Rattle.hid_descriptor.specs.Usages.{Entry}
+use Rattle.hid_descriptor.specs.declared.collection.Collection.{Collection}
+use Rattle.hid_descriptor.specs.declared.report.Report.{Report}
+use Rattle.hid_descriptor.specs.declared.shape.Shape.{Shape}
+use Rattle.hid_descriptor.specs.declared.shape.Shape.TheVariants.{Padding, Variable, Array}
+use Rattle.hid_items.specs.declared.spelling.Item.{Item}
+use Rattle.hid_layout.specs.Layout.{Contents}
+use Rattle.hid_layout.specs.Reports.{first_bit, report_bytes}
+use Rattle.hid_layout.specs.declared.main_item.MainItem.{MainItem}
+use Rattle.hid_notation.specs.Text.{joined_below}
+use Rattle.hid_page.specs.declared.item_table.TheConstants.{TABLE_END}
+use Rattle.hid_page.specs.declared.page.TheConstants.{HEAD, ACCEPTED, REFUSED, END}
+use Rattle.hid_page.specs.declared.field_table.TheConstants.{FIELDS_HEAD, NEXT, MARK}
+use Rattle.hid_picture.specs.Escape.{escaped}
+use Rattle.hid_pieces.specs.Frames.{frames_of, main_at}
+use Rattle.hid_pieces.specs.Items.{place_of}
+use Rattle.hid_page.specs.ItemTable.{item_table}
+use Rattle.hid_pieces.specs.Makers.{makes, listed_below}
+use Rattle.hid_pieces.specs.Pieces.{pieces_of}
+use Rattle.hid_picture.specs.Svg.{picture_at}
+use Rattle.hid_picture.specs.Terminal.{terminal_at}
+use Rattle.hid_pieces.specs.Words.{count_text, flags_text, collection_text, entry_text, report_name}
+
+-- which rows a field points at: its own, when it is pointed at or chosen
+unfoldable pub mark_head : ℕ → List ℕ
+mark_head i =
+    codes "body:has(.f" ++ decimal i ++ codes ":hover,.f" ++ decimal i ++ codes ":focus,#f" ++ decimal i
+    ++ codes ":target) :is(#f" ++ decimal i
+
+-- the row of an item that made fields of a main item
+abbrev pub mark_at : List Item → ℕ → ℕ → List ℕ
+mark_at items m k = if makes items m k then codes ",#at" ++ decimal (place_of (slice_get items k)) else []
+
+-- the rows of the items that made fields of a main item
+unfoldable pub marks_of : List Item → ℕ → List ℕ
+marks_of items m = joined_below (length items) (mark_at items m)
+
+-- a field marks the rows of the items that made it
+unfoldable pub mark_rule : List Item → List ℕ → ℕ → List ℕ
+mark_rule items mains i = mark_head i ++ marks_of items (main_at mains i) ++ MARK.now
+
+-- what each field marks
+unfoldable pub mark_rules : List Item → List ℕ → List ℕ
+mark_rules items mains = joined_below (length mains) (mark_rule items mains)
+
+-- the number of a field, to which its cells lead
+unfoldable pub number_cell : ℕ → List ℕ
+number_cell i =
+    codes "<tr id='f" ++ decimal i ++ codes "' class='f" ++ decimal i ++ codes "'><th scope='row'>" ++ decimal i
+    ++ codes "</th><td>"
+
+-- where a field begins
+unfoldable pub from_cell : ℕ → List ℕ
+from_cell bit = codes "byte " ++ decimal (bit / 8) ++ codes ", bit " ++ decimal (bit % 8)
+
+-- how many elements of how many bits
+unfoldable pub size_cell : MainItem → List ℕ
+size_cell item = decimal item.count ++ codes " &times; " ++ count_text item.size (codes "bit")
+
+-- the usages of a field
+unfoldable pub usages_cell : List Entry → List ℕ
+usages_cell entries = flat_map (λ entry. escaped (entry_text entry) ++ codes "<br>") entries
+
+-- the usages of a field that isn't padding
+abbrev pub meaning_cell : Shape → List Entry → List ℕ
+meaning_cell Padding entries = codes "padding"
+meaning_cell Variable entries = usages_cell entries
+meaning_cell Array entries = usages_cell entries
+
+-- a range, and whether its numbers have a sign
+unfoldable pub limits_text : MainItem → List ℕ
+limits_text item =
+    signed_decimal item.min ++ codes " to " ++ signed_decimal item.max
+    ++ (if int_lt item.min (pos 0) then codes ", signed" else codes ", unsigned")
+
+-- the range of a field that isn't padding
+abbrev pub range_cell : Shape → MainItem → List ℕ
+range_cell Padding item = []
+range_cell Variable item = limits_text item
+range_cell Array item = limits_text item
+
+-- the collections round a field
+unfoldable pub path_cell : List Collection → List ℕ
+path_cell path = flat_map (λ collection. escaped (collection_text collection) ++ codes "<br>") path
+
+-- a link to an item
+unfoldable pub item_link : ℕ → List ℕ
+item_link at = codes "<a href='#at" ++ decimal at ++ codes "'>" ++ decimal at ++ codes "</a> "
+
+-- a link to an item that made fields of a main item
+abbrev pub link_at : List Item → ℕ → ℕ → List ℕ
+link_at items m k = if makes items m k then item_link (place_of (slice_get items k)) else []
+
+-- links to the items that made fields of a main item
+unfoldable pub links_cell : List Item → ℕ → List ℕ
+links_cell items m = joined_below (length items) (link_at items m)
+
+-- where a field stands: its number, its first bit and its size
+unfoldable pub place_cells : Contents → ℕ → MainItem → List ℕ
+place_cells layout i item =
+    number_cell i ++ from_cell (first_bit layout + item.offset) ++ NEXT.now ++ size_cell item ++ NEXT.now
+
+-- what a field means: its usages, its range and its flags
+unfoldable pub meaning_cells : MainItem → List Entry → List ℕ
+meaning_cells item entries =
+    meaning_cell item.shape entries ++ NEXT.now ++ range_cell item.shape item ++ NEXT.now ++ flags_text item.flags.0
+    ++ NEXT.now
+
+-- where a field comes from: the collections round it, and its items
+unfoldable pub origin_cells : List Item → ℕ → List Collection → List ℕ
+origin_cells items m path = path_cell path ++ NEXT.now ++ links_cell items m ++ codes "</td></tr>" ++ 10 ∷ []
+
+-- the row of a field
+unfoldable pub field_row : Contents → List Item → List ℕ → ℕ → MainItem → List Entry → List Collection → List ℕ
+field_row layout items mains i item entries path =
+    place_cells layout i item ++ meaning_cells item entries ++ origin_cells items (main_at mains i) path
+
+-- the row of a listed item that there may be, where it stands in the report
+abbrev pub field_row_at : Contents → List Item → List ℕ → ℕ → ℕ
+    → Option MainItem → Option (List Entry) → Option (List Collection) → List ℕ
+field_row_at layout items mains r i (Some item) (Some entries) (Some path) =
+    if item.report == r then field_row layout items mains i item entries path else []
+field_row_at layout items mains r i _ _ _ = []
+
+-- the row of the listed item at a place
+abbrev pub field_row_of : Contents → List Item → List ℕ → ℕ → ℕ → List ℕ
+field_row_of layout items mains r i =
+    field_row_at layout items mains r i (slice_get layout.items i) (slice_get layout.entries i) (slice_get layout.paths i)
+
+-- the rows of a report's fields
+unfoldable pub field_rows : Contents → List Item → List ℕ → ℕ → List ℕ
+field_rows layout items mains r = joined_below (length layout.items) (field_row_of layout items mains r)
+
+-- the fields of a report as a table
+unfoldable pub field_table : Contents → List Item → List ℕ → ℕ → List ℕ
+field_table layout items mains r = FIELDS_HEAD.now ++ field_rows layout items mains r ++ TABLE_END.now
+
+-- the heading of a report
+unfoldable pub heading : Bool → ℕ → Report → List ℕ
+heading numbered bytes report =
+    codes "<h2>" ++ report_name numbered report ++ codes ": " ++ count_text bytes (codes "byte") ++ codes "</h2>" ++ 10 ∷ []
+
+-- the heading of a report that there may be
+abbrev pub heading_at : Contents → ℕ → Option Report → List ℕ
+heading_at layout r None = []
+heading_at layout r (Some report) = heading layout.numbered (report_bytes layout r) report
+
+-- the picture of a report alone
+unfoldable pub svg_of : Contents → List Item → List ℕ → ℕ → List ℕ
+svg_of layout items mains r =
+    picture_at layout r (frames_of layout items mains r) (pieces_of layout r) (slice_get layout.reports r)
+
+-- the picture of a report in characters
+unfoldable pub characters_of : Contents → List Item → List ℕ → ℕ → List ℕ
+characters_of layout items mains r =
+    terminal_at layout r (frames_of layout items mains r) (pieces_of layout r) (slice_get layout.reports r)
+
+-- what a page has of a report
+unfoldable pub section : Contents → List Item → List ℕ → ℕ → List ℕ
+section layout items mains r =
+    heading_at layout r (slice_get layout.reports r) ++ svg_of layout items mains r ++ field_table layout items mains r
+
+-- what a page has of the reports
+unfoldable pub sections : Contents → List Item → List ℕ → List ℕ
+sections layout items mains = joined_below (length layout.reports) (section layout items mains)
+
+-- the places of the main items with bits
+abbrev pub mains_of : List Item → List ℕ
+mains_of items = listed_below items (length items)
+
+-- the page of a layout and the items of its descriptor
+unfoldable pub page_of : Contents → List Item → List ℕ → List ℕ
+page_of layout items mains =
+    HEAD.now ++ mark_rules items mains ++ ACCEPTED.now ++ sections layout items mains
+    ++ item_table items (length items) ++ END.now
+
+-- why a descriptor is refused
+unfoldable pub refusal : List ℕ → List ℕ
+refusal words = escaped words ++ codes "</p>" ++ 10 ∷ []
+
+-- the page of a descriptor that is refused: the words of the refusal, and the items up to its place
+unfoldable pub refused_page : List Item → ℕ → List ℕ → List ℕ
+refused_page items count words =
+    HEAD.now ++ REFUSED.now ++ refusal words ++ item_table items count ++ END.now

@@ -1,0 +1,126 @@
+//! What is drawn of a descriptor.
+
+ghost use Rattle.std.specs.Prelude.{◌≡◌, ◌++◌, ◌<◌, ◌≤◌, ◌^◌, All, length, IfOk, OnOk, string_bytes};
+ghost use Rattle.std.specs.Option.{option_map};
+ghost use Rattle.hid_pieces.specs.Items.{AreItemsOf, IsWhole};
+ghost use Rattle.hid_page.specs.Drawing.{all_characters, form_text, IsDrawn, begun_below, refusal_words, IsRefusal};
+
+use crate::page::{print_characters, print_page, print_refused, print_svg};
+use hid_items::Item;
+use hid_layout::{Layout, LayoutFault};
+use hid_notation::layout_words;
+use hid_pieces::{listed_places, place_of, read_items};
+use std::alloc::{AllocError, Global};
+
+/// What is asked for.
+#[derive(Clone, Copy, Debug, PartialEq, Eq)]
+pub enum Form {
+    /// An HTML page.
+    Page,
+    /// The picture of a report alone, by its place among the reports.
+    Svg(usize),
+    /// The pictures of all reports in characters.
+    Characters,
+}
+
+/// Adds the pictures of all reports in characters.
+#[tactic(auto, unfolding(crate::specs::Drawing::all_characters))]
+fn print_all_characters(
+    alloc: Global,
+    text: &mut String,
+    layout: &Layout,
+    items: &[Item],
+    mains: &[usize],
+) -> Result<(), AllocError>
+    ensures { OnOk result (string_bytes text.new
+        ≡ string_bytes text.old ++ all_characters layout.now items.now mains.now) }
+{
+    for r in 0..layout.reports().len() {
+        print_characters(alloc, text, layout, items, mains, r)?;
+        text.push_str("\n")?;
+    }
+    Ok(())
+}
+
+/// What is drawn by the items and the places of the main items.
+fn draw_form(
+    alloc: Global,
+    layout: &Layout,
+    form: Form,
+    items: &[Item],
+    mains: &[usize],
+) -> Result<Option<String>, AllocError>
+    requires { All IsWhole items.now }
+    ensures { IfOk result (λ text. option_map (λ t. string_bytes t) text
+        ≡ form_text form layout.now items.now mains.now) }
+{
+    let mut text = String::new(alloc);
+    match form {
+        Form::Page => print_page(alloc, &mut text, layout, items, mains)?,
+        Form::Characters => print_all_characters(alloc, &mut text, layout, items, mains)?,
+        Form::Svg(r) => {
+            if r >= layout.reports().len() {
+                return Ok(None);
+            }
+            print_svg(alloc, &mut text, layout, items, mains, r)?
+        }
+    }
+    Ok(Some(text))
+}
+
+/// What is drawn of a layout and its descriptor; nothing of a report that there isn't.
+pub fn draw(
+    alloc: Global,
+    layout: &Layout,
+    descriptor: &[u8],
+    form: Form,
+) -> Result<Option<String>, AllocError>
+    requires { length descriptor.now < 2 ^ 64 }
+    ensures { IfOk result (λ text. IsDrawn descriptor.now form layout.now
+        (option_map (λ t. string_bytes t) text)) }
+{
+    let items = read_items(alloc, descriptor)?;
+    let mains = listed_places(alloc, &items)?;
+    draw_form(alloc, layout, form, &items, &mains)
+}
+
+/// How many of the items begin up to a place.
+fn begun_below(items: &[Item], at: usize) -> usize
+    ensures value { result ≡ begun_below items.now at (length items.now) }
+    ensures few { result ≤ length items.now }
+{
+    let mut count = 0;
+    for k in 0..items.len() {
+        if place_of(items, k) <= at {
+            count = k + 1;
+        }
+    }
+    count
+}
+
+/// A refusal: its code and place, and words.
+fn words_of(alloc: Global, fault: LayoutFault) -> Result<String, AllocError>
+    ensures { IfOk result (λ words. string_bytes words ≡ refusal_words fault) }
+{
+    let mut text = String::new(alloc);
+    let words = layout_words(fault.cause);
+    write!(text, "{fault}: {words}")?;
+    Ok(text)
+}
+
+/// The page of a descriptor that is refused: the items up to the place of the refusal, and why.
+pub fn draw_refused(
+    alloc: Global,
+    descriptor: &[u8],
+    fault: LayoutFault,
+) -> Result<String, AllocError>
+    requires { length descriptor.now < 2 ^ 64 }
+    ensures { IfOk result (λ text. IsRefusal descriptor.now fault (string_bytes text)) }
+{
+    let items = read_items(alloc, descriptor)?;
+    let words = words_of(alloc, fault)?;
+    let count = begun_below(&items, fault.at);
+    let mut text = String::new(alloc);
+    print_refused(alloc, &mut text, &items, count, words.as_str())?;
+    Ok(text)
+}

@@ -1,0 +1,323 @@
+//! The items of a descriptor as a table.
+
+ghost use Rattle.std.specs.Prelude.{◌≡◌, ◌++◌, ◌+◌, ◌<◌, ◌≤◌, ◌^◌, All, codes, length, slice_get, Some, OnOk, string_bytes};
+ghost use Rattle.hid_notation.specs.Text.{joined_below};
+ghost use Rattle.hid_picture.specs.Escape.{escaped};
+ghost use Rattle.hid_pieces.specs.Items.{IsWhole};
+ghost use Rattle.hid_pieces.specs.Label.{usage_label};
+ghost use Rattle.hid_page.specs.ItemTable.{named_in, names_of, item_name, next_main, number_of, signed_number, number_at, page_at, usage_on, is_signed, is_usage, number_text, data_text, item_head, item_words, item_row, row_at, item_rows, item_table};
+
+use hid_items::Item;
+use hid_layout::{MainFlags, Usage};
+use hid_notation::{HexText, print_bytes};
+use hid_picture::push_escaped;
+use hid_pieces::{
+    COLLECTION, UsageLabel, collection_name, global_place, is_field, is_main, prefix_of,
+    print_flags, round_below,
+};
+use std::alloc::{AllocError, Global};
+
+/// The names of short items by their prefix (HID 1.11, 6.2.2).
+#[rattlefmt::skip]
+pub static ITEM_NAMES: [(u8, &str); 27] = [
+    (0x04, "Usage Page"), (0x08, "Usage"), (0x14, "Logical Minimum"), (0x18, "Usage Minimum"),
+    (0x24, "Logical Maximum"), (0x28, "Usage Maximum"), (0x34, "Physical Minimum"), (0x38, "Designator Index"),
+    (0x44, "Physical Maximum"), (0x48, "Designator Minimum"), (0x54, "Unit Exponent"), (0x58, "Designator Maximum"),
+    (0x64, "Unit"), (0x74, "Report Size"), (0x78, "String Index"), (0x80, "Input"), (0x84, "Report ID"),
+    (0x88, "String Minimum"), (0x90, "Output"), (0x94, "Report Count"), (0x98, "String Maximum"), (0xA0, "Collection"),
+    (0xA4, "Push"), (0xA8, "Delimiter"), (0xB0, "Feature"), (0xB4, "Pop"), (0xC0, "End Collection"),
+];
+
+/// What the table begins with.
+pub const ITEMS_HEAD: &str =
+    "<h2 id='items'>Items of the descriptor</h2>\n<div class='x'><table><thead><tr><th scope='col'>At</th><th scope='col'>Bytes</th><th scope='col'>Item</th></tr></thead><tbody>\n";
+
+/// What a table ends with.
+pub const TABLE_END: &str = "</tbody></table></div>\n";
+
+const USAGE_PAGE: u8 = 0x04;
+
+/// The prefix of long items, and of a reserved short one.
+const LONG: u8 = 0xFC;
+
+/// What rows of names have under a prefix.
+fn named_in(rows: &[(u8, &'static str)], prefix: u8) -> &'static str
+    ensures { result.now ≡ named_in (names_of rows.now) prefix }
+{
+    for row in rows {
+        let (of, name) = *row;
+        if prefix == of {
+            return name;
+        }
+    }
+    "Reserved"
+}
+
+#[tactic(auto, unfolding(crate::specs::ItemTable::item_name))]
+fn item_name(prefix: u8) -> &'static str
+    ensures { result.now ≡ item_name prefix }
+{
+    named_in(&ITEM_NAMES, prefix)
+}
+
+/// The next main item, where these are the items from a place on.
+fn next_main(rest: &[Item], place: usize) -> usize
+    requires { place + length rest.now < 2 ^ 64 }
+    ensures { result ≡ next_main place rest.now }
+{
+    let mut at = place;
+    for item in rest {
+        if is_main(item.bytes) {
+            return at;
+        }
+        at += 1;
+    }
+    at
+}
+
+/// An item that is spelled whole.
+fn whole_at<'a, 'b>(items: &'a [Item<'b>], k: usize) -> &'a Item<'b>
+    requires there { k < length items.now }
+    requires whole { All IsWhole items.now }
+    ensures at { slice_get items.now k ≡ Some result.now }
+    ensures whole { IsWhole result.now }
+{
+    &items[k]
+}
+
+/// The number of a short item; 0 of a long one.
+fn number_of(item: &Item) -> u64
+    requires { IsWhole item.now }
+    ensures value { result ≡ number_of item.now.bytes.now }
+    ensures small { result < 2 ^ 32 }
+{
+    if prefix_of(item.bytes) == LONG {
+        return 0;
+    }
+    item.unsigned()
+}
+
+/// The same in two's complement.
+fn signed_number(item: &Item) -> i64
+    requires { IsWhole item.now }
+    ensures { result ≡ signed_number item.now.bytes.now }
+{
+    if prefix_of(item.bytes) == LONG {
+        return 0;
+    }
+    item.signed()
+}
+
+/// The number of an item that there may be.
+fn number_at(items: &[Item], place: Option<usize>) -> u64
+    requires { All IsWhole items.now }
+    ensures { result ≡ number_at items.now place }
+{
+    match place {
+        None => 0,
+        Some(k) => {
+            if k >= items.len() {
+                return 0;
+            }
+            number_of(whole_at(items, k))
+        }
+    }
+}
+
+/// The page in force at the next main item.
+fn page_at(items: &[Item], k: usize) -> u16
+    requires there { k < length items.now }
+    requires whole { All IsWhole items.now }
+    ensures { result ≡ page_at items.now k }
+{
+    let m = next_main(&items[k..], k);
+    (number_at(items, global_place(items, m, USAGE_PAGE)) % 0x1_0000) as u16
+}
+
+/// The usage that a local item names.
+fn usage_on(page: u16, item: &Item) -> Usage
+    requires { IsWhole item.now }
+    ensures { result ≡ usage_on page item.now.bytes.now }
+{
+    let number = number_of(item);
+    let id = (number % 0x1_0000) as u16;
+    if item.bytes.len() == 5 {
+        Usage {
+            page: (number / 0x1_0000) as u16,
+            id,
+        }
+    } else {
+        Usage { page, id }
+    }
+}
+
+/// A minimum, a maximum or an exponent.
+fn is_signed(prefix: u8) -> bool
+    ensures { result ≡ is_signed prefix }
+{
+    matches!(prefix, 0x14 | 0x24 | 0x34 | 0x44 | 0x54)
+}
+
+/// A usage, or an end of a range of usages.
+fn is_usage(prefix: u8) -> bool
+    ensures { result ≡ is_usage prefix }
+{
+    matches!(prefix, 0x08 | 0x18 | 0x28)
+}
+
+/// Adds the number of an item.
+fn print_number(text: &mut String, prefix: u8, item: &Item) -> Result<(), AllocError>
+    requires { IsWhole item.now }
+    ensures { OnOk result (string_bytes text.new
+        ≡ string_bytes text.old ++ number_text prefix item.now.bytes.now) }
+{
+    if is_signed(prefix) {
+        let number = signed_number(item);
+        return write!(text, "{number}");
+    }
+    if prefix == USAGE_PAGE {
+        let page = HexText((number_of(item) % 0x1_0000) as u16);
+        return write!(text, "{page}");
+    }
+    let number = number_of(item);
+    write!(text, "{number}")
+}
+
+/// Adds a usage, as it stands in a page.
+fn print_usage(alloc: Global, text: &mut String, usage: Usage) -> Result<(), AllocError>
+    ensures { OnOk result (string_bytes text.new
+        ≡ string_bytes text.old ++ escaped (usage_label usage)) }
+{
+    let mut name = String::new(alloc);
+    let label = UsageLabel(usage);
+    write!(name, "{label}")?;
+    push_escaped(text, name.as_bytes())
+}
+
+/// Adds what the data of an item say.
+#[tactic(auto, unfolding(crate::specs::ItemTable::data_text))]
+fn print_data(alloc: Global, text: &mut String, page: u16, item: &Item) -> Result<(), AllocError>
+    requires { IsWhole item.now }
+    ensures { OnOk result (string_bytes text.new
+        ≡ string_bytes text.old ++ data_text page item.now.bytes.now) }
+{
+    let prefix = prefix_of(item.bytes);
+    if item.bytes.len() <= 1 {
+        return Ok(());
+    }
+    if is_field(item.bytes) {
+        text.push_str(" ")?;
+        return print_flags(text, MainFlags((number_of(item) % 0x200) as u16));
+    }
+    if prefix == COLLECTION {
+        text.push_str(" ")?;
+        return text.push_str(collection_name((number_of(item) % 0x100) as u8));
+    }
+    if is_usage(prefix) {
+        text.push_str(" ")?;
+        return print_usage(alloc, text, usage_on(page, item));
+    }
+    if prefix == LONG {
+        return Ok(());
+    }
+    text.push_str(" ")?;
+    print_number(text, prefix, item)
+}
+
+/// Adds what the row of an item begins with.
+#[tactic(auto, unfolding(crate::specs::ItemTable::item_head))]
+fn print_item_head(text: &mut String, at: usize) -> Result<(), AllocError>
+    ensures { OnOk result (string_bytes text.new ≡ string_bytes text.old ++ item_head at) }
+{
+    write!(text, "<tr id='at{at}'><th scope='row'>{at}</th><td><code>")
+}
+
+/// Adds a space for each collection round an item.
+fn print_indentation(text: &mut String, count: usize) -> Result<(), AllocError>
+    ensures { OnOk result (string_bytes text.new
+        ≡ string_bytes text.old ++ joined_below count (λ i. codes "&emsp;")) }
+{
+    for _i in 0..count {
+        text.push_str("&emsp;")?;
+    }
+    Ok(())
+}
+
+/// Adds what an item is.
+#[tactic(auto, unfolding(crate::specs::ItemTable::item_words))]
+fn print_item_words(
+    alloc: Global,
+    text: &mut String,
+    items: &[Item],
+    k: usize,
+    item: &Item,
+) -> Result<(), AllocError>
+    requires there { k < length items.now }
+    requires items { All IsWhole items.now }
+    requires whole { IsWhole item.now }
+    ensures { OnOk result (string_bytes text.new
+        ≡ string_bytes text.old ++ item_words items.now k item.now.bytes.now) }
+{
+    print_indentation(text, round_below(items, k))?;
+    text.push_str(item_name(prefix_of(item.bytes)))?;
+    print_data(alloc, text, page_at(items, k), item)
+}
+
+/// Adds the row of an item.
+#[tactic(auto, unfolding(crate::specs::ItemTable::item_row))]
+fn print_item_row(
+    alloc: Global,
+    text: &mut String,
+    items: &[Item],
+    k: usize,
+    item: &Item,
+) -> Result<(), AllocError>
+    requires there { k < length items.now }
+    requires items { All IsWhole items.now }
+    requires whole { IsWhole item.now }
+    ensures { OnOk result (string_bytes text.new
+        ≡ string_bytes text.old ++ item_row items.now k item.now) }
+{
+    print_item_head(text, item.at)?;
+    print_bytes(text, item.bytes)?;
+    text.push_str("</code></td><td>")?;
+    print_item_words(alloc, text, items, k, item)?;
+    text.push_str("</td></tr>\n")
+}
+
+/// Adds the rows of the first items.
+#[tactic(auto, unfolding(crate::specs::ItemTable::item_rows))]
+fn print_item_rows(
+    alloc: Global,
+    text: &mut String,
+    items: &[Item],
+    count: usize,
+) -> Result<(), AllocError>
+    requires within { count ≤ length items.now }
+    requires whole { All IsWhole items.now }
+    ensures { OnOk result (string_bytes text.new
+        ≡ string_bytes text.old ++ item_rows items.now count) }
+{
+    for k in 0..count {
+        print_item_row(alloc, text, items, k, whole_at(items, k))?;
+    }
+    Ok(())
+}
+
+/// Adds the first items of a descriptor as a table.
+#[tactic(auto, unfolding(crate::specs::ItemTable::item_table))]
+pub fn print_item_table(
+    alloc: Global,
+    text: &mut String,
+    items: &[Item],
+    count: usize,
+) -> Result<(), AllocError>
+    requires within { count ≤ length items.now }
+    requires whole { All IsWhole items.now }
+    ensures { OnOk result (string_bytes text.new
+        ≡ string_bytes text.old ++ item_table items.now count) }
+{
+    text.push_str(ITEMS_HEAD)?;
+    print_item_rows(alloc, text, items, count)?;
+    text.push_str(TABLE_END)
+}

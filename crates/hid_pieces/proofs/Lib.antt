@@ -1,0 +1,6 @@
+pub mod MakerLemmas
+pub mod PieceLemmas
+pub mod ItemLemmas
+pub mod FieldLemmas
+pub mod FillLemmas
+mod Vectors
