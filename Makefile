@@ -10,7 +10,7 @@ PREFIX ?= /usr/local
 DESTDIR ?=
 VERSION := 0.2.0
 
-.PHONY: run test try hidrun hidplay hidmap examples library library-test library-check library-cost install documents memory refusals mutants descriptors clean
+.PHONY: run test try hidrun hidplay hidmap examples library library-test library-check library-cost install deb deb-test documents memory refusals mutants descriptors clean
 
 # Runs the mouse example on the proved program.
 run: $(HIDRUN)
@@ -90,7 +90,7 @@ library-check: library
 library-cost: library
 	tools/library-cost
 
-# Programs, library, header, pkg-config file and manual pages: make install PREFIX=/usr/local DESTDIR=
+# Programs, library, header, pkg-config file, manual pages and completion: make install PREFIX=/usr/local DESTDIR=
 install: $(HIDRUN) $(HIDPLAY) $(HIDMAP) library
 	install -Dm755 $(HIDRUN) $(DESTDIR)$(PREFIX)/bin/hidrun
 	install -Dm755 $(HIDPLAY) $(DESTDIR)$(PREFIX)/bin/hidplay
@@ -103,8 +103,17 @@ install: $(HIDRUN) $(HIDPLAY) $(HIDMAP) library
 	install -Dm644 packaging/hidplay.1 $(DESTDIR)$(PREFIX)/share/man/man1/hidplay.1
 	install -Dm644 packaging/hidmap.1 $(DESTDIR)$(PREFIX)/share/man/man1/hidmap.1
 	install -Dm644 packaging/hidstack.3 $(DESTDIR)$(PREFIX)/share/man/man3/hidstack.3
+	install -Dm644 -t $(DESTDIR)$(PREFIX)/share/bash-completion/completions packaging/completion/*
 	mkdir -p $(DESTDIR)$(PREFIX)/lib/pkgconfig
 	sed 's|@PREFIX@|$(PREFIX)|; s|@VERSION@|$(VERSION)|' packaging/hidstack.pc.in > $(DESTDIR)$(PREFIX)/lib/pkgconfig/hidstack.pc
+
+# A Debian package of all that `install` puts in place: bin/rulohevian_$(VERSION)-1_ARCHITECTURE.deb.
+deb: $(HIDRUN) $(HIDPLAY) $(HIDMAP) library
+	tools/debian-package $(VERSION) bin
+
+# Installs the package in a root of its own, and runs the programs and a C example there. It wants to be root.
+deb-test: deb
+	tools/check-package bin/rulohevian_$(VERSION)-1_*.deb
 
 # The seventeen real devices, and the examples of pictures.
 PICTURED := $(shell grep -l '^N:' examples/recordings/*.hid) $(wildcard examples/pictures/*.hid)

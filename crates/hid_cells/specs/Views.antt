@@ -1,10 +1,11 @@
 -- A host's view of the controls, and the events between two views (our choice).
-use Rattle.std.specs.Prelude.{◌≡◌, length, ℕ, ◌+◌, if◌then◌else◌, List, [], ◌∷◌, ◌++◌, Option, None, ℤ, unwrap_or, slice_get}
+use Rattle.std.specs.Prelude.{◌≡◌, length, ℕ, ◌+◌, if◌then◌else◌, List, [], ◌∷◌, ◌++◌, map, Option, None, ℤ, unwrap_or, slice_get}
 use Rattle.hid_descriptor.specs.declared.usage.Usage.{Usage}
 use Rattle.hid_layout.specs.Controls.{Form, NoControls, Elements, Keys, Item}
 use Rattle.hid_cells.specs.declared.cell.Cell.{Cell}
 use Rattle.hid_cells.specs.declared.cell.Cell.TheVariants.{Vacant, Pressed, Holding, Moved, RolledOver}
 use Rattle.hid_cells.specs.declared.event.Event.{Event}
+use Rattle.hid_cells.specs.declared.event.Event.TheVariants as event
 use Rattle.hid_cells.specs.Events.{change_events, motion_events}
 use Rattle.hid_cells.specs.Parts.{by_item, is_of}
 
@@ -63,6 +64,19 @@ changes_from i items bs xs = []
 -- what changes from one view to another, of all items
 abbrev pub changes_between : List Item → List Cell → List Cell → List Event
 changes_between items before after = changes_from 0 items before after
+
+-- an event that tells motion tells that it is dropped; what else an event tells stays
+abbrev pub as_dropped : Event → Event
+as_dropped (event.Motion c u by) = event.Dropped c u by
+as_dropped (event.Dropped c u by) = event.Dropped c u by
+as_dropped (event.Down c u) = event.Down c u
+as_dropped (event.Up c u) = event.Up c u
+as_dropped (event.Value c u v) = event.Value c u v
+as_dropped (event.Null c u) = event.Null c u
+
+-- What changes from one view to another, and the motions of report r's part, which are dropped.
+abbrev pub drops_between : List Item → ℕ → List Cell → List Cell → List Cell → List Event
+drops_between items r before after parts = map as_dropped (events_between items r before after parts)
 
 -- the cell that is written next has the room of the present one
 abbrev pub HasNext : Cell → Cell → Type 0

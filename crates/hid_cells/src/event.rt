@@ -31,7 +31,8 @@ pub enum Event {
         usage: Usage,
         by: i64,
     },
-    /// A relative control moved by this amount, which no report could carry. No call tells it today.
+    /// A relative control had moved by this amount in a report that didn't reach the host before a reset of the bus: no
+    /// report brings it again.
     Dropped {
         control: ControlId,
         usage: Usage,

@@ -10,8 +10,9 @@
 //! The rule to know: what it promises it has from the clauses `attached` on `Rig::attach`, `headline` and `rounds` on
 //! `Rig::run`, and `shows` on `Rig::host`, and from nothing inside them.
 //!
-//! The promise, for every descriptor that is accepted and steps without a transfer: the events are those of the rounds that
-//! crossed, and the control is held exactly where the view that took their parts holds it: `played` on [`play`].
+//! The promise, for every descriptor that is accepted and steps without transfers and resets: the events are those of the
+//! rounds that crossed, and the control is held exactly where the view that took their parts holds it: `played` on
+//! [`play`].
 #![tactic(auto)]
 
 mod playing;

@@ -51,6 +51,16 @@ fn down(id: u16) -> Delivered {
     }
 }
 
+fn up(id: u16) -> Delivered {
+    Delivered {
+        dev: 1,
+        event: Event::Up {
+            control: key(id),
+            usage: Usage { page: 7, id },
+        },
+    }
+}
+
 /// A key that is pressed while an acknowledgement is lost is told in the next round.
 #[test]
 fn each_key_is_told_once(rt: HostRuntime) -> Result<(), Fail> {
@@ -80,6 +90,16 @@ fn a_key_is_held_until_its_release_crosses(rt: HostRuntime) -> Result<(), Fail> 
         let played = play(rt.alloc(), &CONFIG, &KEYBOARD, &steps, key(4))?;
         assert!(rt; played.is_held == is_held, "{name}");
     }
+    Ok(())
+}
+
+/// A reset tells that the key goes up, and a host that knows nothing holds nothing.
+#[test]
+fn a_reset_lets_a_key_go(rt: HostRuntime) -> Result<(), Fail> {
+    let steps = [press(4), poll(Fate::Clean), Step::Reset { dev: 1 }];
+    let played = play(rt.alloc(), &CONFIG, &KEYBOARD, &steps, key(4))?;
+    assert_eq!(rt; played.events.as_slice(), [down(4), up(4)].as_slice());
+    assert!(rt; !played.is_held);
     Ok(())
 }
 

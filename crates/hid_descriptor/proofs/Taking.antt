@@ -54,7 +54,7 @@ explains_refusal bytes cause at n r = r
 
 -- a refused item explains the fault, unless memory was wanting
 pub item_explains : (bytes : List ℕ) (before : List Spelled) (old new : Items) (item : Read) (parser next : Parser) (cause : Cause) → length bytes ≤ 4096 → HasTaken bytes before old parser → GivesItem old item new → Took before item.bytes.now (Err cause) next → Explains bytes cause (told_place cause item.at)
-item_explains bytes before old new item parser next Memory le t g k = refl
+item_explains bytes before old new item parser next Memory le t g k = (le, refl)
 item_explains bytes before old new item parser next cause le t g k =
     explains_refusal bytes cause item.at (λ e. cc) (inl (
       before,

@@ -13,12 +13,12 @@ use Rattle.usb_control.specs.Computed.{control_after}
 use Rattle.usb_control.specs.Device.{Effect, Answers, Decides, Applies}
 use Rattle.hid_device.specs.declared.decisions.Pending.{Pending}
 use Rattle.hid_device.specs.declared.decisions.Pending.TheVariants as pendings
-use Rattle.hid_device.specs.Apart.{LeavesEndpoint, LeavesRequests, LeavesRounds, carries_out}
+use Rattle.hid_device.specs.Apart.{LeavesEndpoint, LeavesRequests, LeavesRounds, LeavesWaits, carries_out}
 use Rattle.hid_device.specs.Decisions.{Decided, Refuses, Reads, Writes}
 use Rattle.hid_device.specs.Standing.{Standing, first_due, with_idle}
 use Rattle.hid_device.specs.Core.{CoreState, closed_core, configured_core, opened_core_if, opened_core_where, opening_of}
 use Rattle.hid_device.specs.Deciding.{core_table, decide, effected, left_by}
-use Rattle.hid_device.specs.Device.{DeviceState, changed_device, controlled, core_of, device_after, effect_of, framed_device, is_control, is_poll, passed, polled_device, unheard}
+use Rattle.hid_device.specs.Device.{DeviceState, changed_device, controlled, core_of, device_after, effect_of, framed_device, is_control, is_poll, passed, polled_device, unheard, with_core}
 
 -- ---- what endpoint 0 leaves
 
@@ -107,12 +107,15 @@ change_leaves : (core : CoreState) (result : Result (List Cell) ChangeFault)
 change_leaves core (Ok cells) = refl
 change_leaves core (Err fault) = refl
 
-pub changes_leave : (d : DeviceState) (change : Change) → LeavesEndpoint d (changed_device d change)
-changes_leave d change = record {
-  address = refl;
-  stage = refl;
-  requests = ap (λ (standing : Standing). record (core_of d) { standing = standing }) (change_leaves (core_of d) (changed (items_of (core_of d).layout) (core_of d).standing.snapshot change));
-}
+-- a device with another inside waits for the same
+keeps_waits : (d : DeviceState) (core : CoreState) → LeavesRequests (core_of d) core → LeavesWaits d (with_core d core)
+keeps_waits d core leaves = record { endpoint = record { address = refl; stage = refl; requests = leaves }; heard = refl; waits = refl }
 
-pub frames_leave : (d : DeviceState) → LeavesEndpoint d (framed_device d)
-frames_leave d = record { address = refl; stage = refl; requests = refl }
+pub changes_leave : (d : DeviceState) (change : Change) → LeavesWaits d (changed_device d change)
+changes_leave d change =
+    let result = changed (items_of (core_of d).layout) (core_of d).standing.snapshot change in
+    keeps_waits d (core_of (changed_device d change))
+    (ap (λ (standing : Standing). record (core_of d) { standing = standing }) (change_leaves (core_of d) result))
+
+pub frames_leave : (d : DeviceState) → LeavesWaits d (framed_device d)
+frames_leave d = keeps_waits d (core_of (framed_device d)) refl

@@ -2,4 +2,5 @@ pub mod ApartLemmas
 pub mod DueLemmas
 pub mod InputLemmas
 pub mod OutputLemmas
+pub mod ResetLemmas
 mod Vectors

@@ -1,5 +1,5 @@
 -- What is kept of Output and Feature reports: as many bytes of each as it has.
-use Rattle.std.proofs.Common.{◌≡◌, ℕ, ◌+◌, ◌-◌, ◌<◌, Bool, true, false, ◌==◌, ◌&&◌, List, length, get_or, zero, suc, Option, Some, None, refl, ap, sym, ◌∙◌, subst, arith}
+use Rattle.std.proofs.Common.{◌≡◌, ℕ, ◌+◌, ◌-◌, ◌<◌, ◌≤◌, Bool, true, false, ◌==◌, ◌&&◌, List, ◌++◌, length, take, drop, get_or, zero, suc, Option, Some, None, refl, ap, sym, ◌∙◌, subst, arith}
 use Rattle.std.specs.Prelude.{slice_get, slice_set, option_map}
 use Rattle.std.specs.List.{range_with_len}
 use Rattle.std.proofs.lemmas.Bool.Decides.{nat_tests}
@@ -13,10 +13,15 @@ use Rattle.hid_descriptor.specs.Kinds.{same_kind}
 use Rattle.hid_layout.specs.Controls.{is_input, is_input_report}
 use Rattle.hid_layout.specs.Layout.{Contents}
 use Rattle.hid_layout.specs.Reports.{report_bytes}
+use Rattle.hid_cells.proofs.FillLemmas.{fill_next}
 use Rattle.hid_cells.proofs.ItemLemmas.{set_here, set_there}
+use Rattle.hid_cells.proofs.ListLemmas.{map_at}
 use Rattle.hid_parts.specs.Encoding.{bare_report}
+use Rattle.hid_requests.specs.declared.class.Protocol.{Protocol}
+use Rattle.hid_device.specs.Core.{CoreState, IsSound}
 use Rattle.hid_device.specs.Inputs.{input_count}
-use Rattle.hid_device.specs.Outputs.{AreOutputs, bare_outputs, in_place_of, is_named, kept, kept_bytes, number_of}
+use Rattle.hid_device.specs.Outputs.{AreOutputs, bare_outputs, in_place_of, is_named, kept, kept_bytes, kept_reports, number_of}
+use Rattle.hid_device.specs.Standing.{with_idle}
 
 bare_length : (layout : Contents) (r : ℕ) → length (bare_report layout r) ≡ report_bytes layout r
 bare_length layout r = by_ids layout.numbered refl
@@ -46,6 +51,32 @@ bare_are layout =
           (number_at first count i) (sym (slice_get-map (bare_report layout) (range_with_len first count) i) ∙ at) in
           ap (λ (bytes : List ℕ). length bytes) is ∙ bare_length layout (first + i);
     }
+
+range_at : (first count i : ℕ) → i < count → slice_get (range_with_len first count) i ≡ Some (first + i)
+range_at first zero i within = absurd (omega arith)
+range_at first (suc count) zero within = ap Some (omega arith)
+range_at first (suc count) (suc i) within = range_at (first + 1) count i (omega arith) ∙ ap Some (omega arith)
+
+pub kept_count : (layout : Contents) → length (bare_outputs layout) ≡ length (kept_reports layout.reports)
+kept_count layout = (bare_are layout).each
+
+-- one report more is made anew
+pub bare_next : (layout : Contents) (start now : List (List ℕ)) (report : ℕ) (new : List ℕ) → length start ≡ length (kept_reports layout.reports)
+    → input_count layout.reports ≤ report → report < length layout.reports
+    → now ≡ take (report - input_count layout.reports) (bare_outputs layout) ++ drop (report - input_count layout.reports) start → new ≡ bare_report layout report
+    → slice_set now (report - input_count layout.reports) new
+    ≡ take (report + 1 - input_count layout.reports) (bare_outputs layout) ++ drop (report + 1 - input_count layout.reports) start
+bare_next layout start now report new long from before so_far is =
+    let first : ℕ = input_count layout.reports in
+    let count : ℕ = length layout.reports - first in
+    let i : ℕ = report - first in
+    let within : i < count = omega (arith, from, before) in
+    let same : length start ≡ count = long ∙ length-drop first layout.reports in
+    let made : bare_report layout (first + i) ≡ new = ap (bare_report layout) (omega (arith, from)) ∙ sym is in
+    let target : slice_get (bare_outputs layout) i ≡ Some new = map_at (bare_report layout) (range_with_len first count) i (first + i) (range_at first count i within) ∙ ap Some made in
+    let next : i + 1 ≡ report + 1 - first = omega (arith, from) in
+    ap (λ (xs : List (List ℕ)). slice_set xs i new) so_far ∙ fill_next (bare_outputs layout) start i new target (omega (arith, same, within))
+    ∙ ap (λ (n : ℕ). take n (bare_outputs layout) ++ drop n start) next
 
 same_length : (output bytes : List ℕ) → length (in_place_of output bytes) ≡ length output
 same_length output bytes = by_test (length bytes == length output) refl
@@ -96,3 +127,20 @@ named_input reports id r found =
     let named : same_kind (get_or reports r d).kind Input && ((get_or reports r d).id == id) ≡ true = p.1 in
     let kind : same_kind (get_or reports r d).kind Input ≡ true = grind (arith, named) in
     ap is_input_report (slice_get-get_or reports r d p.0) ∙ kind
+
+-- A device stays sound with other idle times, as many, and with other reports of the same lengths.
+pub sound_with : (core : CoreState) (is_configured : Bool) (idle : List ℕ) (protocol : Protocol) (outputs : List (List ℕ)) → IsSound core
+    → length idle ≡ input_count core.layout.reports → AreOutputs core.layout outputs
+    → IsSound (record core { is_configured = is_configured; standing = with_idle idle core.standing; protocol = protocol; outputs = outputs })
+sound_with core is_configured idle protocol outputs before long are = record {
+  lays = before.lays;
+  empty_codes = before.empty_codes;
+  zeros = before.zeros;
+  inputs_first = before.inputs_first;
+  snapshot = before.snapshot;
+  fixed = before.fixed;
+  each_frames = before.each_frames;
+  each_idle = long;
+  of_input = before.of_input;
+  outputs = are;
+}

@@ -39,3 +39,9 @@ pub record LeavesEndpoint (old new : DeviceState) : Type 0 where
   pub address : new.addr ≡ old.addr
   pub stage : new.control.stage ≡ old.control.stage
   pub requests : LeavesRequests (core_of old) (core_of new)
+
+-- and what is waited for: the data of a token to endpoint 0, or the host's ACK
+pub record LeavesWaits (old new : DeviceState) : Type 0 where
+  pub endpoint : LeavesEndpoint old new
+  pub heard : new.control.heard ≡ old.control.heard
+  pub waits : new.waits ≡ old.waits

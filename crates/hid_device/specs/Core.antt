@@ -1,5 +1,5 @@
--- What a contract sees of a device's inside, and what befalls it (USB 2.0, 8.5.4, 8.6, 9.2 and 9.4.7; HID 1.11,
--- 7.2.4).
+-- What a contract sees of a device's inside, and what befalls it (USB 2.0, 8.5.4, 8.6, 9.1.1.3, 9.2 and 9.4.7; HID
+-- 1.11, 7.2.4 and 7.2.6).
 use Rattle.std.specs.Prelude.{◌≡◌, ℕ, ◌<◌, Bool, true, false, not, List, length, Option, Some, None}
 use Rattle.hid_layout.specs.Layout.{Contents}
 use Rattle.hid_layout.specs.Controls.{items_of}
@@ -13,11 +13,13 @@ use Rattle.usb_packet.specs.declared.packet.Packet.{Packet}
 use Rattle.usb_transact.specs.Device.{answer_with}
 use Rattle.hid_device.specs.declared.config.Config.{Config}
 use Rattle.hid_requests.specs.declared.class.Protocol.{Protocol}
+use Rattle.hid_requests.specs.declared.class.Protocol.TheVariants as protocols
 use Rattle.hid_device.specs.declared.decisions.Pending.{Pending}
+use Rattle.hid_device.specs.declared.decisions.Pending.TheVariants.{Nothing}
 use Rattle.hid_device.specs.Laying.{Lays}
 use Rattle.hid_device.specs.Inputs.{input_count, AreInputsFirst}
-use Rattle.hid_device.specs.Outputs.{AreOutputs}
-use Rattle.hid_device.specs.Standing.{Standing, configured, first_due, after_change, after_frame, after_opening}
+use Rattle.hid_device.specs.Outputs.{AreOutputs, bare_outputs}
+use Rattle.hid_device.specs.Standing.{Standing, configured, first_due, after_change, after_frame, after_opening, no_idle}
 
 -- Its layout, its configuration and its descriptor; whether SET_CONFIGURATION took effect; how it stands; the
 -- report of the round that is open, where one is; whether data go out as DATA1; its protocol, and its Output and Feature
@@ -70,6 +72,21 @@ configured_core core = record core {
   standing = configured (items_of core.layout) core.standing.snapshot core.standing.idle;
   current = None;
   toggle = false;
+}
+
+-- The bus is reset: the device isn't configured (USB 2.0, 9.1.1.3), no round is open, no idle time is set (our choice),
+-- reports are in the report protocol (HID 1.11, 7.2.6), Output and Feature reports are zeros (our choice), and the last
+-- request is forgotten. What its controls show stays: the snapshot.
+abbrev pub reset_core : CoreState → CoreState
+reset_core core = record core {
+  is_configured = false;
+  standing = configured (items_of core.layout) core.standing.snapshot (no_idle core.standing.idle);
+  current = None;
+  toggle = false;
+  protocol = protocols.Report;
+  outputs = bare_outputs core.layout;
+  answer = None;
+  pending = Nothing;
 }
 
 -- a control changes, or the change is refused and is none

@@ -6,10 +6,10 @@ use Rattle.usb_packet.specs.declared.packet.Packet.{Packet}
 use Rattle.usb_packet.specs.declared.packet.Packet.TheVariants.{Token, Data, Ack, Nak, Stall}
 use Rattle.usb_packet.specs.declared.packet.TokenKind.TheVariants.{Out, In, Setup}
 use Rattle.usb_control.specs.declared.device.Heard.TheVariants.{Nothing}
-use Rattle.usb_control.specs.Device.{DevControlState, Effect, effect}
+use Rattle.usb_control.specs.Device.{DevControlState, Effect, effect, idle}
 use Rattle.usb_control.specs.Computed.{answer_to, control_after}
 use Rattle.hid_device.specs.declared.device.TheConstants.{ENDPOINT}
-use Rattle.hid_device.specs.Core.{CoreState, opening_of, closed_core, configured_core, changed_core, framed_core, Answers}
+use Rattle.hid_device.specs.Core.{CoreState, opening_of, closed_core, configured_core, reset_core, changed_core, framed_core, Answers}
 use Rattle.hid_device.specs.Deciding.{core_table}
 
 -- its address, its endpoint 0 with its inside, and whether the last packet was answered with data of its pipe, so that
@@ -107,6 +107,11 @@ DeviceAnswers d packet result =
 -- a configuration without a transfer ends the pipe's wait too
 abbrev pub configured_device : DeviceState → DeviceState
 configured_device d = record (with_core d (configured_core (core_of d))) { waits = false }
+
+-- The device behind a reset of the bus: no request is open, no ACK is awaited, and it keeps its address (USB 2.0, 7.1.7.5
+-- and 9.1.1.3; our choice).
+abbrev pub reset_device : DeviceState → DeviceState
+reset_device d = record { addr = d.addr; control = idle (reset_core (core_of d)); waits = false }
 
 -- a change reaches its inside alone
 abbrev pub changed_device : DeviceState → Change → DeviceState

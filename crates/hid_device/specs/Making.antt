@@ -3,6 +3,7 @@ use Rattle.std.specs.Prelude.{◌≡◌, ℕ, true, false, List, replicate, None
 use Rattle.hid_descriptor.specs.Faults.{Explains}
 use Rattle.hid_layout.specs.Layout.{Contents}
 use Rattle.hid_layout.specs.Controls.{items_of}
+use Rattle.hid_cells.specs.declared.cell.Cell.{Cell}
 use Rattle.hid_cells.specs.Cells.{blank}
 use Rattle.hid_cells.specs.Codes.{has_empty_codes}
 use Rattle.hid_cells.specs.Parts.{blank_parts, has_zeros}
@@ -18,7 +19,8 @@ use Rattle.usb_control.specs.Device.{idle}
 use Rattle.hid_device.specs.declared.decisions.Pending.TheVariants.{Nothing}
 pub use Rattle.hid_device.specs.Laying.{Lays}
 use Rattle.hid_device.specs.Core.{CoreState}
-use Rattle.hid_device.specs.Device.{DeviceState}
+use Rattle.hid_device.specs.Standing.{Standing}
+use Rattle.hid_device.specs.Device.{DeviceState, with_core}
 
 -- A device that isn't configured yet: nothing is pressed and nothing has moved, no idle time is set (our choice), reports
 -- are in the report protocol (HID 1.11, 7.2.6), and Output and Feature reports are zeros.
@@ -46,6 +48,13 @@ new_core config descriptor layout = record {
 abbrev pub new_device : ℕ → Config → List ℕ → Contents → DeviceState
 new_device addr config descriptor layout =
     record { addr = addr; control = idle (new_core config descriptor layout); waits = false }
+
+-- the same device, whose controls are as this snapshot has them
+abbrev pub new_device_with : ℕ → Config → List ℕ → Contents → List Cell → DeviceState
+new_device_with addr config descriptor layout snapshot =
+    let core : CoreState = new_core config descriptor layout in
+    let standing : Standing = record core.standing { snapshot = snapshot } in
+    with_core (new_device addr config descriptor layout) (record core { standing = standing })
 
 -- a descriptor is accepted with this layout, and a device can send every report of it
 pub record CanServe (descriptor : List ℕ) (layout : Contents) : Type 0 where

@@ -6,7 +6,7 @@ ghost use Rattle.hid_layout.specs.Controls.{items_of};
 ghost use Rattle.hid_cells.specs.Snapshots.{Changes};
 ghost use Rattle.usb_packet.specs.Spelling.{Fits};
 ghost use Rattle.hid_device.specs.Core.{IsSound, IsArmed, Answers, opening_of, round_of};
-ghost use Rattle.hid_device.specs.Device.{is_poll, device_after, DeviceAnswers, configured_device, controlled, core_of, changed_device, effect_of, framed_device, passed, polled_device};
+ghost use Rattle.hid_device.specs.Device.{is_poll, device_after, DeviceAnswers, configured_device, controlled, core_of, changed_device, effect_of, framed_device, passed, polled_device, reset_device};
 ghost use Rattle.hid_device.specs.Deciding.{output_of};
 ghost use Rattle.hid_device.specs.Making.{MakesDevice};
 
@@ -81,6 +81,17 @@ impl Device {
         ensures { self.new ≡ configured_device self.old }
     {
         self.control.requests_mut().configure();
+        self.waits = false;
+    }
+
+    /// A reset of the bus (USB 2.0, 7.1.7.5 and 9.1.1.3): it isn't configured, no request is open at its endpoint 0, the open
+    /// round ends, parts last fixed are blank, counts of frames and idle times are 0, reports are in the report protocol, and
+    /// Output and Feature reports are zeros again. The snapshot stays, and so does the address. No memory is taken.
+    pub fn reset(&mut self)
+        ensures { self.new ≡ reset_device self.old }
+    {
+        self.control.requests_mut().reset();
+        self.control.reset();
         self.waits = false;
     }
 

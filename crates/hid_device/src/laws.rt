@@ -4,14 +4,15 @@ ghost use Rattle.hid_cells.specs.declared.change.Change.{Change};
 ghost use Rattle.usb_packet.specs.declared.packet.Packet.{Packet};
 ghost use Rattle.usb_control.specs.Computed.{control_after};
 ghost use Rattle.usb_control.specs.Device.{Effect};
-ghost use Rattle.hid_device.specs.Apart.{LeavesEndpoint, LeavesRounds, carries_out};
-ghost use Rattle.hid_device.specs.Core.{CoreState, configured_core};
+ghost use Rattle.hid_device.specs.Apart.{LeavesEndpoint, LeavesRounds, LeavesWaits, carries_out};
+ghost use Rattle.hid_device.specs.Core.{CoreState, IsSound, configured_core};
 ghost use Rattle.hid_device.specs.Deciding.{core_table};
-ghost use Rattle.hid_device.specs.Device.{DeviceState, changed_device, device_after, framed_device, is_control};
+ghost use Rattle.hid_device.specs.Device.{DeviceState, changed_device, core_of, device_after, framed_device, is_control, reset_device};
+ghost use Rattle.hid_device.specs.Making.{new_device_with};
 
 /// The endpoints of a device are apart. Whatever endpoint 0 is brought to by a packet, by itself or in a host's transfer, the
 /// snapshot stays, and polls go on as they did unless a configuration takes effect. A packet that isn't endpoint 0's, a
-/// change and a frame leave endpoint 0, but for a wait for an ACK.
+/// change and a frame leave endpoint 0: the packet but for what was waited for, the others that too.
 pub fn ends_are_apart()
     ensures snapshot { (effect : Effect) (core : CoreState)
         → (control_after core_table effect core).requests.standing.snapshot
@@ -24,6 +25,13 @@ pub fn ends_are_apart()
     ensures polls { (device : DeviceState) (packet : Packet) → is_control device packet ≡ false
         → LeavesEndpoint device (device_after device packet) }
     ensures changes { (device : DeviceState) (change : Change)
-        → LeavesEndpoint device (changed_device device change) }
-    ensures frames { (device : DeviceState) → LeavesEndpoint device (framed_device device) }
+        → LeavesWaits device (changed_device device change) }
+    ensures frames { (device : DeviceState) → LeavesWaits device (framed_device device) }
+{}
+
+/// Behind a reset of the bus a device is a new one, but that its controls are as they were.
+pub fn resets_make_new()
+    ensures { (device : DeviceState) → IsSound (core_of device)
+        → reset_device device ≡ new_device_with device.addr (core_of device).config
+        (core_of device).descriptor (core_of device).layout (core_of device).standing.snapshot }
 {}

@@ -17,6 +17,7 @@
 //!   Device::change       the snapshot alone; the open round stays as it was fixed
 //!   Device::frame        a frame more for each report, up to 1,020
 //!   Device::configure    DATA0, nothing armed, no round, blank parts, no frames; the snapshot stays
+//!   Device::reset        all as it was at first but the snapshot, and its address
 //! ```
 //! The rule to know: a round's part is fixed when the round opens, and goes out again and again, the same bytes under the
 //! same toggle, until its acknowledgement arrives. What changes meanwhile goes into a later round, and motion that its

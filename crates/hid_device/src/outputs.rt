@@ -64,6 +64,17 @@ fn bare(layout: &Layout, report: usize) -> KeptReport
     }
 }
 
+/// Makes each of these reports what it was at first. No memory is taken.
+pub(crate) fn reset_outputs(layout: &Layout, outputs: &mut [KeptReport])
+    requires { length outputs.old ≡ length (kept_reports layout.now.reports) }
+    ensures { outputs.new ≡ bare_outputs layout.now }
+{
+    let first = input_count(layout);
+    for report in first..layout.reports().len() {
+        outputs[report - first] = bare(layout, report);
+    }
+}
+
 /// One for each Output and Feature report, in the order of the layout.
 pub(crate) fn bare_outputs(alloc: Global, layout: &Layout) -> Result<Vec<KeptReport>, AllocError>
     ensures { IfOk result (λ outputs. outputs.items ≡ bare_outputs layout.now) }

@@ -8,8 +8,8 @@ ghost use Rattle.hid_parts.specs.Encoding.{AreBytes};
 ghost use Rattle.hid_cells.specs.Snapshots.{Changes};
 ghost use Rattle.usb_packet.specs.Spelling.{Fits};
 ghost use Rattle.hid_device.specs.Standing.{is_due, first_due};
-ghost use Rattle.hid_device.specs.Core.{IsSound, IsArmed, Answers, opened_core, opening_of, closed_core, configured_core, changed_core, framed_core, round_of};
-ghost use Rattle.hid_device.specs.declared.decisions.Pending.TheVariants.{Keep};
+ghost use Rattle.hid_device.specs.Core.{IsSound, IsArmed, Answers, opened_core, opening_of, closed_core, configured_core, reset_core, changed_core, framed_core, round_of};
+ghost use Rattle.hid_device.specs.declared.decisions.Pending.TheVariants.{Keep, Nothing};
 ghost use Rattle.hid_device.specs.Decisions.{decided_by};
 ghost use Rattle.hid_device.specs.Deciding.{decided_row, effected, idle_told, keeps, output_of, reads_any, report_now, sets_idle, still_bytes};
 ghost use Rattle.hid_device.specs.Outputs.{kept_place};
@@ -20,7 +20,7 @@ use crate::decisions::{Answer, Decision, Pending, reads, reads_if, writes_if};
 use crate::fault::{DeviceCause, DeviceFault};
 use crate::frames::{count_frame, is_idle_over, set_idle};
 use crate::inputs::input_count;
-use crate::outputs::{KeptReport, bare_outputs, input_with, kept_place};
+use crate::outputs::{KeptReport, bare_outputs, input_with, kept_place, reset_outputs};
 use arrayvec::ArrayVec;
 use hid_cells::{Change, ChangeFault, has_empty_codes, has_zeros};
 use hid_fields::WordCodec;
@@ -252,6 +252,26 @@ impl Core {
         self.frames.fill(0);
         self.pipe.restart();
         self.current = None;
+    }
+
+    /// The bus is reset: the device isn't configured, and but for its snapshot it is as it was at first. No memory is taken.
+    pub(crate) fn reset(&mut self)
+        ensures { self.new ≡ reset_core self.old }
+    {
+        self.configure(); // its rounds begin anew
+        self.forget_request();
+        self.is_configured = false;
+        self.idle.fill(0);
+        self.protocol = Protocol::Report;
+        reset_outputs(&self.layout, &mut self.outputs);
+    }
+
+    /// Nothing is kept of the last request.
+    fn forget_request(&mut self)
+        ensures { self.new ≡ record self.old { answer = None; pending = Nothing } }
+    {
+        self.answer = None;
+        self.pending = Pending::Nothing;
     }
 
     /// Opens a round where none is open and some report is due.
@@ -486,8 +506,7 @@ impl Requests for Core {
             Some(asked) => self.decide(asked),
             None => Decision::Refuses,
         };
-        self.answer = None;
-        self.pending = Pending::Nothing;
+        self.forget_request();
         match decision {
             Decision::Refuses => false,
             Decision::Reads(answer) => {

@@ -7,3 +7,4 @@ mod making;
 mod play;
 mod polls;
 mod requests;
+mod reset;

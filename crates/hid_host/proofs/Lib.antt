@@ -1,4 +1,5 @@
 pub mod ReadyLemmas
+pub mod ResetLemmas
 pub mod ControlLemmas
 pub mod PlacesLemmas
 pub mod KnowingLemmas

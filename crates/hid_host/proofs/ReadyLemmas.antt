@@ -1,16 +1,19 @@
 -- A host's reading of fresh data.
-use Rattle.std.proofs.Common.{◌≡◌, ◌≤◌, ◌+◌, ℕ, List, refl, Ok, length, arith, ap, length-append}
+use Rattle.std.proofs.Common.{◌≡◌, ◌≤◌, ◌+◌, ℕ, List, refl, Ok, ◌++◌, length, arith, ap, length-append}
 use Rattle.hid_descriptor.specs.declared.fault.Cause.{Cause}
 use Rattle.hid_descriptor.specs.declared.fault.Cause.TheVariants.{Memory}
-use Rattle.hid_layout.specs.Controls.{items_of, max_events}
+use Rattle.hid_layout.specs.Controls.{Item, items_of, max_events}
 use Rattle.hid_descriptor.specs.Faults.{Explains, Refuses}
 use Rattle.hid_layout.specs.Layout.{Contents}
 use Rattle.hid_layout.specs.Reports.{IsLayout}
 use Rattle.hid_cells.specs.declared.cell.Cell.{Cell}
 use Rattle.hid_cells.specs.declared.event.Event.{Event}
-use Rattle.hid_usages.specs.Cells.{FitsView}
+use Rattle.hid_usages.specs.Cells.{FitsShown, FitsView}
 use Rattle.hid_usages.specs.Taking.{TakesReport, read_events}
+use Rattle.hid_views.proofs.DropLemmas.{drops_are, drops_few}
 use Rattle.hid_views.proofs.TakeLemmas.{named_input, read_events_few}
+use Rattle.hid_views.proofs.ViewLemmas.{changes_few}
+use Rattle.hid_cells.specs.Views.{changes_between, drops_between}
 
 -- memory aside, a descriptor without a layout is refused
 pub refused_unless : (bytes : List ℕ) (cause : Cause) (at : ℕ) → (cause ≡ Memory → ⊥) → Explains bytes cause at → Refuses bytes cause at
@@ -23,3 +26,17 @@ pub taken_few : (layout : Contents) (bytes : List ℕ) (view view' : List Cell) 
 taken_few layout bytes view view' out out' laid fits (r, named, same, told) =
     let few = read_events_few layout r bytes view laid (named_input layout bytes r named) fits in
     omega (arith, few, ap (λ (es : List Event). length es) told, length-append out (read_events layout r bytes view))
+
+-- neither does what changes from one view to another
+pub changed_few : (items : List Item) (before after : List Cell) (out out' : List Event) → FitsView items before → FitsView items after → out' ≡ out ++ changes_between items before after
+    → length out' ≤ length out + max_events items
+changed_few items before after out out' fits there is =
+    let few = changes_few 0 items before after fits there in
+    omega (arith, few, ap (λ (es : List Event). length es) is, length-append out (changes_between items before after))
+
+-- and what is dropped of a part with it
+pub dropped_few : (items : List Item) (r : ℕ) (before after parts : List Cell) (out out' : List Event) → FitsView items before → FitsView items after → FitsShown items parts
+    → out' ≡ out ++ drops_between items r before after parts → length out' ≤ length out + max_events items
+dropped_few items r before after parts out out' fits there shown is =
+    let few = drops_few 0 r items before after parts fits there shown in
+    omega (arith, few, ap (λ (es : List Event). length es) is, ap (λ (es : List Event). length es) (drops_are items r before after parts), length-append out (drops_between items r before after parts))

@@ -2,6 +2,7 @@
 -- the phases are our choice).
 use Rattle.std.specs.Prelude.{◌≡◌, ◌≢◌, ℕ, ◌<◌, ◌≤◌, List, length, Result, Ok, Err}
 use Rattle.hid_layout.specs.Layout.{Contents}
+use Rattle.hid_descriptor.specs.declared.limits.TheConstants.{MAX_DESCRIPTOR}
 use Rattle.hid_descriptor.specs.Faults.{Refuses}
 use Rattle.usb_control.specs.declared.descriptors.ConfigInfo.{ConfigInfo}
 use Rattle.usb_control.specs.declared.fault.InfoFault.TheVariants.{TooShort, WrongType}
@@ -16,10 +17,10 @@ use Rattle.hid_host.specs.declared.phase.HostPhase.{HostPhase}
 use Rattle.hid_host.specs.declared.phase.HostPhase.TheVariants.{Described, Parsed, Ready}
 use Rattle.hid_host.specs.Ready.{known_at_start}
 
--- why a host can't be given a layout: the descriptor is refused, or memory was wanting
+-- why a host can't be given a layout: the descriptor is refused, or it isn't too long and memory was wanting
 abbrev pub IsNoLayout : List ℕ → StackFault → Type 0
 IsNoLayout bytes (BadDescriptor (Layout fault)) = Refuses bytes fault.cause fault.at
-IsNoLayout bytes Memory = Unit {0}
+IsNoLayout bytes Memory = length bytes ≤ MAX_DESCRIPTOR
 IsNoLayout bytes fault = ⊥
 
 -- A device descriptor is read.

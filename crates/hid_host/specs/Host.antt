@@ -18,6 +18,7 @@ use Rattle.usb_control.specs.Host.{HostTransferState, Shows, at_start, progress_
 use Rattle.usb_control.specs.Requests.{PrepareGives, ApplyGives, AnswerOf}
 use Rattle.usb_control.specs.SetupBytes.{reads}
 use Rattle.usb_control.specs.Transaction.{Transacts}
+use Rattle.hid_requests.specs.declared.request.Asking.{Asking}
 use Rattle.hid_requests.specs.declared.request.Request.{Request}
 use Rattle.hid_requests.specs.Asking.{sends_of, setup_for}
 use Rattle.hid_host.specs.declared.fault.StackFault.{StackFault}
@@ -25,6 +26,7 @@ use Rattle.hid_host.specs.declared.fault.StackFault.TheVariants.{NotReady, Contr
 use Rattle.hid_host.specs.declared.host.Transfer.{Transfer}
 use Rattle.hid_host.specs.declared.phase.HostPhase.{HostPhase}
 use Rattle.hid_host.specs.declared.phase.HostPhase.TheVariants.{Cold, Ready}
+use Rattle.hid_host.specs.declared.phase.HostState.{HostState}
 use Rattle.hid_host.specs.Conclusions.{Makes, phase_made}
 use Rattle.hid_host.specs.Phase.{asking_at, may_begin, state_of}
 use Rattle.hid_host.specs.Ready.{Known, known_at_start, known_behind}
@@ -65,20 +67,25 @@ running None = None
 running (Some transfer) = running_at transfer transfer.ends.stage
 
 -- why a request can't begin, memory aside: another transfer runs, or the host is in another state
-abbrev pub begin_refusal : HostEnd → Request → Option StackFault
-begin_refusal host request =
-    if is_some (running host.transfer) then Some (Control Busy)
-    else if may_begin request (state_of host.phase) then None
+abbrev pub begin_refusal_in : Option Transfer → HostState → Request → Option StackFault
+begin_refusal_in transfer host request =
+    if is_some (running transfer) then Some (Control Busy)
+    else if may_begin request host then None
     else Some NotReady
 
--- the host with a transfer that has yet to begin
-abbrev pub begun : HostEnd → Request → HostEnd
-begun host request = record host {
-  transfer = Some (record {
-    request = request;
-    ends = at_start host.addr (setup_for request (asking_at host.phase)) (sends_of request);
-  });
+abbrev pub begin_refusal : HostEnd → Request → Option StackFault
+begin_refusal host request = begin_refusal_in host.transfer (state_of host.phase) request
+
+-- a transfer of a request that has yet to make its first try
+abbrev pub transfer_of : ℕ → Asking → Request → Transfer
+transfer_of addr asking request = record {
+  request = request;
+  ends = at_start addr (setup_for request asking) (sends_of request);
 }
+
+-- the host with it
+abbrev pub begun : HostEnd → Request → HostEnd
+begun host request = record host { transfer = Some (transfer_of host.addr (asking_at host.phase) request) }
 
 -- the bytes of a read
 abbrev pub bytes_got : HostTransferState → List ℕ

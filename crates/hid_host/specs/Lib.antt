@@ -3,5 +3,6 @@ pub mod Ready
 pub mod Phase
 pub mod Conclusions
 pub mod Host
+pub mod Resetting
 pub mod Knowing
 pub mod Bringing

@@ -1,11 +1,12 @@
 -- What a ready host keeps, and what it makes of the answers to its polls (USB 2.0, 8.5.4 and 8.6; HID 1.11, 5.6).
-use Rattle.std.specs.Prelude.{ℕ, List, [], Result, Ok, Err}
+use Rattle.std.specs.Prelude.{◌≡◌, ℕ, List, [], Result, Ok, Err}
 use Rattle.hid_layout.specs.Layout.{Contents}
 use Rattle.hid_layout.specs.Controls.{items_of}
 use Rattle.hid_cells.specs.declared.cell.Cell.{Cell}
 use Rattle.hid_cells.specs.declared.event.Event.{Event}
 use Rattle.hid_cells.specs.declared.fault.ReportFault.{ReportFault}
-use Rattle.hid_usages.specs.Cells.{blank}
+use Rattle.hid_layout.specs.Reports.{IsLayout}
+use Rattle.hid_usages.specs.Cells.{FitsView, blank}
 use Rattle.hid_usages.specs.Reading.{report_named}
 use Rattle.hid_usages.specs.Taking.{read_view, read_events}
 use Rattle.usb_transact.specs.declared.host.Took.{Took}
@@ -20,6 +21,13 @@ pub record Known : Type 0 where
   pub layout : Contents
   pub pipe : HostPipeState
   pub view : List Cell
+
+-- a view of the controls of a layout, and the initial one
+pub record AreViews (layout : Contents) (view first : List Cell) : Type 0 where
+  pub laid : IsLayout layout
+  pub fits : FitsView (items_of layout) view
+  pub initial : first ≡ blank (items_of layout)
+  pub room : FitsView (items_of layout) first
 
 -- a host that was freshly given a layout and polls this endpoint: it expects DATA0, and its view is the initial one
 abbrev pub known_at_start : ℕ → ℕ → Contents → Known

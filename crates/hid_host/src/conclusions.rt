@@ -78,10 +78,11 @@ fn configured(alloc: Global, addr: u8, phase: &mut HostPhase) -> Result<(), Stac
     };
     let endpoint = info.endpoint;
     let view = View::initial(alloc, layout)?;
+    let initial = View::initial(alloc, layout)?;
     let HostPhase::Parsed(_, layout) = mem::replace(phase, HostPhase::Cold) else {
         unreachable!()
     };
-    *phase = HostPhase::Ready(ReadyHost::new(addr, endpoint, layout, view));
+    *phase = HostPhase::Ready(ReadyHost::new(addr, endpoint, layout, view, initial));
     Ok(())
 }
 

@@ -10,13 +10,14 @@ ghost use Rattle.hid_host.specs.Conclusions.{IsNoLayout};
 ghost use Rattle.hid_host.specs.Host.{cold_host, polls_with, ready_host, ready_after};
 ghost use Rattle.hid_host.specs.Phase.{IsReady, IfReady, state_of};
 ghost use Rattle.hid_host.specs.Ready.{told_of, events_behind};
+ghost use Rattle.hid_host.specs.Resetting.{SuitsRound, reset_told};
 
 use crate::conclusions::{conclude, layout_of};
 use crate::fault::StackFault;
 use crate::phase::{HostPhase, HostState};
 use crate::ready::ReadyHost;
 use hid_requests::Request;
-use hid_usages::{Event, View};
+use hid_usages::{Event, Shown, View};
 use std::alloc::Global;
 use std::marker::Model;
 use usb_control::{ControlFault, DevControl, HostTransfer, Outcome, Progress, Requests};
@@ -85,7 +86,8 @@ impl HostDevice {
     {
         let layout = layout_of(alloc, descriptor)?;
         let view = View::initial(alloc, &layout)?;
-        let host = ReadyHost::new(addr, REPORT_ENDPOINT, layout, view);
+        let initial = View::initial(alloc, &layout)?;
+        let host = ReadyHost::new(addr, REPORT_ENDPOINT, layout, view, initial);
         Ok(HostDevice {
             alloc,
             addr,
@@ -161,6 +163,29 @@ impl HostDevice {
             HostPhase::Cold | HostPhase::Described(_) | HostPhase::Parsed(..) => unreachable!(),
             HostPhase::Ready(host) => host.reply(packet, out),
         }
+    }
+
+    /// The bus was reset: the host forgets its device and its transfer, and is cold. A ready host tells what changes until its
+    /// view is the initial one again. It is given the round that is open at its device before, with whether its data go out
+    /// as DATA1, and the parts that were fixed last there: motion of a round whose data it hasn't got is told as dropped.
+    /// There is reserved room for `max_events` more where it is ready; no memory is taken.
+    pub fn reset(&mut self, round: Option<(usize, bool)>, fixed: &Shown, out: &mut Vec<Event>)
+        requires suits { IfReady self.old.phase (λ host. SuitsRound host.layout round fixed.now) }
+        requires room { IfReady self.old.phase (λ host. vec_len out.old
+            + max_events (items_of host.layout) ≤ vec_capacity out.old) }
+        ensures host { self.new ≡ cold_host self.old.addr }
+        ensures events { out.new.items
+            ≡ out.old.items ++ reset_told self.old.phase round fixed.now }
+        ensures few { IfReady self.old.phase (λ host. length out.new.items
+            ≤ length out.old.items + max_events (items_of host.layout)) }
+        ensures room { vec_capacity out.new ≡ vec_capacity out.old }
+    {
+        match &self.phase {
+            HostPhase::Cold | HostPhase::Described(_) | HostPhase::Parsed(..) => {}
+            HostPhase::Ready(host) => host.tell_back(round, fixed, out),
+        }
+        self.phase = HostPhase::Cold;
+        self.transfer = None;
     }
 
     /// The pipe that the host polls.

@@ -8,7 +8,7 @@ ghost use Rattle.usb_control.specs.Device.{DevControlState};
 ghost use Rattle.hid_requests.specs.declared.request.Request.{Request};
 ghost use Rattle.hid_requests.specs.Asking.{FitsRequest};
 ghost use Rattle.hid_cells.specs.declared.change.Change.{Change};
-ghost use Rattle.hid_device.specs.Core.{CoreState, IsSound, changed_core, closed_core, configured_core, framed_core, opening_of};
+ghost use Rattle.hid_device.specs.Core.{CoreState, IsSound, changed_core, closed_core, configured_core, framed_core, opening_of, round_of};
 ghost use Rattle.hid_device.specs.Deciding.{core_table};
 ghost use Rattle.hid_host.specs.declared.fault.StackFault.{StackFault};
 ghost use Rattle.hid_host.specs.Host.{ControlSteps, HostEnd, begin_refusal, begun, cold_host, ready_after, ready_host, running};
@@ -16,13 +16,14 @@ ghost use Rattle.hid_host.specs.Bringing.{IsComputed};
 ghost use Rattle.hid_host.specs.declared.host.Transfer.{Transfer};
 ghost use Rattle.hid_host.specs.Knowing.{IsNoRefusal, Knows, KnowsAt, LeavesTransfers, with_core};
 ghost use Rattle.hid_host.specs.Phase.{IfReady};
+ghost use Rattle.hid_host.specs.Resetting.{SuitsRound};
 
 use hid_layout::laws::{accepted_or_refused, one_reading};
 
 /// A host knows its virtual device: what it read of the configuration is what the device was made with, its layout is the
 /// device's, it is ready only while the device is configured, and the transfer that it began last is the one of its
-/// request. It does so from the start, and whatever befalls the two leaves it so. Nothing that the device answers is
-/// refused.
+/// request. It does so from the start, behind a reset of the bus too, and whatever befalls the two leaves it so. Nothing that
+/// the device answers is refused.
 pub fn hosts_know_their_devices()
     // It begins so: cold, or ready with a device that is configured and has its layout.
     ensures cold { (addr : ℕ) (control : DevControlState CoreState) → Knows (cold_host addr) control }
@@ -64,6 +65,14 @@ pub fn control_steps_are_computed()
     one_reading();
     accepted_or_refused();
 }
+
+/// What a device shows of its open round, and of the parts that were fixed last, suits a ready host that knows it: at a reset
+/// of the bus it may be given them.
+pub fn rounds_suit_their_hosts()
+    ensures { (host : HostEnd) (control : DevControlState CoreState)
+        → IsSound control.requests → Knows host control → IfReady host.phase (λ known.
+        SuitsRound known.layout (round_of control.requests) control.requests.standing.fixed) }
+{}
 
 /// What befalls a device beside its endpoint 0 leaves its transfers: changes of its controls, frames, polls and their
 /// acknowledgements, and a configuration without a transfer.

@@ -6,6 +6,7 @@
 //!   Described   Report                 the report descriptor is laid out -> Parsed
 //!   Parsed      Configure              the device is configured          -> Ready
 //!   Ready       token, reply           Input reports: events
+//!   each        reset                  the device is forgotten           -> Cold
 //! ```
 //! `Device`, `Status` and `GetConfiguration` may be begun in every state, `Protocol` in `Parsed`, and the other requests of
 //! reports in `Parsed` and `Ready`; the state stays. One transfer runs at a time;
@@ -18,7 +19,7 @@
 //! [`begin`](HostDevice::begin)), each try goes packet by packet, and the state moves by the table where the request is
 //! done and never else ([`control_step`](HostDevice::control_step)). With a virtual device the host is ready only while
 //! that is configured, and has its layout, whatever is lost ([`laws::hosts_know_their_devices`]). Of polls `told`, `after`
-//! and `events` on [`reply`](HostDevice::reply). Only `ready`, `begin`, and a `control_step` that ends `Report` or
+//! and `events` on [`reply`](HostDevice::reply), and of resets of the bus `events` on [`reset`](HostDevice::reset). Only `ready`, `begin`, and a `control_step` that ends `Report` or
 //! `Configure` take memory.
 #![tactic(auto)]
 
@@ -31,7 +32,7 @@ mod ready;
 
 pub use fault::{DescriptorFault, StackFault};
 pub use host::HostDevice;
-pub use phase::HostState;
+pub use phase::{HostState, Start};
 
 #[cfg(test)]
 mod tests;

@@ -17,7 +17,8 @@ use usb_control::ConfigInfo;
 /// | `Ready` | the pipe and the view of the controls | polls | nothing |
 ///
 /// `Device`, `Status` and `GetConfiguration` may begin in each; `Idle`, `GetIdle`, `GetProtocol`, `GetReport` and
-/// `SetReport` in `Parsed` and `Ready`. They lead nowhere, and an answer that is refused doesn't either.
+/// `SetReport` in `Parsed` and `Ready`. They lead nowhere, and an answer that is refused doesn't either. A reset of the bus
+/// leads back to `Cold`.
 #[derive(Clone, Copy, Debug, PartialEq, Eq)]
 pub enum HostState {
     /// It knows nothing of the device.
@@ -28,6 +29,15 @@ pub enum HostState {
     Parsed,
     /// It has configured the device and polls it.
     Ready,
+}
+
+/// How a device and its host begin.
+#[derive(Clone, Copy, Debug, PartialEq, Eq)]
+pub enum Start {
+    /// Both ends are freshly configured, and the host has the layout of the device's reports.
+    Ready,
+    /// The device isn't configured, and the host knows nothing of it: it is to read and configure it by transfers.
+    Cold,
 }
 
 /// The state of a host, with what it knows there.

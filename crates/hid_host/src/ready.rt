@@ -8,11 +8,12 @@ ghost use Rattle.usb_packet.specs.Spelling.{Fits};
 ghost use Rattle.usb_transact.specs.Taken.{taken};
 ghost use Rattle.usb_transact.specs.Host.{token_to};
 ghost use Rattle.hid_host.specs.Ready.{Known, known_at_start, known_behind, told_of, events_behind};
+ghost use Rattle.hid_host.specs.Resetting.{SuitsRound, awaited, known_told_back};
 
 use crate::fault::StackFault;
 use hid_fields::WordCodec;
 use hid_layout::Layout;
-use hid_usages::{Event, View};
+use hid_usages::{Event, Shown, View, changes, changes_and_drops};
 use std::marker::Model;
 use usb_packet::{MAX_ADDRESS, MAX_ENDPOINT, Packet};
 use usb_transact::{HostPipe, Took};
@@ -23,34 +24,41 @@ pub struct ReadyHost {
     layout: Layout,
     pipe: HostPipe,
     view: View,
+    /// The initial view, to which a reset of the bus goes back.
+    initial: View,
 }
 
 impl Model for ReadyHost {
-    ghost use Rattle.hid_layout.specs.Controls.{items_of};
-    ghost use Rattle.hid_layout.specs.Reports.{IsLayout};
-    ghost use Rattle.hid_usages.specs.Cells.{FitsView};
-    ghost use Rattle.hid_host.specs.Ready.{Known};
+    ghost use Rattle.hid_host.specs.Ready.{AreViews, Known};
 
     ghost Value = { Known };
 
     ghost view = { λ h. record { layout = h.layout; pipe = h.pipe; view = h.view } };
 
-    ghost invariant = { λ h. IsLayout h.layout × FitsView (items_of h.layout) h.view };
+    ghost invariant = { λ h. AreViews h.layout h.view h.initial };
 }
 
 impl ReadyHost {
     /// A host that polls this endpoint from the initial view on.
-    pub(crate) fn new(addr: u8, endpoint: u8, layout: Layout, view: View) -> ReadyHost
+    pub(crate) fn new(
+        addr: u8,
+        endpoint: u8,
+        layout: Layout,
+        view: View,
+        initial: View,
+    ) -> ReadyHost
         requires addr { addr ≤ MAX_ADDRESS }
         requires endpoint { endpoint ≤ MAX_ENDPOINT }
         requires layout { IsLayout layout }
         requires view { (view ≡ blank (items_of layout)) × FitsView (items_of layout) view }
+        requires initial { (initial ≡ blank (items_of layout)) × FitsView (items_of layout) initial }
         ensures { result ≡ known_at_start addr endpoint layout }
     {
         ReadyHost {
             layout,
             pipe: HostPipe::new(addr, endpoint),
             view,
+            initial,
         }
     }
 
@@ -113,5 +121,46 @@ impl ReadyHost {
             }
         }
         Ok(took)
+    }
+
+    /// The report of the round that is open at the device, where its data haven't come: they go out under the toggle that is
+    /// expected.
+    fn awaited(&self, round: Option<(usize, bool)>) -> Option<usize>
+        ensures { result ≡ awaited self.now.pipe.expects round }
+    {
+        match round {
+            Some((report, one)) if one == self.pipe.expects() => Some(report),
+            _ => None,
+        }
+    }
+
+    /// Tells what changes until the view is the initial one again, and drops the motion of the round that is open at the
+    /// device, where its data haven't come. There is reserved room for `max_events` more.
+    pub(crate) fn tell_back(
+        &self,
+        round: Option<(usize, bool)>,
+        fixed: &Shown,
+        out: &mut Vec<Event>,
+    )
+        requires suits { SuitsRound self.now.layout round fixed.now }
+        requires room { vec_len out.old + max_events (items_of self.now.layout)
+            ≤ vec_capacity out.old }
+        ensures events { out.new.items
+            ≡ out.old.items ++ known_told_back self.now round fixed.now }
+        ensures few { length out.new.items
+            ≤ length out.old.items + max_events (items_of self.now.layout) }
+        ensures room { vec_capacity out.new ≡ vec_capacity out.old }
+    {
+        match self.awaited(round) {
+            Some(report) => changes_and_drops(
+                &self.layout,
+                &self.view,
+                &self.initial,
+                report,
+                fixed,
+                out,
+            ),
+            None => changes(&self.layout, &self.view, &self.initial, out),
+        }
     }
 }

@@ -1,18 +1,27 @@
 //! A host that brings a boot keyboard up by transfers, and that reads its reports (USB 2.0, 9.1.1; HID 1.11, 5.6 and
 //! appendix E). The bytes of the configuration are written out from the tables of USB 2.0, 9.6, and of HID 1.11, 6.2.1.
 
+mod foreign;
+
 use crate::{DescriptorFault, HostDevice, HostState, StackFault};
 use arrayvec::ArrayVec;
+use hid_descriptor::ReportKind;
 use hid_device::{Boot, Config, Device, KEYBOARD};
-use hid_layout::{Cause, ControlId, LayoutFault};
+use hid_layout::{Cause, ControlId, LayoutFault, Usage};
 use hid_requests::Request;
-use hid_usages::ReportFault;
+use hid_usages::{Change, Event, ReportFault};
 use std::test::Fail;
 use usb_control::{ControlFault, InfoFault, Outcome, Progress};
 use usb_packet::{Packet, TokenKind};
 use usb_transact::{Fate, Took};
 
 const KEY: ControlId = ControlId { item: 4, index: 4 };
+
+/// The key A.
+const A: Usage = Usage {
+    page: 0x07,
+    id: 0x04,
+};
 
 /// A boot keyboard at address 1 that isn't configured.
 fn keyboard(rt: &HostRuntime) -> Result<Device, Fail> {
@@ -60,27 +69,101 @@ const BRINGS_UP: [Asks; 5] = [
     (Request::GetConfiguration, 2, Fate::Clean,   &[1],           HostState::Ready),
 ];
 
-#[test]
-fn a_host_brings_its_device_up(rt: HostRuntime) -> Result<(), Fail> {
-    let mut device = keyboard(&rt)?;
-    let mut host = HostDevice::cold(rt.alloc(), 1);
+/// Whether each request of the table is done as it says.
+fn is_brought_up(host: &mut HostDevice, device: &mut Device) -> Result<bool, StackFault> {
     for (request, clean, last, bytes, state) in BRINGS_UP {
         host.begin(&request)?;
-        let told = tried(&mut host, &mut device, clean, last);
+        let told = tried(host, device, clean, last);
         let is_done = told == Ok(Progress::Done) && host.outcome() == Ok(Outcome::Done(bytes));
-        assert!(rt; is_done && host.state() == state, "{request:?}");
+        if !(is_done && host.state() == state) {
+            return Ok(false);
+        }
     }
+    Ok(true)
+}
+
+/// Whether the next poll, of endpoint 1, tells the one key that was pressed.
+fn tells_the_key(
+    rt: &HostRuntime,
+    host: &mut HostDevice,
+    device: &mut Device,
+) -> Result<bool, Fail> {
+    device.change(Change::Press(KEY))?;
+    let token = host.token()?;
     let polled = Packet::Token {
         kind: TokenKind::In,
         addr: 1,
         endp: 1,
     };
-    assert!(rt; host.token() == Ok(polled), "what is up is polled");
+    let answer = device.on_packet(&token);
+    let mut events = Vec::with_capacity(rt.alloc(), host.max_events())?;
+    let took = host.reply(answer.as_ref(), &mut events)?;
+    let down = Event::Down {
+        control: KEY,
+        usage: A,
+    };
+    let is_told = matches!(took, Took::Fresh(_)) && events.as_slice() == [down].as_slice();
+    Ok(token == polled && is_told && host.view().held(KEY))
+}
+
+#[test]
+fn a_host_brings_its_device_up(rt: HostRuntime) -> Result<(), Fail> {
+    let mut device = keyboard(&rt)?;
+    let mut host = HostDevice::cold(rt.alloc(), 1);
+    assert!(rt; is_brought_up(&mut host, &mut device)?);
+    assert!(rt; tells_the_key(&rt, &mut host, &mut device)?);
     Ok(())
 }
 
-/// What a cold host can't begin yet.
-const REFUSED_WHEN_COLD: [Request; 2] = [Request::Report, Request::Configure];
+/// The requests that don't begin in each state, with whether they do in `Cold`, `Described`, `Parsed` and `Ready`.
+#[rattlefmt::skip]
+const STATES: [(Request, [bool; 4]); 8] = [
+    (Request::Config,                                             [true, false, false, false]),
+    (Request::Report,                                             [false, true, false, false]),
+    (Request::Configure,                                          [false, false, true, false]),
+    (Request::Protocol { boot: true },                            [false, false, true, false]),
+    (Request::Idle { id: 0, time: 1 },                            [false, false, true, true]),
+    (Request::GetIdle { id: 0 },                                  [false, false, true, true]),
+    (Request::GetProtocol,                                        [false, false, true, true]),
+    (Request::GetReport { kind: ReportKind::Input, id: 0 },       [false, false, true, true]),
+];
+
+/// In which states a request may begin.
+fn may_begin(request: &Request) -> [bool; 4] {
+    [
+        HostState::Cold.allows(request),
+        HostState::Described.allows(request),
+        HostState::Parsed.allows(request),
+        HostState::Ready.allows(request),
+    ]
+}
+
+#[test]
+fn a_request_waits_for_its_state(rt: HostRuntime) {
+    for (request, states) in STATES {
+        assert!(rt; may_begin(&request) == states, "{request:?}");
+    }
+    let set = Request::SetReport {
+        kind: ReportKind::Output,
+        id: 0,
+        bytes: ArrayVec::new(),
+    };
+    assert!(rt; may_begin(&set) == [false, false, true, true]);
+}
+
+/// Whether a host refuses a request, as one that it can't begin in its state.
+fn refuses(host: &mut HostDevice, request: &Request) -> bool {
+    let state = host.state();
+    host.begin(request) == Err(StackFault::NotReady) && host.state() == state
+}
+
+#[test]
+fn a_cold_host_asks_nothing_of_the_class(rt: HostRuntime) {
+    let mut host = HostDevice::cold(rt.alloc(), 1);
+    for (request, [begins, ..]) in STATES {
+        assert!(rt; begins || refuses(&mut host, &request), "{request:?}");
+    }
+}
 
 #[test]
 fn a_request_that_is_refused_changes_nothing(rt: HostRuntime) -> Result<(), Fail> {
@@ -90,10 +173,6 @@ fn a_request_that_is_refused_changes_nothing(rt: HostRuntime) -> Result<(), Fail
     assert!(rt; host.outcome() == Err(no_transfer), "none was begun");
     let told = host.control_step(device.control(), Fate::Clean);
     assert!(rt; told == Err(no_transfer), "nor runs one");
-    for request in REFUSED_WHEN_COLD {
-        let begun = host.begin(&request);
-        assert!(rt; begun == Err(StackFault::NotReady), "{request:?}");
-    }
     host.begin(&Request::Status)?;
     let busy = host.begin(&Request::Report);
     assert!(rt;

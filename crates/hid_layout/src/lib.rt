@@ -53,4 +53,6 @@ pub use sent::Codes;
 #[cfg(test)]
 mod control_tests;
 #[cfg(test)]
+mod test_rows;
+#[cfg(test)]
 mod tests;

@@ -5,9 +5,10 @@ use Rattle.hid_descriptor.specs.declared.report.ReportKind.TheVariants.{Output}
 use Rattle.hex.specs.Hex.{decode_pairs}
 use Rattle.hid_requests.specs.declared.request.Request.TheVariants.{Configure, Idle, SetReport}
 use Rattle.hid_lines.specs.declared.fault.LineFault.TheVariants.{Syntax}
-use Rattle.hid_lines.specs.declared.line.Line.TheVariants.{Begin}
+use Rattle.hid_lines.specs.declared.line.Line.TheVariants.{Begin, Reset}
 use Rattle.hid_lines.specs.Words.{words_of, hex_of}
 use Rattle.hid_lines.specs.Numbers.{number_of, byte_of}
+use Rattle.hid_lines.specs.Arguments.{reset_said}
 use Rattle.hid_lines.specs.Requests.{alone, idle_said, set_report_said, asked_by, request_said, begin_said}
 use Rattle.hid_lines.specs.Line.{said_by, words_said}
 
@@ -34,3 +35,17 @@ a_light = refl
 a_longer_report : request_said (codes "set-report" ∷ codes "output" ∷ codes "0" ∷ codes "0000000000000000000000000000000000000000000000000000000000000000000000000000000000000000000000000000000000000000000000000000000000G" ∷ []) ≡ Err Syntax
 unfolding request_said asked_by set_report_said byte_of number_of
 a_longer_report = refl
+
+-- the seventh device of a bus is reset
+a_reset : words_said (codes "reset" ∷ codes "7" ∷ []) ≡ Ok (Reset 7)
+unfolding words_said said_by reset_said
+a_reset = refl
+
+-- a reset takes nothing but its device: there is no eighth, and it is done once
+another_reset : words_said (codes "reset" ∷ codes "8" ∷ []) ≡ Err Syntax
+unfolding words_said said_by reset_said
+another_reset = refl
+
+two_resets : words_said (codes "reset" ∷ codes "1" ∷ codes "2" ∷ []) ≡ Err Syntax
+unfolding words_said said_by reset_said
+two_resets = refl

@@ -6,8 +6,8 @@ use Rattle.usb_transact.specs.declared.transaction.Fate.{Fate}
 use Rattle.usb_transact.specs.declared.transaction.Fate.TheVariants.{Clean, TokenLost, ReplyLost, AckLost}
 use Rattle.hid_device.specs.declared.config.Boot.{Boot}
 use Rattle.hid_device.specs.declared.config.Boot.TheVariants.{No, Keyboard, Mouse}
-use Rattle.hid_stack.specs.declared.rig.Start.{Start}
-use Rattle.hid_stack.specs.declared.rig.Start.TheVariants.{Ready, Cold}
+use Rattle.hid_host.specs.declared.phase.Start.{Start}
+use Rattle.hid_host.specs.declared.phase.Start.TheVariants.{Ready, Cold}
 use Rattle.hid_lines.specs.declared.fault.LineFault.{LineFault}
 use Rattle.hid_lines.specs.declared.fault.LineFault.TheVariants.{Syntax, BadHex}
 use Rattle.hid_lines.specs.Words.{Word, look_up}
@@ -77,3 +77,8 @@ poll_said (dev ∷ []) = three (device_of dev) (Some Clean) (Some 1)
 poll_said (dev ∷ fate ∷ []) = three (device_of dev) (fate_of fate) (Some 1)
 poll_said (dev ∷ fate ∷ count ∷ []) = three (device_of dev) (fate_of fate) (count_of count)
 poll_said _ = None
+
+-- D
+unfoldable pub reset_said : List Word → Option ℕ
+reset_said (dev ∷ []) = device_of dev
+reset_said _ = None

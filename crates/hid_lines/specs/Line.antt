@@ -1,15 +1,15 @@
 -- What a line says (our choice: the script language of docs/SCRIPT.md).
 use Rattle.std.specs.Prelude.{◌≡◌, ◌⊎◌, ◌==◌, ℕ, List, [], ◌∷◌, length, nat_lt, slice_index, Option, None, Some, Result, Ok, Err, MatchResult, codes, if◌then◌else◌}
 use Rattle.hid_device.specs.declared.config.Boot.{Boot}
-use Rattle.hid_stack.specs.declared.rig.Start.{Start}
+use Rattle.hid_host.specs.declared.phase.Start.{Start}
 use Rattle.hid_lines.specs.declared.line.Keyword.{Keyword}
 use Rattle.hid_lines.specs.declared.line.Keyword.TheVariants as keywords
 use Rattle.hid_lines.specs.declared.line.Line.{Line}
-use Rattle.hid_lines.specs.declared.line.Line.TheVariants.{Nothing, Layout, Values, Device, Press, Release, Null, Set, Move, Frame, Poll, Control}
+use Rattle.hid_lines.specs.declared.line.Line.TheVariants.{Nothing, Layout, Values, Device, Press, Release, Null, Set, Move, Frame, Poll, Control, Reset}
 use Rattle.hid_lines.specs.declared.fault.LineFault.{LineFault}
 use Rattle.hid_lines.specs.declared.fault.LineFault.TheVariants.{Syntax, LineTooLong, Memory}
 use Rattle.hid_lines.specs.Words.{Word, words_of, look_up, hex_of}
-use Rattle.hid_lines.specs.Arguments.{or_syntax, with_bytes, two, start_of, boot_of, control_said, set_said, move_said, frame_said, poll_said}
+use Rattle.hid_lines.specs.Arguments.{or_syntax, with_bytes, two, start_of, boot_of, control_said, set_said, move_said, frame_said, poll_said, reset_said}
 use Rattle.hid_lines.specs.Requests.{begin_said}
 
 -- the first word of a line
@@ -18,7 +18,8 @@ keyword_of = look_up (
     (codes "layout", keywords.Layout) ∷ (codes "values", keywords.Values) ∷ (codes "device", keywords.Device)
     ∷ (codes "press", keywords.Press) ∷ (codes "release", keywords.Release) ∷ (codes "null", keywords.Null)
     ∷ (codes "set", keywords.Set) ∷ (codes "move", keywords.Move) ∷ (codes "frame", keywords.Frame)
-    ∷ (codes "poll", keywords.Poll) ∷ (codes "control", keywords.Control) ∷ (codes "begin", keywords.Begin) ∷ [])
+    ∷ (codes "poll", keywords.Poll) ∷ (codes "control", keywords.Control) ∷ (codes "begin", keywords.Begin)
+    ∷ (codes "reset", keywords.Reset) ∷ [])
 
 -- a device and its descriptor: START and KIND are looked at before the hex words
 abbrev pub attachment : Option (Start × Boot) → List Word → Result Line LineFault
@@ -44,6 +45,7 @@ said_by keywords.Frame words = or_syntax Frame (frame_said words)
 said_by keywords.Poll words = or_syntax (λ said. Poll said.0 said.1 said.2) (poll_said words)
 said_by keywords.Control words = or_syntax (λ said. Control said.0 said.1 said.2) (poll_said words)
 said_by keywords.Begin words = begin_said words
+said_by keywords.Reset words = or_syntax Reset (reset_said words)
 
 -- a line that begins with another word is none of the script's
 abbrev pub keyword_said : Option Keyword → List Word → Result Line LineFault

@@ -1,13 +1,13 @@
 //! What the words behind a line's first one say.
 
 ghost use Rattle.std.specs.Prelude.{◌≡◌, map};
-ghost use Rattle.hid_lines.specs.Arguments.{fate_of, boot_of, start_of, control_said, set_said, move_said, frame_said, poll_said};
+ghost use Rattle.hid_lines.specs.Arguments.{fate_of, boot_of, start_of, control_said, set_said, move_said, frame_said, poll_said, reset_said};
 
 use super::numbers::{read_amount, read_count, read_device, read_signed, read_usage};
 use super::words::look_up;
 use hid_descriptor::Usage;
 use hid_device::Boot;
-use hid_stack::Start;
+use hid_host::Start;
 use usb_transact::Fate;
 
 /// START: what the two ends know of each other at first.
@@ -111,4 +111,15 @@ pub fn read_poll(words: &[&[u8]]) -> Option<(u8, Fate, u16)>
         _ => return None,
     };
     Some((dev, fate, count))
+}
+
+/// `D`: a device alone.
+#[tactic(auto, unfolding(crate::specs::Arguments::reset_said))]
+pub fn read_reset(words: &[&[u8]]) -> Option<u8>
+    ensures { result ≡ reset_said (map (λ word. word.now) words.now) }
+{
+    let [dev] = words else {
+        return None;
+    };
+    read_device(dev)
 }

@@ -7,12 +7,14 @@
 //!   poll 1 ack 2                         Poll { dev: 1, fate: AckLost, count: 2 }
 //!   begin 1 config                       Begin { dev: 1, request: Config }
 //!   begin 1 idle 0 125                   Begin { dev: 1, request: Idle { id: 0, time: 125 } }
+//!   reset 2                              Reset { dev: 2 }
 //!   values 0a Ff10                       Values { bytes: 0A FF 10 }
 //!   # a comment                          Nothing
 //!   values 0                             BadHex
 //! ```
 //! The rule to know: a line is read without its end, and alone: what came before it doesn't change what it says.
-//! [`parse_line`] gives exactly what the definition `meaning_of` says, want of memory aside: `Gives`.
+//! [`parse_line`] gives exactly what the definition `meaning_of` says, want of memory aside (`Gives`), which hides no X2
+//! (`memory`).
 #![tactic(auto)]
 
 mod arguments;

@@ -1,11 +1,11 @@
 //! The lines of a script.
 
-ghost use Rattle.std.specs.Prelude.{◌≡◌, ◌≤◌, map};
+ghost use Rattle.std.specs.Prelude.{◌≡◌, ◌≤◌, Err, length, map};
 ghost use Rattle.hid_lines.specs.Words.{total_length};
 ghost use Rattle.hid_lines.specs.Line.{Gives, keyword_of, meaning_of, words_said, said_by, device_said};
 
 use super::arguments::{
-    read_boot, read_control, read_frame, read_move, read_poll, read_set, read_start,
+    read_boot, read_control, read_frame, read_move, read_poll, read_reset, read_set, read_start,
 };
 use super::fault::LineFault;
 use super::requests::read_begin;
@@ -13,7 +13,8 @@ use super::words::{look_up, read_hex, words_of_line};
 use arrayvec::ArrayVec;
 use hid_descriptor::Usage;
 use hid_device::Boot;
-use hid_stack::{Request, Start};
+use hid_host::Start;
+use hid_requests::Request;
 use std::alloc::Global;
 use usb_transact::Fate;
 
@@ -90,6 +91,10 @@ pub enum Line {
         dev: u8,
         request: Request,
     },
+    /// `reset D`: the bus resets a device (USB 2.0, 7.1.7.5), and its host forgets it.
+    Reset {
+        dev: u8,
+    },
 }
 
 #[derive(Clone, Copy, Debug)]
@@ -106,6 +111,7 @@ enum Keyword {
     Poll,
     Control,
     Begin,
+    Reset,
 }
 
 fn read_keyword(word: &[u8]) -> Option<Keyword>
@@ -125,15 +131,19 @@ fn read_keyword(word: &[u8]) -> Option<Keyword>
             (b"poll", Keyword::Poll),
             (b"control", Keyword::Control),
             (b"begin", Keyword::Begin),
+            (b"reset", Keyword::Reset),
         ],
         word,
     )
 }
 
-/// Reads one line, without its end. Of several causes the first is told: X2, X1, X3; a want of memory, X7, may come instead.
+/// Reads one line, without its end. Of several causes the first is told: X2, X1, X3; a want of memory, X7, may come instead,
+/// but of no line that is too long.
 #[tactic(auto, unfolding(crate::specs::Line::meaning_of))]
 pub fn parse_line(alloc: Global, line: &[u8]) -> Result<Line, LineFault>
-    ensures { Gives result (meaning_of line.now) }
+    ensures says { Gives result (meaning_of line.now) }
+    // Want of memory hides no X2: it is looked for only in a line that isn't too long.
+    ensures memory { result ≡ Err LineFault.Memory → length line.now ≤ LINE_LIMIT }
 {
     if line.len() > LINE_LIMIT {
         return Err(LineFault::LineTooLong);
@@ -207,6 +217,10 @@ fn read_arguments(keyword: Keyword, words: &[&[u8]]) -> Result<Line, LineFault>
             Ok(Line::Control { dev, fate, count })
         }
         Keyword::Begin => read_begin(words),
+        Keyword::Reset => {
+            let dev = read_reset(words).ok_or(LineFault::Syntax)?;
+            Ok(Line::Reset { dev })
+        }
     }
 }
 

@@ -10,7 +10,7 @@ use super::numbers::{read_byte, read_device};
 use super::words::{count_bytes, look_up, read_hex};
 use arrayvec::ArrayVec;
 use hid_descriptor::ReportKind;
-use hid_stack::Request;
+use hid_requests::Request;
 
 /// The most bytes of a report that is set.
 const REPORT_LIMIT: usize = 64;

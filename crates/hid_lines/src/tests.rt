@@ -3,7 +3,8 @@
 use crate::{Line, LineFault, parse_line};
 use hid_descriptor::{ReportKind, Usage};
 use hid_device::Boot;
-use hid_stack::{Request, Start};
+use hid_host::Start;
+use hid_requests::Request;
 use std::test::Fail;
 use usb_transact::Fate;
 
@@ -117,12 +118,16 @@ fn a_line_says_its_request(rt: HostRuntime) -> Result<(), Fail> {
         ),
         _ => assert!(rt; false, "control"),
     }
+    match parse_line(rt.alloc(), b"reset\t7 ")? {
+        Line::Reset { dev } => assert_eq!(rt; dev, 7),
+        _ => assert!(rt; false, "reset"),
+    }
     Ok(())
 }
 
 /// Lines that are none of the script's.
 #[rattlefmt::skip]
-const NO_LINES: [&str; 34] = [
+const NO_LINES: [&str; 38] = [
     "press", "press 1", "press 0 07:04", "press 8 07:04", "press 11 07:04", "press 1 07:04 1",
     "press 1 0704", "press 1 :04", "press 1 07:", "press 1 00007:04", "press 1 07:04:05", "press 1 0G:04",
     "set 1 01:39", "set 1 01:39 -", "set 1 01:39 +1", "set 1 01:39 1234567890123456789",
@@ -131,6 +136,7 @@ const NO_LINES: [&str; 34] = [
     "device warm keyboard 0G", "device ready pad 0G", "device cold 0G",
     "control", "control 8", "control 1 lost", "control 1 clean 1 1",
     "begin 1", "begin 1 Status", "begin 1 status 1",
+    "reset", "reset 0", "reset 8", "reset 1 2",
 ];
 
 #[test]

@@ -1,5 +1,5 @@
 -- Behind its life a station stands and has told as what came of its course says.
-use Rattle.std.proofs.Common.{◌≡◌, ◌++◌, ℕ, Bool, true, false, not, ◌||◌, List, [], ◌∷◌, Option, Some, None, Result, Ok, Err, refl, ap, sym, ◌∙◌, subst, cond, arith}
+use Rattle.std.proofs.Common.{◌≡◌, ◌++◌, ℕ, Bool, true, false, not, ◌||◌, List, [], ◌∷◌, Option, Some, None, Result, Ok, Err, refl, ap, sym, ◌∙◌, subst, cond, append_assoc, arith}
 use Rattle.std.specs.List.{list_any}
 use Rattle.hid_layout.specs.Controls.{Item}
 use Rattle.hid_cells.specs.declared.cell.Cell.{Cell}
@@ -8,13 +8,13 @@ use Rattle.hid_cells.specs.declared.change.ChangeFault.{ChangeFault}
 use Rattle.hid_cells.specs.declared.event.Event.{Event}
 use Rattle.hid_cells.specs.Cells.{blank}
 use Rattle.hid_cells.specs.Snapshots.{changed}
-use Rattle.hid_cells.specs.Views.{seen}
+use Rattle.hid_cells.specs.Views.{seen, changes_between, drops_between}
 use Rattle.usb_transact.specs.declared.transaction.Fate.{Fate}
 use Rattle.usb_transact.specs.declared.transaction.Fate.TheVariants.{Clean, TokenLost, ReplyLost, AckLost}
-use Rattle.hid_lives.specs.Standing.{Standing, configured, first_due, after_change, after_frame, with_idle, after_opening}
+use Rattle.hid_lives.specs.Standing.{Standing, configured, first_due, after_change, after_frame, with_idle, no_idle, after_opening}
 use Rattle.hid_lives.specs.Rounds.{Changes, Frame, Polls, Round, Course, new_round, reaches_host, is_clean, has_crossed, has_closed, polled, part_events, fresh_course, opened_if, closed_by_poll, after_poll}
 use Rattle.hid_lives.specs.Stations.{Station, Open, fresh, opened_by, answered, round_events}
-use Rattle.hid_lives.specs.Lives.{Deed, Own, Idles, Configures, Happening, Ended, ended, happenings, course_behind, round_told, view_past, told_from, view_from, toggle_from, befallen_all, told_in}
+use Rattle.hid_lives.specs.Lives.{Deed, Own, Idles, Configures, Resets, Happening, Ended, ended, happenings, course_behind, round_told, view_past, round_gone, told_from, view_from, toggle_from, befallen_all, told_in}
 use Rattle.hid_lives.specs.Following.{FollowsLife, LivesOn}
 
 abbrev course : Standing → Option Round → Course
@@ -152,6 +152,47 @@ configured_partway items deeds rest d odd view r crossed l =
       expects = h.expects;
     }
 
+-- a reset too, and it tells what changes until the view is the initial one again
+reset_quiet : (items : List Item) (deeds : List Deed) → Delivers items deeds → (d : Standing) (odd : Bool) (view : List Cell) → Lives items (Resets ∷ deeds) odd view [] (station d None odd view) (course d None)
+reset_quiet items deeds rest d odd view =
+    let h = rest.quiet (configured items d.snapshot (no_idle d.idle)) false (blank items) in
+    record {
+      events = ap (λ (es : List Event). changes_between items view (blank items) ++ es) h.events;
+      standing = h.standing;
+      open_round = h.open_round;
+      part = h.part;
+      view = h.view;
+      toggle = h.toggle;
+      expects = h.expects;
+    }
+
+-- what is told of an open round at a reset, by whether it has crossed
+gone_as : (items : List Item) (d : Standing) (view : List Cell) (r : Round) (crossed : Bool) (told behind : List Event) → r.parts ≡ d.fixed → told ≡ behind
+    → round_told items view crossed r ++ (cond crossed (changes_between items (view_past items view crossed r) (blank items)) (drops_between items r.report (view_past items view crossed r) (blank items) d.fixed) ++ told)
+    ≡ round_gone items view crossed r ++ behind
+gone_as items d view r true told behind parts same =
+    sym (append_assoc (part_events items r.report view r.parts) (changes_between items (seen items r.report view r.parts) (blank items)) told)
+    ∙ ap (λ (es : List Event). round_gone items view true r ++ es) same
+gone_as items d view r false told behind parts same =
+    ap (λ (p : List Cell). drops_between items r.report view (blank items) p ++ told) (sym parts)
+    ∙ ap (λ (es : List Event). round_gone items view false r ++ es) same
+
+reset_partway : (items : List Item) (deeds : List Deed) → Delivers items deeds → Partway items (Resets ∷ deeds)
+reset_partway items deeds rest d odd view r crossed l =
+    let anew : Standing = configured items d.snapshot (no_idle d.idle) in
+    let happened : List Happening = happenings items deeds (course anew None) in
+    let h = rest.quiet anew false (blank items) in
+    record {
+      events = gone_as items d view r crossed _ _ l.parts h.events
+          ∙ ap (λ (b : Bool). round_gone items view b r ++ told_from items (blank items) happened) (sym l.crossed_is);
+      standing = h.standing;
+      open_round = h.open_round;
+      part = h.part;
+      view = h.view;
+      toggle = h.toggle;
+      expects = h.expects;
+    }
+
 clean : (items : List Item) (deeds : List Deed) → Delivers items deeds → Partway items (Own (Polls Clean) ∷ deeds)
 clean items deeds rest d odd view r crossed l = by_crossed crossed
   where
@@ -229,6 +270,9 @@ delivers items (Idles idle ∷ deeds) = idles items idle deeds (delivers items d
 delivers items (Configures ∷ deeds) =
     let rest = delivers items deeds in
     record { quiet = configured_quiet items deeds rest; partway = configured_partway items deeds rest }
+delivers items (Resets ∷ deeds) =
+    let rest = delivers items deeds in
+    record { quiet = reset_quiet items deeds rest; partway = reset_partway items deeds rest }
 
 -- from any station without an open round
 pub lives_on : (items : List Item) (from : Station) (deeds : List Deed) → from.current ≡ None → LivesOn items from deeds

@@ -17,17 +17,18 @@ use Rattle.hid_cells.specs.Cells.{HasRoom, Suits, InSnapshot, InPart, FitsSnapsh
 use Rattle.hid_cells.specs.Events.{at, change_events}
 use Rattle.hid_cells.specs.Parts.{blank_parts, is_of, item_at, by_item, shown_cell, shown_of, shown, minus_motion, taken_of, taken, motion_of}
 use Rattle.hid_cells.specs.Snapshots.{OrFault, motion_in, changed_cell, target, cell_at, with_cell, changed_at, changed}
-use Rattle.hid_cells.specs.Views.{seen_of, seen, motions_told, part_of, events_from}
+use Rattle.hid_cells.specs.Views.{seen_of, seen, motions_told, part_of, events_from, events_between, changes_from, as_dropped}
 use Rattle.hid_cells.proofs.ItemLemmas.{got, control_found, set_here, set_there}
 use Rattle.hid_cells.proofs.PartLemmas.{by_item_length}
 use Rattle.hid_cells.specs.declared.event.Event.{Event}
+use Rattle.hid_cells.specs.declared.event.Event.TheVariants as event
 use Rattle.usb_transact.specs.declared.transaction.Fate.{Fate}
 use Rattle.usb_transact.specs.declared.transaction.Fate.TheVariants.{Clean, TokenLost, ReplyLost, AckLost}
-use Rattle.hid_lives.specs.Motion.{Conserves, open_motion, accepted_in, AreBetweenRounds, KeepsThroughLife, given_motion, moved_by_change, moved_motion, station_motion, is_done, is_accepted, step_if, accepted, are_accepted, KeepsEach, HasMotions, kept_motions, relative_controls, KeepsMotion, KeepsAccepted}
+use Rattle.hid_lives.specs.Motion.{Conserves, open_motion, accepted_in, AreBetweenRounds, KeepsThroughLife, given_by, given_motion, moved_by_change, moved_motion, station_motion, is_done, is_accepted, step_if, accepted, are_accepted, KeepsEach, HasMotions, kept_motions, relative_controls, KeepsMotion, KeepsAccepted}
 use Rattle.hid_lives.specs.Rounds.{OwnStep, Changes, Frame, Polls, part_events}
 use Rattle.hid_lives.specs.Standing.{Standing, first_due}
 use Rattle.hid_lives.specs.Stations.{Station, Open, fresh, opened_by, opened, arrived, answered, after, round_events, events_at, events_in, after_all}
-use Rattle.hid_lives.specs.Lives.{Deed, Own, Idles, Configures, owns, befallen, befallen_all, told_in}
+use Rattle.hid_lives.specs.Lives.{Deed, Own, Idles, Configures, Resets, owns, befallen, befallen_all, reset_events, told_in}
 use Rattle.hid_lives.proofs.ScheduleLemmas.{own_told, own_stands}
 use Rattle.hid_lives.proofs.ItemMotionLemmas.{blank_moves, room_moves, shown_moves, minus_moves, split_motion, amount_at, ChangesMotion, changed_motion, has_motion_at, given_append, quiet_changes, told_here, told_elsewhere}
 
@@ -366,6 +367,9 @@ blank_parts_each : (items : List Item) → KeepsEach items (blank_parts items)
 blank_parts_each [] = refl
 blank_parts_each (item ∷ items) = joined _ _ _ _ (shown_moves (head_of item.form) (blank_cell (head_of item.form)) ∙ blank_moves item.form) (blank_parts_each items)
 
+blank_length : (items : List Item) → length (blank items) ≡ length items
+blank_length items = length-map items (λ item. blank_cell (head_of item.form))
+
 -- what befalls a station leaves it its motions, and between rounds a configuration loses none
 deed_moving : (items : List Item) (s : Station) (x : Deed) → HasMotions items s → HasMotions items (befallen items s x)
 deed_moving items s (Own x) moving = step_moving items s x moving
@@ -373,11 +377,54 @@ deed_moving items s (Idles idle) moving = record { snapshot = moving.snapshot; f
 deed_moving items s Configures moving = record {
   snapshot = moving.snapshot;
   fixed = blank_parts_each items;
-  view = length-map items (λ item. blank_cell (head_of item.form));
+  view = blank_length items;
 }
+deed_moving items s Resets moving = record { snapshot = moving.snapshot; fixed = blank_parts_each items; view = blank_length items }
 
 configured_same : (items : List Item) (s : Station) (c : ControlId) → s.current ≡ None → station_motion items s c ≡ station_motion items (befallen items s Configures) c
 configured_same items s c none_open = ap (λ (o : Option Open). motion_of s.standing.snapshot c +ℤ open_motion items s.standing.fixed o c) none_open
+
+-- dropped motion counts as told motion does, and what changes between views is none
+dropped_gives : (c : ControlId) (e : Event) → given_by c (as_dropped e) ≡ given_by c e
+dropped_gives c (event.Motion d u by) = refl
+dropped_gives c (event.Dropped d u by) = refl
+dropped_gives c (event.Down d u) = refl
+dropped_gives c (event.Up d u) = refl
+dropped_gives c (event.Value d u v) = refl
+dropped_gives c (event.Null d u) = refl
+
+drops_give : (c : ControlId) (events : List Event) → given_motion c (map as_dropped events) ≡ given_motion c events
+drops_give c [] = refl
+drops_give c (e ∷ events) =
+    let one : given_by c (as_dropped e) ≡ given_by c e = dropped_gives c e in
+    let rest : given_motion c (map as_dropped events) ≡ given_motion c events = drops_give c events in
+    omega (arith, ints, one, rest)
+
+quiet_between : (c : ControlId) (n : ℕ) (items : List Item) (bs xs : List Cell) → given_motion c (changes_from n items bs xs) ≡ pos 0
+quiet_between c n [] bs xs = refl
+quiet_between c n (item ∷ items) [] xs = refl
+quiet_between c n (item ∷ items) (b ∷ bs) [] = refl
+quiet_between c n (item ∷ items) (b ∷ bs) (a ∷ xs) =
+    let front = given_append c (change_events n item.form b a) (changes_from (n + 1) items bs xs) in
+    let quiet = quiet_changes c n item.form b a in
+    let rest = quiet_between c (n + 1) items bs xs in
+    omega (arith, ints, front, quiet, rest)
+
+-- A reset tells the motion that its open round still carries, and that alone.
+gone_by : (items : List Item) (d : Standing) (r : ℕ) (crossed odd : Bool) (view : List Cell) (c : ControlId) → KeepsEach items d.fixed → length view ≡ length items
+    → let s : Station = record { standing = d; current = Some (record { report = r; crossed = crossed }); odd = odd; view = view } in
+    station_motion items s c ≡ given_motion c (reset_events items s) +ℤ station_motion items (befallen items s Resets) c
+gone_by items d r true odd view c h k = let quiet = quiet_between c 0 items view (blank items) in omega (arith, ints, quiet)
+gone_by items d r false odd view c h k =
+    let told = told_from c 0 c.item r items view (blank items) d.fixed (omega arith) k (blank_length items) h in
+    let dropped = drops_give c (events_between items r view (blank items) d.fixed) in
+    omega (arith, ints, told, dropped)
+
+gone_with : (items : List Item) (d : Standing) (current : Option Open) (odd : Bool) (view : List Cell) (c : ControlId) → KeepsEach items d.fixed → length view ≡ length items
+    → let s : Station = record { standing = d; current = current; odd = odd; view = view } in
+    station_motion items s c ≡ given_motion c (reset_events items s) +ℤ station_motion items (befallen items s Resets) c
+gone_with items d None odd view c h k = let quiet = quiet_between c 0 items view (blank items) in omega (arith, ints, quiet)
+gone_with items d (Some round) odd view c h k = gone_by items d round.report round.crossed odd view c h k
 
 pub lives_keep : (items : List Item) (s : Station) → HasMotions items s → (deeds : List Deed) → AreBetweenRounds items s deeds → KeepsThroughLife items s deeds
 lives_keep items s moving [] between c = omega (arith, ints)
@@ -393,6 +440,11 @@ lives_keep items s moving (Configures ∷ deeds) between c =
     let same : station_motion items s c ≡ station_motion items (befallen items s Configures) c = configured_same items s c between.0 in
     let rest = lives_keep items (befallen items s Configures) (deed_moving items s Configures moving) deeds between.1 c in
     omega (arith, ints, same, rest)
+lives_keep items s moving (Resets ∷ deeds) between c =
+    let gone = gone_with items s.standing s.current s.odd s.view c moving.fixed moving.view in
+    let rest = lives_keep items (befallen items s Resets) (deed_moving items s Resets moving) deeds between.1 c in
+    let told = given_append c (reset_events items s) (told_in items (befallen items s Resets) deeds) in
+    omega (arith, ints, gone, rest, told)
 
 pub lived_has : (items : List Item) (s : Station) (deeds : List Deed) → HasMotions items s → HasMotions items (befallen_all items s deeds)
 lived_has items s [] has = has

@@ -7,7 +7,7 @@ use Rattle.hid_cells.specs.declared.event.Event.{Event}
 use Rattle.hid_cells.specs.Views.{seen}
 use Rattle.hid_lives.specs.Rounds.{OwnStep, Round, Course, has_crossed, has_closed, rounds, events_of, view_of, events_of_epoch, part_events, closed_by, still_open, after_step, after_steps}
 use Rattle.hid_lives.specs.Stations.{Station, fresh, after, after_all, events_at, events_in}
-use Rattle.hid_lives.specs.Lives.{Deed, Own, Idles, Configures, owns, Happening, ended, happenings, rounds_ended, AreWithinEpoch, course_after, course_behind, round_told, view_past, told_from, view_from, toggle_from, befallen_all, told_in}
+use Rattle.hid_lives.specs.Lives.{Deed, Own, Idles, Configures, Resets, owns, Happening, ended, happenings, rounds_ended, AreWithinEpoch, course_after, course_behind, round_told, view_past, told_from, view_from, toggle_from, befallen_all, told_in}
 use Rattle.hid_lives.specs.Following.{course_from, LivesOn, flips, FollowsRounds, StandsByRounds, StandsInEpoch}
 use Rattle.hid_lives.proofs.LifeLemmas.{lives_on}
 
@@ -113,6 +113,7 @@ within_epoch items [] c within =
 within_epoch items (Own x ∷ deeds) c within = rounds_alone (closed_by items c x) (happenings items deeds (after_step items c x)) (within_epoch items deeds (after_step items c x) within.1)
 within_epoch items (Idles idle ∷ deeds) c within = within_epoch items deeds (course_after items c (Idles idle)) within.1
 within_epoch items (Configures ∷ deeds) c within = absurd within.0
+within_epoch items (Resets ∷ deeds) c within = absurd within.0
 
 pub epoch_is_told : (items : List Item) (from : Station) (deeds : List Deed) → from.current ≡ None → AreWithinEpoch deeds
     → told_in items from deeds ≡ events_of items from.view (filter has_crossed (rounds_ended (happenings items deeds (course_from from))))

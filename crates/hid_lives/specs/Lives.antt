@@ -1,36 +1,41 @@
--- The life of a device with its host: what befalls the device, and what comes of it and is told (USB 2.0, 8.5.4, 8.6
--- and 9.4.7; HID 1.11, 7.2.4).
-use Rattle.std.specs.Prelude.{ℕ, Bool, false, not, if◌then◌else◌, List, [], ◌∷◌, ◌++◌, map}
+-- The life of a device with its host: what befalls the device, and what comes of it and is told (USB 2.0, 8.5.4, 8.6,
+-- 9.1.1 and 9.4.7; HID 1.11, 7.2.4; our choice).
+use Rattle.std.specs.Prelude.{ℕ, Bool, false, not, if◌then◌else◌, List, [], ◌∷◌, ◌++◌, map, Option, Some, None}
 use Rattle.hid_layout.specs.Controls.{Item}
 use Rattle.hid_cells.specs.declared.cell.Cell.{Cell}
 use Rattle.hid_cells.specs.declared.event.Event.{Event}
 use Rattle.hid_cells.specs.Cells.{blank}
-use Rattle.hid_cells.specs.Views.{seen}
-use Rattle.hid_lives.specs.Standing.{with_idle}
+use Rattle.hid_cells.specs.Views.{seen, changes_between, drops_between}
+use Rattle.hid_lives.specs.Standing.{with_idle, no_idle}
 use Rattle.hid_lives.specs.Rounds.{OwnStep, Round, Course, has_crossed, fresh_course, after_step, closed_by, still_open, part_events}
 use Rattle.hid_lives.specs.Stations.{Station, fresh, after, events_at}
 
--- What befalls a device: what happens at it by itself, idle times are set, or a configuration takes effect.
+-- What befalls a device: what happens at it by itself, idle times are set, a configuration takes effect, or the bus is
+-- reset.
 pub data Deed : Type 0 where
   Own : OwnStep → Deed
   Idles : List ℕ → Deed
   Configures : Deed
+  Resets : Deed
 
 -- own steps as deeds
 abbrev pub owns : List OwnStep → List Deed
 owns steps = map (λ x. Own x) steps
 
--- What comes of it: a round ends, or both ends begin anew, with toggles at DATA0 and the initial view.
+-- What comes of it: a round ends, or both ends begin anew, with toggles at DATA0 and the initial view; where the bus is
+-- reset, the round that is open goes with it.
 pub data Happening : Type 0 where
   Ended : Round → Happening
   Began : Happening
+  Gone : Option Round → Happening
 
 -- The course after a deed: idle times leave the round that is open, a configuration keeps the snapshot and the idle
--- times alone.
+-- times alone, and a reset the snapshot alone.
 abbrev pub course_after : List Item → Course → Deed → Course
 course_after items c (Own x) = after_step items c x
 course_after items c (Idles idle) = record { standing = with_idle idle c.standing; current = c.current }
 course_after items c Configures = fresh_course items c.standing.snapshot c.standing.idle
+course_after items c Resets = fresh_course items c.standing.snapshot (no_idle c.standing.idle)
 
 -- and behind a list of them
 abbrev pub course_behind : List Item → List Deed → Course → Course
@@ -41,11 +46,12 @@ course_behind items (x ∷ deeds) c = course_behind items deeds (course_after it
 abbrev pub ended : List Round → List Happening
 ended rounds = map (λ round. Ended round) rounds
 
--- what comes of one deed: a poll ends the round that it closes, a configuration the one that is open
+-- what comes of one deed: a poll ends the round that it closes, a configuration and a reset the one that is open
 abbrev pub happens_by : List Item → Course → Deed → List Happening
 happens_by items c (Own x) = ended (closed_by items c x)
 happens_by items c (Idles idle) = []
 happens_by items c Configures = ended (still_open c.current) ++ Began ∷ []
+happens_by items c Resets = Gone c.current ∷ []
 
 -- What comes of a life, in order; the round that is open at its end ends there.
 abbrev pub happenings : List Item → List Deed → Course → List Happening
@@ -57,12 +63,14 @@ abbrev pub rounds_ended : List Happening → List Round
 rounds_ended [] = []
 rounds_ended (Ended round ∷ rest) = round ∷ rounds_ended rest
 rounds_ended (Began ∷ rest) = rounds_ended rest
+rounds_ended (Gone current ∷ rest) = still_open current ++ rounds_ended rest
 
 -- A deed within an epoch: whatever doesn't begin another one.
 abbrev pub IsWithinEpoch : Deed → Type 0
 IsWithinEpoch (Own x) = Unit {0}
 IsWithinEpoch (Idles idle) = Unit {0}
 IsWithinEpoch Configures = ⊥
+IsWithinEpoch Resets = ⊥
 
 -- and so is each of these
 abbrev pub AreWithinEpoch : List Deed → Type 0
@@ -77,6 +85,19 @@ round_told items view crossed round = if crossed then part_events items round.re
 abbrev pub view_past : List Item → List Cell → Bool → Round → List Cell
 view_past items view crossed round = if crossed then seen items round.report view round.parts else view
 
+-- What a reset tells: what changes until the view is the initial one again. The part of a round that is open is told
+-- before, where it crossed; its motion is dropped, where it didn't.
+abbrev pub round_gone : List Item → List Cell → Bool → Round → List Event
+round_gone items view crossed round =
+    if crossed then part_events items round.report view round.parts
+    ++ changes_between items (seen items round.report view round.parts) (blank items)
+    else drops_between items round.report view (blank items) round.parts
+
+-- and where no round is open
+abbrev pub gone_told : List Item → List Cell → Option Round → List Event
+gone_told items view None = changes_between items view (blank items)
+gone_told items view (Some round) = round_gone items view (has_crossed round) round
+
 -- The events of a life, from a view on.
 abbrev pub told_from : List Item → List Cell → List Happening → List Event
 told_from items view [] = []
@@ -84,36 +105,51 @@ told_from items view (Ended round ∷ rest) =
     round_told items view (has_crossed round) round
     ++ told_from items (view_past items view (has_crossed round) round) rest
 told_from items view (Began ∷ rest) = told_from items (blank items) rest
+told_from items view (Gone current ∷ rest) = gone_told items view current ++ told_from items (blank items) rest
 
 -- the view behind it
 abbrev pub view_from : List Item → List Cell → List Happening → List Cell
 view_from items view [] = view
 view_from items view (Ended round ∷ rest) = view_from items (view_past items view (has_crossed round) round) rest
 view_from items view (Began ∷ rest) = view_from items (blank items) rest
+view_from items view (Gone current ∷ rest) = view_from items (blank items) rest
 
 -- a toggle behind it, which each of these rounds changes (USB 2.0, 8.6)
 abbrev pub toggle_from : (Round → Bool) → Bool → List Happening → Bool
 toggle_from changes odd [] = odd
 toggle_from changes odd (Ended round ∷ rest) = toggle_from changes (if changes round then not odd else odd) rest
 toggle_from changes odd (Began ∷ rest) = toggle_from changes false rest
+toggle_from changes odd (Gone current ∷ rest) = toggle_from changes false rest
 
 -- The station after a deed: behind a configuration both ends are freshly configured, the host with its initial view. (A
--- host that is ready hears nothing of it: it is made anew, or reads the device again.)
+-- host that is ready hears nothing of it: it is made anew, or reads the device again.) Behind a reset they are too, but
+-- without idle times.
 abbrev pub befallen : List Item → Station → Deed → Station
 befallen items s (Own x) = after items s x
 befallen items s (Idles idle) = record s { standing = with_idle idle s.standing }
 befallen items s Configures = fresh items s.standing.snapshot s.standing.idle
+befallen items s Resets = fresh items s.standing.snapshot (no_idle s.standing.idle)
 
 -- and after a list of them
 abbrev pub befallen_all : List Item → Station → List Deed → Station
 befallen_all items s [] = s
 befallen_all items s (x ∷ deeds) = befallen_all items (befallen items s x) deeds
 
+-- what a reset tells: what changes until the host's view is the initial one again, and the motion of an open round that
+-- hasn't crossed, which is dropped
+abbrev pub reset_events : List Item → Station → List Event
+reset_events items s = elim s.current [
+  | None ↦ changes_between items s.view (blank items)
+  | Some round ↦ (if round.crossed then changes_between items s.view (blank items)
+      else drops_between items round.report s.view (blank items) s.standing.fixed)
+]
+
 -- the events that a deed delivers
 abbrev pub events_on : List Item → Station → Deed → List Event
 events_on items s (Own x) = events_at items s x
 events_on items s (Idles idle) = []
 events_on items s Configures = []
+events_on items s Resets = reset_events items s
 
 -- The events of a list of them, one after another.
 abbrev pub told_in : List Item → Station → List Deed → List Event

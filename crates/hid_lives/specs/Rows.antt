@@ -22,12 +22,24 @@ release i j = Changes (change.Release (at i j))
 abbrev pub move : ℕ → ℕ → ℤ → OwnStep
 move i j by = Changes (change.Move (at i j) by)
 
--- a keyboard's key is a place of its item 4, and the mouse moves to the right by its item 2
+-- a keyboard's key is a place of its item 4; the mouse has its first button in item 0, and moves to the right by item 2
 abbrev pub key_down : ℕ → Event
 key_down id = event.Down (at 4 id) (usage 7 id)
 
+abbrev pub key_up : ℕ → Event
+key_up id = event.Up (at 4 id) (usage 7 id)
+
+abbrev pub button_down : Event
+button_down = event.Down (at 0 0) (usage 9 1)
+
+abbrev pub button_up : Event
+button_up = event.Up (at 0 0) (usage 9 1)
+
 abbrev pub motion_x : ℤ → Event
 motion_x by = event.Motion (at 2 0) (usage 1 0x30) by
+
+abbrev pub drop_x : ℤ → Event
+drop_x by = event.Dropped (at 2 0) (usage 1 0x30) by
 
 -- what is told of a device that was just configured, with nothing pressed or moved, one report and this idle time
 abbrev pub Tells : List Item → ℕ → List Deed → List Event → Type 0

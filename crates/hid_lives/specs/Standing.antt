@@ -60,6 +60,10 @@ after_frame d = record {
 abbrev pub with_idle : List ℕ → Standing → Standing
 with_idle idle d = record { snapshot = d.snapshot; fixed = d.fixed; frames = d.frames; idle = idle }
 
+-- no idle times: as many of 0 (HID 1.11, 7.2.4)
+abbrev pub no_idle : List ℕ → List ℕ
+no_idle idle = replicate (length idle) 0
+
 -- these parts are fixed for a report, their motion is taken out of the snapshot, and its frames are counted anew
 abbrev pub fixed_with : List Item → ℕ → Standing → List Cell → Standing
 fixed_with items r d parts = record {

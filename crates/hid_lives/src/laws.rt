@@ -56,7 +56,8 @@ pub fn rounds_say_all_of_an_epoch()
 
 /// Steps neither lose nor double the motion of a control: what a station had of it and what accepted moves added is
 /// what was told of it and what the station still has. A station keeps its motions behind any steps. Idle times that
-/// are set lose no motion either, and configurations none where no round is open.
+/// are set lose no motion either, resets none, since what they drop is told, and configurations none where no round is
+/// open.
 #[tactic(auto, using(crate::proofs::MotionLemmas::keeps))]
 pub fn motion_is_kept()
     ensures kept { (items : List Item) (s : Station) → HasMotions items s → (steps : List OwnStep)

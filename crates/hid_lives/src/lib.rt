@@ -1,9 +1,9 @@
 //! The lives of devices on a bus: how a device and its host stand together, which rounds its polls make, and what is
-//! told of them (USB 2.0, 8.5.4, 8.6 and 9.4.7; HID 1.11, 7.2.4). Definitions and their laws; no code.
+//! told of them (USB 2.0, 8.5.4, 8.6, 9.1.1 and 9.4.7; HID 1.11, 7.2.4). Definitions and their laws; no code.
 //! ```text
 //!   what befalls a device               what comes of it               what its host is told
 //!   press, frame, poll, idle times,     a round ended, both ends       down 07:04
-//!   configuration                         begin anew                     ^
+//!   configuration, reset                  begin anew                     ^
 //!          |                                ^        |                   |
 //!          +--- Course: standing, round ----+        +--- told_from -----+
 //!          |        no toggle, no view                                   |

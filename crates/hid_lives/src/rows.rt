@@ -1,14 +1,13 @@
 //! Worked lives: each row is worked out by hand, and a wrong one fails the check.
 
 ghost use Rattle.std.specs.Prelude.{◌≡◌, [], ◌∷◌, ◌++◌, replicate, true, false, Some, None, pos};
-ghost use Rattle.hid_cells.specs.declared.event.Event.TheVariants as event;
 ghost use Rattle.hid_cells.specs.Events.{at};
-ghost use Rattle.hid_cells.specs.Samples.{keyboard, mouse, wheel_and_button, usage};
+ghost use Rattle.hid_cells.specs.Samples.{keyboard, mouse, wheel_and_button};
 ghost use Rattle.usb_transact.specs.declared.transaction.Fate.TheVariants as fate;
-ghost use Rattle.hid_lives.specs.Lives.{Configures, Idles, owns};
+ghost use Rattle.hid_lives.specs.Lives.{Configures, Idles, Resets, owns};
 ghost use Rattle.hid_lives.specs.Motion.{station_motion};
 ghost use Rattle.hid_lives.specs.Rounds.{Frame as AFrame, Polls};
-ghost use Rattle.hid_lives.specs.Rows.{Tells, behind, counted, press, release, move, key_down, motion_x, stands_after};
+ghost use Rattle.hid_lives.specs.Rows.{Tells, behind, counted, press, release, move, key_down, key_up, button_down, button_up, motion_x, drop_x, stands_after};
 ghost use Rattle.hid_lives.specs.Standing.{after_frame, first_due, with_idle};
 ghost use Rattle.hid_lives.specs.Stations.{expected};
 
@@ -43,12 +42,12 @@ pub fn device_is_configured_in_a_round()
     ensures crossed { Tells mouse 0
         (owns (press 0 0 ∷ move 2 0 (pos 5) ∷ Polls fate.AckLost ∷ []) ++ Configures
         ∷ owns (Polls fate.Clean ∷ []))
-        (event.Down (at 0 0) (usage 9 1) ∷ motion_x (pos 5) ∷ event.Down (at 0 0) (usage 9 1)
+        (button_down ∷ motion_x (pos 5) ∷ button_down
         ∷ []) }
     ensures its_motion_is_lost { Tells mouse 0
         (owns (press 0 0 ∷ move 2 0 (pos 5) ∷ Polls fate.ReplyLost ∷ []) ++ Configures
         ∷ owns (Polls fate.Clean ∷ []))
-        (event.Down (at 0 0) (usage 9 1) ∷ []) }
+        (button_down ∷ []) }
     ensures nothing_is_left { station_motion mouse (behind mouse 0
         (owns (move 2 0 (pos 5) ∷ Polls fate.ReplyLost ∷ []) ++ Configures ∷ [])) (at 2 0) ≡ pos 0 }
     ensures no_round_is_open { (behind mouse 0
@@ -56,6 +55,32 @@ pub fn device_is_configured_in_a_round()
     ensures motion_between_rounds_stays { Tells mouse 0
         (owns (move 2 0 (pos 5) ∷ []) ++ Configures ∷ owns (Polls fate.Clean ∷ []))
         (motion_x (pos 5) ∷ []) }
+{}
+
+/// The bus is reset: what is pressed goes up at the host and is told again behind the next configuration, and motion of a
+/// round is told once, or dropped once where the round hadn't crossed; what no round carried stays. No idle time and no
+/// odd toggle is left, and a second reset tells nothing.
+pub fn bus_is_reset()
+    ensures crossed { Tells mouse 0
+        (owns (press 0 0 ∷ move 2 0 (pos 5) ∷ Polls fate.AckLost ∷ []) ++ Resets ∷ Configures
+        ∷ owns (Polls fate.Clean ∷ []))
+        (button_down ∷ motion_x (pos 5) ∷ button_up ∷ button_down ∷ []) }
+    ensures not_crossed { Tells mouse 0
+        (owns (move 2 0 (pos 5) ∷ Polls fate.ReplyLost ∷ []) ++ Resets ∷ []) (drop_x (pos 5) ∷ []) }
+    ensures rest_stays { Tells mouse 0
+        (owns (press 0 0 ∷ Polls fate.Clean ∷ move 2 0 (pos 200) ∷ Polls fate.ReplyLost ∷ [])
+        ++ Resets ∷ Configures ∷ owns (Polls fate.Clean ∷ []))
+        (button_down ∷ button_up ∷ drop_x (pos 127) ∷ button_down ∷ motion_x (pos 73) ∷ []) }
+    ensures nothing_is_left { station_motion mouse (behind mouse 0
+        (owns (move 2 0 (pos 5) ∷ Polls fate.ReplyLost ∷ []) ++ Resets ∷ [])) (at 2 0) ≡ pos 0 }
+    ensures never_goes_again { (behind keyboard 1
+        (owns (press 4 4 ∷ []) ++ Resets ∷ Configures
+        ∷ owns (Polls fate.Clean ∷ replicate 4 AFrame ++ Polls fate.Clean ∷ []))).odd ≡ true }
+    ensures host_is_even { expected (behind keyboard 0
+        (owns (press 4 4 ∷ Polls fate.AckLost ∷ []) ++ Resets ∷ [])) ≡ false }
+    ensures nothing_twice { Tells keyboard 0
+        (owns (press 4 4 ∷ Polls fate.Clean ∷ []) ++ Resets ∷ Resets ∷ [])
+        (key_down 4 ∷ key_up 4 ∷ []) }
 {}
 
 /// A configuration keeps the idle time: four frames behind a report it goes again, and tells nothing new. Two rounds closed
@@ -97,7 +122,7 @@ pub fn idle_time_is_set_in_a_round()
     ensures crossed { Tells mouse 0
         (owns (press 0 0 ∷ move 2 0 (pos 5) ∷ Polls fate.AckLost ∷ []) ++ Idles (1 ∷ [])
         ∷ owns (move 2 0 (pos 3) ∷ Polls fate.Clean ∷ Polls fate.Clean ∷ []))
-        (event.Down (at 0 0) (usage 9 1) ∷ motion_x (pos 5) ∷ motion_x (pos 3) ∷ []) }
+        (button_down ∷ motion_x (pos 5) ∷ motion_x (pos 3) ∷ []) }
     ensures not_crossed { Tells mouse 0
         (owns (move 2 0 (pos 5) ∷ Polls fate.ReplyLost ∷ []) ++ Idles (1 ∷ [])
         ∷ owns (move 2 0 (pos 3) ∷ Polls fate.Clean ∷ []))

@@ -77,7 +77,7 @@ fn a_report_goes_with_its_request(rt: HostRuntime) {
 
 /// Setup data, each row beside the nearest that is none.
 #[rattlefmt::skip]
-const ROWS: [(&str, [u8; 8], Option<Asked>); 60] = [
+const ROWS: [(&str, [u8; 8], Option<Asked>); 62] = [
     ("the device's status",             [0x80, 0x00, 0, 0, 0, 0, 2, 0],          Some(Asked::Status)),
     ("with a value",                    [0x80, 0x00, 1, 0, 0, 0, 2, 0],          None),
     ("with an index",                   [0x80, 0x00, 0, 0, 1, 0, 2, 0],          None),
@@ -125,6 +125,7 @@ const ROWS: [(&str, [u8; 8], Option<Asked>); 60] = [
     ("of interface 256",                [0xA1, 0x02, 9, 0, 0, 1, 1, 0],          None),
     ("the protocol",                    [0xA1, 0x03, 0, 0, 0, 0, 1, 0],          Some(Asked::GetProtocol)),
     ("with a value",                    [0xA1, 0x03, 1, 0, 0, 0, 1, 0],          None),
+    ("of interface 1",                  [0xA1, 0x03, 0, 0, 1, 0, 1, 0],          None),
     ("an output report is set",         [0x21, 0x09, 0, 2, 0, 0, 1, 0],          Some(Asked::SetReport { kind: ReportKind::Output, id: 0, length: 1 })),
     ("an input report is set",          [0x21, 0x09, 1, 1, 0, 0, 65, 0],         Some(Asked::SetReport { kind: ReportKind::Input, id: 1, length: 65 })),
     ("one of type 4",                   [0x21, 0x09, 0, 4, 0, 0, 1, 0],          None),
@@ -136,6 +137,7 @@ const ROWS: [(&str, [u8; 8], Option<Asked>); 60] = [
     ("the report protocol is set",      [0x21, 0x0B, 1, 0, 0, 0, 0, 0],          Some(Asked::SetProtocol { protocol: Protocol::Report })),
     ("protocol 2",                      [0x21, 0x0B, 2, 0, 0, 0, 0, 0],          None),
     ("protocol 256",                    [0x21, 0x0B, 0, 1, 0, 0, 0, 0],          None),
+    ("of interface 1",                  [0x21, 0x0B, 0, 0, 1, 0, 0, 0],          None),
     ("with data",                       [0x21, 0x0B, 0, 0, 0, 0, 1, 0],          None),
     ("another request of the class",    [0x21, 0x0C, 0, 0, 0, 0, 0, 0],          None),
 ];

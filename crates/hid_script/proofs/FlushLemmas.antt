@@ -10,7 +10,7 @@ use Rattle.hid_cells.specs.declared.fault.ReportFault.{ReportFault}
 use Rattle.hid_usages.specs.Reading.{report_named}
 use Rattle.hid_device.specs.declared.config.Boot.{Boot}
 use Rattle.hid_host.specs.declared.fault.StackFault.{StackFault}
-use Rattle.hid_stack.specs.declared.rig.Start.{Start}
+use Rattle.hid_host.specs.declared.phase.Start.{Start}
 use Rattle.hid_stack.specs.declared.step.Step.{Step}
 use Rattle.hid_stack.specs.declared.step.Step.TheVariants.{Change}
 use Rattle.hid_stack.specs.declared.step.Step.TheVariants as step
@@ -92,6 +92,7 @@ once_prints_nothing (line.Frame count) session text cause h = no_step_text step.
 once_prints_nothing (line.Poll dev fate count) session text cause h = no_step_text (step.Poll dev fate) session text cause h
 once_prints_nothing (line.Control dev fate count) session text cause h = no_step_text (step.Control dev fate) session text cause h
 once_prints_nothing (line.Begin dev request) session text cause h = no_step_text (step.Begin dev request) session text cause h
+once_prints_nothing (line.Reset dev) session text cause h = no_step_text (step.Reset dev) session text cause h
 
 -- ---- the text of a refused line is that of its first times
 

@@ -4,4 +4,5 @@ pub mod SessionLemmas
 pub mod RepeatLemmas
 pub mod TellingLemmas
 pub mod FlushLemmas
+pub mod PrintingLemmas
 mod Vectors

@@ -3,7 +3,7 @@ use Rattle.std.proofs.Common.{◌≡◌, ℕ, ◌+◌, ◌-◌, ◌<◌, ◌≤�
 use Rattle.std.specs.List.{slice_split, onto_first, All}
 use Rattle.std.specs.Str.Lines.{lines, lines_of_parts, strip_carriage_return}
 use Rattle.std.specs.Io.KnownBytes.{Appends, Consumes, IsAtEnd}
-use Rattle.std.proofs.lemmas.List.Splits.{slice_split_at, slice_split_none, slice_split-cons_no}
+use Rattle.std.proofs.lemmas.List.Splits.{slice_split_none, slice_split-cons_no}
 use Rattle.std.proofs.lemmas.List.Elements.{All-head, All-tail, All-push}
 use Rattle.std.proofs.lemmas.List.{length-take-le, drop_more, take_more}
 use Rattle.std.proofs.lemmas.Bool.{cond-true, cond-false, cond_both, lt-ltb, ne_eqb}
@@ -12,6 +12,7 @@ use Rattle.hid_script.specs.declared.fault.Cause.{Cause}
 use Rattle.hid_script.specs.declared.fault.Cause.TheVariants as causes
 use Rattle.hid_script.specs.declared.fault.ScriptFault.{ScriptFault}
 use Rattle.hid_script.specs.declared.fault.Summary.{Summary}
+use Rattle.hid_text.proofs.LineLemmas.{lines_first, some_part}
 use Rattle.hid_lines.specs.Words.{words_of}
 use Rattle.hid_lines.specs.Line.{meaning_of, words_said}
 use Rattle.hid_script.specs.declared.fault.Options.{Options}
@@ -24,23 +25,6 @@ use Rattle.hid_script.specs.Runs.{Silence, ending_of, EndsAs, Ends, FirstTells, 
 use Rattle.hid_script.specs.Place.{Place, IsUnbroken, lines_at, Writes, Advances, RunsFrom, Takes}
 
 -- ---- lines
-
--- there is a part
-some_part : (p : ℕ → Bool) (xs : List ℕ) → (y : List ℕ) × (ys : List (List ℕ)) × (slice_split p xs ≡ y ∷ ys)
-some_part p [] = ([], [], refl)
-some_part p (x ∷ xs) =
-    let more = some_part p xs in
-    elim (p x) as (λ b. (y : List ℕ) × (ys : List (List ℕ)) × (cond b ([] ∷ slice_split p xs) (onto_first x (slice_split p xs)) ≡ y ∷ ys)) [
-      | true ↦ ([], slice_split p xs, refl)
-      | false ↦ (x ∷ more.0, more.1, ap (onto_first x) more.2)
-    ]
-
--- what ends with a line feed is a line before the others
-lines_first : (line rest : List ℕ) → IsUnbroken line → lines (line ++ 10 ∷ rest) ≡ strip_carriage_return line ∷ lines rest
-lines_first line rest whole =
-    let more = some_part (λ b. nat_eq b 10) rest in
-    let split = slice_split_at (λ b. nat_eq b 10) line 10 rest whole refl in
-    ap lines_of_parts split ∙ ap (λ parts. lines_of_parts (line ∷ parts)) more.2 ∙ ap (λ parts. strip_carriage_return line ∷ lines_of_parts parts) (sym more.2)
 
 -- what has no line feed is the last line, if it has a byte
 lines_last : (line : List ℕ) → IsUnbroken line → lines line ≡ cond (nat_eq (length line) 0) [] (line ∷ [])

@@ -29,8 +29,8 @@ use Rattle.hid_stack.specs.Members.{Member}
 use Rattle.hid_stack.specs.Rig.{member_at, refusal, IsRefusal, bus_after, delivered_at}
 use Rattle.hid_stack.specs.Tells.{Tells}
 use Rattle.hid_stack.specs.Attaching.{Attaches, Finds, member_at_start}
-use Rattle.hid_stack.specs.declared.rig.Start.{Start}
-use Rattle.hid_stack.specs.declared.rig.Start.TheVariants.{Ready, Cold}
+use Rattle.hid_host.specs.declared.phase.Start.{Start}
+use Rattle.hid_host.specs.declared.phase.Start.TheVariants.{Ready, Cold}
 use Rattle.hid_script.specs.declared.fault.Cause.{Cause}
 use Rattle.hid_script.specs.declared.fault.Cause.TheVariants as causes
 use Rattle.hid_script.specs.declared.fault.StepFault.TheVariants as faults

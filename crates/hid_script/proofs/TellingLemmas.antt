@@ -14,7 +14,7 @@ use Rattle.hid_stack.specs.declared.step.Step.TheVariants.{Change}
 use Rattle.hid_stack.specs.declared.step.Step.TheVariants as step
 use Rattle.hid_stack.specs.Members.{Member}
 use Rattle.hid_stack.specs.Attaching.{member_at_start}
-use Rattle.hid_stack.specs.declared.rig.Start.{Start}
+use Rattle.hid_host.specs.declared.phase.Start.{Start}
 use Rattle.hid_script.specs.declared.fault.Cause.{Cause}
 use Rattle.hid_script.specs.declared.wanted.Wanted.{Wanted}
 use Rattle.hid_script.specs.declared.wanted.Wanted.TheVariants as wanted
@@ -113,6 +113,7 @@ one_once reading apart cause place one (line.Frame count) session o other h k = 
 one_once reading apart cause place one (line.Poll dev fate count) session o other h k = one_step one (step.Poll dev fate) session o other h k
 one_once reading apart cause place one (line.Control dev fate count) session o other h k = one_step one (step.Control dev fate) session o other h k
 one_once reading apart cause place one (line.Begin dev request) session o other h k = one_step one (step.Begin dev request) session o other h k
+one_once reading apart cause place one (line.Reset dev) session o other h k = one_step one (step.Reset dev) session o other h k
 
 session_in : Session → Result Session Cause → Session
 session_in d (Ok session) = session

@@ -8,3 +8,4 @@ pub mod Laws
 pub mod Place
 pub mod Interpreter
 pub mod Script
+pub mod Printing

@@ -22,7 +22,7 @@ use Rattle.hid_stack.specs.Tells.{Tells}
 use Rattle.hid_stack.specs.declared.rig.TheConstants.{MAX_DEVICES}
 use Rattle.hid_host.specs.declared.fault.StackFault.TheVariants as stack
 use Rattle.hid_stack.specs.Attaching.{Attaches, Finds, member_at_start}
-use Rattle.hid_stack.specs.declared.rig.Start.{Start}
+use Rattle.hid_host.specs.declared.phase.Start.{Start}
 use Rattle.usb_control.specs.declared.host.HostStage.{HostStage}
 use Rattle.usb_control.specs.declared.host.HostStage.TheVariants.{Done}
 use Rattle.hid_host.specs.declared.host.Transfer.{Transfer}

@@ -33,6 +33,7 @@ Once (line.Frame count) session o = TellsStep step.Frame session o
 Once (line.Poll dev fate count) session o = TellsStep (step.Poll dev fate) session o
 Once (line.Control dev fate count) session o = TellsStep (step.Control dev fate) session o
 Once (line.Begin dev request) session o = TellsStep (step.Begin dev request) session o
+Once (line.Reset dev) session o = TellsStep (step.Reset dev) session o
 
 -- and how many times it is
 unfoldable pub times : Line → ℕ

@@ -59,7 +59,8 @@ fn times(line: &Line) -> u16
         | Line::Null { .. }
         | Line::Set { .. }
         | Line::Move { .. }
-        | Line::Begin { .. } => 1,
+        | Line::Begin { .. }
+        | Line::Reset { .. } => 1,
     }
 }
 
@@ -168,6 +169,10 @@ impl Interpreter {
             Line::Begin { dev, request } => {
                 let (dev, request) = (*dev, request.copied());
                 self.step(&Step::Begin { dev, request }, writer)
+            }
+            Line::Reset { dev } => {
+                let dev = *dev;
+                self.step(&Step::Reset { dev }, writer)
             }
         }
     }

@@ -1,6 +1,6 @@
 //! Laws of the definitions that the contract of `run` cites: they pin what it writes, up to where it ends.
 
-ghost use Rattle.hid_script.specs.Laws.{LineTellsOneThing, LinesTellOneText, BeginsWithFronts};
+ghost use Rattle.hid_script.specs.Laws.{LineTellsOneThing, LinesTellOneText, BeginsWithFronts, LinesPrintLives, RunsPrintLives};
 
 use hid_layout::laws::{accepted_or_refused, one_reading, one_refusal};
 use hid_stack::laws::{one_attaching, one_finding, one_telling};
@@ -35,3 +35,11 @@ pub fn fronts()
     one_finding();
     one_attaching();
 }
+
+/// The headline, of the text that is printed: over all lines of a script, or all before the one at which a run ends, the
+/// lines printed of a device's events are, in order, the texts of the events of its life from its attach on, with
+/// whatever befalls it there; of no other device are there any.
+pub fn lives_are_printed()
+    ensures lines { LinesPrintLives }
+    ensures runs { RunsPrintLives }
+{}

@@ -13,7 +13,8 @@
 //! ```
 //! A line is read whole, carried out, and its text is written at once, of a line with a count each time: a line that
 //! is refused ends the run, and what stands in the output is what was told before it.
-//! `run` writes exactly the text that the script tells: the clause on [`run`].
+//! `run` writes exactly the text that the script tells: the clause on [`run`]. Its lines of a device's events are the texts
+//! of what the device lives through: law [`laws::lives_are_printed`].
 #![tactic(auto)]
 
 #[cfg(test)]
@@ -25,6 +26,8 @@ mod flush_tests;
 mod interpreter;
 pub mod laws;
 mod output;
+#[cfg(test)]
+mod reset_tests;
 mod runs;
 mod script;
 #[cfg(test)]

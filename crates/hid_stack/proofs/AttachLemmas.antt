@@ -4,7 +4,7 @@ use Rattle.std.specs.List.{slice_get}
 use Rattle.std.proofs.lemmas.Bool.Decides.{nat_tests}
 use Rattle.hid_layout.specs.Layout.{Contents}
 use Rattle.hid_device.specs.declared.config.Config.{Config}
-use Rattle.hid_stack.specs.declared.rig.Start.{Start}
+use Rattle.hid_host.specs.declared.phase.Start.{Start}
 use Rattle.hid_stack.specs.Attaching.{Suits, IsAttached, member_at_start}
 use Rattle.hid_stack.specs.Members.{Member}
 use Rattle.hid_stack.specs.Rig.{member_at}
@@ -19,15 +19,15 @@ last_at : (members : List Member) (m : Member) → slice_get (members ++ m ∷ [
 last_at [] m = refl
 last_at (x ∷ members) m = last_at members m
 
-stands_still : (members more : List Member) (dev : ℕ) (m : Member) → member_at members dev ≡ Some m → member_at (members ++ more) dev ≡ Some m
+pub stands_still : (members more : List Member) (dev : ℕ) (m : Member) → member_at members dev ≡ Some m → member_at (members ++ more) dev ≡ Some m
 stands_still members more dev m h =
     let some = no_zero members dev m h in
     at_place (members ++ more) dev some ∙ still_at members more (dev - 1) m (sym (at_place members dev some) ∙ h)
 
-some_number : (n : ℕ) → eqb (n + 1) 0 ≡ false
+pub some_number : (n : ℕ) → eqb (n + 1) 0 ≡ false
 some_number n = grind (arith, nat_tests)
 
-stands_last : (members : List Member) (m : Member) → member_at (members ++ m ∷ []) (length members + 1) ≡ Some m
+pub stands_last : (members : List Member) (m : Member) → member_at (members ++ m ∷ []) (length members + 1) ≡ Some m
 stands_last members m =
     let back : length members + 1 - 1 ≡ length members = omega arith in
     at_place (members ++ m ∷ []) (length members + 1) (some_number (length members)) ∙ ap (slice_get (members ++ m ∷ [])) back ∙ last_at members m

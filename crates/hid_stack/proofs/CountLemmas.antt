@@ -1,4 +1,4 @@
--- A request configures its device as often as its tries take effect there, whatever comes between them.
+-- A write takes effect at a device as often as the tries of its request say, whatever comes between them.
 use Rattle.std.proofs.Common.{◌≡◌, ◌∙◌, ℕ, suc, ◌+◌, Bool, true, false, ◌&&◌, List, [], ◌∷◌, ◌++◌, Option, Some, None, refl, ap, sym, subst, inl, inr, arith}
 use Rattle.std.specs.Prelude.{if◌then◌else◌, length}
 use Rattle.std.specs.List.{cons_option}
@@ -17,6 +17,7 @@ use Rattle.usb_control.specs.Transfer.{Act, Decides, Nothing, TakesEffect, Decis
 use Rattle.usb_control.proofs.LawLemmas.{kept_is}
 use Rattle.usb_control.proofs.MeanwhileLemmas.{goes_by, is_running_runs, runs_so}
 use Rattle.hid_requests.specs.declared.request.Asking.{Asking}
+use Rattle.hid_requests.specs.declared.request.Request.{Request}
 use Rattle.hid_lives.specs.Lives.{Deed}
 use Rattle.hid_lives.specs.Rounds.{OwnStep, Changes, Frame, Polls}
 use Rattle.hid_device.specs.declared.decisions.Pending.{Pending}
@@ -32,15 +33,10 @@ use Rattle.hid_host.specs.Host.{running, running_at}
 use Rattle.hid_host.specs.Knowing.{IsBehindSetup, IsDecided}
 use Rattle.hid_host.proofs.KnowingLemmas.{acts_go, decided_behind, decided_stays}
 use Rattle.hid_host.proofs.RoundLemmas.{is_configuring, pends_so}
-use Rattle.hid_stack.specs.Members.{Member, MemberStep, Scheduled, Begins, Controls, brought_deed, control_at, core_at, deeds_in, effect_deed, ends_tried_at, member_after, scheduled_deed, tried_deed, tried_of, tried_to, written_deed}
-use Rattle.hid_stack.specs.Transfers.{BeginsNone, configurations, ends_at, setup_at, tries_of, try_at}
+use Rattle.hid_stack.specs.Members.{Member, MemberStep, Scheduled, Begins, Controls, Resets, brought_deed, control_at, core_at, deeds_in, effect_deed, ends_tried_at, member_after, scheduled_deed, tried_deed, tried_of, tried_to, written_deed}
+use Rattle.hid_stack.specs.Transfers.{BeginsNone, configurations, effects_in, ends_at, more_if, setup_at, takes_effect_at, tries_of, try_at}
 
 -- ---- one try
-
--- one more, or as many
-abbrev more : Bool → ℕ → ℕ
-more true n = suc n
-more false n = n
 
 -- only a status takes effect
 effect_behind : (p : Position) (shape : Shape) (fate : Fate) (d held : Decision) (applied : Bool) → is_effect (act_at p shape fate d held applied) ≡ true → IsBehindSetup p
@@ -54,7 +50,7 @@ effect_behind Past shape fate d held applied h = tt
 
 -- a configuration befalls the device where the effect of a request for it is carried out
 written_as : (core : CoreState) (pending : Pending) (bytes : List ℕ) (rest : List Deed)
-    → configurations (cons_option (written_deed core pending) rest) ≡ more (is_configuring pending) (configurations rest)
+    → configurations (cons_option (written_deed core pending) rest) ≡ more_if (is_configuring pending) (configurations rest)
 written_as core pendings.Nothing bytes rest = refl
 written_as core pendings.Configure bytes rest = refl
 written_as core (pendings.Keep i) bytes rest = refl
@@ -62,14 +58,14 @@ written_as core (pendings.Idle report time) bytes rest = refl
 written_as core (pendings.Protocol protocol) bytes rest = refl
 
 effect_as : (e : Effect) (core : CoreState) (sets : Bool) (rest : List Deed) → (is_applied e ≡ true → is_configuring core.pending ≡ sets)
-    → configurations (cons_option (effect_deed e core) rest) ≡ more (is_applied e && sets) (configurations rest)
+    → configurations (cons_option (effect_deed e core) rest) ≡ more_if (is_applied e && sets) (configurations rest)
 effect_as (Answers answer stage heard) core sets rest pends = refl
 effect_as (Decides' bytes) core sets rest pends = refl
-effect_as (Applies bytes) core sets rest pends = written_as core core.pending bytes rest ∙ ap (λ (b : Bool). more b (configurations rest)) (pends refl)
+effect_as (Applies bytes) core sets rest pends = written_as core core.pending bytes rest ∙ ap (λ (b : Bool). more_if b (configurations rest)) (pends refl)
 
 brought_as : (fate : Fate) (ends : HostTransferState) (control : DevControlState CoreState) (sets : Bool) (rest : List Deed)
     → (takes_effect core_table fate ends control ≡ true → is_configuring control.requests.pending ≡ sets)
-    → configurations (cons_option (brought_deed fate ends control) rest) ≡ more (takes_effect core_table fate ends control && sets) (configurations rest)
+    → configurations (cons_option (brought_deed fate ends control) rest) ≡ more_if (takes_effect core_table fate ends control && sets) (configurations rest)
 brought_as TokenLost ends control sets rest pends = refl
 brought_as Clean ends control sets rest pends = effect_as (effect_reached core_table ends control) control.requests sets rest pends
 brought_as ReplyLost ends control sets rest pends = effect_as (effect_reached core_table ends control) control.requests sets rest pends
@@ -120,35 +116,44 @@ stood_tried fate m t place host s g =
           (decided_behind t.request asking t.ends.setup (sends_of t.request) fate (decision_now core_table (ends_at m t)) place.host place (core_at m) control.requests s.fits s.asked refl g.acts s.decided behind);
     }
 
-try_configures : (fate : Fate) (m : Member) (t : Transfer) (place : Place) (rest : List Deed) → Stood m t place → GoesBy core_table (sends_of t.request) place fate (ends_at m t)
-    → configurations (cons_option (brought_deed fate t.ends (control_at m)) rest) ≡ more (is_effect (act_now core_table place fate (ends_at m t)) && is_configure t.request) (configurations rest)
-try_configures fate m t place rest s g =
+-- what a try adds to both counts
+more_of : (takes sets : Bool) (n : ℕ) → more_if (takes && sets) (if sets then n else 0) ≡ (if sets then more_if takes n else 0)
+more_of true true n = refl
+more_of true false n = refl
+more_of false true n = refl
+more_of false false n = refl
+
+try_configures : (fate : Fate) (m : Member) (t : Transfer) (place : Place) (rest : List Deed) (later : ℕ) → Stood m t place → GoesBy core_table (sends_of t.request) place fate (ends_at m t)
+    → configurations rest ≡ (if is_configure t.request then later else 0)
+    → configurations (cons_option (brought_deed fate t.ends (control_at m)) rest)
+    ≡ (if is_configure t.request then more_if (takes_effect core_table fate t.ends (control_at m)) later else 0)
+try_configures fate m t place rest later s g so =
+    let takes = takes_effect core_table fate t.ends (control_at m) in
     brought_as fate t.ends (control_at m) (is_configure t.request) rest
     (λ takes. pends_so t.request (core_at m) place.decision (s.decided (effect_behind place.host (shape_of t.ends.setup) fate (decision_now core_table (ends_at m t)) place.decision place.applied (sym g.takes ∙ takes))))
-    ∙ ap (λ (b : Bool). more (b && is_configure t.request) (configurations rest)) g.takes
+    ∙ ap (more_if (takes && is_configure t.request)) so
+    ∙ more_of takes (is_configure t.request) later
 
 -- ---- whole lists
 
--- the effects that count for a request
-abbrev pub counts_for : Bool → ℕ → List Act → ℕ
-counts_for sets n acts = if sets then effects n acts else n
+-- what is counted of the acts of a request, where so many came before, and of what befell its device
+pub record Counts (request : Request) (before : ℕ) (done : List Act) (later : ℕ) (deeds : List Deed) : Type 0 where
+  pub took : effects before done ≡ later + before
+  pub configures : configurations deeds ≡ (if is_configure request then later else 0)
 
-one_more : (n : ℕ) (rest : List Act) → effects (n + 1) rest ≡ effects (suc n) rest
-one_more n rest = let same : n + 1 ≡ suc n = omega arith in ap (λ (k : ℕ). effects k rest) same
+one_act : (n : ℕ) (act : Act) (rest : List Act) → effects n (act ∷ rest) ≡ effects (more_if (is_effect act) n) rest
+one_act n Nothing rest = refl
+one_act n (Decides decision) rest = refl
+one_act n TakesEffect rest = let same : n + 1 ≡ suc n = omega arith in ap (λ (k : ℕ). effects k rest) same
 
-one_act : (sets : Bool) (n : ℕ) (act : Act) (rest : List Act) → counts_for sets n (act ∷ rest) ≡ counts_for sets (more (is_effect act && sets) n) rest
-one_act true n Nothing rest = refl
-one_act true n (Decides decision) rest = refl
-one_act true n TakesEffect rest = one_more n rest
-one_act false n Nothing rest = refl
-one_act false n (Decides decision) rest = refl
-one_act false n TakesEffect rest = refl
+none_yet : (n : ℕ) → n ≡ 0 + n
+none_yet n = omega arith
 
-none_counts : (sets : Bool) (n : ℕ) → counts_for sets n [] ≡ 0 + n
-none_counts true n = omega arith
-none_counts false n = omega arith
+none_counts : (sets : Bool) → (let none : ℕ = 0 in none ≡ (if sets then none else none))
+none_counts true = refl
+none_counts false = refl
 
-more_before : (b : Bool) (m n : ℕ) → m + more b n ≡ more b m + n
+more_before : (b : Bool) (m n : ℕ) → m + more_if b n ≡ more_if b m + n
 more_before true m n = omega arith
 more_before false m n = refl
 
@@ -185,55 +190,62 @@ running_so t (stages.Failed fault) b is = ap (λ (x : Bool). if x then Some t el
 pub runs_as : (m : Member) (t : Transfer) → m.transfer ≡ Some t → running m.transfer ≡ (if is_running t.ends.stage then Some t else None)
 runs_as m t has = ap running has ∙ running_so t t.ends.stage (is_running t.ends.stage) refl
 
--- what is counted of a try and the steps behind it, of a transfer that runs or not
-abbrev Counts : Fate → List MemberStep → Member → Transfer → Place → ℕ → Option Transfer → Option Transfer → Type 0
-Counts fate steps m t place n runs has =
-    counts_for (is_configure t.request) n (acts (shape_of t.ends.setup) (try_at fate m has ++ tries_of (tried_of fate m runs) steps) place)
-    ≡ configurations (cons_option (tried_deed fate m runs) (deeds_in (tried_of fate m runs) steps)) + n
+-- the same of a try and the steps behind it, of a transfer that runs or not
+abbrev CountsTry : Fate → List MemberStep → Member → Transfer → Place → ℕ → Option Transfer → Option Transfer → Type 0
+CountsTry fate steps m t place n runs has =
+    Counts t.request n (acts (shape_of t.ends.setup) (try_at fate m has ++ tries_of (tried_of fate m runs) steps) place)
+    (more_if (takes_effect_at fate m runs) (effects_in (tried_of fate m runs) steps))
+    (cons_option (tried_deed fate m runs) (deeds_in (tried_of fate m runs) steps))
 
 abbrev Behind : List MemberStep → Type 0
 Behind steps = (m : Member) (t : Transfer) (place : Place) (n : ℕ) → m.transfer ≡ Some t → BeginsNone steps → Stood m t place
-    → counts_for (is_configure t.request) n (acts (shape_of t.ends.setup) (tries_of m steps) place) ≡ configurations (deeds_in m steps) + n
+    → Counts t.request n (acts (shape_of t.ends.setup) (tries_of m steps) place) (effects_in m steps) (deeds_in m steps)
 
 try_counts : (fate : Fate) (steps : List MemberStep) (m : Member) (t : Transfer) (place : Place) (n : ℕ) → BeginsNone steps → Stood m t place → is_running t.ends.stage ≡ true → Behind steps
-    → Counts fate steps m t place n (Some t) (Some t)
+    → CountsTry fate steps m t place n (Some t) (Some t)
 try_counts fate steps m t place n none s runs later =
     let shape = shape_of t.ends.setup in
-    let sets = is_configure t.request in
     let g = goes_by core_table (sends_of t.request) place fate (ends_at m t) s.spelled (is_running_runs t.ends.stage runs) s.stands in
     let act = act_now core_table place fate (ends_at m t) in
     let k = tried_of fate m (Some t) in
     let behind = place_behind fate m t place in
     let xs = tries_of k steps in
-    let once : Bool = is_effect act && sets in
-    let rest : counts_for sets (more once n) (acts (shape_of (ends_tried_at fate m t).setup) xs behind) ≡ configurations (deeds_in k steps) + more once n
-    = later k (tried_transfer fate m t) behind (more once n) refl none (stood_tried fate m t place k.host s g) in
-    ap (counts_for sets n) (open_acts shape (fate, decision_now core_table (ends_at m t)) xs place (sym (runs_so core_table (sends_of t.request) place (ends_at m t) s.stands) ∙ runs))
-    ∙ one_act sets n act (acts shape xs behind)
-    ∙ ap (λ (s : Shape). counts_for sets (more once n) (acts s xs behind)) (sym (ap shape_of g.asked))
-    ∙ rest
-    ∙ more_before once (configurations (deeds_in k steps)) n
-    ∙ ap (λ (c : ℕ). c + n) (sym (try_configures fate m t place (deeds_in k steps) s g))
+    let more : ℕ = more_if (is_effect act) n in
+    let rest : Counts t.request more (acts (shape_of (ends_tried_at fate m t).setup) xs behind) (effects_in k steps) (deeds_in k steps)
+    = later k (tried_transfer fate m t) behind more refl none (stood_tried fate m t place k.host s g) in
+    record {
+      took = ap (effects n) (open_acts shape (fate, decision_now core_table (ends_at m t)) xs place (sym (runs_so core_table (sends_of t.request) place (ends_at m t) s.stands) ∙ runs))
+          ∙ one_act n act (acts shape xs behind)
+          ∙ ap (λ (s : Shape). effects more (acts s xs behind)) (sym (ap shape_of g.asked))
+          ∙ rest.took
+          ∙ more_before (is_effect act) (effects_in k steps) n
+          ∙ ap (λ (b : Bool). more_if b (effects_in k steps) + n) (sym g.takes);
+      configures = try_configures fate m t place (deeds_in k steps) (effects_in k steps) s g rest.configures;
+    }
 
 over_counts : (fate : Fate) (steps : List MemberStep) (m : Member) (t : Transfer) (place : Place) (n : ℕ) → m.transfer ≡ Some t → BeginsNone steps → Stood m t place → is_running t.ends.stage ≡ false → Behind steps
-    → Counts fate steps m t place n None (Some t)
+    → CountsTry fate steps m t place n None (Some t)
 over_counts fate steps m t place n has none s over later =
     let shape = shape_of t.ends.setup in
     let closed : is_open place ≡ false = sym (runs_so core_table (sends_of t.request) place (ends_at m t) s.stands) ∙ over in
-    ap (counts_for (is_configure t.request) n) (closed_acts shape (try_at fate m (Some t) ++ tries_of m steps) place closed ∙ sym (closed_acts shape (tries_of m steps) place closed))
-    ∙ later m t place n has none s
+    let rest = later m t place n has none s in
+    record {
+      took = ap (effects n) (closed_acts shape (try_at fate m (Some t) ++ tries_of m steps) place closed ∙ sym (closed_acts shape (tries_of m steps) place closed)) ∙ rest.took;
+      configures = rest.configures;
+    }
 
 pub counted : (steps : List MemberStep) → Behind steps
-counted [] m t place n has none s = none_counts (is_configure t.request) n
+counted [] m t place n has none s = record { took = none_yet n; configures = none_counts (is_configure t.request) }
 counted (Scheduled x ∷ steps) m t place n has none s =
-    counted steps (member_after m (Scheduled x)) t place n has none (stood_scheduled x m t place s)
-    ∙ ap (λ (c : ℕ). c + n) (sym (own_deed m.host x (deeds_in (member_after m (Scheduled x)) steps)))
+    let rest = counted steps (member_after m (Scheduled x)) t place n has none (stood_scheduled x m t place s) in
+    record { took = rest.took; configures = own_deed m.host x (deeds_in (member_after m (Scheduled x)) steps) ∙ rest.configures }
 counted (Begins request ∷ steps) m t place n has none s = absurd none
+counted (Resets ∷ steps) m t place n has none s = absurd none
 counted (Controls fate ∷ steps) m t place n has none s = elim (cases_Bool (is_running t.ends.stage)) [
   | inl runs ↦
-      subst (λ (o : Option Transfer). Counts fate steps m t place n o m.transfer) (sym (runs_as m t has ∙ ap (λ (b : Bool). if b then Some t else None) runs))
-      (subst (λ (o : Option Transfer). Counts fate steps m t place n (Some t) o) (sym has) (try_counts fate steps m t place n none s runs (counted steps)))
+      subst (λ (o : Option Transfer). CountsTry fate steps m t place n o m.transfer) (sym (runs_as m t has ∙ ap (λ (b : Bool). if b then Some t else None) runs))
+      (subst (λ (o : Option Transfer). CountsTry fate steps m t place n (Some t) o) (sym has) (try_counts fate steps m t place n none s runs (counted steps)))
   | inr over ↦
-      subst (λ (o : Option Transfer). Counts fate steps m t place n o m.transfer) (sym (runs_as m t has ∙ ap (λ (b : Bool). if b then Some t else None) over))
-      (subst (λ (o : Option Transfer). Counts fate steps m t place n None o) (sym has) (over_counts fate steps m t place n has none s over (counted steps)))
+      subst (λ (o : Option Transfer). CountsTry fate steps m t place n o m.transfer) (sym (runs_as m t has ∙ ap (λ (b : Bool). if b then Some t else None) over))
+      (subst (λ (o : Option Transfer). CountsTry fate steps m t place n None o) (sym has) (over_counts fate steps m t place n has none s over (counted steps)))
 ]

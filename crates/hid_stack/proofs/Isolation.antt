@@ -14,13 +14,13 @@ use Rattle.hid_cells.proofs.ItemLemmas.{set_here, set_there}
 use Rattle.hid_lives.specs.Rounds.{OwnStep, Changes, Polls}
 use Rattle.hid_lives.specs.Rounds as own_steps
 use Rattle.hid_stack.specs.declared.step.Step.{Step}
-use Rattle.hid_stack.specs.declared.step.Step.TheVariants.{Change, Frame, Poll, Begin, Control}
+use Rattle.hid_stack.specs.declared.step.Step.TheVariants.{Change, Frame, Poll, Begin, Control, Reset}
 use Rattle.hid_stack.specs.declared.step.Delivered.{Delivered}
 use Rattle.hid_lives.specs.Following.{FollowsLife, course_from}
 use Rattle.hid_lives.specs.Lives.{course_behind, happenings, told_in}
 use Rattle.hid_lives.specs.Stations.{Station, after_all, events_in}
 use Rattle.hid_host.specs.Host.{running}
-use Rattle.hid_stack.specs.Members.{Member, MemberStep, Scheduled, Begins, Controls, deed_at, deeds_in, events_by, member_after, member_after_all}
+use Rattle.hid_stack.specs.Members.{Member, MemberStep, Scheduled, Begins, Controls, Resets, deed_at, deeds_in, events_by, member_after, member_after_all}
 use Rattle.hid_stack.specs.Rig.{HasOnlySchedule, member_at, with_member, one_after, bus_after, tagged, one_delivers, delivered_at, bus_after_all, delivered_in, is_scheduled, member_step, member_steps, own_step, own, own_event, from_device, IsIsolated}
 use Rattle.hid_stack.specs.Headline.{DeliversChanges, DevicesLive, KeepsToRounds}
 use Rattle.hid_lives.proofs.LifeLemmas.{lives_on}
@@ -53,7 +53,7 @@ with_other members d dev m k n ne g h =
     at_place (with_member members d n) dev some ∙ set_there members (d - 1) (dev - 1) n apart ∙ sym (at_place members dev some) ∙ h
 
 -- one step of the bus, at one device
-abbrev after_own : Member → Option MemberStep → Member
+abbrev pub after_own : Member → Option MemberStep → Member
 after_own m None = m
 after_own m (Some x) = member_after m x
 
@@ -92,15 +92,16 @@ member_at-map f members device m h =
     let some = no_zero members device m h in
     at_place (map f members) device some ∙ slice_get-map f members (device - 1) ∙ ap (option_map f) (sym (at_place members device some) ∙ h)
 
-step_state : (device : ℕ) (members : List Member) (m : Member) (x : Step) → member_at members device ≡ Some m → member_at (bus_after members x) device ≡ Some (after_own m (member_step device x))
+pub step_state : (device : ℕ) (members : List Member) (m : Member) (x : Step) → member_at members device ≡ Some m → member_at (bus_after members x) device ≡ Some (after_own m (member_step device x))
 step_state device members m (Change d change) h = one_state d device members m (Scheduled (Changes change)) h
 step_state device members m Frame h = member_at-map (λ (n : Member). member_after n (Scheduled own_steps.Frame)) members device m h
 step_state device members m (Poll d fate) h = one_state d device members m (Scheduled (Polls fate)) h
 step_state device members m (Begin d request) h = one_state d device members m (Begins request) h
 step_state device members m (Control d fate) h = one_state d device members m (Controls fate) h
+step_state device members m (Reset d) h = one_state d device members m Resets h
 
 -- what one step delivers of one device
-from_append : (device : ℕ) (xs ys : List Delivered) → from_device device (xs ++ ys) ≡ from_device device xs ++ from_device device ys
+pub from_append : (device : ℕ) (xs ys : List Delivered) → from_device device (xs ++ ys) ≡ from_device device xs ++ from_device device ys
 from_append device [] ys = refl
 from_append device (x ∷ xs) ys = elim (own_event device x) as (λ (o : Option Event). cons_option o (from_device device (xs ++ ys)) ≡ cons_option o (from_device device xs) ++ from_device device ys)
     [ None ↦ from_append device xs ys | Some e ↦ ap (λ (es : List Event). e ∷ es) (from_append device xs ys) ]
@@ -109,7 +110,7 @@ from_tagged_same : (device : ℕ) (es : List Event) → eqb device device ≡ tr
 from_tagged_same device [] h = refl
 from_tagged_same device (e ∷ es) h = rw h (ap (λ (es : List Event). e ∷ es) (from_tagged_same device es h))
 
-from_tagged_other : (d device : ℕ) (es : List Event) → eqb d device ≡ false → from_device device (map (tagged d) es) ≡ []
+pub from_tagged_other : (d device : ℕ) (es : List Event) → eqb d device ≡ false → from_device device (map (tagged d) es) ≡ []
 from_tagged_other d device [] h = refl
 from_tagged_other d device (e ∷ es) h = rw h (from_tagged_other d device es h)
 
@@ -146,9 +147,10 @@ step_events device members m Frame h = refl
 step_events device members m (Poll d fate) h = one_told d device members m (Scheduled (Polls fate)) h
 step_events device members m (Begin d request) h = quiet_own m d device (Begins request) refl
 step_events device members m (Control d fate) h = quiet_own m d device (Controls fate) (tried_quiet (items_of m.layout) m.station fate m (running m.transfer))
+step_events device members m (Reset d) h = one_told d device members m Resets h
 
 -- one more own step
-own_states : (m : Member) (o : Option MemberStep) (steps : List MemberStep) → member_after_all (after_own m o) steps ≡ member_after_all m (cons_option o steps)
+pub own_states : (m : Member) (o : Option MemberStep) (steps : List MemberStep) → member_after_all (after_own m o) steps ≡ member_after_all m (cons_option o steps)
 own_states m None steps = refl
 own_states m (Some x) steps = refl
 
@@ -167,18 +169,24 @@ states (x ∷ steps) members device m h =
     states steps (bus_after members x) device (after_own m (member_step device x)) (step_state device members m x h)
     ∙ ap (λ (t : Member). Some t) (own_states m (member_step device x) (member_steps device steps))
 
+-- one step, and what is delivered behind it
+pub told_behind : (x : Step) (rest : List Delivered) (steps : List Step) (members : List Member) (device : ℕ) (m : Member) → member_at members device ≡ Some m
+    → (let own = after_own m (member_step device x) in from_device device rest ≡ told_in (items_of own.layout) own.station (deeds_in own (member_steps device steps)))
+    → from_device device (delivered_at members x ++ rest) ≡ told_in (items_of m.layout) m.station (deeds_in m (member_steps device (x ∷ steps)))
+told_behind x rest steps members device m h later =
+    let own = after_own m (member_step device x) in
+    let here = ap (λ (l : Contents). told_in (items_of l) own.station (deeds_in own (member_steps device steps))) (after_own-layout m (member_step device x)) in
+    from_append device (delivered_at members x) rest
+    ∙ ap (λ (es : List Event). es ++ from_device device rest) (step_events device members m x h)
+    ∙ ap (λ (es : List Event). own_events m (member_step device x) ++ es) (later ∙ here)
+    ∙ own_told m (member_step device x) (member_steps device steps)
+
 told : (steps : List Step) (members : List Member) (device : ℕ) (m : Member) → member_at members device ≡ Some m
     → from_device device (delivered_in members steps) ≡ told_in (items_of m.layout) m.station (deeds_in m (member_steps device steps))
 told [] members device m h = refl
 told (x ∷ steps) members device m h =
-    let own = after_own m (member_step device x) in
-    let later : from_device device (delivered_in (bus_after members x) steps) ≡ told_in (items_of own.layout) own.station (deeds_in own (member_steps device steps))
-    = told steps (bus_after members x) device own (step_state device members m x h) in
-    let here = ap (λ (l : Contents). told_in (items_of l) own.station (deeds_in own (member_steps device steps))) (after_own-layout m (member_step device x)) in
-    from_append device (delivered_at members x) (delivered_in (bus_after members x) steps)
-    ∙ ap (λ (es : List Event). es ++ from_device device (delivered_in (bus_after members x) steps)) (step_events device members m x h)
-    ∙ ap (λ (es : List Event). own_events m (member_step device x) ++ es) (later ∙ here)
-    ∙ own_told m (member_step device x) (member_steps device steps)
+    told_behind x (delivered_in (bus_after members x) steps) steps members device m h
+    (told steps (bus_after members x) device (after_own m (member_step device x)) (step_state device members m x h))
 
 pub isolated : (members after : List Member) (steps : List Step) (old new : List Delivered) → after ≡ bus_after_all members steps → new ≡ old ++ delivered_in members steps → IsIsolated members after steps old new
 isolated members after steps old new states_are told_are = record {
@@ -207,6 +215,11 @@ only_step device (Begin d request) h = by_number (eqb d device) h
 only_step device (Control d fate) h = by_number (eqb d device) h
   where
     by_number : (b : Bool) → not b ≡ true → cond b (Some (Controls fate)) None ≡ None
+    by_number true k = absurd (cc)
+    by_number false k = refl
+only_step device (Reset d) h = by_number (eqb d device) h
+  where
+    by_number : (b : Bool) → not b ≡ true → cond b (Some Resets) None ≡ None
     by_number true k = absurd (cc)
     by_number false k = refl
 

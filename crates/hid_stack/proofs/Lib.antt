@@ -9,7 +9,9 @@ pub mod WholeLemmas
 pub mod SumLemmas
 pub mod RoomLemmas
 pub mod RigLemmas
+pub mod ResetLemmas
 pub mod AttachLemmas
+pub mod StoryLemmas
 pub mod AnswerLemmas
 pub mod NamedLemmas
 mod Vectors

@@ -9,6 +9,7 @@ use Rattle.usb_control.specs.Device.{Answers, Applies, Decides, DevControlState,
 use Rattle.usb_control.specs.Host.{HostTransferState}
 use Rattle.hid_requests.specs.declared.request.Request.{Request}
 use Rattle.hid_lives.specs.Lives.{Deed, Own, Idles, Configures, befallen, befallen_all, owns, told_in}
+use Rattle.hid_lives.specs.Lives as lives
 use Rattle.hid_lives.specs.Motion.{AreBetweenRounds}
 use Rattle.hid_lives.specs.Rounds.{OwnStep, Changes, Frame, Polls}
 use Rattle.hid_lives.specs.Stations.{Station, after_all}
@@ -17,7 +18,7 @@ use Rattle.hid_host.specs.declared.host.Transfer.{Transfer}
 use Rattle.hid_host.specs.declared.phase.HostState.{HostState}
 use Rattle.hid_host.specs.declared.phase.HostState.TheVariants as states
 use Rattle.hid_host.specs.Host.{running}
-use Rattle.hid_stack.specs.Members.{Member, MemberStep, Scheduled, Begins, Controls, befallen_by, begin_refusal_at, begun_unless, brought_deed, control_at, deed_at, deeds_in, effect_deed, events_by, member_after, member_after_all, scheduled_deed, tried_deed, tried_of, unconcluded_of, written_deed}
+use Rattle.hid_stack.specs.Members.{Member, MemberStep, Scheduled, Begins, Controls, Resets, befallen_by, begin_refusal_at, begun_unless, brought_deed, control_at, deed_at, deeds_in, effect_deed, events_by, member_after, member_after_all, scheduled_deed, tried_deed, tried_of, unconcluded_of, written_deed}
 use Rattle.hid_layout.specs.Layout.{Contents}
 use Rattle.hid_device.specs.declared.config.Config.{Config}
 use Rattle.hid_device.specs.declared.decisions.Pending.{Pending}
@@ -48,6 +49,7 @@ made_stays : (m : Member) (x : MemberStep) → made_of (member_after m x) ≡ ma
 made_stays m (Scheduled x) = refl
 made_stays m (Begins request) = begun_made (begin_refusal_at m request) m request
 made_stays m (Controls fate) = tried_made fate m (running m.transfer)
+made_stays m Resets = refl
 
 made_stays_all : (xs : List MemberStep) (m : Member) → made_of (member_after_all m xs) ≡ made_of m
 made_stays_all [] m = refl
@@ -78,6 +80,7 @@ pub station_is : (m : Member) (x : MemberStep) → (member_after m x).station �
 station_is m (Scheduled x) = refl
 station_is m (Begins request) = begun_station (begin_refusal_at m request) m request
 station_is m (Controls fate) = tried_station fate m (running m.transfer)
+station_is m Resets = refl
 
 -- a try that isn't concluded leaves both as one that is
 pub unconcluded_layout : (fate : Fate) (m : Member) (o : Option Transfer) → (unconcluded_of fate m o).layout ≡ m.layout
@@ -88,9 +91,10 @@ pub unconcluded_station : (fate : Fate) (m : Member) (o : Option Transfer) → (
 unconcluded_station fate m None = refl
 unconcluded_station fate m (Some t) = refl
 
--- what a try brings about is no step of the schedule
+-- what a try brings about is no step of the schedule, and no reset
 abbrev pub IsEffect : Option Deed → Type 0
 IsEffect (Some (Own x)) = ⊥
+IsEffect (Some lives.Resets) = ⊥
 IsEffect _ = Unit {0}
 
 written_effect : (core : CoreState) (pending : Pending) → IsEffect (written_deed core pending)
@@ -117,6 +121,7 @@ quiet_effect items s None is = refl
 quiet_effect items s (Some (Own x)) is = absurd is
 quiet_effect items s (Some (Idles idle)) is = refl
 quiet_effect items s (Some Configures) is = refl
+quiet_effect items s (Some lives.Resets) is = absurd is
 
 pub tried_quiet : (items : List Item) (s : Station) (fate : Fate) (m : Member) (o : Option Transfer) → events_by items s (tried_deed fate m o) ≡ []
 tried_quiet items s fate m None = refl

@@ -15,7 +15,7 @@ use Rattle.usb_control.specs.declared.fault.ControlFault.TheVariants.{NoTransfer
 use Rattle.usb_control.specs.declared.host.Progress.{Progress}
 use Rattle.usb_control.specs.Host.{progress_of}
 use Rattle.hid_requests.specs.declared.request.Request.{Request}
-use Rattle.hid_lives.specs.Rounds.{Changes, Polls}
+use Rattle.hid_lives.specs.Rounds.{Changes}
 use Rattle.hid_lives.specs.Standing.{Standing}
 use Rattle.hid_host.specs.declared.fault.StackFault.{StackFault}
 use Rattle.hid_host.specs.declared.fault.StackFault.TheVariants.{NoDevice, Refused, Memory}
@@ -23,12 +23,12 @@ use Rattle.hid_host.specs.declared.fault.StackFault.TheVariants as faults
 use Rattle.hid_host.specs.declared.host.Transfer.{Transfer}
 use Rattle.hid_host.specs.Host.{running}
 use Rattle.hid_stack.specs.declared.step.Delivered.{Delivered}
-use Rattle.hid_stack.specs.declared.step.Step.TheVariants.{Change as ChangeStep, Poll, Begin, Control}
+use Rattle.hid_stack.specs.declared.step.Step.TheVariants.{Change as ChangeStep, Poll, Begin, Control, Reset}
 use Rattle.hid_stack.specs.declared.step.Told.{Told}
 use Rattle.hid_stack.specs.declared.step.Told.TheVariants.{Quiet}
 use Rattle.hid_stack.specs.declared.step.Told.TheVariants as tellings
 use Rattle.hid_stack.specs.Members.{Member, MemberStep, Scheduled, Controls, begin_refusal_at, deed_at, ends_tried_at, events_by, member_after, tried_of, unconcluded_of}
-use Rattle.hid_stack.specs.Rig.{GivesMore, TakesMemory, member_at, with_member, one_after, one_unconcluded, tagged, delivered_at, change_refusal, control_refusal, poll_refusal, refusal, refused_after, IsRefusal, HasRoomFor, most_events}
+use Rattle.hid_stack.specs.Rig.{GivesMore, TakesMemory, member_at, with_member, one_after, one_delivers, one_unconcluded, tagged, change_refusal, control_refusal, poll_refusal, refusal, refused_after, IsRefusal, HasRoomFor}
 use Rattle.hid_stack.specs.Slot.{TriesTransfer}
 use Rattle.hid_stack.specs.Sums.{ConfiguresBetweenRounds, IsBetween}
 use Rattle.hid_stack.specs.Tells.{TellsPoll, TellsTry, Tells}
@@ -105,11 +105,12 @@ poll_tells members dev i m fate r at_place tells =
     IfOk-weaker r (λ told. TellsPoll m.layout m.station fate told) (λ told. Tells members (Poll dev fate) told)
     (λ told h. subst (λ (o : Option Member). elim o as (λ _. Type 0) [ None ↦ ⊥ | Some k ↦ TellsPoll k.layout k.station fate told ]) (sym at_place.here) h) tells
 
-pub poll_delivers : (members : List Member) (dev i : ℕ) (m : Member) (fate : Fate) (r : Result Told StackFault) (old new : List Delivered) → IsNamed members dev i m
-    → OnOk r (new ≡ old ++ map (tagged dev) (events_by (items_of m.layout) m.station (deed_at m (Scheduled (Polls fate))))) → OnOk r (new ≡ old ++ delivered_at members (Poll dev fate))
-poll_delivers members dev i m fate r old new at_place told =
-    let one : delivered_at members (Poll dev fate) ≡ map (tagged dev) (events_by (items_of m.layout) m.station (deed_at m (Scheduled (Polls fate))))
-    = ap (λ (o : Option Member). elim o as (λ _. List Delivered) [ None ↦ [] | Some k ↦ map (tagged dev) (events_by (items_of k.layout) k.station (deed_at k (Scheduled (Polls fate)))) ]) at_place.here in
+-- what a step of it delivers
+pub one_delivered : (members : List Member) (dev i : ℕ) (m : Member) (x : MemberStep) (r : Result Told StackFault) (old new : List Delivered) → IsNamed members dev i m
+    → OnOk r (new ≡ old ++ map (tagged dev) (events_by (items_of m.layout) m.station (deed_at m x))) → OnOk r (new ≡ old ++ one_delivers members dev x)
+one_delivered members dev i m x r old new at_place told =
+    let one : one_delivers members dev x ≡ map (tagged dev) (events_by (items_of m.layout) m.station (deed_at m x))
+    = ap (λ (o : Option Member). elim o as (λ _. List Delivered) [ None ↦ [] | Some k ↦ map (tagged dev) (events_by (items_of k.layout) k.station (deed_at k x)) ]) at_place.here in
     on_ok_weaker r (λ h. h ∙ sym (ap (λ (es : List Delivered). old ++ es) one)) told
 
 poll_stands : (members : List Member) (dev i : ℕ) (m : Member) (fate : Fate) → IsNamed members dev i m → refusal members (Poll dev fate) ≡ poll_refusal m.host
@@ -130,17 +131,32 @@ poll_only members dev i m fate (Ok told) at_place only = tt
 poll_only members dev i m fate (Err fault) at_place (inl stands) = inl (poll_stands members dev i m fate at_place ∙ stands)
 poll_only members dev i m fate (Err fault) at_place (inr (none, memory)) = inr (poll_stands members dev i m fate at_place ∙ none, memory, tt)
 
-pub poll_has_room : (members : List Member) (dev i : ℕ) (m : Member) (fate : Fate) (r : Result Told StackFault) (used capacity : ℕ) → IsNamed members dev i m
-    → (used + max_events (items_of m.layout) ≤ capacity → r ≢ Err Memory) → HasRoomFor members (Poll dev fate) used capacity → r ≢ Err Memory
-poll_has_room members dev i m fate r used capacity at_place enough room =
+-- with room for what a poll or a reset of it delivers, memory isn't wanting
+pub enough_room : (members : List Member) (dev i : ℕ) (m : Member) (r : Result Told StackFault) (used capacity : ℕ) → IsNamed members dev i m
+    → (used + max_events (items_of m.layout) ≤ capacity → r ≢ Err Memory)
+    → IfSome (member_at members dev) (λ (k : Member). used + max_events (items_of k.layout) ≤ capacity) → r ≢ Err Memory
+enough_room members dev i m r used capacity at_place enough room =
     enough (subst (λ (o : Option Member). IfSome o (λ (k : Member). used + max_events (items_of k.layout) ≤ capacity)) at_place.here room)
 
-pub poll_few : (members : List Member) (dev i : ℕ) (m : Member) (fate : Fate) (used now : ℕ) → IsNamed members dev i m
-    → now ≤ used + max_events (items_of m.layout) → now ≤ used + most_events members (Poll dev fate)
-poll_few members dev i m fate used now at_place few =
-    let most : most_events members (Poll dev fate) ≡ max_events (items_of m.layout)
+pub few_of_it : (members : List Member) (dev i : ℕ) (m : Member) (used now : ℕ) → IsNamed members dev i m
+    → now ≤ used + max_events (items_of m.layout) → now ≤ used + (elim (member_at members dev) as (λ _. ℕ) [ None ↦ 0 | Some k ↦ max_events (items_of k.layout) ])
+few_of_it members dev i m used now at_place few =
+    let most : (elim (member_at members dev) as (λ _. ℕ) [ None ↦ 0 | Some k ↦ max_events (items_of k.layout) ]) ≡ max_events (items_of m.layout)
     = ap (λ (o : Option Member). elim o as (λ _. ℕ) [ None ↦ 0 | Some k ↦ max_events (items_of k.layout) ]) at_place.here in
     subst (λ (n : ℕ). now ≤ used + n) (sym most) few
+
+-- a reset of it
+reset_stands : (members : List Member) (dev i : ℕ) (m : Member) → IsNamed members dev i m → refusal members (Reset dev) ≡ None
+reset_stands members dev i m at_place =
+    ap (λ (o : Option Member). elim o as (λ _. Option StackFault) [ None ↦ Some NoDevice | Some k ↦ None ]) at_place.here
+
+pub reset_refused : (members : List Member) (dev i : ℕ) (m : Member) (r : Result Told StackFault) → IsNamed members dev i m → (e : StackFault) → refusal members (Reset dev) ≡ Some e → r ≡ Err e
+reset_refused members dev i m r at_place e stands =
+    let wrong : None ≡ Some e = sym (reset_stands members dev i m at_place) ∙ stands in absurd (cc)
+
+pub reset_only : (members : List Member) (dev i : ℕ) (m : Member) (r : Result Told StackFault) → IsNamed members dev i m → IfErr r (λ fault. fault ≡ Memory) → IfErr r (λ e. IsRefusal members (Reset dev) e)
+reset_only members dev i m (Ok told) at_place only = tt
+reset_only members dev i m (Err fault) at_place only = inr (reset_stands members dev i m at_place, only, tt)
 
 -- a request that begins
 abbrev pub begin_told : Result (Unit {0}) StackFault → Result Told StackFault
@@ -188,10 +204,10 @@ begin_err slots members dev i m n request (Ok _) r same at_place told err = subs
 begin_err slots members dev i m n request (Err fault) r same at_place told err =
     subst (λ (o : Result Told StackFault). IfErr o (λ e. slice_set slots i n ≡ refused_after members (Begin dev request) e)) (sym told) (stays slots members dev i m n same at_place err)
 
-pub poll_err : (slots members : List Member) (dev i : ℕ) (m n : Member) (fate : Fate) (r : Result Told StackFault) (P : Type 0) → slots ≡ members → IsNamed members dev i m
-    → OnErr r ((n ≡ m) × P) → IfErr r (λ e. slice_set slots i n ≡ refused_after members (Poll dev fate) e)
-poll_err slots members dev i m n fate (Ok told) P same at_place err = tt
-poll_err slots members dev i m n fate (Err fault) P same at_place err = stays slots members dev i m n same at_place err.0
+pub stays_refused : (slots members : List Member) (dev i : ℕ) (m n : Member) (r : Result Told StackFault) (P : Type 0) → slots ≡ members → IsNamed members dev i m
+    → OnErr r ((n ≡ m) × P) → IfErr r (λ e. slice_set slots i n ≡ members)
+stays_refused slots members dev i m n (Ok told) P same at_place err = tt
+stays_refused slots members dev i m n (Err fault) P same at_place err = stays slots members dev i m n same at_place err.0
 
 pub change_err : (slots members : List Member) (dev i : ℕ) (m n : Member) (change : Change) (done : Result (Unit {0}) ChangeFault) (r : Result Told StackFault) → slots ≡ members → IsNamed members dev i m → r ≡ change_told done
     → snapshots.Changes (items_of m.layout) m.station.standing.snapshot change done n.station.standing.snapshot → n ≡ member_after m (Scheduled (Changes change))

@@ -1,6 +1,6 @@
 -- Room for what steps deliver: no step changes a layout, so behind any steps a device delivers as many events at most.
 use Rattle.std.proofs.Common.{◌≡◌, ◌∙◌, ◌≤◌, ◌<◌, ◌+◌, ◌-◌, ◌++◌, ℕ, zero, suc, Bool, true, false, List, [], ◌∷◌, length, map, take, get_or, cond, eqb, not, Option, Some, None, Result, Ok, Err, refl, ap, sym, subst, arith}
-use Rattle.std.specs.Prelude.{slice_get, IfSome}
+use Rattle.std.specs.Prelude.{slice_get, IfOk, IfSome}
 use Rattle.std.specs.Option.{option_map}
 use Rattle.std.proofs.Math.Seq.{map-set_same}
 use Rattle.std.proofs.lemmas.Bool.Decides.{nat_tests}
@@ -13,17 +13,17 @@ use Rattle.hid_layout.specs.Layout.{Contents}
 use Rattle.hid_lives.specs.Rounds.{Changes, Polls}
 use Rattle.hid_lives.specs.Rounds as own_steps
 use Rattle.hid_stack.specs.declared.step.Step.{Step}
-use Rattle.hid_stack.specs.declared.step.Step.TheVariants.{Change, Frame, Poll, Begin, Control}
-use Rattle.hid_stack.specs.Members.{Member, MemberStep, Scheduled, Begins, Controls, member_after}
+use Rattle.hid_stack.specs.declared.step.Step.TheVariants.{Change, Frame, Poll, Begin, Control, Reset}
+use Rattle.hid_stack.specs.Members.{Member, MemberStep, Scheduled, Begins, Controls, Resets, member_after}
 use Rattle.hid_stack.specs.Rig.{AreScheduled, member_at, with_member, one_after, bus_after, bus_after_all, HasRoomFor, is_scheduled, most_events, most_in, refusal, refused_after, stopped_after, IsRefusal, NoneIsRefused, StopsAt}
 use Rattle.hid_stack.specs.declared.step.Told.{Told}
 use Rattle.hid_host.specs.declared.fault.StackFault.{StackFault}
 use Rattle.hid_stack.proofs.MemberLemmas.{layout_stays}
 
-abbrev layout_of_member : Member → Contents
+abbrev pub layout_of_member : Member → Contents
 layout_of_member m = m.layout
 
-abbrev layouts : List Member → List Contents
+abbrev pub layouts : List Member → List Contents
 layouts members = map layout_of_member members
 
 found_layout : (members : List Member) (i : ℕ) (m : Member) → slice_get members i ≡ Some m → m.layout ≡ (get_or members i m).layout
@@ -40,12 +40,13 @@ one_layouts members dev x = by_member (member_at members dev) refl
     by_member None e = refl
     by_member (Some m) e = map-set_same layout_of_member members (dev - 1) (member_after m x) m (layout_stays m x ∙ by_number (eqb dev 0) m e)
 
-bus_layouts : (members : List Member) (x : Step) → layouts (bus_after members x) ≡ layouts members
+pub bus_layouts : (members : List Member) (x : Step) → layouts (bus_after members x) ≡ layouts members
 bus_layouts members (Change dev change) = one_layouts members dev (Scheduled (Changes change))
 bus_layouts members Frame = map-map layout_of_member (λ (m : Member). member_after m (Scheduled own_steps.Frame)) members
 bus_layouts members (Poll dev fate) = one_layouts members dev (Scheduled (Polls fate))
 bus_layouts members (Begin dev request) = one_layouts members dev (Begins request)
 bus_layouts members (Control dev fate) = one_layouts members dev (Controls fate)
+bus_layouts members (Reset dev) = one_layouts members dev Resets
 
 all_layouts : (members : List Member) (steps : List Step) → layouts (bus_after_all members steps) ≡ layouts members
 all_layouts members [] = refl
@@ -70,16 +71,20 @@ most_named members dev = by_number (eqb dev 0)
     by_number true = refl
     by_number false = by_member (slice_get members (dev - 1)) ∙ sym (ap most_of (slice_get-map layout_of_member members (dev - 1)))
 
+named_same : (members : List Member) (steps : List Step) (dev : ℕ) → polled_most (member_at (bus_after_all members steps) dev) ≡ polled_most (member_at members dev)
+named_same members steps dev =
+    most_named (bus_after_all members steps) dev
+    ∙ ap (λ (ls : List Contents). most_of (cond (eqb dev 0) None (slice_get ls (dev - 1)))) (all_layouts members steps)
+    ∙ sym (most_named members dev)
+
 -- what a step can deliver is the same behind any steps
 most_same : (members : List Member) (steps : List Step) (x : Step) → most_events (bus_after_all members steps) x ≡ most_events members x
 most_same members steps (Change dev change) = refl
 most_same members steps Frame = refl
 most_same members steps (Begin dev request) = refl
 most_same members steps (Control dev fate) = refl
-most_same members steps (Poll dev fate) =
-    most_named (bus_after_all members steps) dev
-    ∙ ap (λ (ls : List Contents). most_of (cond (eqb dev 0) None (slice_get ls (dev - 1)))) (all_layouts members steps)
-    ∙ sym (most_named members dev)
+most_same members steps (Poll dev fate) = named_same members steps dev
+most_same members steps (Reset dev) = named_same members steps dev
 
 most_push : (members : List Member) (steps : List Step) (x : Step) → most_in members (steps ++ x ∷ []) ≡ most_in members steps + most_events members x
 most_push members [] x = omega arith
@@ -114,6 +119,7 @@ has_room members (Poll dev fate) used capacity none room = by_member (member_at 
     by_member : (o : Option Member) → used + polled_most o ≤ capacity → IfSome o (λ (m : Member). used + max_events (items_of m.layout) ≤ capacity)
     by_member None h = tt
     by_member (Some m) h = h
+has_room members (Reset dev) used capacity none room = absurd (names_itself dev (none dev))
 has_room members (Begin dev request) used capacity none room = absurd (names_itself dev (none dev))
 has_room members (Control dev fate) used capacity none room = absurd (names_itself dev (none dev))
 
@@ -163,3 +169,8 @@ pub goes_on_more : (members mid : List Member) (steps : List Step) (i : ℕ) (d 
 goes_on_more members mid steps i d lt before none here =
     subst (NoneIsRefused members) (sym (take_more steps i d lt))
     (none_push (take i steps) members (get_or steps i d) none (subst (λ (ms : List Member). refusal ms (get_or steps i d) ≡ None) before here))
+
+-- what a request that begins names fits its setup
+pub fits_of : (r : Result Told StackFault) (told : Told) {P : Type 0} → r ≡ Ok told → IfOk r (λ told. P) → P
+fits_of (Ok t) told is fits = fits
+fits_of (Err e) told is fits = absurd (cc)

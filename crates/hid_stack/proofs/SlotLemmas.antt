@@ -20,8 +20,8 @@ use Rattle.hid_host.specs.Knowing.{Knows, LeavesTransfers, with_core}
 use Rattle.hid_host.specs.Phase.{state_of}
 use Rattle.hid_host.specs.Ready.{Known}
 use Rattle.hid_host.specs.declared.phase.HostState.TheVariants as states
-use Rattle.hid_stack.specs.declared.rig.Start.{Start}
-use Rattle.hid_stack.specs.declared.rig.Start.TheVariants as starts
+use Rattle.hid_host.specs.declared.phase.Start.{Start}
+use Rattle.hid_host.specs.declared.phase.Start.TheVariants as starts
 use Rattle.hid_stack.specs.Attaching.{Suits, IsNoPair, member_at_start}
 use Rattle.hid_host.specs.Conclusions.{IsNoLayout}
 use Rattle.hid_host.specs.Host.{HostEnd, cold_host, ready_host}
@@ -37,7 +37,7 @@ no_pair addr config descriptor (faults.BadDescriptor (Layout f)) made law (fits,
 no_pair addr config descriptor (faults.BadDescriptor (Device f)) made law makes none = absurd none
 no_pair addr config descriptor (faults.BadDescriptor (Info f)) made law makes none = absurd none
 no_pair addr config descriptor (faults.BadDescriptor ReportLength) made law makes none = absurd none
-no_pair addr config descriptor faults.Memory made law makes none = tt
+no_pair addr config descriptor faults.Memory made law (fits, (layout, serves, is)) none = (fits, none)
 no_pair addr config descriptor faults.NoDevice made law makes none = absurd none
 no_pair addr config descriptor faults.NotReady made law makes none = absurd none
 no_pair addr config descriptor (faults.Refused f) made law makes none = absurd none

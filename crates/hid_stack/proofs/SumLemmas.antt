@@ -12,6 +12,7 @@ use Rattle.hid_layout.specs.Layout.{Contents}
 use Rattle.usb_transact.specs.declared.transaction.Fate.{Fate}
 use Rattle.hid_layout.specs.declared.control.ControlId.{ControlId}
 use Rattle.hid_lives.specs.Lives.{Deed, Own, Idles, Configures, befallen, befallen_all, told_in}
+use Rattle.hid_lives.specs.Lives as lives
 use Rattle.hid_lives.specs.Motion.{AreBetweenRounds, given_motion, Conserves, station_motion, accepted_in, HasMotions}
 use Rattle.hid_lives.specs.Rounds.{Changes, Polls}
 use Rattle.hid_lives.specs.Rounds as own_steps
@@ -24,9 +25,9 @@ use Rattle.hid_host.specs.Host.{running}
 use Rattle.hid_host.specs.declared.phase.HostState.{HostState}
 use Rattle.hid_host.specs.declared.phase.HostState.TheVariants as states
 use Rattle.hid_stack.specs.declared.step.Step.{Step}
-use Rattle.hid_stack.specs.declared.step.Step.TheVariants.{Change, Frame, Poll, Begin, Control}
+use Rattle.hid_stack.specs.declared.step.Step.TheVariants.{Change, Frame, Poll, Begin, Control, Reset}
 use Rattle.hid_stack.specs.declared.step.Delivered.{Delivered}
-use Rattle.hid_stack.specs.Members.{Member, MemberStep, Scheduled, Begins, Controls, befallen_by, brought_deed, control_at, deed_at, deeds_in, member_after, member_after_all, scheduled_deed, tried_deed, unconcluded_of}
+use Rattle.hid_stack.specs.Members.{Member, MemberStep, Scheduled, Begins, Controls, Resets, befallen_by, brought_deed, control_at, deed_at, deeds_in, member_after, member_after_all, scheduled_deed, tried_deed, unconcluded_of}
 use Rattle.hid_stack.specs.Rig.{member_at, with_member, one_after, one_unconcluded, refused_after, bus_after, bus_after_all, delivered_in, member_step, member_steps, from_device}
 use Rattle.hid_stack.specs.Sums.{AllHaveMotions, ConfiguresBetweenRounds, IsBetween, RefusedKeepMotion, SumsUp}
 use Rattle.hid_stack.proofs.Isolation.{isolated, same_or_not, states as states_of, with_other, with_same}
@@ -81,6 +82,7 @@ bus_has members Frame all =
 bus_has members (Poll device fate) all = one_has members device (Scheduled (Polls fate)) all
 bus_has members (Begin device request) all = one_has members device (Begins request) all
 bus_has members (Control device fate) all = one_has members device (Controls fate) all
+bus_has members (Reset device) all = one_has members device Resets all
 
 pub all_has : (members : List Member) (steps : List Step) → AllHaveMotions members → AllHaveMotions (bus_after_all members steps)
 all_has members [] all = all
@@ -140,6 +142,7 @@ step_between device m Frame no_try = tt
 step_between device m (Poll d fate) no_try = if_between m (eqb d device) (Scheduled (Polls fate)) (λ h. polled_between m m.host fate)
 step_between device m (Begin d request) no_try = if_between m (eqb d device) (Begins request) (λ h. tt)
 step_between device m (Control d fate) no_try = absurd no_try
+step_between device m (Reset d) no_try = if_between m (eqb d device) Resets (λ h. tt)
 
 pub others_between : (members : List Member) (x : Step) → IsNoTry x → ConfiguresBetweenRounds members (x ∷ [])
 others_between members x no_try device m h = between_of m (member_step device x) (step_between device m x no_try)
@@ -182,6 +185,7 @@ motion_at m c = station_motion (items_of m.layout) m.station c
 effect_keeps : (items : List Item) (s : Station) (o : Option Deed) (c : ControlId) → HasMotions items s → IsEffect o → IsBetween s o → station_motion items (befallen_by items s o) c ≡ station_motion items s c
 effect_keeps items s None c has is between = refl
 effect_keeps items s (Some (Own x)) c has is between = absurd is
+effect_keeps items s (Some lives.Resets) c has is between = absurd is
 effect_keeps items s (Some (Idles idle)) c has is between =
     let sum : Conserves c [] (station_motion items s c) [] (station_motion items (befallen items s (Idles idle)) c) = lives_keep items s has (Idles idle ∷ []) (between, tt) c in
     omega (arith, ints, sum)
@@ -246,6 +250,7 @@ refused_keep members (Change dev change) e device k n c all between h there = sa
 refused_keep members Frame e device k n c all between h there = same_keeps n k c (sym there ∙ h)
 refused_keep members (Poll dev fate) e device k n c all between h there = same_keeps n k c (sym there ∙ h)
 refused_keep members (Begin dev request) e device k n c all between h there = same_keeps n k c (sym there ∙ h)
+refused_keep members (Reset dev) e device k n c all between h there = same_keeps n k c (sym there ∙ h)
 
 -- the sum where a run stops
 pub sums_stop : (before mid new : List Member) (steps : List Step) (x : Step) (e : StackFault) (old out : List Delivered) → AllHaveMotions before → ConfiguresBetweenRounds before steps → ConfiguresBetweenRounds mid (x ∷ [])

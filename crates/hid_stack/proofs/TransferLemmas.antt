@@ -24,6 +24,7 @@ use Rattle.hid_lives.specs.Stations.{Station, Open}
 use Rattle.hid_device.specs.declared.device.TheConstants.{ENDPOINT}
 use Rattle.hid_requests.specs.declared.class.Protocol.{Protocol}
 use Rattle.hid_lives.specs.Lives.{Deed, Own, Idles, Configures, befallen}
+use Rattle.hid_lives.specs.Lives as lives
 use Rattle.hid_lives.specs.Standing.{with_idle}
 use Rattle.hid_device.specs.declared.decisions.Pending.{Pending}
 use Rattle.hid_device.specs.declared.decisions.Pending.TheVariants as pendings
@@ -511,6 +512,7 @@ deed_between : (s : Station) (deed : Option Deed) → (deed ≡ Some Configures 
 deed_between s None none = tt
 deed_between s (Some (Own x)) none = tt
 deed_between s (Some (Idles idle)) none = tt
+deed_between s (Some lives.Resets) none = tt
 deed_between s (Some Configures) none = none refl
 
 between_rounds : (fate : Fate) (device : DeviceState) (host : HostEnd) (t : Transfer) → (configures fate t.ends device.control ≡ true → state_of host.phase ≡ states.Parsed)

@@ -1,12 +1,11 @@
 -- Both ends of a request stand where its tries lead, whatever befalls the device between them.
-use Rattle.std.proofs.Common.{◌≡◌, ◌++◌, ◌∙◌, ◌+◌, arith, Bool, true, false, List, [], ◌∷◌, length, Option, Some, None, refl, ap, sym, subst}
+use Rattle.std.proofs.Common.{◌≡◌, ◌++◌, ◌∙◌, ◌+◌, ℕ, arith, Bool, true, false, List, [], ◌∷◌, length, Option, Some, None, refl, ap, sym, subst}
 use Rattle.std.specs.Prelude.{if◌then◌else◌}
 use Rattle.usb_transact.specs.declared.transaction.Fate.{Fate}
 use Rattle.usb_control.specs.declared.device.Heard.TheVariants as hears
 use Rattle.usb_control.specs.Meanwhile.{Ends, LeaveAnswers, Meanwhile, StandAt, Tries, Turn, decision_now, ends_tried, is_running, tries_in, turned, turned_all}
 use Rattle.usb_control.specs.declared.setup.Setup.{Setup}
-use Rattle.usb_control.specs.Host.{at_start}
-use Rattle.usb_control.specs.Runs.{acts, run}
+use Rattle.usb_control.specs.Runs.{acts, effects, run}
 use Rattle.usb_control.specs.Standing.{Stands}
 use Rattle.usb_control.specs.Transfer.{Decision, answered_bytes, shape_of, start}
 use Rattle.usb_control.proofs.LawLemmas.{begins, done_is, read_is}
@@ -22,10 +21,10 @@ use Rattle.hid_requests.specs.declared.request.Request.{Request}
 use Rattle.hid_device.specs.Core.{CoreState}
 use Rattle.hid_device.specs.Deciding.{core_table}
 use Rattle.hid_host.specs.declared.host.Transfer.{Transfer}
-use Rattle.hid_host.specs.Bringing.{answering}
-use Rattle.hid_host.specs.Host.{running}
-use Rattle.hid_stack.specs.Members.{Member, MemberStep, Scheduled, Begins, Controls, begin_refusal_at, begun_unless, control_at, core_at, deeds_in, ends_tried_at, member_after, member_after_all, tried_of, unconcluded_of}
-use Rattle.hid_stack.specs.Transfers.{BeginsNone, IsUnconcludedOnce, IsWhole, IsWholeFrom, configurations, configured_by, ends_at, setup_at, tries_of, try_at}
+use Rattle.hid_host.specs.Bringing.{answering, is_configure}
+use Rattle.hid_host.specs.Host.{running, transfer_of}
+use Rattle.hid_stack.specs.Members.{Member, MemberStep, Scheduled, Begins, Controls, Resets, begin_refusal_at, begun_unless, control_at, core_at, ends_tried_at, member_after, member_after_all, tried_of, unconcluded_of}
+use Rattle.hid_stack.specs.Transfers.{BeginsNone, IsEndedByReset, IsUnconcludedOnce, IsWhole, IsWholeFrom, effects_in, ends_at, more_if, takes_effect_at, setup_at, tries_of, try_at}
 use Rattle.hid_stack.proofs.CountLemmas.{Stood, counted, runs_as}
 
 -- ---- the steps of a member as turns of a transfer
@@ -39,12 +38,14 @@ turns_by m [] = []
 turns_by m (Controls fate ∷ steps) = Tries fate ∷ standing_as (member_after m (Controls fate)) ∷ turns_by (member_after m (Controls fate)) steps
 turns_by m (Scheduled x ∷ steps) = standing_as (member_after m (Scheduled x)) ∷ turns_by (member_after m (Scheduled x)) steps
 turns_by m (Begins request ∷ steps) = turns_by m steps
+turns_by m (Resets ∷ steps) = turns_by m steps
 
 leave_answers : (steps : List MemberStep) (m : Member) → LeaveAnswers core_table (turns_by m steps)
 leave_answers [] m = tt
 leave_answers (Controls fate ∷ steps) m = (λ core. refl, leave_answers steps (member_after m (Controls fate)))
 leave_answers (Scheduled x ∷ steps) m = (λ core. refl, leave_answers steps (member_after m (Scheduled x)))
 leave_answers (Begins request ∷ steps) m = leave_answers steps m
+leave_answers (Resets ∷ steps) m = leave_answers steps m
 
 -- the two ends behind turns
 pub record Behind (n : Member) (t : Transfer) (ends : Ends CoreState) : Type 0 where
@@ -85,6 +86,7 @@ follows (Scheduled x ∷ steps) m t has none =
     let later = follows steps (member_after m (Scheduled x)) t has none in
     record { behind = later.behind; tries = later.tries }
 follows (Begins request ∷ steps) m t has none = absurd none
+follows (Resets ∷ steps) m t has none = absurd none
 follows (Controls fate ∷ steps) m t has none =
     let n = member_after m (Controls fate) in
     let here = try_behind fate m t (is_running t.ends.stage) refl has (runs_as m t has) in
@@ -106,7 +108,7 @@ follows (Controls fate ∷ steps) m t has none =
 -- ---- a request from its begin on
 
 abbrev first_of : Member → Request → Transfer
-first_of m request = record { request = request; ends = at_start m.addr (setup_at m request) (sends_of request) }
+first_of m request = transfer_of m.addr (record { report_length = length m.descriptor }) request
 
 pub whole : (m : Member) (request : Request) (steps : List MemberStep) → Lays m.descriptor m.layout → FitsRequest request → begin_refusal_at m request ≡ None → BeginsNone steps
     → IsWhole m request steps
@@ -127,10 +129,12 @@ whole m request steps lays fits allowed none =
     (subst (λ (e : Ends CoreState). StandAt core_table (sends_of request) (run shape (tries_in core_table (ends_at begun t) turns) start) e) b.ends_are stands) in
     let once = is_once shape (tries_of begun steps) in
     let none_yet : Stood begun t start = record { asked = refl; spelled = spelled_so request asking fits (short_so m.descriptor m.layout lays); fits = fits; stands = first; decided = λ behind. absurd behind } in
-    let took : configurations (deeds_in begun steps) ≡ configured_by request (acts shape (tries_of begun steps) start)
-    = let same = counted steps begun t start 0 refl none none_yet in
-    let zero : configurations (deeds_in begun steps) + 0 ≡ configurations (deeds_in begun steps) = omega arith in
-    sym zero ∙ sym same in
+    let count = counted steps begun t start 0 refl none none_yet in
+    let all = acts shape (tries_of begun steps) start in
+    let took : effects_in begun steps ≡ effects 0 all
+    = let zero : effects_in begun steps + 0 ≡ effects_in begun steps = omega arith in sym zero ∙ sym count.took in
+    let stands_there = subst (λ (s : Setup). Stands core_table.answer_of (shape_of s) (sends_of request) (run shape (tries_of begun steps) start) b.transfer.ends (control_at (member_after_all begun steps))) asked there in
+    let is_done = (done_is core_table.answer_of shape (sends_of request) (run shape (tries_of begun steps) start) b.transfer.ends (control_at (member_after_all begun steps)) stands_there).0 in
     subst (λ (k : Member). IsWholeFrom m request steps k) (sym is_begun) (record {
       transfer = b.transfer;
       is = b.is;
@@ -139,16 +143,15 @@ whole m request steps lays fits allowed none =
       once = once;
       stands = there;
       read = λ done is_read.
-          let here = subst (λ (s : Setup). Stands core_table.answer_of (shape_of s) (sends_of request) (run shape (tries_of begun steps) start) b.transfer.ends (control_at (member_after_all begun steps))) asked there in
-          read_is core_table.answer_of shape (sends_of request) (run shape (tries_of begun steps) start) b.transfer.ends (control_at (member_after_all begun steps)) here
-          ((done_is core_table.answer_of shape (sends_of request) (run shape (tries_of begun steps) start) b.transfer.ends (control_at (member_after_all begun steps)) here).0 done) is_read
+          read_is core_table.answer_of shape (sends_of request) (run shape (tries_of begun steps) start) b.transfer.ends (control_at (member_after_all begun steps)) stands_there (is_done done) is_read
           ∙ ap (answered_bytes shape) once.decided;
       took = took;
-      configured = λ is_configure done.
-          let here = subst (λ (s : Setup). Stands core_table.answer_of (shape_of s) (sends_of request) (run shape (tries_of begun steps) start) b.transfer.ends (control_at (member_after_all begun steps))) asked there in
-          let writes : shape.reads ≡ false = ap (λ (q : Request). (shape_of (setup_at m q)).reads) is_configure in
-          took ∙ ap (λ (q : Request). configured_by q (acts shape (tries_of begun steps) start)) is_configure
-          ∙ once.once ((done_is core_table.answer_of shape (sends_of request) (run shape (tries_of begun steps) start) b.transfer.ends (control_at (member_after_all begun steps)) here).0 done) writes;
+      written = λ done writes. took ∙ once.once (is_done done) writes;
+      configures = count.configures;
+      configured = λ is_configured done.
+          let writes : shape.reads ≡ false = ap (λ (q : Request). (shape_of (setup_at m q)).reads) is_configured in
+          count.configures ∙ ap (λ (q : Request). if is_configure q then effects_in begun steps else 0) is_configured
+          ∙ took ∙ once.once (is_done done) writes;
     })
 
 -- ---- a Configure that finds no memory
@@ -161,6 +164,7 @@ begins_none : (fate : Fate) (steps : List MemberStep) → BeginsNone steps → B
 begins_none fate [] none = tt
 begins_none fate (Scheduled x ∷ steps) none = begins_none fate steps none
 begins_none fate (Begins request ∷ steps) none = absurd none
+begins_none fate (Resets ∷ steps) none = absurd none
 begins_none fate (Controls other ∷ steps) none = begins_none fate steps none
 
 -- the transfer ends all the same
@@ -180,3 +184,47 @@ unconcluded_once m request steps lays fits allowed none fate ended is_configure 
     let there : Some w.transfer ≡ Some ended
     = sym w.is ∙ ap (λ (k : Member). k.transfer) (behind_one steps begun (Controls fate)) ∙ same_transfer fate n (running n.transfer) ∙ is in
     w.configured is_configure (ap (λ (t : Transfer). t.ends.stage) (one_transfer w.transfer ended there) ∙ done)
+
+-- ---- a reset ends a transfer
+
+more_of_both : (b : Bool) (all first later : ℕ) → all ≡ first + later → more_if b all ≡ more_if b first + later
+more_of_both true all first later same = omega (arith, same)
+more_of_both false all first later same = same
+
+effects_append : (xs ys : List MemberStep) (m : Member) → effects_in m (xs ++ ys) ≡ effects_in m xs + effects_in (member_after_all m xs) ys
+effects_append [] ys m = omega arith
+effects_append (Scheduled x ∷ xs) ys m = effects_append xs ys (member_after m (Scheduled x))
+effects_append (Begins request ∷ xs) ys m = effects_append xs ys (member_after m (Begins request))
+effects_append (Resets ∷ xs) ys m = effects_append xs ys (member_after m Resets)
+effects_append (Controls fate ∷ xs) ys m =
+    let n = member_after m (Controls fate) in
+    more_of_both (takes_effect_at fate m (running m.transfer)) (effects_in n (xs ++ ys)) (effects_in n xs) (effects_in (member_after_all n xs) ys) (effects_append xs ys n)
+
+-- where no transfer runs, none takes effect
+idle_try : (fate : Fate) (m : Member) → m.transfer ≡ None → (member_after m (Controls fate) ≡ m) × (takes_effect_at fate m (running m.transfer) ≡ false)
+idle_try fate m none = (ap (λ (o : Option Transfer). tried_of fate m (running o)) none, ap (λ (o : Option Transfer). takes_effect_at fate m (running o)) none)
+
+none_take : (xs : List MemberStep) (m : Member) → m.transfer ≡ None → BeginsNone xs → effects_in m xs ≡ 0
+none_take [] m none begins = refl
+none_take (Scheduled x ∷ xs) m none begins = none_take xs (member_after m (Scheduled x)) none begins
+none_take (Begins request ∷ xs) m none begins = absurd begins
+none_take (Resets ∷ xs) m none begins = absurd begins
+none_take (Controls fate ∷ xs) m none begins =
+    let idle = idle_try fate m none in
+    ap (λ (b : Bool). more_if b (effects_in (member_after m (Controls fate)) xs)) idle.1
+    ∙ ap (λ (n : Member). effects_in n xs) idle.0
+    ∙ none_take xs m none begins
+
+pub ended_by_reset : (m : Member) (request : Request) (steps later : List MemberStep) → Lays m.descriptor m.layout → FitsRequest request → begin_refusal_at m request ≡ None → BeginsNone steps → BeginsNone later
+    → IsEndedByReset m request steps later
+ended_by_reset m request steps later lays fits allowed none none_later =
+    let begun = member_after m (Begins request) in
+    let n = member_after_all begun steps in
+    let w = whole m request steps lays fits allowed none in
+    let rest : effects_in n (Resets ∷ later) ≡ 0 = none_take later (member_after n Resets) refl none_later in
+    let all : effects_in begun (steps ++ Resets ∷ later) ≡ effects_in begun steps + effects_in n (Resets ∷ later) = effects_append steps (Resets ∷ later) begun in
+    let most = w.once.at_most_once in
+    record {
+      at_most_once = omega (arith, w.took, most);
+      none_behind = omega (arith, rest, all);
+    }

@@ -1,6 +1,7 @@
 -- Which devices can be attached, and what is found of those that are (our choice).
 use Rattle.std.specs.Prelude.{◌≡◌, ◌⊎◌, ℕ, ◌<◌, ◌≤◌, ◌+◌, Bool, true, false, List, [], ◌∷◌, ◌++◌, length, Some, None, Result, Ok, Err}
 use Rattle.hid_layout.specs.declared.control.ControlId.{ControlId}
+use Rattle.hid_descriptor.specs.declared.limits.TheConstants.{MAX_DESCRIPTOR}
 use Rattle.hid_descriptor.specs.declared.usage.Usage.{Usage}
 use Rattle.hid_layout.specs.Controls.{items_of}
 use Rattle.hid_layout.specs.Finding.{shown_at}
@@ -16,8 +17,8 @@ use Rattle.hid_device.specs.Making as making
 use Rattle.hid_host.specs.declared.fault.StackFault.{StackFault}
 use Rattle.hid_host.specs.declared.fault.StackFault.TheVariants.{NoDevice, Refused, BadDescriptor, TooManyDevices, Memory}
 use Rattle.hid_host.specs.declared.fault.DescriptorFault.TheVariants.{Device}
-use Rattle.hid_stack.specs.declared.rig.Start.{Start}
-use Rattle.hid_stack.specs.declared.rig.Start.TheVariants as starts
+use Rattle.hid_host.specs.declared.phase.Start.{Start}
+use Rattle.hid_host.specs.declared.phase.Start.TheVariants as starts
 use Rattle.hid_stack.specs.Members.{Member, cold_member, fresh_member}
 use Rattle.hid_stack.specs.Rig.{member_at}
 
@@ -34,11 +35,13 @@ wants_memory causes.NoEmptyCode = false
 wants_memory causes.RelativeWithoutZero = false
 wants_memory causes.Memory = true
 
--- why there is no device, and no host for it: the device is refused, or memory was wanting
+-- why there is no device, and no host for it: the device is refused, or its address and configuration fit, its descriptor
+-- isn't too long, and memory was wanting
 abbrev pub IsNoPair : ℕ → Config → List ℕ → StackFault → Type 0
 IsNoPair addr config descriptor (BadDescriptor (Device fault)) =
     making.Refuses addr config descriptor fault.cause fault.at × (wants_memory fault.cause ≡ false)
-IsNoPair addr config descriptor Memory = Unit {0}
+IsNoPair addr config descriptor Memory =
+    (is_config addr config descriptor ≡ true) × (length descriptor ≤ MAX_DESCRIPTOR)
 IsNoPair addr config descriptor _ = ⊥
 
 -- how the device and its host begin

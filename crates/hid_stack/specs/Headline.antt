@@ -19,8 +19,8 @@ pub record AreFresh (m : Member) (snapshot : List Cell) (idle : List ℕ) : Type
   pub station : m.station ≡ fresh (items_of m.layout) snapshot idle
 
 -- The headline: of each device that was just configured the events delivered are exactly the changes
--- between the successive parts that crossed, in order, none twice. (No request of it is begun or tried meanwhile: a
--- configuration begins anew.)
+-- between the successive parts that crossed, in order, none twice. (No request of it is begun or tried meanwhile, and it
+-- isn't reset: both begin anew.)
 abbrev pub DeliversChanges : List Member → List Step → List Delivered → List Delivered → Type 0
 DeliversChanges before steps old new =
     (device : ℕ) (m : Member) (snapshot : List Cell) (idle : List ℕ)
@@ -39,8 +39,8 @@ KeepsToRounds before steps after =
     × StandsByRounds (items_of m.layout) m.station (own device steps) s
 
 -- What a device lives through, whatever befalls it: from any state without an open round on, the events delivered of it
--- are those of its rounds that crossed, and its station stands as they say; toggles and views are counted since a
--- configuration took effect last.
+-- are those of its rounds that crossed and of its resets, and its station stands as they say; toggles and views are
+-- counted since a configuration took effect last, or the bus was reset.
 abbrev pub LivesThrough : Member → List Deed → Member → List Event → Type 0
 LivesThrough m deeds n told =
     FollowsLife (items_of m.layout) m.station.view m.station.odd

@@ -10,3 +10,4 @@ pub mod Sums
 pub mod Headline
 pub mod Transfers
 pub mod Laws
+pub mod Stories

@@ -1,6 +1,6 @@
 -- A device of a bus with its host, and what each step of the bus makes of the two (USB 2.0, 8.5, 9.1.1 and 9.4.7; our
 -- choice).
-use Rattle.std.specs.Prelude.{ℕ, Bool, true, false, if◌then◌else◌, is_some, List, [], ◌∷◌, length, replicate, Option, Some, None}
+use Rattle.std.specs.Prelude.{ℕ, Bool, true, false, List, [], ◌∷◌, length, replicate, Option, Some, None}
 use Rattle.std.specs.List.{cons_option}
 use Rattle.std.specs.Option.{option_map}
 use Rattle.hid_layout.specs.Layout.{Contents}
@@ -12,33 +12,31 @@ use Rattle.usb_transact.specs.declared.transaction.Fate.TheVariants.{TokenLost}
 use Rattle.usb_control.specs.declared.device.Heard.TheVariants as hears
 use Rattle.usb_control.specs.declared.device.Stage.{Stage}
 use Rattle.usb_control.specs.declared.device.Stage.TheVariants as stages
-use Rattle.usb_control.specs.declared.fault.ControlFault.TheVariants.{Busy}
 use Rattle.usb_control.specs.declared.host.HostStage.{HostStage}
 use Rattle.usb_control.specs.declared.host.HostStage.TheVariants.{Done}
-use Rattle.usb_control.specs.Computed.{control_tried, effect_reached, host_tried}
-use Rattle.usb_control.specs.Device.{Applies, DevControlState, Effect}
-use Rattle.usb_control.specs.Host.{HostTransferState, at_start}
+use Rattle.usb_control.specs.Computed.{control_tried, effect_reached}
+use Rattle.usb_control.specs.Device.{Applies, DevControlState, Effect, idle}
+use Rattle.usb_control.specs.Host.{HostTransferState}
 use Rattle.hid_requests.specs.declared.request.Request.{Request}
 use Rattle.hid_requests.specs.declared.request.Request.TheVariants as requests
 use Rattle.hid_requests.specs.declared.class.Protocol.{Protocol}
-use Rattle.hid_requests.specs.Asking.{sends_of, setup_for}
 use Rattle.hid_lives.specs.Lives.{Deed, Own, Idles, Configures, befallen, events_on}
+use Rattle.hid_lives.specs.Lives as deeds
 use Rattle.hid_lives.specs.Rounds.{OwnStep, Changes, Frame, Polls}
 use Rattle.hid_lives.specs.Stations.{Station, fresh}
 use Rattle.hid_device.specs.declared.config.Config.{Config}
 use Rattle.hid_device.specs.declared.decisions.Pending.{Pending}
 use Rattle.hid_device.specs.declared.decisions.Pending.TheVariants as pendings
-use Rattle.hid_device.specs.Core.{CoreState}
+use Rattle.hid_device.specs.Core.{CoreState, reset_core}
 use Rattle.hid_device.specs.Deciding.{core_table, idle_set}
 use Rattle.hid_device.specs.Inputs.{input_count}
 use Rattle.hid_device.specs.Making.{new_core}
 use Rattle.hid_host.specs.declared.fault.StackFault.{StackFault}
-use Rattle.hid_host.specs.declared.fault.StackFault.TheVariants.{NotReady, Control}
 use Rattle.hid_host.specs.declared.host.Transfer.{Transfer}
 use Rattle.hid_host.specs.declared.phase.HostState.{HostState}
 use Rattle.hid_host.specs.declared.phase.HostState.TheVariants as states
-use Rattle.hid_host.specs.Host.{running}
-use Rattle.hid_host.specs.Phase.{may_begin}
+use Rattle.hid_host.specs.Bringing.{ends_after}
+use Rattle.hid_host.specs.Host.{begin_refusal_in, running, transfer_of}
 
 -- What endpoint 0 of a device keeps: whether SET_CONFIGURATION took effect; its protocol, and the Output and Feature
 -- reports that were set last; of the last request the answer, where it has one, and what is carried out when its status
@@ -63,12 +61,13 @@ pub record Member : Type 0 where
   pub host : HostState
   pub transfer : Option Transfer
 
--- What a step of the bus is for one device: a step of its schedule, a request of its host, or a try of the transfer
--- that runs.
+-- What a step of the bus is for one device: a step of its schedule, a request of its host, a try of the transfer that
+-- runs, or a reset.
 pub data MemberStep : Type 0 where
   Scheduled : OwnStep → MemberStep
   Begins : Request → MemberStep
   Controls : Fate → MemberStep
+  Resets : MemberStep
 
 -- ---- devices that were just attached
 
@@ -186,6 +185,7 @@ abbrev pub deed_at : Member → MemberStep → Option Deed
 deed_at m (Scheduled x) = scheduled_deed m.host x
 deed_at m (Begins request) = None
 deed_at m (Controls fate) = tried_deed fate m (running m.transfer)
+deed_at m Resets = Some deeds.Resets
 
 -- the station behind it
 abbrev pub befallen_by : List Item → Station → Option Deed → Station
@@ -199,23 +199,15 @@ events_by items s (Some deed) = events_on items s deed
 
 -- ---- the member behind a step
 
--- why a request can't begin, memory aside: another transfer runs, or the host is in another state
+-- why a request can't begin, memory aside
 abbrev pub begin_refusal_at : Member → Request → Option StackFault
-begin_refusal_at m request =
-    if is_some (running m.transfer) then Some (Control Busy)
-    else if may_begin request m.host then None
-    else Some NotReady
+begin_refusal_at m request = begin_refusal_in m.transfer m.host request
 
 -- a request begins unless it is refused: its transfer has yet to make its first try
 abbrev pub begun_unless : Option StackFault → Member → Request → Member
 begun_unless (Some fault) m request = m
-begun_unless None m request = record m {
-  transfer = Some (record {
-    request = request;
-    ends = at_start m.addr (setup_for request (record { report_length = length m.descriptor }))
-        (sends_of request);
-  });
-}
+begun_unless None m request =
+    record m { transfer = Some (transfer_of m.addr (record { report_length = length m.descriptor }) request) }
 
 -- the state to which a request that is done leads
 abbrev pub state_behind : Request → HostState → HostState
@@ -231,7 +223,7 @@ state_at stage request host = host
 
 -- the host's side of the transfer after a try
 abbrev pub ends_tried_at : Fate → Member → Transfer → HostTransferState
-ends_tried_at fate m t = host_tried core_table fate t.ends (control_at m)
+ends_tried_at fate m t = ends_after fate t (control_at m)
 
 -- a try of a transfer, with the host in this state behind it
 abbrev pub tried_to : Fate → Member → Transfer → HostState → Member
@@ -251,11 +243,25 @@ abbrev pub tried_of : Fate → Member → Option Transfer → Member
 tried_of fate m None = m
 tried_of fate m (Some t) = tried_to fate m t (state_at (ends_tried_at fate m t).stage t.request m.host)
 
+-- a reset: the device isn't configured, its host knows nothing of it, and the transfer is forgotten
+abbrev pub reset_of : Member → Member
+reset_of m = record {
+  addr = m.addr;
+  config = m.config;
+  descriptor = m.descriptor;
+  layout = m.layout;
+  station = befallen (items_of m.layout) m.station deeds.Resets;
+  endpoint = endpoint_of (idle (reset_core (core_at m)));
+  host = states.Cold;
+  transfer = None;
+}
+
 -- Its member after a step: what is refused changes nothing.
 abbrev pub member_after : Member → MemberStep → Member
 member_after m (Scheduled x) = record m { station = befallen_by (items_of m.layout) m.station (scheduled_deed m.host x) }
 member_after m (Begins request) = begun_unless (begin_refusal_at m request) m request
 member_after m (Controls fate) = tried_of fate m (running m.transfer)
+member_after m Resets = reset_of m
 
 -- the same where memory is wanting for what a request that is done gives: the host stays where it is
 abbrev pub unconcluded_of : Fate → Member → Option Transfer → Member

@@ -9,6 +9,7 @@ use Rattle.hid_usages.specs.Snapshots.{changed}
 use Rattle.usb_transact.specs.declared.transaction.Fate.{Fate}
 use Rattle.usb_control.specs.declared.fault.ControlFault.TheVariants.{NoTransfer}
 use Rattle.usb_control.specs.declared.host.HostStage.TheVariants.{Done}
+use Rattle.hid_requests.specs.Asking.{FitsRequest}
 use Rattle.hid_lives.specs.Lives.{told_in}
 use Rattle.hid_lives.specs.Rounds.{OwnStep, Changes, Polls}
 use Rattle.hid_lives.specs.Rounds as own_steps
@@ -21,9 +22,9 @@ use Rattle.hid_host.specs.declared.phase.HostState.TheVariants as states
 use Rattle.hid_host.specs.Bringing.{TakesMemory as TakesMemoryFor}
 use Rattle.hid_host.specs.Host.{running}
 use Rattle.hid_stack.specs.declared.step.Step.{Step}
-use Rattle.hid_stack.specs.declared.step.Step.TheVariants.{Change, Frame, Poll, Begin, Control}
+use Rattle.hid_stack.specs.declared.step.Step.TheVariants.{Change, Frame, Poll, Begin, Control, Reset}
 use Rattle.hid_stack.specs.declared.step.Delivered.{Delivered}
-use Rattle.hid_stack.specs.Members.{Member, MemberStep, Scheduled, Begins, Controls, begin_refusal_at, deed_at, deeds_in, ends_tried_at, events_by, member_after, member_after_all, unconcluded_of}
+use Rattle.hid_stack.specs.Members.{Member, MemberStep, Scheduled, Begins, Controls, Resets, begin_refusal_at, deed_at, deeds_in, ends_tried_at, events_by, member_after, member_after_all, unconcluded_of}
 
 -- devices are numbered from 1
 abbrev pub member_at : List Member → ℕ → Option Member
@@ -45,6 +46,7 @@ bus_after members Frame = map (λ m. member_after m (Scheduled own_steps.Frame))
 bus_after members (Poll dev fate) = one_after members dev (Scheduled (Polls fate))
 bus_after members (Begin dev request) = one_after members dev (Begins request)
 bus_after members (Control dev fate) = one_after members dev (Controls fate)
+bus_after members (Reset dev) = one_after members dev Resets
 
 -- an event, with the number of the device that it came from
 abbrev pub tagged : ℕ → Event → Delivered
@@ -57,13 +59,14 @@ one_delivers members dev x = elim (member_at members dev) [
   | Some m ↦ map (tagged dev) (events_by (items_of m.layout) m.station (deed_at m x))
 ]
 
--- What a step delivers: polls alone deliver events.
+-- What a step delivers: polls and resets alone deliver events.
 abbrev pub delivered_at : List Member → Step → List Delivered
 delivered_at members (Change dev change) = []
 delivered_at members Frame = []
 delivered_at members (Poll dev fate) = one_delivers members dev (Scheduled (Polls fate))
 delivered_at members (Begin dev request) = []
 delivered_at members (Control dev fate) = []
+delivered_at members (Reset dev) = one_delivers members dev Resets
 
 -- whole lists of steps
 abbrev pub bus_after_all : List Member → List Step → List Member
@@ -102,18 +105,29 @@ refusal members (Begin dev request) =
     elim (member_at members dev) [ None ↦ Some NoDevice | Some m ↦ begin_refusal_at m request ]
 refusal members (Control dev fate) =
     elim (member_at members dev) [ None ↦ Some NoDevice | Some m ↦ control_refusal (running m.transfer) ]
+refusal members (Reset dev) = elim (member_at members dev) [ None ↦ Some NoDevice | Some m ↦ None ]
+
+-- the ID, the time and the report of a request that begins fit its setup
+abbrev pub FitsStep : Step → Type 0
+FitsStep (Begin dev request) = FitsRequest request
+FitsStep (Change dev change) = Unit {0}
+FitsStep Frame = Unit {0}
+FitsStep (Poll dev fate) = Unit {0}
+FitsStep (Control dev fate) = Unit {0}
+FitsStep (Reset dev) = Unit {0}
 
 -- a try in which a request is done that gives a layout or a view
 abbrev pub GivesMore : Fate → Member → Option Transfer → Type 0
 GivesMore fate m None = ⊥
 GivesMore fate m (Some t) = ((ends_tried_at fate m t).stage ≡ Done) × TakesMemoryFor t.request
 
--- What takes memory: the room for what a poll delivers, and for the bytes of a request, a layout and a view.
+-- What takes memory: the room for what a poll or a reset delivers, and for the bytes of a request, a layout and a view.
 abbrev pub TakesMemory : List Member → Step → Type 0
 TakesMemory members (Change dev change) = ⊥
 TakesMemory members Frame = ⊥
 TakesMemory members (Poll dev fate) = Unit {0}
 TakesMemory members (Begin dev request) = Unit {0}
+TakesMemory members (Reset dev) = Unit {0}
 TakesMemory members (Control dev fate) =
     (m : Member) × (member_at members dev ≡ Some m) × GivesMore fate m (running m.transfer)
 
@@ -141,6 +155,8 @@ HasRoomFor members (Change dev change) used capacity = Unit {0}
 HasRoomFor members Frame used capacity = Unit {0}
 HasRoomFor members (Poll dev fate) used capacity =
     IfSome (member_at members dev) (λ m. used + max_events (items_of m.layout) ≤ capacity)
+HasRoomFor members (Reset dev) used capacity =
+    IfSome (member_at members dev) (λ m. used + max_events (items_of m.layout) ≤ capacity)
 HasRoomFor members (Begin dev request) used capacity = ⊥
 HasRoomFor members (Control dev fate) used capacity = TakesMemory members (Control dev fate) → ⊥
 
@@ -149,6 +165,8 @@ abbrev pub most_events : List Member → Step → ℕ
 most_events members (Change dev change) = 0
 most_events members Frame = 0
 most_events members (Poll dev fate) =
+    elim (member_at members dev) [ None ↦ 0 | Some m ↦ max_events (items_of m.layout) ]
+most_events members (Reset dev) =
     elim (member_at members dev) [ None ↦ 0 | Some m ↦ max_events (items_of m.layout) ]
 most_events members (Begin dev request) = 0
 most_events members (Control dev fate) = 0
@@ -183,6 +201,7 @@ own_step device Frame = Some own_steps.Frame
 own_step device (Poll dev fate) = if dev == device then Some (Polls fate) else None
 own_step device (Begin dev request) = None
 own_step device (Control dev fate) = None
+own_step device (Reset dev) = None
 
 -- and that of a list of steps, in their order
 abbrev pub own : ℕ → List Step → List OwnStep
@@ -195,24 +214,26 @@ member_step device Frame = Some (Scheduled own_steps.Frame)
 member_step device (Poll dev fate) = if dev == device then Some (Scheduled (Polls fate)) else None
 member_step device (Begin dev request) = if dev == device then Some (Begins request) else None
 member_step device (Control dev fate) = if dev == device then Some (Controls fate) else None
+member_step device (Reset dev) = if dev == device then Some Resets else None
 
 -- and those of a list of steps, in their order
 abbrev pub member_steps : ℕ → List Step → List MemberStep
 member_steps device steps = filter_map (member_step device) steps
 
--- a step that is of no transfer of a device
+-- a step that is of no transfer of a device, and doesn't reset it
 abbrev pub is_scheduled : ℕ → Step → Bool
 is_scheduled device (Begin dev request) = not (dev == device)
 is_scheduled device (Control dev fate) = not (dev == device)
+is_scheduled device (Reset dev) = not (dev == device)
 is_scheduled device (Change dev change) = true
 is_scheduled device Frame = true
 is_scheduled device (Poll dev fate) = true
 
--- no request of a device is begun or tried
+-- no request of a device is begun or tried, and it isn't reset
 abbrev pub HasOnlySchedule : ℕ → List Step → Type 0
 HasOnlySchedule device steps = All (λ x. is_scheduled device x ≡ true) steps
 
--- no step is of a transfer
+-- no step is of a transfer, and none a reset
 abbrev pub AreScheduled : List Step → Type 0
 AreScheduled steps = (device : ℕ) → HasOnlySchedule device steps
 

@@ -11,7 +11,7 @@ use Rattle.usb_transact.specs.declared.transaction.Fate.{Fate}
 use Rattle.usb_transact.specs.declared.transaction.Fate.TheVariants.{Clean, TokenLost, ReplyLost, AckLost}
 use Rattle.hid_device.specs.Core.{AreBytesOf}
 use Rattle.hid_stack.specs.declared.step.Step.{Step}
-use Rattle.hid_stack.specs.declared.step.Step.TheVariants.{Change, Frame, Poll, Begin, Control}
+use Rattle.hid_stack.specs.declared.step.Step.TheVariants.{Change, Frame, Poll, Begin, Control, Reset}
 use Rattle.hid_stack.specs.declared.step.Told.{Told}
 use Rattle.hid_stack.specs.declared.step.Told.TheVariants.{Quiet, Polled}
 use Rattle.hid_stack.specs.declared.step.Told.TheVariants as tellings
@@ -79,6 +79,7 @@ Tells members (Poll dev fate) told = elim (member_at members dev) [
   | Some m ↦ TellsPoll m.layout m.station fate told
 ]
 Tells members (Begin dev request) told = told ≡ Quiet
+Tells members (Reset dev) told = told ≡ Quiet
 Tells members (Control dev fate) told = elim (member_at members dev) [
   | None ↦ ⊥
   | Some m ↦ TellsTry fate m (running m.transfer) told

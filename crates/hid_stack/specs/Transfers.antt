@@ -1,21 +1,23 @@
 -- A request of a device's host, with anything between its tries: what both ends make of it (USB 2.0, 8.5.3 and 9.2.6).
-use Rattle.std.specs.Prelude.{◌≡◌, ℕ, suc, true, if◌then◌else◌, List, [], ◌∷◌, ◌++◌, length, Option, Some, None}
+use Rattle.std.specs.Prelude.{◌≡◌, ◌≤◌, ℕ, suc, Bool, true, false, if◌then◌else◌, List, [], ◌∷◌, ◌++◌, length, Option, Some, None}
 use Rattle.usb_transact.specs.declared.transaction.Fate.{Fate}
 use Rattle.usb_control.specs.declared.host.HostStage.TheVariants.{Done}
 use Rattle.usb_control.specs.declared.setup.Setup.{Setup}
+use Rattle.usb_control.specs.Computed.{takes_effect}
 use Rattle.usb_control.specs.Meanwhile.{Ends, StandAt, decision_now}
 use Rattle.usb_control.specs.Runs.{IsOnce, acts, effects, last_decision, run}
-use Rattle.usb_control.specs.Transfer.{Act, Decision, Refused, answered_bytes, shape_of, start}
+use Rattle.usb_control.specs.Transfer.{Decision, Refused, answered_bytes, shape_of, start}
 use Rattle.hid_requests.specs.declared.request.Request.{Request}
 use Rattle.hid_requests.specs.declared.request.Request.TheVariants.{Configure}
 use Rattle.hid_requests.specs.Asking.{sends_of, setup_for}
 use Rattle.hid_lives.specs.Lives.{Deed, Own, Idles, Configures}
+use Rattle.hid_lives.specs.Lives as lives
 use Rattle.hid_device.specs.Core.{CoreState}
 use Rattle.hid_device.specs.Deciding.{core_table}
 use Rattle.hid_host.specs.declared.host.Transfer.{Transfer}
 use Rattle.hid_host.specs.Bringing.{is_configure}
 use Rattle.hid_host.specs.Host.{running}
-use Rattle.hid_stack.specs.Members.{Member, MemberStep, Scheduled, Begins, Controls, control_at, deeds_in, member_after, member_after_all, unconcluded_of}
+use Rattle.hid_stack.specs.Members.{Member, MemberStep, Scheduled, Begins, Controls, Resets, control_at, deeds_in, member_after, member_after_all, unconcluded_of}
 
 -- the setup of a request of a member
 abbrev pub setup_at : Member → Request → Setup
@@ -36,13 +38,15 @@ tries_of m [] = []
 tries_of m (Controls fate ∷ steps) = try_at fate m m.transfer ++ tries_of (member_after m (Controls fate)) steps
 tries_of m (Scheduled x ∷ steps) = tries_of (member_after m (Scheduled x)) steps
 tries_of m (Begins request ∷ steps) = tries_of (member_after m (Begins request)) steps
+tries_of m (Resets ∷ steps) = tries_of (member_after m Resets) steps
 
--- no request begins
+-- no request begins, and no reset ends one
 abbrev pub BeginsNone : List MemberStep → Type 0
 BeginsNone [] = Unit {0}
 BeginsNone (Begins request ∷ steps) = ⊥
 BeginsNone (Scheduled x ∷ steps) = BeginsNone steps
 BeginsNone (Controls fate ∷ steps) = BeginsNone steps
+BeginsNone (Resets ∷ steps) = ⊥
 
 -- how often a configuration takes effect among what befalls a device
 abbrev pub configurations : List Deed → ℕ
@@ -50,15 +54,32 @@ configurations [] = 0
 configurations (Own x ∷ deeds) = configurations deeds
 configurations (Idles idle ∷ deeds) = configurations deeds
 configurations (Configures ∷ deeds) = suc (configurations deeds)
+configurations (lives.Resets ∷ deeds) = configurations deeds
 
--- how often a request configures its device, by what its tries do there
-abbrev pub configured_by : Request → List Act → ℕ
-configured_by request acts = if is_configure request then effects 0 acts else 0
+-- one more, where this holds
+abbrev pub more_if : Bool → ℕ → ℕ
+more_if true n = suc n
+more_if false n = n
+
+-- whether a write takes effect in a try
+abbrev pub takes_effect_at : Fate → Member → Option Transfer → Bool
+takes_effect_at fate m None = false
+takes_effect_at fate m (Some t) = takes_effect core_table fate t.ends (control_at m)
+
+-- how often a write takes effect at the device in the tries among its steps
+abbrev pub effects_in : Member → List MemberStep → ℕ
+effects_in m [] = 0
+effects_in m (Controls fate ∷ steps) =
+    more_if (takes_effect_at fate m (running m.transfer)) (effects_in (member_after m (Controls fate)) steps)
+effects_in m (Scheduled x ∷ steps) = effects_in (member_after m (Scheduled x)) steps
+effects_in m (Begins request ∷ steps) = effects_in (member_after m (Begins request)) steps
+effects_in m (Resets ∷ steps) = effects_in (member_after m Resets) steps
 
 -- Behind its tries both ends of a request that began at this member stand where these lead, whatever came between them.
 -- So a read that is done gave the device's answer as it was fixed at the last SETUP that arrived, cut to what was asked
--- for; and by the places of its tries a write took effect as `IsOnce` says: exactly once where it is done, else once at
--- most, and never where it was refused. Of a request for a configuration what befell the device says so too.
+-- for; and a write took effect at the device as often as the places of its tries say, which is `IsOnce`: exactly once
+-- where it is done, else once at most, and never where it was refused. A configuration befell the device as often as a
+-- request for it took effect, and never by another request.
 pub record IsWholeFrom (m : Member) (request : Request) (steps : List MemberStep) (begun : Member) : Type 0 where
   pub transfer : Transfer
   pub is : (member_after_all begun steps).transfer ≡ Some transfer
@@ -71,8 +92,11 @@ pub record IsWholeFrom (m : Member) (request : Request) (steps : List MemberStep
   pub read : transfer.ends.stage ≡ Done → (shape_of (setup_at m request)).reads ≡ true
       → transfer.ends.bytes ≡ answered_bytes (shape_of (setup_at m request))
       (last_decision Refused (acts (shape_of (setup_at m request)) (tries_of begun steps) start))
-  pub took : configurations (deeds_in begun steps)
-      ≡ configured_by request (acts (shape_of (setup_at m request)) (tries_of begun steps) start)
+  pub took : effects_in begun steps
+      ≡ effects 0 (acts (shape_of (setup_at m request)) (tries_of begun steps) start)
+  -- a write that is done took effect once
+  pub written : transfer.ends.stage ≡ Done → (shape_of (setup_at m request)).reads ≡ false → effects_in begun steps ≡ 1
+  pub configures : configurations (deeds_in begun steps) ≡ (if is_configure request then effects_in begun steps else 0)
   -- a device is configured once by a Configure that is done
   pub configured : request ≡ Configure → transfer.ends.stage ≡ Done → configurations (deeds_in begun steps) ≡ 1
 
@@ -87,3 +111,10 @@ IsUnconcludedOnce m request steps =
 -- the same from its begin on
 abbrev pub IsWhole : Member → Request → List MemberStep → Type 0
 IsWhole m request steps = IsWholeFrom m request steps (member_after m (Begins request))
+
+-- A reset ends the transfer: its write took effect before it once or not at all, and takes none behind it while no other
+-- begins.
+pub record IsEndedByReset (m : Member) (request : Request) (steps later : List MemberStep) : Type 0 where
+  pub at_most_once : effects_in (member_after m (Begins request)) steps ≤ 1
+  pub none_behind : effects_in (member_after m (Begins request)) (steps ++ Resets ∷ later)
+      ≡ effects_in (member_after m (Begins request)) steps

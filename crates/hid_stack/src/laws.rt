@@ -9,8 +9,9 @@ ghost use Rattle.hid_stack.specs.declared.step.Delivered.{Delivered};
 ghost use Rattle.hid_stack.specs.Laws.{IsMadeAs, TellsOneThing, FindsOneControl, AttachesOneDevice, PacketsMakePolls};
 ghost use Rattle.hid_stack.specs.Headline.{DeliversChanges, DevicesLive, KeepsToRounds};
 ghost use Rattle.hid_stack.specs.Members.{Member, MemberStep, begin_refusal_at, member_after_all};
-ghost use Rattle.hid_stack.specs.Transfers.{BeginsNone, IsUnconcludedOnce, IsWhole};
+ghost use Rattle.hid_stack.specs.Transfers.{BeginsNone, IsEndedByReset, IsUnconcludedOnce, IsWhole};
 ghost use Rattle.hid_stack.specs.Rig.{bus_after_all, delivered_in, IsIsolated};
+ghost use Rattle.hid_stack.specs.Stories.{Act, IsItsOwn};
 ghost use Rattle.hid_stack.specs.Sums.{AllHaveMotions, ConfiguresBetweenRounds, RefusedKeepMotion, SumsUp};
 
 use hid_layout::laws::{accepted_or_refused, one_reading, one_refusal};
@@ -57,6 +58,13 @@ pub fn devices_go_their_own_way()
         → DevicesLive before steps after old new }
 {}
 
+/// A device is a function of its attach and its own steps alone, in any list of attaches and steps from an empty bus on,
+/// whatever comes before and between: how it stands with its host, and the events under its number, which are what its
+/// life tells.
+pub fn devices_are_their_own()
+    ensures { (before : List Act) (m : Member) (since : List Act) → IsItsOwn before m since }
+{}
+
 /// Steps of a bus neither lose nor double motion, of each device and control, and every device keeps its motions. One that
 /// is refused changes none, also a try that finds no memory for what its request gives.
 pub fn motion_sums_up()
@@ -70,10 +78,10 @@ pub fn motion_sums_up()
 {}
 
 /// Whatever befalls a device between the tries of a request: both ends stand where its tries lead; a read that is done gave
-/// the device's answer as it was fixed at the last SETUP that arrived, cut to what was asked for; by the places of its tries
-/// a write that is done took effect exactly once, one that failed or runs once at most, and one that was refused never. A
-/// configuration befell the device as often as a request for it took effect: once where it is done, also where the host
-/// then found no memory.
+/// the device's answer as it was fixed at the last SETUP that arrived, cut to what was asked for; a write that is done took
+/// effect at the device exactly once, one that failed or runs once at most, and one that was refused never. A configuration
+/// befell the device as often as a request for it took effect: once where it is done, also where the host then found no
+/// memory. A write that a reset ended took effect once or not at all.
 pub fn transfers_are_whole()
     ensures whole { (m : Member) (request : Request) (steps : List MemberStep)
         → Lays m.descriptor m.layout → FitsRequest request → begin_refusal_at m request ≡ None
@@ -81,6 +89,9 @@ pub fn transfers_are_whole()
     ensures unconcluded { (m : Member) (request : Request) (steps : List MemberStep)
         → Lays m.descriptor m.layout → FitsRequest request → begin_refusal_at m request ≡ None
         → BeginsNone steps → IsUnconcludedOnce m request steps }
+    ensures reset { (m : Member) (request : Request) (steps later : List MemberStep)
+        → Lays m.descriptor m.layout → FitsRequest request → begin_refusal_at m request ≡ None
+        → BeginsNone steps → BeginsNone later → IsEndedByReset m request steps later }
 {}
 
 /// No step changes what a device was made with.

@@ -1,12 +1,13 @@
 //! The rig: the devices of a bus with their hosts, and the steps that befall them.
 ghost use Rattle.std.specs.Prelude.{◌≡◌, ◌≢◌, ◌≤◌, ◌+◌, ◌++◌, ◌<◌, ℕ, List, [], ◌∷◌, Ok, Err, Some, length, map, take, IfOk, OnOk, IfErr, OnErr, vec_len, vec_capacity};
+ghost use Rattle.std.specs.List.{All};
 ghost use Rattle.hid_layout.specs.declared.control.ControlId.{ControlId as ControlPlace};
 ghost use Rattle.hid_lives.specs.Rounds.{Frame as FrameStep};
 ghost use Rattle.hid_host.specs.declared.fault.StackFault.{StackFault};
 ghost use Rattle.hid_stack.specs.Attaching.{Attaches, IsAttached, Finds};
 ghost use Rattle.hid_stack.specs.Headline.{DeliversChanges, DevicesLive, KeepsToRounds};
 ghost use Rattle.hid_stack.specs.Members.{Scheduled, member_after};
-ghost use Rattle.hid_stack.specs.Rig.{AreScheduled, NoneIsRefused, member_at, bus_after, delivered_at, bus_after_all, delivered_in, refusal, refused_after, stopped_after, IsRefusal, StopsAt, HasRoomFor, most_events, most_in, IsIsolated};
+ghost use Rattle.hid_stack.specs.Rig.{AreScheduled, FitsStep, NoneIsRefused, member_at, bus_after, delivered_at, bus_after_all, delivered_in, refusal, refused_after, stopped_after, IsRefusal, StopsAt, HasRoomFor, most_events, most_in, IsIsolated};
 ghost use Rattle.hid_stack.specs.Showing.{GivesOf, ShowsDevice, ShowsHost, ShowsTransfer};
 ghost use Rattle.hid_stack.specs.Sums.{ConfiguresBetweenRounds, SumsUp};
 ghost use Rattle.hid_stack.specs.Tells.{Tells};
@@ -15,7 +16,7 @@ use crate::fault::RunFault;
 use crate::slot::Slot;
 use crate::step::{Delivered, Step, Told};
 use hid_device::{Config, Device};
-use hid_host::{HostDevice, StackFault};
+use hid_host::{HostDevice, StackFault, Start};
 use hid_layout::{ControlId, Usage};
 use hid_usages::ChangeFault;
 use std::alloc::Global;
@@ -24,15 +25,6 @@ use usb_control::Outcome;
 
 /// How many devices a bus has room for (our choice).
 pub const MAX_DEVICES: usize = 7;
-
-/// How a device and its host begin.
-#[derive(Clone, Copy, Debug, PartialEq, Eq)]
-pub enum Start {
-    /// Both ends are freshly configured, and the host has the layout of the device's reports.
-    Ready,
-    /// The device isn't configured, and the host knows nothing of it: it is to read and configure it by transfers.
-    Cold,
-}
 
 /// The devices of a bus, each with its host. A contract sees the list of them, and of each how the two stand together.
 #[derive(Drop)]
@@ -74,7 +66,8 @@ impl Rig {
     ///
     /// # Errors
     /// [`StackFault::TooManyDevices`] where there is no room; then [`StackFault::BadDescriptor`] where there is no
-    /// device of this configuration and descriptor, or [`StackFault::Memory`].
+    /// device of this configuration and descriptor, or [`StackFault::Memory`], which comes where address and configuration
+    /// fit and the descriptor isn't too long.
     #[tactic(auto, using(crate::proofs::AttachLemmas::is_attached))]
     pub fn attach(
         &mut self,
@@ -167,7 +160,7 @@ impl Rig {
     /// # Errors
     /// [`StackFault::NoDevice`] where no device has this number. Of a change [`StackFault::Refused`]. Of a poll
     /// [`StackFault::NotReady`] where the host isn't ready; then [`StackFault::Memory`], but never with room for what it
-    /// delivers. Of a request that begins [`StackFault::Control`] where another transfer runs; then
+    /// delivers; of a reset that alone. Of a request that begins [`StackFault::Control`] where another transfer runs; then
     /// [`StackFault::NotReady`] where the host is in another state; then [`StackFault::Memory`]. Of a try
     /// [`StackFault::Control`] where no transfer runs, and [`StackFault::Memory`] where a layout or a view finds none.
     pub fn step(&mut self, step: &Step, out: &mut Vec<Delivered>) -> Result<Told, StackFault>
@@ -176,6 +169,9 @@ impl Rig {
         ensures after { OnOk result (self.new ≡ bus_after self.old step.now) }
         ensures events { OnOk result (out.new.items
             ≡ out.old.items ++ delivered_at self.old step.now) }
+
+        // The ID, the time and the report of a request that begins fit its setup.
+        ensures fits { IfOk result (λ _. FitsStep step.now) }
 
         // Each refusal comes exactly where its cause stands, memory aside, and changes nothing but by a try.
         ensures refused { (e : StackFault) → refusal self.old step.now ≡ Some e → result ≡ Err e }
@@ -186,7 +182,8 @@ impl Rig {
         // A configuration takes effect between the rounds of its device.
         ensures between { ConfiguresBetweenRounds self.old (step.now ∷ []) }
 
-        // With room for what a poll delivers, memory is never wanting. A step fills no more than that, and gives none back.
+        // With room for what a poll or a reset delivers, memory is never wanting. A step fills no more than that, and
+        // gives none back.
         ensures room { HasRoomFor self.old step.now (vec_len out.old) (vec_capacity out.old)
             → result ≢ Err StackFault.Memory }
         ensures few { vec_len out.new ≤ vec_len out.old + most_events self.old step.now }
@@ -222,6 +219,10 @@ impl Rig {
                     Err(fault) => Err(fault),
                 }
             }
+            Step::Reset { dev } => {
+                let i = self.place(dev)?;
+                self.slots[i].reset(dev, out)
+            }
         }
     }
 
@@ -231,7 +232,7 @@ impl Rig {
     /// Where and why a step was refused. The steps before it are done, and what they delivered stands.
     pub fn run(&mut self, steps: &[Step], out: &mut Vec<Delivered>) -> Result<(), RunFault>
         // Of a device that was just configured the events delivered are exactly the changes between the successive
-        // parts that crossed, in order, none twice. No request of it is begun or tried meanwhile.
+        // parts that crossed, in order, none twice. No request of it is begun or tried meanwhile, and it isn't reset.
         ensures headline { OnOk result
             (DeliversChanges self.old steps.now out.old.items out.new.items) }
 
@@ -240,12 +241,13 @@ impl Rig {
         ensures rounds { OnOk result (KeepsToRounds self.old steps.now self.new) }
 
         // The same of any device without an open round, whatever befalls it: a configuration that takes effect begins
-        // its rounds, its toggles and its view anew.
+        // its rounds, its toggles and its view anew, and so does a reset, which tells what changes with it.
         ensures lives { OnOk result
             (DevicesLive self.old steps.now self.new out.old.items out.new.items) }
 
-        // No step was refused.
+        // No step was refused, and each request that began fits its setup.
         ensures goes_on { OnOk result (NoneIsRefused self.old steps.now) }
+        ensures fits { OnOk result (All FitsStep steps.now) }
 
         // Where the bus stands, and what was delivered.
         ensures after { OnOk result (self.new ≡ bus_after_all self.old steps.now) }
@@ -264,6 +266,7 @@ impl Rig {
 
         // A run stops at its first refusal, and the steps before it stand; then the bus is as that one leaves it.
         ensures stops { IfErr result (λ e. StopsAt self.old steps.now e.at e.fault) }
+        ensures err_fits { IfErr result (λ e. All FitsStep (take e.at steps.now)) }
         ensures err_after { IfErr result
             (λ e. self.new ≡ stopped_after self.old steps.now e.at e.fault) }
         ensures err_events { IfErr result (λ e. out.new.items
@@ -277,7 +280,8 @@ impl Rig {
         ensures err_isolated { IfErr result (λ e. IsIsolated self.old
             (bus_after_all self.old (take e.at steps.now)) (take e.at steps.now) out.old.items out.new.items) }
 
-        // With room for all that its polls can deliver, memory is never wanting where no request is begun or tried.
+        // With room for all that its polls can deliver, memory is never wanting where no request is begun or tried, and
+        // nothing is reset.
         ensures room { AreScheduled steps.now
             → vec_len out.old + most_in self.old steps.now ≤ vec_capacity out.old
             → IfErr result (λ e. e.fault ≢ StackFault.Memory) }

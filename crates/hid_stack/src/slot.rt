@@ -10,24 +10,26 @@ ghost use Rattle.hid_device.specs.Core.{IsSound};
 ghost use Rattle.hid_device.specs.Fault.{is_memory};
 ghost use Rattle.hid_device.specs.Making.{MakesDevice, Refuses};
 ghost use Rattle.usb_packet.specs.declared.packet.TheConstants.{MAX_ADDRESS as GREATEST};
+ghost use Rattle.hid_requests.specs.Asking.{FitsRequest};
 ghost use Rattle.hid_stack.specs.Attaching.{Suits, IsNoPair, member_at_start};
 ghost use Rattle.hid_host.specs.declared.fault.StackFault.{StackFault as Refusal};
 ghost use Rattle.hid_host.specs.Host.{running};
-ghost use Rattle.hid_stack.specs.Members.{Scheduled, Begins, Controls, begin_refusal_at, cold_member, deed_at, events_by, fresh_member, member_after};
+ghost use Rattle.hid_stack.specs.Members.{Scheduled, Begins, Controls, Resets, begin_refusal_at, cold_member, deed_at, events_by, fresh_member, member_after};
 ghost use Rattle.hid_stack.specs.Slot.{TriesTransfer};
+ghost use Rattle.hid_stack.specs.declared.step.Told.TheVariants as Tellings;
 ghost use Rattle.hid_stack.specs.Rig.{poll_refusal, tagged};
 ghost use Rattle.hid_stack.specs.Sums.{IsBetween};
 ghost use Rattle.hid_stack.specs.Showing.{ShowsDevice, ShowsHost};
 ghost use Rattle.hid_stack.specs.Tells.{TellsPoll};
 
 use crate::polls::poll_pair;
-use crate::rig::Start;
+use crate::resets::reset_pair;
 use crate::step::{Delivered, Told};
 use hid_device::{Config, Device, DeviceCause, DeviceFault};
 use hid_host::laws::{
     control_steps_are_computed, devices_leave_transfers, hosts_know_their_devices,
 };
-use hid_host::{DescriptorFault, HostDevice, HostState, StackFault};
+use hid_host::{DescriptorFault, HostDevice, HostState, StackFault, Start};
 use hid_layout::laws::{accepted_or_refused, one_reading};
 use hid_layout::{Cause, Layout};
 use hid_requests::Request;
@@ -106,7 +108,7 @@ fn made(alloc: Global, addr: u8, config: &Config, descriptor: &[u8]) -> Result<D
 }
 
 // What holds of every device.
-fn is_sound(device: &Device)
+pub(crate) fn is_sound(device: &Device)
     ensures { IsSound (core_of device.now) }
 {
     let _layout = device.layout();
@@ -264,6 +266,29 @@ impl Slot {
         Ok(told)
     }
 
+    /// The bus of the device is reset. The room for what this tells is reserved first.
+    pub(crate) fn reset(&mut self, dev: u8, out: &mut Vec<Delivered>) -> Result<Told, StackFault>
+        ensures told { IfOk result (λ told. told ≡ Tellings.Quiet) }
+        ensures after { OnOk result (self.new ≡ member_after self.old Resets) }
+        ensures events { OnOk result (out.new.items
+            ≡ out.old.items ++ map (tagged dev) (events_by (items_of self.old.layout) self.old.station
+            (deed_at self.old Resets))) }
+        ensures only { IfErr result (λ fault. fault ≡ Refusal.Memory) }
+        ensures err { OnErr result ((self.new ≡ self.old) × (out.new.items ≡ out.old.items)) }
+        ensures room { vec_len out.old + max_events (items_of self.old.layout)
+            ≤ vec_capacity out.old → result ≢ Err Refusal.Memory }
+        ensures few { vec_len out.new ≤ vec_len out.old + max_events (items_of self.old.layout) }
+        ensures capacity { vec_capacity out.old ≤ vec_capacity out.new }
+    {
+        let room = self.device.layout().max_events();
+        if out.reserve(room).is_err() {
+            return Err(StackFault::Memory);
+        }
+        reset_pair(&mut self.device, &mut self.host, &mut self.events);
+        hand_over(dev, &self.events, out);
+        Ok(Told::Quiet)
+    }
+
     /// The host begins a request.
     pub(crate) fn begin(&mut self, request: &Request) -> Result<(), StackFault>
         ensures after { OnOk result (self.new ≡ member_after self.old (Begins request.now)) }
@@ -271,6 +296,7 @@ impl Slot {
         ensures only { IfErr result (λ e. (begin_refusal_at self.old request.now ≡ Some e)
             ⊎ ((begin_refusal_at self.old request.now ≡ None) × (e ≡ Refusal.Memory))) }
         ensures err { OnErr result (self.new ≡ self.old) }
+        ensures fits { IfOk result (λ _. FitsRequest request.now) }
     {
         hosts_know_their_devices();
         self.host.begin(request)

@@ -5,8 +5,8 @@ use hid_usages::{Change, Event};
 use usb_control::Progress;
 use usb_transact::{Fate, Took};
 
-/// A step of the bus: one control change, one frame, a request that begins, or one whole transaction with what is lost of
-/// it.
+/// A step of the bus: one control change, one frame, a request that begins, one whole transaction with what is lost of
+/// it, or a reset.
 #[derive(Debug, Drop, PartialEq, Eq)]
 pub enum Step {
     /// A control of a device changes.
@@ -36,6 +36,11 @@ pub enum Step {
         dev: u8,
         /// What is lost of the try.
         fate: Fate,
+    },
+    /// The bus of a device is reset (USB 2.0, 7.1.7.5): the device isn't configured, and its host knows nothing of it.
+    Reset {
+        /// The device, from 1.
+        dev: u8,
     },
 }
 

@@ -12,6 +12,10 @@ use std::test::Fail;
 use usb_control::{ControlFault, Outcome, Progress};
 use usb_transact::{Fate, Took};
 
+mod devices;
+mod memory;
+mod resets;
+
 fn config(boot: Boot) -> Config {
     Config {
         vendor: 0xFFFF,
@@ -21,7 +25,7 @@ fn config(boot: Boot) -> Config {
     }
 }
 
-/// A step of device 1; a control by its item and index.
+/// A step of one device; a control by its item and index.
 #[derive(Clone, Copy)]
 enum Act {
     Press(usize, usize),
@@ -29,57 +33,87 @@ enum Act {
     Move(usize, usize, i32),
     Frame,
     Poll(Fate),
+    Reset,
 }
 
 const CLEAN: Act = Act::Poll(Fate::Clean);
 
-fn changes(change: Change) -> Step {
-    Step::Change { dev: 1, change }
+fn changes(dev: u8, change: Change) -> Step {
+    Step::Change { dev, change }
 }
 
-fn step_of(act: Act) -> Step {
+fn step_at(dev: u8, act: Act) -> Step {
     match act {
-        Act::Press(item, index) => changes(Change::Press(ControlId { item, index })),
-        Act::Release(item, index) => changes(Change::Release(ControlId { item, index })),
-        Act::Move(item, index, by) => changes(Change::Move(ControlId { item, index }, by)),
+        Act::Press(item, index) => changes(dev, Change::Press(ControlId { item, index })),
+        Act::Release(item, index) => changes(dev, Change::Release(ControlId { item, index })),
+        Act::Move(item, index, by) => changes(dev, Change::Move(ControlId { item, index }, by)),
         Act::Frame => Step::Frame,
-        Act::Poll(fate) => Step::Poll { dev: 1, fate },
+        Act::Poll(fate) => Step::Poll { dev, fate },
+        Act::Reset => Step::Reset { dev },
     }
 }
 
-/// An event of device 1.
+fn step_of(act: Act) -> Step {
+    step_at(1, act)
+}
+
+/// An event of a boot keyboard or a boot mouse.
 #[derive(Clone, Copy)]
 enum Given {
     /// A key of the keyboard's array, its item 4, where a usage's place is its ID.
     Down(u16),
+    Up(u16),
     /// The mouse's X, the first element of its item 2.
     X(i64),
+    Dropped(i64),
+}
+
+const X: ControlId = ControlId { item: 2, index: 0 };
+
+const X_USAGE: Usage = Usage { page: 1, id: 0x30 };
+
+fn key(id: u16) -> ControlId {
+    ControlId {
+        item: 4,
+        index: id as usize,
+    }
 }
 
 fn event_of(given: Given) -> Event {
     match given {
         Given::Down(id) => Event::Down {
-            control: ControlId {
-                item: 4,
-                index: id as usize,
-            },
+            control: key(id),
+            usage: Usage { page: 7, id },
+        },
+        Given::Up(id) => Event::Up {
+            control: key(id),
             usage: Usage { page: 7, id },
         },
         Given::X(by) => Event::Motion {
-            control: ControlId { item: 2, index: 0 },
-            usage: Usage { page: 1, id: 0x30 },
+            control: X,
+            usage: X_USAGE,
+            by,
+        },
+        Given::Dropped(by) => Event::Dropped {
+            control: X,
+            usage: X_USAGE,
             by,
         },
     }
 }
 
-fn are_delivered(out: &[Delivered], wanted: &[Given]) -> bool {
+/// Whether these events of this device are all that was delivered, in their order.
+fn are_delivered_of(dev: u8, out: &[Delivered], wanted: &[Given]) -> bool {
     out.len() == wanted.len()
         && out.iter().zip(wanted.iter()).all(|(delivered, given)| *delivered
             == Delivered {
-                dev: 1,
+                dev,
                 event: event_of(*given),
             })
+}
+
+fn are_delivered(out: &[Delivered], wanted: &[Given]) -> bool {
+    are_delivered_of(1, out, wanted)
 }
 
 /// What the host makes of an answer.
@@ -184,17 +218,29 @@ const SCHEDULES: [(&str, Boot, &[u8], &[Row]); 4] = [
     ),
 ];
 
+/// The first step of device 1 that tells or delivers anything else than its row says.
+fn first_that_differs(
+    rt: &HostRuntime,
+    rig: &mut Rig,
+    rows: &[Row],
+) -> Result<Option<usize>, Fail> {
+    for (at, (act, wanted, events)) in rows.iter().enumerate() {
+        let mut out = Vec::new(rt.alloc());
+        let told = rig.step(&step_of(*act), &mut out)?;
+        if !(is_told(&told, *wanted) && are_delivered(&out, events)) {
+            return Ok(Some(at));
+        }
+    }
+    Ok(None)
+}
+
 #[test]
 fn a_schedule_tells_and_delivers(rt: HostRuntime) -> Result<(), Fail> {
     for (name, boot, descriptor, rows) in SCHEDULES {
         let mut rig = Rig::new(rt.alloc())?;
         rig.attach(&config(boot), descriptor, Start::Ready)?;
-        for (act, wanted, events) in rows {
-            let mut out = Vec::new(rt.alloc());
-            let told = rig.step(&step_of(*act), &mut out)?;
-            assert!(rt; is_told(&told, *wanted), "{name}: told");
-            assert!(rt; are_delivered(&out, events), "{name}: delivered");
-        }
+        let fails_at = first_that_differs(&rt, &mut rig, rows)?;
+        assert!(rt; fails_at.is_none(), "{name}: step {fails_at:?}");
     }
     Ok(())
 }
@@ -360,7 +406,7 @@ fn refusals_are_printed_as_their_codes(rt: HostRuntime) -> Result<(), Fail> {
     );
 
     let mut out = Vec::new(rt.alloc());
-    let far = changes(Change::Move(ControlId { item: 2, index: 0 }, i32::MAX));
+    let far = changes(1, Change::Move(X, i32::MAX));
     rig.step(&far, &mut out)?;
     let fault = StackFault::Refused(ChangeFault::MotionFull);
     assert_eq!(rt;
@@ -385,27 +431,52 @@ fn refusals_are_printed_as_their_codes(rt: HostRuntime) -> Result<(), Fail> {
     Ok(())
 }
 
-/// The requests that bring a boot keyboard up, and how many tries each takes where nothing is lost: its configuration has
-/// 34 bytes and its report descriptor 63, which go in pieces of 8.
-const BRINGS_UP: [(Request, usize); 3] = [
+/// A request, and how many tries it takes where nothing is lost.
+type Asks = (Request, usize);
+
+/// The requests that bring a boot keyboard up: its configuration has 34 bytes and its report descriptor 63, which go in
+/// pieces of 8.
+const BRINGS_UP: [Asks; 3] = [
     (Request::Config, 7),
     (Request::Report, 10),
     (Request::Configure, 2),
 ];
 
-/// A request of device 1 with so many tries, and what the last of them tells.
+/// A request of a device with so many tries, and what the last of them tells.
+fn asked_of(
+    rig: &mut Rig,
+    dev: u8,
+    request: Request,
+    tries: usize,
+    out: &mut Vec<Delivered>,
+) -> Result<Told, StackFault> {
+    let mut told = rig.step(&Step::Begin { dev, request }, out)?;
+    for _ in 0..tries {
+        let fate = Fate::Clean;
+        told = rig.step(&Step::Control { dev, fate }, out)?;
+    }
+    Ok(told)
+}
+
 fn asked(
     rig: &mut Rig,
     request: Request,
     tries: usize,
     out: &mut Vec<Delivered>,
 ) -> Result<Told, StackFault> {
-    let mut told = rig.step(&Step::Begin { dev: 1, request }, out)?;
-    for _ in 0..tries {
-        let fate = Fate::Clean;
-        told = rig.step(&Step::Control { dev: 1, fate }, out)?;
+    asked_of(rig, 1, request, tries, out)
+}
+
+/// Whether the first of these requests bring device 1 up, each done in its last try, and none with an event.
+fn is_brought_up(rt: &HostRuntime, rig: &mut Rig, requests: &[Asks]) -> Result<bool, Fail> {
+    let mut out = Vec::new(rt.alloc());
+    for (request, tries) in requests {
+        let told = asked(rig, request.copied(), *tries, &mut out)?;
+        if told != Told::Transfer(Progress::Done) {
+            return Ok(false);
+        }
     }
-    Ok(told)
+    Ok(out.is_empty())
 }
 
 #[test]
@@ -413,10 +484,7 @@ fn a_cold_device_is_brought_up(rt: HostRuntime) -> Result<(), Fail> {
     let mut rig = Rig::new(rt.alloc())?;
     rig.attach(&config(Boot::Keyboard), &KEYBOARD, Start::Cold)?;
     let mut out = Vec::new(rt.alloc());
-    for (request, tries) in BRINGS_UP {
-        let told = asked(&mut rig, request, tries, &mut out)?;
-        assert!(rt; told == Told::Transfer(Progress::Done), "{tries} tries");
-    }
+    assert!(rt; is_brought_up(&rt, &mut rig, &BRINGS_UP)?);
     assert!(rt; rig.host(1)?.state() == HostState::Ready);
     rig.step(&step_of(Act::Press(4, 4)), &mut out)?;
     rig.step(&step_of(CLEAN), &mut out)?;

@@ -1,3 +1,7 @@
 pub mod ValueLemmas
 pub mod PollLemmas
+pub mod PlainLemmas
+pub mod EventLineLemmas
+pub mod LineLemmas
+pub mod ShownLemmas
 mod Vectors

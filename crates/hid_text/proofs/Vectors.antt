@@ -8,6 +8,9 @@ use Rattle.hid_descriptor.specs.declared.shape.Shape.TheVariants.{Variable}
 use Rattle.hid_notation.specs.Text.{hex_text, range_text}
 use Rattle.hid_text.specs.LayoutText.{item_head, item_line}
 use Rattle.hid_text.specs.ValuesText.{value_line}
+use Rattle.hid_cells.specs.declared.event.Event.TheVariants.{Up, Dropped}
+use Rattle.hid_text.specs.EventLines.{event_lines}
+use Rattle.hid_text.specs.StepText.{events_text}
 use Rattle.hid_text.specs.TransferText.{transfer_text}
 use Rattle.usb_control.specs.declared.fault.ControlFault.TheVariants.{BusFault}
 use Rattle.usb_control.specs.declared.host.Progress.TheVariants.{Running, Done, Failed}
@@ -45,3 +48,18 @@ one_try = refl
 one_try_untold : transfer_text false 1 Running [] ≡ []
 unfolding transfer_text
 one_try_untold = refl
+
+-- what a reset tells of a button that was held, and of motion that hadn't crossed
+a_reset : events_text
+    (record { dev = 1; event = Up (record { item = 0; index = 0 }) (record { page = 0x09; id = 0x01 }) }
+    ∷ record { dev = 1; event = Dropped (record { item = 2; index = 0 }) (record { page = 0x01; id = 0x30 }) (negsuc 4) } ∷ [])
+    ≡ codes "1 up 09:01" ++ 10 ∷ codes "1 dropped 01:30 -5" ++ 10 ∷ []
+unfolding hex_text digits
+a_reset = refl
+
+-- of a trace the events of device 1: not its polls and transfers, and not the events of device 11
+events_of_device_1 : event_lines 1
+    (codes "1 poll NAK nak" ++ 10 ∷ codes "1 down 07:04" ++ 10 ∷ codes "11 up 07:04" ++ 10 ∷ codes "value 1.0 1 07:04" ++ 10 ∷ codes "1 control done 00" ++ 10 ∷ codes "1 dropped 01:30 -3" ++ 10 ∷ [])
+    ≡ codes "1 down 07:04" ∷ codes "1 dropped 01:30 -3" ∷ []
+unfolding digits
+events_of_device_1 = refl

@@ -4,3 +4,4 @@ pub mod EventText
 pub mod PollText
 pub mod TransferText
 pub mod StepText
+pub mod EventLines

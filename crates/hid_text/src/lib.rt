@@ -11,9 +11,11 @@
 //! The rule to know: each call adds to the text that it is given, and adds nothing else. At a want of memory, which is the
 //! only error, some of it may have been added.
 //! What is added is the stated text, byte for byte: `layout_text`, `values_text` and `step_text` of `specs/`.
+//! A line of an event is told from the others by how it begins: law [`laws::events_are_told_apart`].
 #![tactic(auto)]
 
 mod event_text;
+pub mod laws;
 mod layout_text;
 mod poll_text;
 mod step_text;

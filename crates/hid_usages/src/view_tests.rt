@@ -6,7 +6,10 @@ ghost use Rattle.hid_layout.specs.Controls.{items_of, max_events};
 ghost use Rattle.hid_cells.specs.Cells.{FitsView};
 
 use crate::boot::{KEYBOARD, MOUSE};
-use crate::{Event, ReportFault, View, changes, has_keys, input_report};
+use crate::{
+    Event, ReportFault, Shown, Snapshot, View, changes, changes_and_drops, has_keys, has_zeros,
+    input_report, is_input,
+};
 use hid_fields::{BitCodec, FieldCodec, WordCodec};
 use hid_layout::{ControlId, Layout, Usage};
 use std::alloc::Global;
@@ -162,6 +165,29 @@ const DOWN: Event = Event::Motion {
     by: 1,
 };
 
+const BUTTON_UP: Event = Event::Up {
+    control: ControlId { item: 0, index: 0 },
+    usage: Usage { page: 9, id: 1 },
+};
+
+const RIGHT_DROPPED: Event = Event::Dropped {
+    control: ControlId { item: 2, index: 0 },
+    usage: Usage { page: 1, id: 0x30 },
+    by: 127,
+};
+
+const UP_DROPPED: Event = Event::Dropped {
+    control: ControlId { item: 2, index: 1 },
+    usage: Usage { page: 1, id: 0x31 },
+    by: -3,
+};
+
+const WHEEL_DROPPED: Event = Event::Dropped {
+    control: ControlId { item: 0, index: 0 },
+    usage: Usage { page: 1, id: 0x38 },
+    by: 5,
+};
+
 /// A name, a descriptor, reports one behind the other, and what the last of them tells.
 type Told = (
     &'static str,
@@ -310,6 +336,76 @@ fn views_are_compared(rt: HostRuntime) -> Result<(), Fail> {
     )?;
     assert!(rt; keys_up);
     assert!(rt; compared(rt.alloc(), &HAT, &[0x08], &[3], &[TO_3])?);
+    Ok(())
+}
+
+/// Bytes that a view took, a motion that was made since then, the report that shows it, and the one whose motion is
+/// dropped.
+#[derive(Clone, Copy)]
+struct Forgotten {
+    bytes: &'static [u8],
+    control: ControlId,
+    by: i32,
+    shows: usize,
+    drops: usize,
+}
+
+/// Whether these events lead from a view back to the initial one.
+fn forgets(
+    alloc: Global,
+    descriptor: &[u8],
+    row: &Forgotten,
+    events: &[Event],
+) -> Result<bool, Fail> {
+    let layout = Layout::parse(alloc, descriptor)?;
+    let initial = View::initial(alloc, &layout)?;
+    let mut view = View::initial(alloc, &layout)?;
+    let mut snapshot = Snapshot::blank(alloc, &layout)?;
+    let mut parts = Shown::blank(alloc, &layout)?;
+    let mut told = Vec::new(alloc);
+    told.reserve(layout.max_events())?;
+    let taken = take_all::<WordCodec>(&layout, &mut view, &[row.bytes], &mut told);
+    let moved = snapshot.shift(&layout, row.control, row.by).is_ok();
+    if !has_zeros(&layout) || !is_input(&layout, row.shows) || !is_input(&layout, row.drops) {
+        return Ok(false);
+    }
+    snapshot.shown(&layout, row.shows, &mut parts);
+    told.clear();
+    changes_and_drops(&layout, &view, &initial, row.drops, &parts, &mut told);
+    Ok(taken && moved && told.as_slice() == events)
+}
+
+#[test]
+fn a_view_is_forgotten(rt: HostRuntime) -> Result<(), Fail> {
+    let mut row = Forgotten {
+        bytes: &[1, 0, 0],
+        control: ControlId { item: 2, index: 0 },
+        by: 200,
+        shows: 0,
+        drops: 0,
+    };
+    assert!(rt; forgets(rt.alloc(), &MOUSE, &row, &[BUTTON_UP, RIGHT_DROPPED])?);
+    row.control = ControlId { item: 2, index: 1 };
+    row.by = -3;
+    assert!(rt; forgets(rt.alloc(), &MOUSE, &row, &[BUTTON_UP, UP_DROPPED])?);
+    row.bytes = &[0; 3];
+    row.by = 0;
+    assert!(rt; forgets(rt.alloc(), &MOUSE, &row, &[])?);
+    Ok(())
+}
+
+#[test]
+fn motion_of_another_report_is_not_dropped(rt: HostRuntime) -> Result<(), Fail> {
+    let mut row = Forgotten {
+        bytes: &[1, 0],
+        control: FIRST,
+        by: 5,
+        shows: 0,
+        drops: 0,
+    };
+    assert!(rt; forgets(rt.alloc(), &TWO_REPORTS, &row, &[WHEEL_DROPPED])?);
+    row.drops = 1;
+    assert!(rt; forgets(rt.alloc(), &TWO_REPORTS, &row, &[])?);
     Ok(())
 }
 

@@ -12,3 +12,4 @@ pub mod NamingLemmas
 pub mod CrossingLemmas
 pub mod OneReportLemmas
 pub mod CrossingVectors
+pub mod DropLemmas

@@ -29,7 +29,7 @@ room_at stands items cells i cell fits within h =
     subst (λ (f : Form). HasRoom (head_of f) cell) (sym (form_at-is items i item.0 item.1)) (fits.room i item.0 cell item.1 h)
 
 -- each element tells one event at most
-each_few : {C : Type 0} (f : ℕ → Usage → C → List Event) → ((j : ℕ) (u : Usage) (c : C) → length (f j u c) ≤ 1) → (j : ℕ) (us : List Usage) (cs : List C) → length (each f j us cs) ≤ length us
+pub each_few : {C : Type 0} (f : ℕ → Usage → C → List Event) → ((j : ℕ) (u : Usage) (c : C) → length (f j u c) ≤ 1) → (j : ℕ) (us : List Usage) (cs : List C) → length (each f j us cs) ≤ length us
 each_few f one j [] cs = omega arith
 each_few f one j (u ∷ us) [] = omega arith
 each_few f one j (u ∷ us) (c ∷ cs) = omega (arith, one j u c, each_few f one (j + 1) us cs, length-append (f j u c) (each f (j + 1) us cs))

@@ -7,3 +7,4 @@ pub mod Law
 pub mod Crossing
 pub mod OneReport
 pub mod Bits
+pub mod Dropping

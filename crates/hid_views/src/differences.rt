@@ -56,7 +56,7 @@ fn usage_past(layout: &Layout, item: usize, index: usize) -> Usage
 }
 
 /// The usage of an element, or of a place of an array's usage list.
-fn usage_at(layout: &Layout, item: usize, index: usize) -> Usage
+pub(crate) fn usage_at(layout: &Layout, item: usize, index: usize) -> Usage
     requires { index < length (usages_at layout.now item) }
     ensures { slice_get (usages_at layout.now item) index ≡ Some result }
 {
@@ -349,7 +349,13 @@ pub(crate) fn flag_changes(
 
 /// The events of one item between two views.
 #[tactic(auto, using(crate::proofs::EventLemmas::item_places))]
-fn item_changes(layout: &Layout, item: usize, before: &Cell, after: &Cell, out: &mut Vec<Event>)
+pub(crate) fn item_changes(
+    layout: &Layout,
+    item: usize,
+    before: &Cell,
+    after: &Cell,
+    out: &mut Vec<Event>,
+)
     requires listed { item < length layout.now.items }
     requires before { HasRoom (head_of (form_at (items_of layout.now) item)) before.now }
     requires after { HasRoom (head_of (form_at (items_of layout.now) item)) after.now }

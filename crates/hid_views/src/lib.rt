@@ -11,6 +11,7 @@
 mod bits;
 mod bounds;
 mod differences;
+mod drops;
 mod input;
 pub mod laws;
 mod read;
@@ -18,4 +19,4 @@ mod take;
 mod view;
 
 pub use input::{element_value, input_report};
-pub use view::{View, changes};
+pub use view::{View, changes, changes_and_drops};

@@ -2,19 +2,21 @@
 
 ghost use Rattle.std.specs.Prelude.{◌≡◌, ◌≤◌, ◌+◌, ◌++◌, true, length, IfOk, vec_len, vec_capacity};
 ghost use Rattle.hid_layout.specs.Controls.{items_of, max_events};
-ghost use Rattle.hid_cells.specs.Cells.{blank, FitsView};
+ghost use Rattle.hid_cells.specs.Cells.{blank, FitsShown, FitsView};
+ghost use Rattle.hid_cells.specs.Parts.{IsInput};
 ghost use Rattle.hid_cells.specs.Snapshots.{is_pressed, cell_at};
 ghost use Rattle.hid_cells.specs.Keys.{keys_at, has_keys_at, key_words, AreKeyWords};
 ghost use Rattle.hid_views.specs.Taking.{TakesReport};
-ghost use Rattle.hid_cells.specs.Views.{value_in, changes_between};
+ghost use Rattle.hid_cells.specs.Views.{value_in, changes_between, drops_between};
 
 use crate::differences::all_changes;
+use crate::drops::{Dropped, all_changes_and_drops};
 use crate::input::input_report;
 use crate::take::{Received, take_items};
 use hid_cells::{Cell, Event, MemoryFault, ReportFault, blank_cells, key_words, plan_of};
 use hid_fields::FieldCodec;
 use hid_layout::{ControlId, Layout};
-use hid_parts::MAX_NUMBERS;
+use hid_parts::{MAX_NUMBERS, Shown};
 use std::alloc::Global;
 use std::marker::Model;
 
@@ -154,4 +156,35 @@ pub fn changes(layout: &Layout, before: &View, after: &View, out: &mut Vec<Event
     ensures room { vec_capacity out.new ≡ vec_capacity out.old }
 {
     all_changes(layout, &before.cells, &after.cells, out);
+}
+
+/// Appends what changes from one view to another, and the motion of an Input report's part as dropped: what a host tells
+/// that forgets its device, where the report was sent and didn't reach it. There is reserved room for `max_events` more;
+/// no memory is taken.
+#[tactic(auto, using(crate::proofs::DropLemmas::drops))]
+pub fn changes_and_drops(
+    layout: &Layout,
+    before: &View,
+    after: &View,
+    report: usize,
+    shown: &Shown,
+    out: &mut Vec<Event>,
+)
+    requires input { IsInput layout.now report }
+    requires before { FitsView (items_of layout.now) before.now }
+    requires after { FitsView (items_of layout.now) after.now }
+    requires shown { FitsShown (items_of layout.now) shown.now }
+    requires room { vec_len out.old + max_events (items_of layout.now) ≤ vec_capacity out.old }
+    ensures events { out.new.items ≡ out.old.items
+        ++ drops_between (items_of layout.now) report before.now after.now shown.now }
+    // At most so many events, in the room that was there.
+    ensures few { vec_len out.new ≤ vec_len out.old + max_events (items_of layout.now) }
+    ensures room { vec_capacity out.new ≡ vec_capacity out.old }
+{
+    let dropped = Dropped {
+        layout,
+        report,
+        shown,
+    };
+    all_changes_and_drops(&dropped, &before.cells, &after.cells, out);
 }

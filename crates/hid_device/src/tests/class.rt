@@ -40,6 +40,8 @@ const SCHEDULES: [(&str, &str, &str); 13] = [
         the length of another:     ask 21 09 02 03 00 00 03 00 02 EE EE    > C1
         an Input report:           ask 21 09 01 01 00 00 02 00 01 01       > C1
         no Output report 2:        ask 21 09 02 02 00 00 03 00 02 EE EE    > C1
+        no Feature report 1:       ask 21 09 01 03 00 00 03 00 01 EE EE    > C1
+        no type 0:                 ask 21 09 01 00 00 00 03 00 01 EE EE    > C1
         no type 4:                 ask 21 09 01 04 00 00 03 00 01 EE EE    > C1
         interface 1:               ask 21 09 01 02 01 00 03 00 01 EE EE    > C1
         a configuration leaves it: configure                               >
@@ -131,12 +133,14 @@ const SCHEDULES: [(&str, &str, &str); 13] = [
         that of reports:            ask 21 0B 01 00 00 00 00 00 >
         it is told:                 ask A1 03 00 00 00 00 01 00 > 01
         there is no other:          ask 21 0B 02 00 00 00 00 00 > C1
+        of interface 1:             ask 21 0B 00 00 01 00 00 00 > C1
         the boot protocol:          ask 21 0B 00 00 00 00 00 00 >
         a configuration:            configure                   >
         it is still told:           ask A1 03 00 00 00 00 01 00 > 00
         not while configured:       ask 21 0B 01 00 00 00 00 00 > C1
         nothing has changed:        ask A1 03 00 00 00 00 01 00 > 00
         with a value:               ask A1 03 01 00 00 00 01 00 > C1
+        of interface 1:             ask A1 03 00 00 01 00 01 00 > C1
         a key:                      press 4 4                   >
         the same bytes:             69 81 00                    > C3 00 00 04 00 00 00 00 00 round 0.0
     "),

@@ -3,6 +3,7 @@
 //!   press 4 4, release 4 4        a control by its item and index: nothing, or why it can't be
 //!   move 2 0 -200, set 2 0 1
 //!   configure, frame, frames 4    nothing
+//!   bus reset                     nothing
 //!   fixed 2 0                     the motion that is fixed of a control
 //!   kept output 1                 the report that was set last: output, feature or input, and its ID
 //!   reset, apply, answer          endpoint 0 is reset, carries out what is pending, or shows the answer that is fixed
@@ -209,6 +210,7 @@ fn done(alloc: Global, device: &mut Device, act: &str) -> Result<String, Fail> {
     match act {
         "configure" => device.configure(),
         "frame" => device.frame(),
+        "bus reset" => device.reset(),
         "reset" => device.control().reset(),
         "apply" => device.control().requests_mut().apply(&[]),
         "answer" => match device.control().requests().answer() {

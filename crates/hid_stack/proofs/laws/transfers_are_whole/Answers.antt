@@ -1,4 +1,4 @@
-use Rattle.hid_stack.proofs.WholeLemmas.{unconcluded_once, whole}
+use Rattle.hid_stack.proofs.WholeLemmas.{ended_by_reset, unconcluded_once, whole}
 use Rattle.hid_stack.proofs.laws.transfers_are_whole.Goals as goal
 
 pub returns-clause-whole : goal.returns-clause-whole
@@ -6,3 +6,6 @@ returns-clause-whole c = whole
 
 pub returns-clause-unconcluded : goal.returns-clause-unconcluded
 returns-clause-unconcluded c = unconcluded_once
+
+pub returns-clause-reset : goal.returns-clause-reset
+returns-clause-reset c = ended_by_reset

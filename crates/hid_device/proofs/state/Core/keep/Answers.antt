@@ -7,7 +7,7 @@ use Rattle.hid_device.specs.contracts.state.Core.{the_view}
 use Rattle.hid_device.specs.Core.{CoreState}
 use Rattle.hid_device.specs.Deciding.{effected}
 use Rattle.hid_device.specs.Outputs.{AreOutputs, kept}
-use Rattle.hid_device.proofs.OutputLemmas.{kept_are, kept_is}
+use Rattle.hid_device.proofs.OutputLemmas.{kept_are, kept_is, sound_with}
 use Rattle.hid_device.proofs.state.Core.keep.Goals as goal
 
 pub invariant_of-self : goal.invariant_of-self
@@ -18,19 +18,8 @@ invariant_of-self c =
     let set : slice_set c.self.inside.outputs.items c.args.place c.keep.new.self ≡ kept c.self.inside.outputs.items c.args.place c.args.bytes.now
     = kept_is c.self.inside.outputs.items c.args.place c.args.bytes.now c.index_mut.result.now c.keep.new.self there c.keep.ensures in
     record {
-      sound = record {
-        lays = before.lays;
-        empty_codes = before.empty_codes;
-        zeros = before.zeros;
-        inputs_first = before.inputs_first;
-        snapshot = before.snapshot;
-        fixed = before.fixed;
-        each_frames = before.each_frames;
-        each_idle = before.each_idle;
-        of_input = before.of_input;
-        outputs = subst (λ (outputs : List (List ℕ)). AreOutputs c.self.inside.layout outputs) (sym set)
-            (kept_are c.self.inside.layout c.self.inside.outputs.items c.args.place c.args.bytes.now before.outputs);
-      };
+      sound = sound_with (the_view c.self.inside) c.self.inside.is_configured c.self.inside.idle.items c.self.inside.protocol _ before before.each_idle (subst (AreOutputs c.self.inside.layout) (sym set)
+          (kept_are c.self.inside.layout c.self.inside.outputs.items c.args.place c.args.bytes.now before.outputs));
       armed = c.self.invariant.armed;
       room = c.self.invariant.room;
     }

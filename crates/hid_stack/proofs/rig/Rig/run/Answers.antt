@@ -1,10 +1,12 @@
 use Rattle.std.proofs.Common.{◌≡◌, ◌++◌, ◌+◌, ◌≤◌, ◌∙◌, [], ◌∷◌, None, ap, arith, refl, sym, take, subst, Err, vec_len, vec_capacity}
 use Rattle.std.proofs.lemmas.Grind.{common_steps}
+use Rattle.std.proofs.lemmas.List.Elements.{All-more}
 use Rattle.hid_stack.specs.declared.step.Step.{Step}
-use Rattle.hid_stack.specs.Rig.{HasRoomFor, IsRefusal, NoneIsRefused, bus_after, bus_after_all, delivered_at, delivered_in, most_events, refusal, refused_after}
+use Rattle.std.specs.List.{All}
+use Rattle.hid_stack.specs.Rig.{FitsStep, HasRoomFor, IsRefusal, NoneIsRefused, bus_after, bus_after_all, delivered_at, delivered_in, most_events, refusal, refused_after}
 use Rattle.hid_stack.specs.Sums.{AllHaveMotions, ConfiguresBetweenRounds}
 use Rattle.hid_stack.proofs.Isolation.{ran_more, told_more, devices_live, headline, isolated, keeps_to_rounds}
-use Rattle.hid_stack.proofs.RoomLemmas.{goes_on_more, most_more, not_refused, room_at, stopped, stops_at}
+use Rattle.hid_stack.proofs.RoomLemmas.{fits_of, goes_on_more, most_more, not_refused, room_at, stopped, stops_at}
 use Rattle.hid_stack.proofs.SumLemmas.{between_more, sums_stop, sums_up}
 use Rattle.hid_stack.proofs.rig.Rig.run.Goals as goal
 
@@ -21,6 +23,8 @@ loop-at-preserved c =
           (subst (λ (x : Step). refusal c.loop-at.self x ≡ None) is (not_refused _ c.step.result c.in-Ok.field-0 c.in-Ok.is c.step.ensures.refused));
       between = between_more _ _ _ _ _ c.loop-at-test.true c.loop-at.invariant.now c.loop-at.invariant.between
           (subst (λ (x : Step). ConfiguresBetweenRounds c.loop-at.self (x ∷ [])) is c.step.ensures.between);
+      fits = All-more FitsStep _ _ _ c.loop-at-test.true c.loop-at.invariant.fits
+          (subst FitsStep is (fits_of c.step.result c.in-Ok.field-0 c.in-Ok.is c.step.ensures.fits));
       capacity = omega (arith, c.loop-at.invariant.capacity, c.step.ensures.capacity);
     }
 
@@ -58,6 +62,11 @@ pub returns-clause-goes_on : goal.returns-clause-goes_on
 returns-clause-goes_on c =
     let whole : take c.loop-at.at c.args.steps.now ≡ c.args.steps.now = grind (arith, common_steps) in
     subst (NoneIsRefused c.args.self.now) whole c.loop-at.invariant.goes_on
+
+pub returns-clause-fits : goal.returns-clause-fits
+returns-clause-fits c =
+    let whole : take c.loop-at.at c.args.steps.now ≡ c.args.steps.now = grind (arith, common_steps) in
+    subst (All FitsStep) whole c.loop-at.invariant.fits
 
 -- where a step is refused, the steps before it stand
 

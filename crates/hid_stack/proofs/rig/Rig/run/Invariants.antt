@@ -1,5 +1,6 @@
 use Rattle.std.proofs.Common.{◌≡◌, ◌++◌, ◌+◌, ◌≤◌, take, vec_len, vec_capacity}
-use Rattle.hid_stack.specs.Rig.{NoneIsRefused, bus_after_all, delivered_in, most_in}
+use Rattle.std.specs.List.{All}
+use Rattle.hid_stack.specs.Rig.{FitsStep, NoneIsRefused, bus_after_all, delivered_in, most_in}
 use Rattle.hid_stack.specs.Sums.{ConfiguresBetweenRounds}
 use Rattle.hid_stack.proofs.rig.Rig.run.Given as goal
 
@@ -11,5 +12,6 @@ invariant-loop-at l = record {
   few : vec_len l.out ≤ vec_len l.fn.out + most_in l.fn.self (take l.at l.steps);
   goes_on : NoneIsRefused l.fn.self (take l.at l.steps);
   between : ConfiguresBetweenRounds l.fn.self (take l.at l.steps);
+  fits : All FitsStep (take l.at l.steps);
   capacity : vec_capacity l.fn.out ≤ vec_capacity l.out;
 }

@@ -6,12 +6,12 @@ use Rattle.std.proofs.lemmas.Result.{on_ok_weaker}
 use Rattle.hid_lives.specs.Rounds.{Changes, Frame, Polls}
 use Rattle.hid_stack.specs.declared.rig.TheConstants.{MAX_DEVICES}
 use Rattle.hid_stack.specs.declared.step.Step.{Step}
-use Rattle.hid_stack.specs.declared.step.Step.TheVariants.{Change, Poll, Begin}
-use Rattle.hid_stack.specs.Members.{Member, Scheduled, Begins, member_after}
+use Rattle.hid_stack.specs.declared.step.Step.TheVariants.{Change, Poll, Begin, Reset}
+use Rattle.hid_stack.specs.Members.{Member, Scheduled, Begins, Resets, member_after}
 use Rattle.hid_stack.specs.Rig.{bus_after, delivered_at, refusal, refused_after, IsRefusal, HasRoomFor, most_events}
 use Rattle.hid_stack.specs.Sums.{ConfiguresBetweenRounds}
 use Rattle.hid_stack.specs.Tells.{Tells}
-use Rattle.hid_stack.proofs.NamedLemmas.{named, where_done, leaves, change_err, change_told, change_refused, change_only, poll_err, poll_tells, poll_delivers, poll_refused, poll_only, poll_has_room, poll_few, begin_done, begin_err, begin_only, begin_refused, begin_tells, begin_told, control_between, control_told, tries_named}
+use Rattle.hid_stack.proofs.NamedLemmas.{named, where_done, leaves, change_err, change_told, change_refused, change_only, poll_tells, poll_refused, poll_only, one_delivered, enough_room, few_of_it, stays_refused, reset_only, reset_refused, begin_done, begin_err, begin_only, begin_refused, begin_tells, begin_told, control_between, control_told, tries_named}
 use Rattle.hid_stack.proofs.RigLemmas.{called, framed_hold, polled, stepped, stepped_have, tried}
 use Rattle.hid_stack.proofs.SumLemmas.{others_between}
 use Rattle.hid_stack.proofs.rig.Rig.step.Goals as goal
@@ -31,6 +31,14 @@ invariant_of-self-in-Poll c = (
   search rules,
   stepped_have c.self.inside.slots.items c.in_ok-i-in-Poll.i c.index_mut-in-Poll.result.now c.poll.new.self c.self.invariant.2 (search rules) c.index_mut-in-Poll.ensures.value
       (polled c.index_mut-in-Poll.result.now c.poll.new.self (Scheduled (Polls c.in-Poll.fate)) c.poll.result _ c.poll.ensures.after c.poll.ensures.err),
+)
+
+pub invariant_of-self-in-Reset : goal.invariant_of-self-in-Reset
+invariant_of-self-in-Reset c = (
+  search rules,
+  search rules,
+  stepped_have c.self.inside.slots.items c.in_ok-i-in-Reset.i c.index_mut-in-Reset.result.now c.reset.new.self c.self.invariant.2 (search rules) c.index_mut-in-Reset.ensures.value
+      (polled c.index_mut-in-Reset.result.now c.reset.new.self Resets c.reset.result _ c.reset.ensures.after c.reset.ensures.err),
 )
 
 pub invariant_of-self-in-Begin : goal.invariant_of-self-in-Begin
@@ -96,7 +104,7 @@ returns-in_ok-i-in-Poll-clause-after c =
 pub returns-in_ok-i-in-Poll-clause-events : goal.returns-in_ok-i-in-Poll-clause-events
 returns-in_ok-i-in-Poll-clause-events c =
     subst (λ (x : Step). OnOk c.poll.result (c.poll.new.out.items ≡ c.args.out.now.items ++ delivered_at c.args.self.now x)) (sym c.in-Poll.is)
-    (poll_delivers c.args.self.now c.in-Poll.dev c.in_ok-i-in-Poll.i c.index_mut-in-Poll.result.now c.in-Poll.fate c.poll.result c.args.out.now.items c.poll.new.out.items
+    (one_delivered c.args.self.now c.in-Poll.dev c.in_ok-i-in-Poll.i c.index_mut-in-Poll.result.now (Scheduled (Polls c.in-Poll.fate)) c.poll.result c.args.out.now.items c.poll.new.out.items
     (named c.self.inside.slots.items c.args.self.now c.in-Poll.dev c.in_ok-i-in-Poll.i c.index_mut-in-Poll.result.now c.self.view_is c.in_ok-i-in-Poll.ensures.place.0 (search rules) c.index_mut-in-Poll.ensures.value) c.poll.ensures.events)
 
 pub returns-in_ok-i-in-Poll-clause-refused : goal.returns-in_ok-i-in-Poll-clause-refused
@@ -114,13 +122,13 @@ returns-in_ok-i-in-Poll-clause-only c =
 pub returns-in_ok-i-in-Poll-clause-room : goal.returns-in_ok-i-in-Poll-clause-room
 returns-in_ok-i-in-Poll-clause-room c =
     subst (λ (x : Step). HasRoomFor c.args.self.now x (vec_len c.args.out.now) (vec_capacity c.args.out.now) → c.poll.result ≢ Err Memory) (sym c.in-Poll.is)
-    (poll_has_room c.args.self.now c.in-Poll.dev c.in_ok-i-in-Poll.i c.index_mut-in-Poll.result.now c.in-Poll.fate c.poll.result (vec_len c.args.out.now) (vec_capacity c.args.out.now)
+    (enough_room c.args.self.now c.in-Poll.dev c.in_ok-i-in-Poll.i c.index_mut-in-Poll.result.now c.poll.result (vec_len c.args.out.now) (vec_capacity c.args.out.now)
     (named c.self.inside.slots.items c.args.self.now c.in-Poll.dev c.in_ok-i-in-Poll.i c.index_mut-in-Poll.result.now c.self.view_is c.in_ok-i-in-Poll.ensures.place.0 (search rules) c.index_mut-in-Poll.ensures.value) c.poll.ensures.room)
 
 pub returns-in_ok-i-in-Poll-clause-few : goal.returns-in_ok-i-in-Poll-clause-few
 returns-in_ok-i-in-Poll-clause-few c =
     subst (λ (x : Step). vec_len c.poll.new.out ≤ vec_len c.args.out.now + most_events c.args.self.now x) (sym c.in-Poll.is)
-    (poll_few c.args.self.now c.in-Poll.dev c.in_ok-i-in-Poll.i c.index_mut-in-Poll.result.now c.in-Poll.fate (vec_len c.args.out.now) (vec_len c.poll.new.out)
+    (few_of_it c.args.self.now c.in-Poll.dev c.in_ok-i-in-Poll.i c.index_mut-in-Poll.result.now (vec_len c.args.out.now) (vec_len c.poll.new.out)
     (named c.self.inside.slots.items c.args.self.now c.in-Poll.dev c.in_ok-i-in-Poll.i c.index_mut-in-Poll.result.now c.self.view_is c.in_ok-i-in-Poll.ensures.place.0 (search rules) c.index_mut-in-Poll.ensures.value) c.poll.ensures.few)
 
 pub returns-after-change-clause-err : goal.returns-after-change-clause-err
@@ -139,7 +147,7 @@ returns-after-change-clause-between c = subst (λ (x : Step). ConfiguresBetweenR
 pub returns-in_ok-i-in-Poll-clause-err : goal.returns-in_ok-i-in-Poll-clause-err
 returns-in_ok-i-in-Poll-clause-err c =
     subst (λ (x : Step). IfErr c.poll.result (λ e. slice_set c.self.inside.slots.items c.in_ok-i-in-Poll.i c.poll.new.self ≡ refused_after c.args.self.now x e)) (sym c.in-Poll.is)
-    (poll_err c.self.inside.slots.items c.args.self.now c.in-Poll.dev c.in_ok-i-in-Poll.i c.index_mut-in-Poll.result.now c.poll.new.self c.in-Poll.fate c.poll.result _ c.self.view_is
+    (stays_refused c.self.inside.slots.items c.args.self.now c.in-Poll.dev c.in_ok-i-in-Poll.i c.index_mut-in-Poll.result.now c.poll.new.self c.poll.result _ c.self.view_is
     (named c.self.inside.slots.items c.args.self.now c.in-Poll.dev c.in_ok-i-in-Poll.i c.index_mut-in-Poll.result.now c.self.view_is c.in_ok-i-in-Poll.ensures.place.0 (search rules) c.index_mut-in-Poll.ensures.value) c.poll.ensures.err)
 
 pub returns-in_ok-i-in-Poll-clause-between : goal.returns-in_ok-i-in-Poll-clause-between
@@ -261,3 +269,53 @@ pub returns-after-control-clause-between : goal.returns-after-control-clause-bet
 returns-after-control-clause-between c = subst (λ (x : Step). ConfiguresBetweenRounds c.args.self.now (x ∷ [])) (sym c.in-Control.is)
     (control_between c.args.self.now c.in-Control.dev c.in_ok-i-in-Control.i c.index_mut-in-Control.result.now c.in-Control.fate
     (named c.self.inside.slots.items c.args.self.now c.in-Control.dev c.in_ok-i-in-Control.i c.index_mut-in-Control.result.now c.self.view_is c.in_ok-i-in-Control.ensures.place.0 (search rules) c.index_mut-in-Control.ensures.value) c.control.ensures.between)
+
+-- a reset
+
+pub returns-in_ok-i-in-Reset-clause-told : goal.returns-in_ok-i-in-Reset-clause-told
+returns-in_ok-i-in-Reset-clause-told c = subst (λ (x : Step). IfOk c.reset.result (λ told. Tells c.args.self.now x told)) (sym c.in-Reset.is) c.reset.ensures.told
+
+pub returns-in_ok-i-in-Reset-clause-after : goal.returns-in_ok-i-in-Reset-clause-after
+returns-in_ok-i-in-Reset-clause-after c =
+    subst (λ (x : Step). OnOk c.reset.result (slice_set c.self.inside.slots.items c.in_ok-i-in-Reset.i c.reset.new.self ≡ bus_after c.args.self.now x)) (sym c.in-Reset.is)
+    (on_ok_weaker c.reset.result (leaves c.self.inside.slots.items c.args.self.now c.in-Reset.dev c.in_ok-i-in-Reset.i c.index_mut-in-Reset.result.now c.reset.new.self Resets c.self.view_is
+    (named c.self.inside.slots.items c.args.self.now c.in-Reset.dev c.in_ok-i-in-Reset.i c.index_mut-in-Reset.result.now c.self.view_is c.in_ok-i-in-Reset.ensures.place.0 (search rules) c.index_mut-in-Reset.ensures.value)) c.reset.ensures.after)
+
+pub returns-in_ok-i-in-Reset-clause-events : goal.returns-in_ok-i-in-Reset-clause-events
+returns-in_ok-i-in-Reset-clause-events c =
+    subst (λ (x : Step). OnOk c.reset.result (c.reset.new.out.items ≡ c.args.out.now.items ++ delivered_at c.args.self.now x)) (sym c.in-Reset.is)
+    (one_delivered c.args.self.now c.in-Reset.dev c.in_ok-i-in-Reset.i c.index_mut-in-Reset.result.now Resets c.reset.result c.args.out.now.items c.reset.new.out.items
+    (named c.self.inside.slots.items c.args.self.now c.in-Reset.dev c.in_ok-i-in-Reset.i c.index_mut-in-Reset.result.now c.self.view_is c.in_ok-i-in-Reset.ensures.place.0 (search rules) c.index_mut-in-Reset.ensures.value) c.reset.ensures.events)
+
+pub returns-in_ok-i-in-Reset-clause-refused : goal.returns-in_ok-i-in-Reset-clause-refused
+returns-in_ok-i-in-Reset-clause-refused c =
+    subst (λ (x : Step). (e : StackFault) → refusal c.args.self.now x ≡ Some e → c.reset.result ≡ Err e) (sym c.in-Reset.is)
+    (reset_refused c.args.self.now c.in-Reset.dev c.in_ok-i-in-Reset.i c.index_mut-in-Reset.result.now c.reset.result
+    (named c.self.inside.slots.items c.args.self.now c.in-Reset.dev c.in_ok-i-in-Reset.i c.index_mut-in-Reset.result.now c.self.view_is c.in_ok-i-in-Reset.ensures.place.0 (search rules) c.index_mut-in-Reset.ensures.value))
+
+pub returns-in_ok-i-in-Reset-clause-only : goal.returns-in_ok-i-in-Reset-clause-only
+returns-in_ok-i-in-Reset-clause-only c =
+    subst (λ (x : Step). IfErr c.reset.result (λ e. IsRefusal c.args.self.now x e)) (sym c.in-Reset.is)
+    (reset_only c.args.self.now c.in-Reset.dev c.in_ok-i-in-Reset.i c.index_mut-in-Reset.result.now c.reset.result
+    (named c.self.inside.slots.items c.args.self.now c.in-Reset.dev c.in_ok-i-in-Reset.i c.index_mut-in-Reset.result.now c.self.view_is c.in_ok-i-in-Reset.ensures.place.0 (search rules) c.index_mut-in-Reset.ensures.value) c.reset.ensures.only)
+
+pub returns-in_ok-i-in-Reset-clause-err : goal.returns-in_ok-i-in-Reset-clause-err
+returns-in_ok-i-in-Reset-clause-err c =
+    subst (λ (x : Step). IfErr c.reset.result (λ e. slice_set c.self.inside.slots.items c.in_ok-i-in-Reset.i c.reset.new.self ≡ refused_after c.args.self.now x e)) (sym c.in-Reset.is)
+    (stays_refused c.self.inside.slots.items c.args.self.now c.in-Reset.dev c.in_ok-i-in-Reset.i c.index_mut-in-Reset.result.now c.reset.new.self c.reset.result _ c.self.view_is
+    (named c.self.inside.slots.items c.args.self.now c.in-Reset.dev c.in_ok-i-in-Reset.i c.index_mut-in-Reset.result.now c.self.view_is c.in_ok-i-in-Reset.ensures.place.0 (search rules) c.index_mut-in-Reset.ensures.value) c.reset.ensures.err)
+
+pub returns-in_ok-i-in-Reset-clause-between : goal.returns-in_ok-i-in-Reset-clause-between
+returns-in_ok-i-in-Reset-clause-between c = subst (λ (x : Step). ConfiguresBetweenRounds c.args.self.now (x ∷ [])) (sym c.in-Reset.is) (others_between c.args.self.now (Reset c.in-Reset.dev) tt)
+
+pub returns-in_ok-i-in-Reset-clause-room : goal.returns-in_ok-i-in-Reset-clause-room
+returns-in_ok-i-in-Reset-clause-room c =
+    subst (λ (x : Step). HasRoomFor c.args.self.now x (vec_len c.args.out.now) (vec_capacity c.args.out.now) → c.reset.result ≢ Err Memory) (sym c.in-Reset.is)
+    (enough_room c.args.self.now c.in-Reset.dev c.in_ok-i-in-Reset.i c.index_mut-in-Reset.result.now c.reset.result (vec_len c.args.out.now) (vec_capacity c.args.out.now)
+    (named c.self.inside.slots.items c.args.self.now c.in-Reset.dev c.in_ok-i-in-Reset.i c.index_mut-in-Reset.result.now c.self.view_is c.in_ok-i-in-Reset.ensures.place.0 (search rules) c.index_mut-in-Reset.ensures.value) c.reset.ensures.room)
+
+pub returns-in_ok-i-in-Reset-clause-few : goal.returns-in_ok-i-in-Reset-clause-few
+returns-in_ok-i-in-Reset-clause-few c =
+    subst (λ (x : Step). vec_len c.reset.new.out ≤ vec_len c.args.out.now + most_events c.args.self.now x) (sym c.in-Reset.is)
+    (few_of_it c.args.self.now c.in-Reset.dev c.in_ok-i-in-Reset.i c.index_mut-in-Reset.result.now (vec_len c.args.out.now) (vec_len c.reset.new.out)
+    (named c.self.inside.slots.items c.args.self.now c.in-Reset.dev c.in_ok-i-in-Reset.i c.index_mut-in-Reset.result.now c.self.view_is c.in_ok-i-in-Reset.ensures.place.0 (search rules) c.index_mut-in-Reset.ensures.value) c.reset.ensures.few)

@@ -1,0 +1,41 @@
+-- What a host tells at a reset of the bus (USB 2.0, 7.1.7.5, 8.6 and 9.1.1.3; our choice).
+use Rattle.std.specs.Prelude.{ℕ, Bool, if◌then◌else◌, List, [], Option, Some, None, IfSome}
+use Rattle.std.specs.Bool.{beq}
+use Rattle.hid_layout.specs.Layout.{Contents}
+use Rattle.hid_layout.specs.Controls.{Item, items_of}
+use Rattle.hid_cells.specs.declared.cell.Cell.{Cell}
+use Rattle.hid_cells.specs.declared.event.Event.{Event}
+use Rattle.hid_cells.specs.Cells.{blank, FitsShown}
+use Rattle.hid_cells.specs.Parts.{IsInput}
+use Rattle.hid_cells.specs.Views.{changes_between, drops_between}
+use Rattle.hid_host.specs.declared.phase.HostPhase.{HostPhase}
+use Rattle.hid_host.specs.declared.phase.HostPhase.TheVariants.{Ready}
+use Rattle.hid_host.specs.Ready.{Known}
+
+-- The report of a round that is open at the device, where the host hasn't got its data: they go out under the toggle that
+-- the host expects (USB 2.0, 8.6).
+abbrev pub awaited : Bool → Option (ℕ × Bool) → Option ℕ
+awaited expects None = None
+awaited expects (Some round) = if beq round.1 expects then Some round.0 else None
+
+-- What is told until a view is the initial one again: what changes, and the motions of these parts that a report shows
+-- which is awaited; they are dropped.
+abbrev pub told_back : List Item → List Cell → List Cell → Option ℕ → List Event
+told_back items view parts None = changes_between items view (blank items)
+told_back items view parts (Some r) = drops_between items r view (blank items) parts
+
+-- by a ready host
+abbrev pub known_told_back : Known → Option (ℕ × Bool) → List Cell → List Event
+known_told_back known round parts =
+    told_back (items_of known.layout) known.view parts (awaited known.pipe.expects round)
+
+-- What a host tells at a reset, where this round is open at its device and these parts were fixed last: one that isn't
+-- ready has told nothing yet.
+abbrev pub reset_told : HostPhase → Option (ℕ × Bool) → List Cell → List Event
+reset_told (Ready known) round parts = known_told_back known round parts
+reset_told _ round parts = []
+
+-- the round is of an Input report of this layout, and the parts are of its controls
+pub record SuitsRound (layout : Contents) (round : Option (ℕ × Bool)) (parts : List Cell) : Type 0 where
+  pub input : IfSome round (λ it. IsInput layout it.0)
+  pub fits : FitsShown (items_of layout) parts

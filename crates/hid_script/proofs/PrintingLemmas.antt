@@ -1,0 +1,290 @@
+-- What the lines of a script do to its bus, and what they print of it.
+use Rattle.std.proofs.Common.{◌≡◌, ℕ, zero, suc, ◌+◌, ◌-◌, ◌<◌, List, [], ◌∷◌, ◌++◌, length, length-append, map, refl, sym, ap, ◌∙◌, subst, inl, inr, arith, append-nil, Option, None, Some, Result, Ok, Err}
+use Rattle.std.specs.Prelude.{replicate}
+use Rattle.std.proofs.lemmas.Bool.{cond_both}
+use Rattle.std.proofs.lemmas.Option.{slice_get_within}
+use Rattle.hid_descriptor.specs.declared.usage.Usage.{Usage}
+use Rattle.hid_layout.specs.Layout.{Contents, layout_of}
+use Rattle.hid_cells.specs.declared.event.Event.{Event}
+use Rattle.hid_cells.specs.declared.fault.ReportFault.{ReportFault}
+use Rattle.hid_usages.specs.Reading.{report_named}
+use Rattle.hid_device.specs.declared.config.Boot.{Boot}
+use Rattle.hid_device.specs.declared.config.Config.{Config}
+use Rattle.hid_host.specs.declared.fault.StackFault.{StackFault}
+use Rattle.hid_host.specs.declared.phase.Start.{Start}
+use Rattle.hid_host.specs.declared.phase.Start.TheVariants.{Ready, Cold}
+use Rattle.hid_stack.specs.declared.step.Step.{Step}
+use Rattle.hid_stack.specs.declared.step.Step.TheVariants.{Change, Frame, Poll, Begin, Control, Reset}
+use Rattle.hid_stack.specs.declared.step.Delivered.{Delivered}
+use Rattle.hid_stack.specs.declared.rig.TheConstants.{MAX_DEVICES}
+use Rattle.hid_stack.specs.Attaching.{Attaches, member_at_start}
+use Rattle.hid_stack.specs.Headline.{LivesThrough}
+use Rattle.hid_stack.specs.Members.{Member, deeds_in, member_after_all}
+use Rattle.hid_stack.specs.Rig.{bus_after, delivered_at, from_device, member_at, tagged}
+use Rattle.hid_stack.specs.Stories.{Act, Attached, Taken, bus_behind, delivered_behind, next_number, own_story}
+use Rattle.hid_stack.proofs.Isolation.{at_place, no_zero}
+use Rattle.hid_stack.proofs.StoryLemmas.{bus_append, delivered_append, its_own, nothing_of, same_many}
+use Rattle.hid_lines.specs.declared.fault.LineFault.{LineFault}
+use Rattle.hid_lines.specs.declared.line.Line.{Line}
+use Rattle.hid_lines.specs.declared.line.Line.TheVariants as line
+use Rattle.hid_lines.specs.Line.{meaning_of}
+use Rattle.hid_text.specs.EventLines.{AreFew, ShowsEvents, event_lines}
+use Rattle.hid_text.specs.EventText.{event_text}
+use Rattle.hid_text.specs.LayoutText.{layout_text}
+use Rattle.hid_text.proofs.ShownLemmas.{shows_both, shows_layout, shows_nothing, shows_step, shows_values}
+use Rattle.hid_script.specs.declared.fault.Cause.{Cause}
+use Rattle.hid_script.specs.declared.wanted.Wanted.{Wanted}
+use Rattle.hid_script.specs.declared.wanted.Wanted.TheVariants as wanted
+use Rattle.hid_script.specs.Laws.{LinesPrintLives, RunsPrintLives}
+use Rattle.hid_script.specs.Printing.{AllDo, AttachesOne, ChangesOne, Does}
+use Rattle.hid_script.specs.Runs.{AllTell}
+use Rattle.hid_script.specs.Session.{Session, Outcome, accepted, after_text, at_first, Repeats}
+use Rattle.hid_script.specs.Steps.{TellsLayout, TellsValues, TellsDevice, TellsStep, TellsChange, attaches, change_of, config_of, counted, got_by, lays_out, read_report, refuses_step, stepped, valued}
+use Rattle.hid_script.specs.Telling.{LineTells, Means, Once, times}
+
+-- ---- what a part does
+
+-- no device is attached with an open round
+abbrev HaveNoRound : List Act → Type 0
+HaveNoRound [] = Unit {0}
+HaveNoRound (Attached m ∷ acts) = (m.station.current ≡ None) × HaveNoRound acts
+HaveNoRound (Taken x ∷ acts) = HaveNoRound acts
+
+-- a part of a script did this to a bus, and printed the lines of its events
+record Done (members : List Member) (text : List ℕ) (acts : List Act) (next : List Member) : Type 0 where
+  shows : ShowsEvents text (delivered_behind members acts)
+  bus : next ≡ bus_behind members acts
+  few : length next < 10
+  no_round : HaveNoRound acts
+
+no_rounds : (first rest : List Act) → HaveNoRound first → HaveNoRound rest → HaveNoRound (first ++ rest)
+no_rounds [] rest h k = k
+no_rounds (Attached m ∷ first) rest h k = (h.0, no_rounds first rest h.1 k)
+no_rounds (Taken x ∷ first) rest h k = no_rounds first rest h k
+
+done_both : (members middle next : List Member) (a b : List ℕ) (first rest : List Act) → Done members a first middle → Done middle b rest next → Done members (a ++ b) (first ++ rest) next
+done_both members middle next a b first rest h k =
+    let later : ShowsEvents b (delivered_behind (bus_behind members first) rest) = subst (λ (ms : List Member). ShowsEvents b (delivered_behind ms rest)) h.bus k.shows in
+    record {
+      shows = subst (ShowsEvents (a ++ b)) (sym (delivered_append first rest members)) (shows_both a b (delivered_behind members first) (delivered_behind (bus_behind members first) rest) h.shows later);
+      bus = k.bus ∙ ap (λ (ms : List Member). bus_behind ms rest) h.bus ∙ sym (bus_append first rest members);
+      few = k.few;
+      no_round = no_rounds first rest h.no_round k.no_round;
+    }
+
+-- it printed a text without events, and the bus is as it was
+done_nothing : (members next : List Member) (text : List ℕ) → length members < 10 → ShowsEvents text [] → next ≡ members → Done members text [] next
+done_nothing members next text few shows same = record { shows = shows; bus = same; few = subst (λ (ms : List Member). length ms < 10) (sym same) few; no_round = tt }
+
+-- ---- what it leaves
+
+text_is : (text : List ℕ) (next : Session) (o : Outcome) → accepted text next ≡ o → text ≡ o.text
+text_is text next o e = ap (λ (p : Outcome). p.text) e
+
+session_is : (text other : List ℕ) (next session : Session) → accepted text next ≡ accepted other session → next ≡ session
+session_is text other next session e = let end : (let r : Result Session Cause = Ok next in r) ≡ Ok session = ap (λ (p : Outcome). p.end) e in cc
+
+not_refused : (text : List ℕ) (next : Session) (fault : StackFault) → accepted text next ≡ refuses_step fault → ⊥
+not_refused text next fault e = let end = ap (λ (p : Outcome). p.end) e in absurd (cc)
+
+-- ---- steps
+
+numbered : (members : List Member) (dev : ℕ) (m : Member) → length members < 10 → member_at members dev ≡ Some m → dev < 10
+numbered members dev m few h =
+    let within = slice_get_within members (dev - 1) m (sym (at_place members dev (no_zero members dev m h)) ∙ h) in omega (arith, few, within)
+
+few_tagged : (dev : ℕ) (events : List Event) → dev < 10 → AreFew (map (tagged dev) events)
+few_tagged dev [] few = tt
+few_tagged dev (e ∷ events) few = (few, few_tagged dev events few)
+
+few_of_one : (members : List Member) (dev : ℕ) (gives : Member → List Event) → length members < 10
+    → AreFew (elim (member_at members dev) as (λ _. List Delivered) [ None ↦ [] | Some m ↦ map (tagged dev) (gives m) ])
+few_of_one members dev gives few = by_member (member_at members dev) refl
+  where
+    by_member : (o : Option Member) → member_at members dev ≡ o → AreFew (elim o as (λ _. List Delivered) [ None ↦ [] | Some m ↦ map (tagged dev) (gives m) ])
+    by_member None e = tt
+    by_member (Some m) e = few_tagged dev (gives m) (numbered members dev m few e)
+
+few_at : (members : List Member) (x : Step) → length members < 10 → AreFew (delivered_at members x)
+few_at members (Change dev change) few = tt
+few_at members Frame few = tt
+few_at members (Poll dev fate) few = few_of_one members dev _ few
+few_at members (Begin dev request) few = tt
+few_at members (Control dev fate) few = tt
+few_at members (Reset dev) few = few_of_one members dev _ few
+
+step_done : (x : Step) (session next : Session) (text : List ℕ) → length session.members < 10 → TellsStep x session (accepted text next) → Done session.members text (Taken x ∷ []) next.members
+step_done x session next text few (inr h) = absurd (not_refused text next h.0 h.2)
+step_done x session next text few (inl h) =
+    let members = session.members in
+    let delivered = delivered_at members x in
+    let said = text_is text next (stepped session x h.0) h.3 in
+    let left = ap (λ (s : Session). s.members) (session_is text (stepped session x h.0).text next (record session { members = bus_after members x; events = counted session.events (length delivered) }) h.3) in
+    let same = same_many members x in
+    record {
+      shows = subst (ShowsEvents text) (sym (append-nil delivered)) (subst (λ t. ShowsEvents t delivered) (sym said) (shows_step session.options.trace x h.0 (got_by (bus_after members x) x) delivered (few_at members x few)));
+      bus = left;
+      few = subst (λ (ms : List Member). length ms < 10) (sym left) (omega (arith, same, few));
+      no_round = tt;
+    }
+
+-- a step so many times over
+steps_done : (said : Line) (x : Step) → ((s : Session) (o : Outcome) → Once said s o → TellsStep x s o) → (n : ℕ) (session next : Session) (text : List ℕ) → length session.members < 10
+    → Repeats n (Once said) session (accepted text next) → Done session.members text (replicate n (Taken x)) next.members
+unfolding Repeats
+steps_done said x is zero session next text few h =
+    let same = session_is text [] next session h in
+    done_nothing session.members next.members text few (subst (λ t. ShowsEvents t []) (sym (text_is text next (accepted [] session) h)) shows_nothing) (ap (λ (s : Session). s.members) same)
+steps_done said x is (suc n) session next text few (inr h) = let ends = ap (λ (o : Outcome). o.end) h.3 in absurd (cc)
+steps_done said x is (suc n) session next text few (inl h) =
+    let said_first = step_done x session h.1 h.0 few (is session (accepted h.0 h.1) h.3) in
+    let end : (let r : Result Session Cause = Ok next in r) ≡ h.2.end = ap (λ (o : Outcome). o.end) h.5 in
+    let rest : Repeats n (Once said) h.1 (accepted h.2.text next) = subst (λ e. Repeats n (Once said) h.1 (record { text = h.2.text; end = e })) (sym end) h.4 in
+    let later = steps_done said x is n h.1 next h.2.text said_first.few rest in
+    subst (λ t. Done session.members t (Taken x ∷ replicate n (Taken x)) next.members) (sym (ap (λ (o : Outcome). o.text) h.5))
+    (done_both session.members h.1.members next.members h.0 h.2.text (Taken x ∷ []) (replicate n (Taken x)) said_first later)
+
+-- a part that is carried out once
+just_once : (Part : Session → Outcome → Type 0) (session next : Session) (text : List ℕ) → Repeats 1 Part session (accepted text next) → Part session (accepted text next)
+unfolding Repeats
+just_once Part session next text (inr h) = let ends = ap (λ (o : Outcome). o.end) h.3 in absurd (cc)
+just_once Part session next text (inl h) =
+    let same : accepted text next ≡ accepted h.0 h.1 = h.5 ∙ ap (after_text h.0) h.4 ∙ ap (λ t. accepted t h.1) (append-nil h.0) in
+    subst (Part session) (sym same) h.3
+
+-- ---- lines
+
+-- what a line did, and printed
+abbrev LineDone : Line → Session → List ℕ → Session → Type 0
+LineDone said session text next = (acts : List Act) × Does said session.members acts × Done session.members text acts next.members
+
+change_done : (dev : ℕ) (usage : Usage) (wanted : Wanted) (session next : Session) (text : List ℕ) → length session.members < 10 → TellsChange dev usage wanted session (accepted text next)
+    → (acts : List Act) × ChangesOne dev usage wanted session.members acts × Done session.members text acts next.members
+change_done dev usage wanted session next text few (Ok control, finds, told) =
+    (Taken (Change dev (change_of wanted control)) ∷ [], (control, finds, refl), step_done (Change dev (change_of wanted control)) session next text few told)
+change_done dev usage wanted session next text few (Err fault, finds, told) = absurd (not_refused text next fault told)
+
+starts_quiet : (start : Start) (dev : ℕ) (config : Config) (bytes : List ℕ) (layout : Contents) → (member_at_start start dev config bytes layout).station.current ≡ None
+starts_quiet Ready dev config bytes layout = refl
+starts_quiet Cold dev config bytes layout = refl
+
+device_done : (start : Start) (boot : Boot) (bytes : List ℕ) (session next : Session) (text : List ℕ) → TellsDevice start boot bytes session (accepted text next)
+    → (acts : List Act) × AttachesOne start boot bytes session.members acts × Done session.members text acts next.members
+device_done start boot bytes session next text (inr h) = absurd (not_refused text next h.0 h.4)
+device_done start boot bytes session next text (inl (dev, layout, after, attached, after_is, is)) =
+    let m : Member = member_at_start start dev (config_of boot) bytes layout in
+    let said = text_is text next (attaches session layout after) is in
+    let left = ap (λ (s : Session). s.members) (session_is text (attaches session layout after).text next (record session { members = after }) is) in
+    let shown = cond_both session.options.layout (layout_text layout) [] (λ t. ShowsEvents t []) (λ _. shows_layout layout) (λ _. shows_nothing) in
+    let more : length (session.members ++ m ∷ []) ≡ length session.members + 1 = length-append session.members (m ∷ []) in
+    let room = attached.0 in (
+      Attached m ∷ [],
+      (dev, m, subst (Attaches MAX_DEVICES (config_of boot) bytes start session.members (Ok dev)) after_is attached, refl),
+      record {
+        shows = subst (λ t. ShowsEvents t []) (sym said) shown;
+        bus = left ∙ after_is;
+        few = subst (λ (ms : List Member). length ms < 10) (sym (left ∙ after_is)) (omega (arith, more, room));
+        no_round = (starts_quiet start dev (config_of boot) bytes layout, tt);
+      },
+    )
+
+layout_done : (bytes : List ℕ) (session next : Session) (text : List ℕ) → length session.members < 10 → TellsLayout bytes session (accepted text next) → Done session.members text [] next.members
+layout_done bytes session next text few (inr h) = let ends = ap (λ (o : Outcome). o.end) h.1.1 in absurd (cc)
+layout_done bytes session next text few (inl h) =
+    let layout = layout_of h.0 in
+    let left = ap (λ (s : Session). s.members) (session_is text (layout_text layout) next (record session { layout = Some layout }) h.1.1) in
+    done_nothing session.members next.members text few (subst (λ t. ShowsEvents t []) (sym (text_is text next (lays_out session layout) h.1.1)) (shows_layout layout)) left
+
+values_done : (bytes : List ℕ) (session next : Session) (text : List ℕ) → length session.members < 10 → TellsValues bytes session (accepted text next) → Done session.members text [] next.members
+values_done bytes session next text few h = by_layout session.layout h
+  where
+    by_report : (layout : Contents) (found : Result ℕ ReportFault) → accepted text next ≡ read_report session layout bytes found → Done session.members text [] next.members
+    by_report layout (Ok r) e =
+        done_nothing session.members next.members text few (subst (λ t. ShowsEvents t []) (sym (ap (λ (o : Outcome). o.text) e)) (shows_values layout r bytes))
+        (ap (λ (s : Session). s.members) (session_is text _ next session e))
+    by_report layout (Err fault) e = let ends = ap (λ (o : Outcome). o.end) e in absurd (cc)
+
+    by_layout : (o : Option Contents) → accepted text next ≡ valued session bytes o → Done session.members text [] next.members
+    by_layout None e = let ends = ap (λ (o : Outcome). o.end) e in absurd (cc)
+    by_layout (Some layout) e = by_report layout (report_named layout bytes) e
+
+line_done : (said : Line) (session next : Session) (text : List ℕ) → length session.members < 10 → Repeats (times said) (Once said) session (accepted text next) → LineDone said session text next
+unfolding Once times Does
+line_done line.Nothing session next text few h =
+    let e = just_once (Once line.Nothing) session next text h in
+    ([], refl, done_nothing session.members next.members text few (subst (λ t. ShowsEvents t []) (sym (ap (λ (o : Outcome). o.text) e)) shows_nothing) (ap (λ (s : Session). s.members) (session_is text [] next session e)))
+line_done (line.Layout bytes) session next text few h = ([], refl, layout_done bytes.items session next text few (just_once (Once (line.Layout bytes)) session next text h))
+line_done (line.Values bytes) session next text few h = ([], refl, values_done bytes.items session next text few (just_once (Once (line.Values bytes)) session next text h))
+line_done (line.Device start boot bytes) session next text few h = device_done start boot bytes.items session next text (just_once (Once (line.Device start boot bytes)) session next text h)
+line_done (line.Press dev usage) session next text few h = change_done dev usage wanted.Press session next text few (just_once (Once (line.Press dev usage)) session next text h)
+line_done (line.Release dev usage) session next text few h = change_done dev usage wanted.Release session next text few (just_once (Once (line.Release dev usage)) session next text h)
+line_done (line.Null dev usage) session next text few h = change_done dev usage wanted.Null session next text few (just_once (Once (line.Null dev usage)) session next text h)
+line_done (line.Set dev usage value) session next text few h = change_done dev usage (wanted.Set value) session next text few (just_once (Once (line.Set dev usage value)) session next text h)
+line_done (line.Move dev usage by) session next text few h = change_done dev usage (wanted.Move by) session next text few (just_once (Once (line.Move dev usage by)) session next text h)
+line_done (line.Frame count) session next text few h = (replicate count (Taken Frame), refl, steps_done (line.Frame count) Frame (λ s o told. told) count session next text few h)
+line_done (line.Poll dev fate count) session next text few h = (replicate count (Taken (Poll dev fate)), refl, steps_done (line.Poll dev fate count) (Poll dev fate) (λ s o told. told) count session next text few h)
+line_done (line.Control dev fate count) session next text few h = (replicate count (Taken (Control dev fate)), refl, steps_done (line.Control dev fate count) (Control dev fate) (λ s o told. told) count session next text few h)
+line_done (line.Begin dev request) session next text few h = (Taken (Begin dev request) ∷ [], refl, step_done (Begin dev request) session next text few (just_once (Once (line.Begin dev request)) session next text h))
+line_done (line.Reset dev) session next text few h = (Taken (Reset dev) ∷ [], refl, step_done (Reset dev) session next text few (just_once (Once (line.Reset dev)) session next text h))
+
+meant_done : (session next : Session) (bytes text : List ℕ) (meaning : Result Line LineFault) → meaning_of bytes ≡ meaning → length session.members < 10 → Means session meaning (accepted text next)
+    → (said : Line) × (meaning_of bytes ≡ Ok said) × LineDone said session text next
+meant_done session next bytes text (Ok said) is few h = (said, is, line_done said session next text few h)
+meant_done session next bytes text (Err fault) is few h = let ends = ap (λ (o : Outcome). o.end) h in absurd (cc)
+
+told_done : (session next : Session) (bytes text : List ℕ) → length session.members < 10 → LineTells session bytes (accepted text next) → (said : Line) × (meaning_of bytes ≡ Ok said) × LineDone said session text next
+unfolding LineTells
+told_done session next bytes text few h = meant_done session next bytes text (meaning_of bytes) refl few h
+
+-- ---- whole scripts
+
+all_done : (script : List (List ℕ)) (session last : Session) (text : List ℕ) → length session.members < 10 → AllTell session script text last → (acts : List Act) × AllDo session.members script acts × Done session.members text acts last.members
+all_done [] session last text few h = ([], refl, done_nothing session.members last.members text few (subst (λ t. ShowsEvents t []) (sym h.0) shows_nothing) (ap (λ (s : Session). s.members) h.1))
+all_done (bytes ∷ more) session last text few h =
+    let first = told_done session h.1 bytes h.0 few h.3 in
+    let did = first.2.2 in
+    let rest = all_done more h.1 last h.2 did.few h.4 in (
+      first.2.0 ++ rest.0,
+      (first.0, first.2.0, rest.0, first.1, first.2.1, subst (λ (ms : List Member). AllDo ms more rest.0) did.bus rest.1, refl),
+      subst (λ t. Done session.members t (first.2.0 ++ rest.0) last.members) (sym h.5) (done_both session.members h.1.members last.members h.0 h.2 first.2.0 rest.0 did rest.2),
+    )
+
+no_round_there : (before since : List Act) (m : Member) → HaveNoRound (before ++ Attached m ∷ since) → m.station.current ≡ None
+no_round_there [] since m h = h.0
+no_round_there (Attached k ∷ before) since m h = no_round_there before since m h.1
+no_round_there (Taken x ∷ before) since m h = no_round_there before since m h
+
+-- the lines of a device's events in all that was printed
+lines_are : (text : List ℕ) (delivered : List Delivered) (dev : ℕ) → ShowsEvents text delivered → event_lines dev text ≡ map (event_text dev) (from_device dev delivered)
+lines_are text delivered dev h = ap (event_lines dev) (sym (append-nil text)) ∙ h dev [] ∙ append-nil (map (event_text dev) (from_device dev delivered))
+
+pub lives_printed : LinesPrintLives
+lives_printed options script text last h =
+    let all = all_done script (at_first options) last text (omega arith) h in
+    let acts = all.0 in
+    let it = all.2 in
+    record {
+      acts = acts;
+      done = all.1;
+      bus = it.bus;
+      lives = λ before since m is.
+          let dev = next_number before in
+          let its = its_own before m since in
+          let n = member_after_all m (own_story before since) in
+          let told = from_device dev (delivered_behind [] acts) in
+          let quiet = no_round_there before since m (subst HaveNoRound is it.no_round) in (
+            n,
+            told,
+            ap (λ (ms : List Member). member_at ms dev) (it.bus ∙ ap (bus_behind []) is) ∙ its.state,
+            lines_are text (delivered_behind [] acts) dev it.shows,
+            subst (LivesThrough m (deeds_in m (own_story before since)) n) (sym (ap (λ (a : List Act). from_device dev (delivered_behind [] a)) is ∙ its.events)) (its.lives quiet),
+          );
+      none = λ dev absent.
+          lines_are text (delivered_behind [] acts) dev it.shows
+          ∙ ap (map (event_text dev)) (nothing_of acts [] dev (ap (λ (ms : List Member). member_at ms dev) (sym it.bus) ∙ absent));
+    }
+
+pub runs_printed : RunsPrintLives
+runs_printed options script written (Ok summary) h = (h.last.members, lives_printed options script written h.last h.all)
+runs_printed options script written (Err fault) h =
+    (h.first, h.others, h.text, h.part, h.now.members, h.split, omega (arith, h.line), h.whole, lives_printed options h.first h.text h.now h.all)

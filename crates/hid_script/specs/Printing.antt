@@ -1,0 +1,86 @@
+-- What the lines of a script do to its bus, and what the text that they print tells of each device (our choice:
+-- docs/SCRIPT.md).
+use Rattle.std.specs.Prelude.{◌≡◌, ℕ, ◌+◌, List, [], ◌∷◌, ◌++◌, length, map, replicate, Some, None, Result, Ok, Err}
+use Rattle.hid_descriptor.specs.declared.usage.Usage.{Usage}
+use Rattle.hid_layout.specs.declared.control.ControlId.{ControlId}
+use Rattle.hid_cells.specs.declared.event.Event.{Event}
+use Rattle.hid_device.specs.declared.config.Boot.{Boot}
+use Rattle.hid_host.specs.declared.phase.Start.{Start}
+use Rattle.hid_stack.specs.declared.step.Step.TheVariants as step
+use Rattle.hid_stack.specs.declared.rig.TheConstants.{MAX_DEVICES}
+use Rattle.hid_stack.specs.Attaching.{Attaches, Finds}
+use Rattle.hid_stack.specs.Headline.{LivesThrough}
+use Rattle.hid_stack.specs.Members.{Member, deeds_in}
+use Rattle.hid_stack.specs.Rig.{member_at}
+use Rattle.hid_stack.specs.Stories.{Act, Attached, Taken, bus_behind, next_number, own_story}
+use Rattle.hid_lines.specs.declared.line.Line.{Line}
+use Rattle.hid_lines.specs.declared.line.Line.TheVariants as line
+use Rattle.hid_lines.specs.Line.{meaning_of}
+use Rattle.hid_text.specs.EventLines.{event_lines}
+use Rattle.hid_text.specs.EventText.{event_text}
+use Rattle.hid_script.specs.declared.fault.ScriptFault.{ScriptFault}
+use Rattle.hid_script.specs.declared.fault.Summary.{Summary}
+use Rattle.hid_script.specs.declared.wanted.Wanted.{Wanted}
+use Rattle.hid_script.specs.declared.wanted.Wanted.TheVariants as wanted
+use Rattle.hid_script.specs.Steps.{config_of, change_of}
+
+-- ---- what a script does to its bus
+
+-- the device is attached under the next number
+abbrev pub AttachesOne : Start → Boot → List ℕ → List Member → List Act → Type 0
+AttachesOne start boot bytes members acts =
+    (dev : ℕ) × (m : Member) × Attaches MAX_DEVICES (config_of boot) bytes start members (Ok dev) (members ++ m ∷ [])
+    × (acts ≡ Attached m ∷ [])
+
+-- the least control with the usage changes
+abbrev pub ChangesOne : ℕ → Usage → Wanted → List Member → List Act → Type 0
+ChangesOne dev usage wanted members acts =
+    (control : ControlId) × Finds members dev usage (Ok control)
+    × (acts ≡ Taken (step.Change dev (change_of wanted control)) ∷ [])
+
+-- What a line does, by its form.
+unfoldable pub Does : Line → List Member → List Act → Type 0
+Does line.Nothing members acts = acts ≡ []
+Does (line.Layout bytes) members acts = acts ≡ []
+Does (line.Values bytes) members acts = acts ≡ []
+Does (line.Device start boot bytes) members acts = AttachesOne start boot bytes.items members acts
+Does (line.Press dev usage) members acts = ChangesOne dev usage wanted.Press members acts
+Does (line.Release dev usage) members acts = ChangesOne dev usage wanted.Release members acts
+Does (line.Null dev usage) members acts = ChangesOne dev usage wanted.Null members acts
+Does (line.Set dev usage value) members acts = ChangesOne dev usage (wanted.Set value) members acts
+Does (line.Move dev usage by) members acts = ChangesOne dev usage (wanted.Move by) members acts
+Does (line.Frame count) members acts = acts ≡ replicate count (Taken step.Frame)
+Does (line.Poll dev fate count) members acts = acts ≡ replicate count (Taken (step.Poll dev fate))
+Does (line.Control dev fate count) members acts = acts ≡ replicate count (Taken (step.Control dev fate))
+Does (line.Begin dev request) members acts = acts ≡ Taken (step.Begin dev request) ∷ []
+Does (line.Reset dev) members acts = acts ≡ Taken (step.Reset dev) ∷ []
+
+-- and what lines do, one after the other
+abbrev pub AllDo : List Member → List (List ℕ) → List Act → Type 0
+AllDo members [] acts = acts ≡ []
+AllDo members (bytes ∷ more) acts =
+    (said : Line) × (first : List Act) × (rest : List Act)
+    × (meaning_of bytes ≡ Ok said) × Does said members first × AllDo (bus_behind members first) more rest
+    × (acts ≡ first ++ rest)
+
+-- ---- the headline, of the text that is printed
+
+-- What a script prints of each device that it attaches: the lines of its events are, in order, the texts of all that is
+-- told in its life, which its own steps behind its attach make. There are none of a device that isn't attached.
+pub record PrintsLives (script : List (List ℕ)) (text : List ℕ) (members : List Member) : Type 0 where
+  pub acts : List Act
+  pub done : AllDo [] script acts
+  pub bus : members ≡ bus_behind [] acts
+  pub lives : (before since : List Act) (m : Member) → acts ≡ before ++ Attached m ∷ since
+      → (n : Member) × (told : List Event) × (member_at members (next_number before) ≡ Some n)
+      × (event_lines (next_number before) text ≡ map (event_text (next_number before)) told)
+      × LivesThrough m (deeds_in m (own_story before since)) n told
+  pub none : (dev : ℕ) → member_at members dev ≡ None → event_lines dev text ≡ []
+
+-- What a run prints of them: by all its lines, or by those before the one at which it ends.
+abbrev pub RunPrintsLives : List (List ℕ) → List ℕ → Result Summary ScriptFault → Type 0
+RunPrintsLives script written (Ok summary) = (last : List Member) × PrintsLives script written last
+RunPrintsLives script written (Err fault) =
+    (first : List (List ℕ)) × (others : List (List ℕ)) × (text : List ℕ) × (part : List ℕ) × (last : List Member)
+    × (script ≡ first ++ others) × (fault.line ≡ length first + 1)
+    × (written ≡ text ++ part) × PrintsLives first text last

@@ -1,0 +1,38 @@
+-- The lines of a text that are of a device's events (our choice: docs/SCRIPT.md).
+use Rattle.std.specs.Prelude.{◌≡◌, ◌<◌, ℕ, Bool, true, false, ◌==◌, ◌&&◌, List, [], ◌∷◌, ◌++◌, map, codes}
+use Rattle.std.specs.List.{filter, list_any}
+use Rattle.std.specs.Fmt.{decimal}
+use Rattle.std.specs.Str.Lines.{lines}
+use Rattle.hid_stack.specs.declared.step.Delivered.{Delivered}
+use Rattle.hid_stack.specs.Rig.{from_device}
+use Rattle.hid_text.specs.EventText.{event_text}
+
+-- the line begins with these bytes
+abbrev pub begins_with : List ℕ → List ℕ → Bool
+begins_with [] line = true
+begins_with (b ∷ front) [] = false
+begins_with (b ∷ front) (c ∷ line) = (b == c) && begins_with front line
+
+-- the words of events
+abbrev pub words_of_events : List (List ℕ)
+words_of_events =
+    codes " down " ∷ codes " up " ∷ codes " value " ∷ codes " null " ∷ codes " motion " ∷ codes " dropped " ∷ []
+
+-- a line of an event of a device: its number comes first, and then one of these words
+abbrev pub is_event_line : ℕ → List ℕ → Bool
+is_event_line dev line = list_any (λ word. begins_with (decimal dev ++ word) line) words_of_events
+
+-- those lines of a text
+abbrev pub event_lines : ℕ → List ℕ → List (List ℕ)
+event_lines dev text = filter (is_event_line dev) (lines text)
+
+-- A text that has these events: its lines of the events of a device are the texts of those, in order, whatever comes
+-- then.
+abbrev pub ShowsEvents : List ℕ → List Delivered → Type 0
+ShowsEvents text delivered = (dev : ℕ) (rest : List ℕ)
+    → event_lines dev (text ++ rest) ≡ map (event_text dev) (from_device dev delivered) ++ event_lines dev rest
+
+-- the devices have numbers of one digit
+abbrev pub AreFew : List Delivered → Type 0
+AreFew [] = Unit {0}
+AreFew (d ∷ delivered) = (d.dev < 10) × AreFew delivered
