@@ -119,11 +119,13 @@ deb-test: deb
 PICTURED := $(shell grep -l '^N:' examples/recordings/*.hid) $(wildcard examples/pictures/*.hid)
 
 # Holds what examples are to print of layouts and reports against a second reader, and each page against the same
-# reader and a browser, runs each on its proved program, and some scripts on a full device.
+# reader and a browser, manual pages and completion against what the programs say, runs each example on its proved program,
+# and some scripts on a full device.
 examples: $(HIDRUN) $(HIDPLAY) $(HIDMAP)
 	tools/second-reader examples/*/*.script
 	tools/check-recordings examples/*/*.hid
 	tools/check-pictures $(HIDMAP) $(PICTURED)
+	tools/check-manual $(HIDRUN) $(HIDPLAY) $(HIDMAP)
 	tools/check-full-device $(HIDRUN)
 	tools/check-examples $(HIDRUN) $(HIDPLAY) $(HIDMAP)
 

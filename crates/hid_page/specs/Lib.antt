@@ -1,3 +1,4 @@
 pub mod ItemTable
 pub mod Page
 pub mod Drawing
+pub mod Windows

@@ -20,6 +20,7 @@ use Rattle.hid_picture.specs.Escape.{escaped}
 use Rattle.hid_pieces.specs.Frames.{frames_of, main_at}
 use Rattle.hid_pieces.specs.Items.{place_of}
 use Rattle.hid_page.specs.ItemTable.{item_table}
+use Rattle.hid_page.specs.Windows.{windows}
 use Rattle.hid_pieces.specs.Makers.{makes, listed_below}
 use Rattle.hid_pieces.specs.Pieces.{pieces_of}
 use Rattle.hid_picture.specs.Svg.{picture_at}
@@ -160,10 +161,15 @@ unfoldable pub characters_of : Contents → List Item → List ℕ → ℕ → L
 characters_of layout items mains r =
     terminal_at layout r (frames_of layout items mains r) (pieces_of layout r) (slice_get layout.reports r)
 
+-- the windows of a report's picture
+unfoldable pub windows_of : Contents → List Item → List ℕ → ℕ → List ℕ
+windows_of layout items mains r = windows layout r (frames_of layout items mains r) (pieces_of layout r)
+
 -- what a page has of a report
 unfoldable pub section : Contents → List Item → List ℕ → ℕ → List ℕ
 section layout items mains r =
-    heading_at layout r (slice_get layout.reports r) ++ svg_of layout items mains r ++ field_table layout items mains r
+    heading_at layout r (slice_get layout.reports r) ++ svg_of layout items mains r ++ windows_of layout items mains r
+    ++ field_table layout items mains r
 
 -- what a page has of the reports
 unfoldable pub sections : Contents → List Item → List ℕ → List ℕ

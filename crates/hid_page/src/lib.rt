@@ -18,5 +18,6 @@ mod item_table;
 mod page;
 #[cfg(test)]
 mod tests;
+mod windows;
 
 pub use drawing::{Form, draw, draw_refused};

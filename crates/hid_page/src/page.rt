@@ -6,6 +6,7 @@ ghost use Rattle.hid_page.specs.Page.{heading, heading_at, svg_of, characters_of
 
 use crate::field_table::{print_field_table, print_mark_rules};
 use crate::item_table::print_item_table;
+use crate::windows::print_windows;
 use hid_items::Item;
 use hid_layout::{Layout, Report};
 use hid_picture::{print_picture, print_terminal, push_escaped};
@@ -14,7 +15,7 @@ use std::alloc::{AllocError, Global};
 
 /// What a page begins with.
 pub const HEAD: &str =
-    "<!DOCTYPE html>\n<html lang='en'><head><meta charset='utf-8'><meta name='viewport' content='width=device-width'><title>Reports of a HID device</title>\n<style>:root{color-scheme:light dark;--ink:#1b1b1b;--paper:#ffffff;--rule:#c4c4c4;--mark:#ffe9a8;--link:#0b4fa8}@media (prefers-color-scheme:dark){:root{--ink:#f0f0f0;--paper:#161616;--rule:#4a4a4a;--mark:#5c4a00;--link:#8ab8ff}}@media print{:root{--ink:#000;--paper:#fff;--mark:#fff;--link:#000}svg,tr{break-inside:avoid}}body{font:15px/1.45 system-ui,sans-serif;color:var(--ink);background:var(--paper);margin:1.5em auto;max-width:76em;padding:0 1em}h1{font-size:1.5em}h2{font-size:1.2em;margin-top:2em}table{border-collapse:collapse}th,td{text-align:left;vertical-align:top;padding:.2em .8em .2em 0;border-bottom:1px solid var(--rule)}code{font:13px/1.5 ui-monospace,monospace}td a{color:var(--link)}.fault{font-weight:600}.x{overflow-x:auto}\n";
+    "<!DOCTYPE html>\n<html lang='en'><head><meta charset='utf-8'><meta name='viewport' content='width=device-width'><title>Reports of a HID device</title>\n<style>.w{display:none}:root{color-scheme:light dark;--ink:#1b1b1b;--paper:#ffffff;--rule:#c4c4c4;--mark:#ffe9a8;--link:#0b4fa8}@media (prefers-color-scheme:dark){:root{--ink:#f0f0f0;--paper:#161616;--rule:#4a4a4a;--mark:#5c4a00;--link:#8ab8ff}}@media print{:root{--ink:#000;--paper:#fff;--mark:#fff;--link:#000}svg,tr{break-inside:avoid}h2{break-after:avoid}.x{overflow:visible}.w{display:block}.m:not(.w):has(+.w){display:none}}body{font:15px/1.45 system-ui,sans-serif;color:var(--ink);background:var(--paper);margin:1.5em auto;max-width:76em;padding:0 1em}h1{font-size:1.5em}h2{font-size:1.2em;margin-top:2em}table{border-collapse:collapse}th,td{text-align:left;vertical-align:top;padding:.2em .8em .2em 0;border-bottom:1px solid var(--rule)}code{font:13px/1.5 ui-monospace,monospace}td a{color:var(--link)}.fault{font-weight:600}.x{overflow-x:auto}\n";
 
 /// What stands in front of the reports.
 pub const ACCEPTED: &str = "</style></head><body>\n<h1>Reports of a HID device</h1>\n";
@@ -121,6 +122,7 @@ fn print_section(
 {
     print_heading_at(text, layout, r)?;
     print_svg(alloc, text, layout, items, mains, r)?;
+    print_windows(alloc, text, layout, items, mains, r)?;
     print_field_table(alloc, text, layout, items, mains, r)
 }
 

@@ -195,8 +195,9 @@ cells_text layout r depth rows pieces = flat_map (λ piece. cell_text layout r d
 -- the picture of a report of so many bytes, by its frames, its pieces and the lines of its rows
 unfoldable pub picture_by : Contents → ℕ → ℕ → List Frame → List Piece → Report → ℕ → List ℕ → List ℕ
 picture_by layout r bytes frames pieces report depth rows =
-    picture_head layout.numbered depth rows bytes report ++ rulers depth rows bytes
-    ++ frames_text layout depth rows frames ++ cells_text layout r depth rows pieces ++ codes "</svg>" ++ 10 ∷ []
+    picture_head layout.numbered depth rows bytes report ++ codes "<g id='g" ++ decimal r ++ codes "'>"
+    ++ rulers depth rows bytes ++ frames_text layout depth rows frames ++ cells_text layout r depth rows pieces
+    ++ codes "</g></svg>" ++ 10 ∷ []
 
 -- the picture of a report of so many bytes, by its frames and its pieces
 unfoldable pub picture_of : Contents → ℕ → ℕ → List Frame → List Piece → Report → List ℕ

@@ -48,7 +48,7 @@ fn inset(level: usize) -> u64
 }
 
 /// Between two bytes.
-fn gap_of(depth: usize) -> u64
+pub fn gap_of(depth: usize) -> u64
     ensures value { result ≡ gap_of depth }
     ensures bound { result ≤ 96 }
 {

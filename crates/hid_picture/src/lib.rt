@@ -21,6 +21,8 @@ mod svg;
 mod terminal;
 mod words;
 
+pub use areas::{RIGHT, gap_of, name_left, row_top};
 pub use escape::{push_escaped, words_are_inert};
+pub use lines::rows_of;
 pub use svg::print_picture;
 pub use terminal::print_terminal;

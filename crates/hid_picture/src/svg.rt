@@ -596,10 +596,11 @@ fn print_by(
 {
     let depth = deepest(frames);
     print_head(text, layout.numbered(), depth, rows, bytes, report)?;
+    write!(text, "<g id='g{r}'>")?;
     print_rulers(text, depth, rows, bytes)?;
     print_frames(alloc, text, layout, depth, rows, frames)?;
     print_cells(alloc, text, layout, r, depth, rows, pieces)?;
-    text.push_str("</svg>\n")
+    text.push_str("</g></svg>\n")
 }
 
 /// Adds the picture of a report, by its frames and its pieces.

@@ -13,7 +13,7 @@ pub struct Asked<'a> {
 }
 
 const CODES: &str =
-    "A descriptor is read as binary, as hex digits, or from the first R: line of hid-recorder.\nL1 to L16 are why it is refused: docs/RECORDINGS.md. The pictures: docs/PICTURES.md.";
+    "A descriptor is read as binary, or as text: the first R: line of hid-recorder, hex digits, what usbhid-dump prints, or\nan array of C.\nL1 to L16 are why it is refused: docs/RECORDINGS.md. The pictures: docs/PICTURES.md.";
 
 fn command<'a>(alloc: Global) -> Result<Command<'a>, Error> {
     let svg = Arg::new(alloc, "svg")
