@@ -139,10 +139,11 @@ documents:
 descriptors: $(HIDRUN)
 	tools/second-reader --random $(COUNT) $(HIDRUN)
 
-# Runs each example script with each of its allocations refused in turn, on the proved program: half a minute. It wants a
-# C compiler, and says where there is none.
+# Runs each example script on the proved program, and each test of calls that take memory, with each of its allocations
+# refused in turn: half a minute. It wants a C compiler, and the test programs that `rt ci` or `rt test` made of the
+# sources as they are; it says what it leaves out where these aren't there.
 memory: $(HIDRUN)
-	tools/refuse-memory $(HIDRUN)
+	tools/refuse-memory $(HIDRUN) --tests crates
 
 # Lists at which goal and clause each wrong body is refused: make refusals CRATES="usb_packet hid_items" (none: all)
 refusals:

@@ -53,6 +53,8 @@ pub use sent::Codes;
 #[cfg(test)]
 mod control_tests;
 #[cfg(test)]
+mod made_tests;
+#[cfg(test)]
 mod test_rows;
 #[cfg(test)]
 mod tests;
