@@ -58,7 +58,7 @@ pub fn blank_cells(alloc: Global, layout: &Layout) -> Result<Vec<Cell>, AllocErr
     ensures blank { IfOk result (λ cells. cells.items ≡ blank (items_of layout.now)) }
     ensures layout { IsLayout layout.now }
 {
-    let mut cells = Vec::new(alloc);
+    let mut cells = Vec::with_capacity(alloc, item_count(layout))?;
     for i in 0..item_count(layout) {
         let controls = layout.controls(i);
         cells.push(blank_cell(alloc, &controls)?)?;
@@ -80,7 +80,7 @@ pub fn blank_parts(alloc: Global, layout: &Layout) -> Result<Vec<Cell>, AllocErr
     ensures blank { IfOk result (λ cells. cells.items ≡ blank_parts (items_of layout.now)) }
     ensures layout { IsLayout layout.now }
 {
-    let mut cells = Vec::new(alloc);
+    let mut cells = Vec::with_capacity(alloc, item_count(layout))?;
     for i in 0..item_count(layout) {
         let controls = layout.controls(i);
         cells.push(blank_part(alloc, &controls)?)?;
