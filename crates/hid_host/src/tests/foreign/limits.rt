@@ -1,5 +1,5 @@
-//! Foreign devices at the limits of a report descriptor, and such that answer otherwise when they are asked again (HID 1.11,
-//! 6.2.1 and 7.1). Zeros are items without meaning (6.2.2.2), so that as many as are allowed lay out no report.
+//! Foreign devices at the limits of a report descriptor, and such that answer otherwise when they are asked again (HID
+//! 1.11, 6.2.1 and 7.1). Zeros are items without meaning (6.2.2.2), so that as many as are allowed lay out no report.
 
 use super::{CONFIGURATION, Foreign, LENGTH_AT, asked};
 use crate::{DescriptorFault, HostDevice, HostState, StackFault};
