@@ -1,6 +1,6 @@
-//! Made descriptors of up to 4,200 bytes, more than a script's line can hold: random bytes, random items, boot descriptors
-//! and a few items again and again, each with up to three of its bytes changed. Each is laid out within the limits, or
-//! refused at a place that it has, and never for want of memory. The same number makes the same descriptor.
+//! Made descriptors of up to 4,200 bytes, more than a script's line can hold: random bytes, random items, boot
+//! descriptors and a few items again and again, each with up to three of its bytes changed. Each is laid out within the
+//! limits, or refused at a place that it has, and never for want of memory. Each run makes the same descriptors.
 
 use crate::boot::{KEYBOARD, MOUSE};
 use crate::{Cause, Layout, LayoutFault, MAX_DESCRIPTOR, MAX_ITEMS, MAX_REPORT_BYTES};
@@ -131,8 +131,8 @@ fn whole(number: u32, unit: usize) -> usize {
     number.saturating_sub(number.checked_rem(unit).unwrap_or(0))
 }
 
-/// Reads so many descriptors, taken from the supply where units begin and end: how many are accepted, or the first that is
-/// read as it cannot be.
+/// Reads so many descriptors, taken from the supply where units begin and end: how many are accepted, or the first that
+/// is read as it cannot be.
 fn read(alloc: Global, supply: &mut [u8], unit: usize, count: u32) -> Result<u32, u32> {
     let mut numbers = Numbers { state: 3 };
     let mut accepted: u32 = 0;

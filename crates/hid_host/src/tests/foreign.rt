@@ -1,6 +1,8 @@
 //! A host of a foreign device: what no virtual device answers at endpoint 0, and what none sends to a poll (USB 2.0, 8.4.6,
 //! 9.5 and 9.6; HID 1.11, 5.6, 6.2.1 and 7.1). Expected refusals are those of docs/SCRIPT.md.
 
+mod limits;
+
 use super::{A, CONFIGURATION, KEY, data};
 use crate::{DescriptorFault, HostDevice, HostState, StackFault};
 use hid_device::KEYBOARD;
@@ -83,7 +85,7 @@ fn asked<R: Requests>(
     request: &Request,
 ) -> Result<Progress, StackFault> {
     host.begin(request)?;
-    for _ in 0..520 {
+    for _ in 0..8_200 {
         match host.control_step(control, Fate::Clean)? {
             Progress::Running => {}
             ended => return Ok(ended),
