@@ -89,8 +89,8 @@ cleared_core core =
     record core { standing = cut_at core.current core.standing; current = None; toggle = false; halted = false }
 
 -- The bus is reset: the device isn't configured (USB 2.0, 9.1.1.3), no round is open, its endpoint isn't halted, no idle
--- time is set (our choice), reports are in the report protocol (HID 1.11, 7.2.6), Output and Feature reports are zeros (our choice), and the last
--- request is forgotten. What its controls show stays: the snapshot.
+-- time is set (our choice), reports are in the report protocol (HID 1.11, 7.2.6), Output and Feature reports are zeros (our
+-- choice), and the last request is forgotten. What its controls show stays: the snapshot.
 abbrev pub reset_core : CoreState → CoreState
 reset_core core = record core {
   is_configured = false;
