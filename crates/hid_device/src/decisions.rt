@@ -28,6 +28,10 @@ pub enum Pending {
     Idle { report: Option<usize>, time: u8 },
     /// Reports are sent in this form.
     Protocol(Protocol),
+    /// The endpoint of its Input reports is halted.
+    Halt,
+    /// The halt of that endpoint ends.
+    Clear,
 }
 
 /// What is decided on a request.
