@@ -16,7 +16,7 @@ pub enum Answer {
 }
 
 /// What is carried out when the status of a write is asked for.
-#[derive(Clone, Copy, Debug, PartialEq, Eq)]
+#[derive(Clone, Copy)]
 pub enum Pending {
     /// Nothing: the last request was a read, or was refused.
     Nothing,

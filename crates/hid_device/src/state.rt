@@ -270,7 +270,7 @@ impl Core {
         self.fixed.reset(&self.layout);
         self.frames.fill(0);
         self.cut.fill(false);
-        self.pipe.restart();
+        self.pipe.restart(); // a halt ends with it
         self.current = None;
     }
 
@@ -290,7 +290,7 @@ impl Core {
         ensures { self.new ≡ cleared_core self.old }
     {
         self.halt();
-        self.pipe.restart();
+        self.pipe.restart(); // it ends here
     }
 
     /// The bus is reset: the device isn't configured, and but for its snapshot it is as it was at first. No memory is taken.
