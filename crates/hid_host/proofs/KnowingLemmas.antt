@@ -7,6 +7,7 @@ use Rattle.usb_control.specs.declared.setup.Setup.{Setup as Request'}
 use Rattle.usb_control.specs.Computed.{AppliesBy, PreparesBy}
 use Rattle.usb_control.specs.Transfer.{Act, Acts, Decides, Nothing, TakesEffect, Shape, shape_of, Decision, Accepted, Refused, decision_of, Position, Setup, Piece, Status, Past, Place, act_at, tried_at, setup_tried, piece_tried, applies, data_pieces, decided}
 use Rattle.hid_requests.specs.declared.request.Request.{Request}
+use Rattle.hid_requests.specs.declared.request.Request.TheVariants as requests
 use Rattle.hid_requests.specs.declared.request.Asking.{Asking}
 use Rattle.hid_requests.specs.Asking.{FitsRequest, IsOfReports, row_of, setup_for}
 use Rattle.hid_requests.proofs.AskedLemmas.{asked_so}
@@ -206,6 +207,9 @@ pub pends_where : (b : Bool) (wanted pending : Pending) (q : Decision) → IsAcc
 pends_where true wanted pending q accepted h = h.1
 pends_where false wanted pending Refused accepted h = absurd accepted
 pends_where false wanted pending (Accepted answer) accepted h = let wrong = h.0 in absurd (cc)
+
+pub clear_pends : (core : CoreState) (q : Decision) → IsAccepted q → IsDecided requests.Clear core q → core.pending ≡ pendings.Clear
+clear_pends core q accepted h = pends_where h.then.is_configured pendings.Clear core.pending q accepted h.by
 
 -- no write takes effect
 abbrev IsKeeping : Act → Type 0

@@ -10,6 +10,8 @@ use Rattle.usb_control.specs.Device.{DevControlState, Effect, Applies}
 use Rattle.usb_control.specs.Host.{HostTransferState, progress_of}
 use Rattle.hid_requests.specs.declared.request.Request.{Request}
 use Rattle.hid_requests.specs.declared.request.Request.TheVariants.{Config, Report, Configure, Halt, Clear}
+use Rattle.hid_device.specs.declared.decisions.Pending.{Pending}
+use Rattle.hid_device.specs.declared.decisions.Pending.TheVariants as pendings
 use Rattle.hid_device.specs.declared.device.TheConstants.{ENDPOINT}
 use Rattle.hid_device.specs.Apart.{carries_out, cuts}
 use Rattle.hid_device.specs.Core.{CoreState}
@@ -82,6 +84,16 @@ abbrev pub cuts_in : Fate → HostTransferState → DevControlState CoreState �
 cuts_in TokenLost ends control = false
 cuts_in fate ends control = cuts (effect_reached core_table ends control) control.requests.pending
 
+-- an effect ends a halt
+abbrev pub clears : Effect → Pending → Bool
+clears (Applies bytes) pendings.Clear = true
+clears _ _ = false
+
+-- whether the end of a halt takes effect in a try
+abbrev pub clears_in : Fate → HostTransferState → DevControlState CoreState → Bool
+clears_in TokenLost ends control = false
+clears_in fate ends control = clears (effect_reached core_table ends control) control.requests.pending
+
 -- the inside with another answer and another write to carry out
 abbrev pub answering : CoreState → CoreState → CoreState
 answering core other = record core { answer = other.answer; pending = other.pending }
@@ -98,8 +110,8 @@ brought_about fate ends control = carried_out (effect_reached core_table ends co
 
 -- A try of the transfer that runs leads both ends on by functions; where its request is done the host goes on too, but
 -- for want of memory. What is carried out of a write is all that changes at the device, but for what it answers; a
--- configuration takes effect for a host that is `Parsed`, and an open round is cut by a request for that alone. Where a Clear
--- is done, both pipes begin anew.
+-- configuration takes effect for a host that is `Parsed`, an open round is cut by a Halt or a Clear alone, and a halt ended by
+-- a Clear. Where that is done, the device's pipe begins anew.
 pub record IsComputed (fate : Fate) (host : HostEnd) (transfer : Transfer) (old : DevControlState CoreState)
     (result : Result Progress StackFault) (after : HostEnd) (new : DevControlState CoreState) : Type 0 where
   pub device_then : new ≡ control_tried core_table fate transfer.ends old
@@ -113,4 +125,5 @@ pub record IsComputed (fate : Fate) (host : HostEnd) (transfer : Transfer) (old 
   pub brings : new.requests ≡ answering (brought_about fate transfer.ends old) new.requests
   pub parsed : configures fate transfer.ends old ≡ true → state_of host.phase ≡ states.Parsed
   pub cut : cuts_in fate transfer.ends old ≡ true → cuts_round transfer.request ≡ true
+  pub clears : clears_in fate transfer.ends old ≡ true → transfer.request ≡ Clear
   pub cleared : transfer.request ≡ Clear → (ends_after fate transfer old).stage ≡ Done → BeginsAnew new.requests

@@ -349,8 +349,8 @@ impl HostDevice {
         ensures concludes { ConcludesAt transfer.now.ends.stage self.old.addr transfer.now.request
             self.old.phase (bytes_got transfer.now.ends) result self.new.phase }
         ensures others { self.new ≡ record self.old {
-            phase = self.new.phase;
-            clearing = clearing_behind transfer.now.ends.stage transfer.now.request self.old.clearing
+          phase = self.new.phase;
+          clearing = clearing_behind transfer.now.ends.stage transfer.now.request self.old.clearing;
         } }
     {
         match transfer.ends.outcome() {

@@ -183,12 +183,7 @@ impl ReadyHost {
 
     /// Drops the motion of the round that was open at the device, where its data haven't come: a halt, or its end, cuts it.
     /// There is reserved room for `max_events` more.
-    pub(crate) fn tell_cut(
-        &self,
-        round: Option<(usize, bool)>,
-        fixed: &Shown,
-        out: &mut Vec<Event>,
-    )
+    pub(crate) fn tell_cut(&self, round: Option<(usize, bool)>, fixed: &Shown, out: &mut Vec<Event>)
         requires suits { SuitsRound self.now.layout round fixed.now }
         requires room { vec_len out.old + max_events (items_of self.now.layout)
             ≤ vec_capacity out.old }
