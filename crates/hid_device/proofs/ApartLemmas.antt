@@ -13,12 +13,12 @@ use Rattle.usb_control.specs.Computed.{control_after}
 use Rattle.usb_control.specs.Device.{Effect, Answers, Decides, Applies}
 use Rattle.hid_device.specs.declared.decisions.Pending.{Pending}
 use Rattle.hid_device.specs.declared.decisions.Pending.TheVariants as pendings
-use Rattle.hid_device.specs.Apart.{LeavesEndpoint, LeavesRequests, LeavesRounds, LeavesWaits, carries_out}
+use Rattle.hid_device.specs.Apart.{LeavesEndpoint, LeavesRequests, LeavesRounds, LeavesWaits, carries_out, cut_core, cuts, with_halt}
 use Rattle.hid_device.specs.Decisions.{Decided, Refuses, Reads, Writes}
-use Rattle.hid_device.specs.Standing.{Standing, first_due, with_idle}
-use Rattle.hid_device.specs.Core.{CoreState, closed_core, configured_core, opened_core_if, opened_core_where, opening_of}
+use Rattle.hid_device.specs.Standing.{Standing, cut_at, due_where, with_idle}
+use Rattle.hid_device.specs.Core.{CoreState, closed_core, configured_core, halted_core, opened_core_if, opened_core_where, opening_of}
 use Rattle.hid_device.specs.Deciding.{core_table, decide, effected, left_by}
-use Rattle.hid_device.specs.Device.{DeviceState, changed_device, controlled, core_of, device_after, effect_of, framed_device, is_control, is_poll, passed, polled_device, unheard, with_core}
+use Rattle.hid_device.specs.Device.{DeviceState, changed_device, controlled, core_of, device_after, effect_of, framed_device, halted_device, is_control, is_poll, passed, polled_device, unheard, with_core}
 
 -- ---- what endpoint 0 leaves
 
@@ -27,12 +27,18 @@ left_snapshot core Refuses = refl
 left_snapshot core (Reads bytes) = refl
 left_snapshot core (Writes pending) = refl
 
+cut_snapshot : (o : Option ℕ) (d : Standing) → (cut_at o d).snapshot ≡ d.snapshot
+cut_snapshot None d = refl
+cut_snapshot (Some r) d = refl
+
 effected_snapshot : (core : CoreState) (bytes : List ℕ) (pending : Pending) → (effected core bytes pending).standing.snapshot ≡ core.standing.snapshot
 effected_snapshot core bytes pendings.Nothing = refl
 effected_snapshot core bytes pendings.Configure = refl
 effected_snapshot core bytes (pendings.Keep i) = refl
 effected_snapshot core bytes (pendings.Idle report time) = refl
 effected_snapshot core bytes (pendings.Protocol protocol) = refl
+effected_snapshot core bytes pendings.Halt = cut_snapshot core.current core.standing
+effected_snapshot core bytes pendings.Clear = cut_snapshot core.current core.standing
 
 pub snapshot_stays : (effect : Effect) (core : CoreState) → (control_after core_table effect core).requests.standing.snapshot ≡ core.standing.snapshot
 snapshot_stays (Answers answer stage heard) core = refl
@@ -44,17 +50,19 @@ left_rounds core Refuses = refl
 left_rounds core (Reads bytes) = refl
 left_rounds core (Writes pending) = refl
 
-effected_rounds : (core : CoreState) (bytes : List ℕ) (pending : Pending) → carries_out (Applies bytes) pending ≡ false → LeavesRounds core (effected core bytes pending)
-effected_rounds core bytes pendings.Nothing h = refl
-effected_rounds core bytes pendings.Configure h = absurd (cc)
-effected_rounds core bytes (pendings.Keep i) h = refl
-effected_rounds core bytes (pendings.Idle report time) h = refl
-effected_rounds core bytes (pendings.Protocol protocol) h = refl
+effected_rounds : (core : CoreState) (bytes : List ℕ) (pending : Pending) → carries_out (Applies bytes) pending ≡ false → cuts (Applies bytes) pending ≡ false → LeavesRounds core (effected core bytes pending)
+effected_rounds core bytes pendings.Nothing h k = refl
+effected_rounds core bytes pendings.Configure h k = absurd (cc)
+effected_rounds core bytes (pendings.Keep i) h k = refl
+effected_rounds core bytes (pendings.Idle report time) h k = refl
+effected_rounds core bytes (pendings.Protocol protocol) h k = refl
+effected_rounds core bytes pendings.Halt h k = absurd (cc)
+effected_rounds core bytes pendings.Clear h k = absurd (cc)
 
-pub rounds_stay : (effect : Effect) (core : CoreState) → carries_out effect core.pending ≡ false → LeavesRounds core (control_after core_table effect core).requests
-rounds_stay (Answers answer stage heard) core h = refl
-rounds_stay (Decides bytes) core h = left_rounds core (decide core (setup_of bytes))
-rounds_stay (Applies bytes) core h = effected_rounds core bytes core.pending h
+pub rounds_stay : (effect : Effect) (core : CoreState) → carries_out effect core.pending ≡ false → cuts effect core.pending ≡ false → LeavesRounds core (control_after core_table effect core).requests
+rounds_stay (Answers answer stage heard) core h k = refl
+rounds_stay (Decides bytes) core h k = left_rounds core (decide core (setup_of bytes))
+rounds_stay (Applies bytes) core h k = effected_rounds core bytes core.pending h k
 
 effected_configures : (core : CoreState) (bytes : List ℕ) (pending : Pending) → carries_out (Applies bytes) pending ≡ true → effected core bytes pending ≡ configured_core core
 effected_configures core bytes pendings.Nothing h = absurd (cc)
@@ -62,11 +70,27 @@ effected_configures core bytes pendings.Configure h = refl
 effected_configures core bytes (pendings.Keep i) h = absurd (cc)
 effected_configures core bytes (pendings.Idle report time) h = absurd (cc)
 effected_configures core bytes (pendings.Protocol protocol) h = absurd (cc)
+effected_configures core bytes pendings.Halt h = absurd (cc)
+effected_configures core bytes pendings.Clear h = absurd (cc)
 
 pub configuration_is : (effect : Effect) (core : CoreState) → carries_out effect core.pending ≡ true → (control_after core_table effect core).requests ≡ configured_core core
 configuration_is (Answers answer stage heard) core h = absurd (cc)
 configuration_is (Decides bytes) core h = absurd (cc)
 configuration_is (Applies bytes) core h = effected_configures core bytes core.pending h
+
+effected_cuts : (core : CoreState) (bytes : List ℕ) (pending : Pending) → cuts (Applies bytes) pending ≡ true → effected core bytes pending ≡ cut_core core pending
+effected_cuts core bytes pendings.Nothing h = absurd (cc)
+effected_cuts core bytes pendings.Configure h = absurd (cc)
+effected_cuts core bytes (pendings.Keep i) h = absurd (cc)
+effected_cuts core bytes (pendings.Idle report time) h = absurd (cc)
+effected_cuts core bytes (pendings.Protocol protocol) h = absurd (cc)
+effected_cuts core bytes pendings.Halt h = refl
+effected_cuts core bytes pendings.Clear h = refl
+
+pub cut_is : (effect : Effect) (core : CoreState) → cuts effect core.pending ≡ true → (control_after core_table effect core).requests ≡ cut_core core core.pending
+cut_is (Answers answer stage heard) core h = absurd (cc)
+cut_is (Decides bytes) core h = absurd (cc)
+cut_is (Applies bytes) core h = effected_cuts core bytes core.pending h
 
 -- ---- what all else leaves
 
@@ -75,7 +99,7 @@ opened_if core None = refl
 opened_if core (Some r) = refl
 
 opened_where : (core : CoreState) (o : Option ℕ) → LeavesRequests core (opened_core_where core o)
-opened_where core None = opened_if core (first_due (items_of core.layout) core.standing)
+opened_where core None = opened_if core (due_where (items_of core.layout) core.halted core.standing)
 opened_where core (Some r) = refl
 
 passes : (d : DeviceState) (core : CoreState) (waits : Bool) → LeavesRequests (core_of d) core → LeavesEndpoint d (passed d core waits)
@@ -101,7 +125,7 @@ polls_leave d packet none =
 
 change_leaves : (core : CoreState) (result : Result (List Cell) ChangeFault)
     → (let standing : Standing = elim result [
-      | Ok cells ↦ record { snapshot = cells; fixed = core.standing.fixed; frames = core.standing.frames; idle = core.standing.idle }
+      | Ok cells ↦ record { snapshot = cells; fixed = core.standing.fixed; frames = core.standing.frames; idle = core.standing.idle; cut = core.standing.cut }
       | Err fault ↦ core.standing
     ] in standing ≡ with_idle core.standing.idle standing)
 change_leaves core (Ok cells) = refl
@@ -119,3 +143,23 @@ changes_leave d change =
 
 pub frames_leave : (d : DeviceState) → LeavesWaits d (framed_device d)
 frames_leave d = keeps_waits d (core_of (framed_device d)) refl
+
+cut_idle : (o : Option ℕ) (d : Standing) → cut_at o d ≡ with_idle d.idle (cut_at o d)
+cut_idle None d = refl
+cut_idle (Some r) d = refl
+
+-- behind this choice the endpoint is halted, or it is as it was
+halts_where : (d : DeviceState) (configured : Bool)
+    → (let behind : DeviceState = if configured then record (with_core d (halted_core (core_of d))) { waits = false } else d in
+    LeavesEndpoint (with_halt d (core_of behind).halted) behind)
+halts_where d true =
+    let standing : Standing = (core_of d).standing in
+    record {
+      address = refl;
+      stage = refl;
+      requests = ap (λ (cut : Standing). record (halted_core (core_of d)) { standing = cut }) (cut_idle (core_of d).current standing);
+    }
+halts_where d false = record { address = refl; stage = refl; requests = refl }
+
+pub halts_leave : (d : DeviceState) → LeavesEndpoint (with_halt d (core_of (halted_device d)).halted) (halted_device d)
+halts_leave d = halts_where d (core_of d).is_configured

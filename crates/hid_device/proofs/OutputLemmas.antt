@@ -141,6 +141,8 @@ sound_with core is_configured idle protocol outputs before long are = record {
   fixed = before.fixed;
   each_frames = before.each_frames;
   each_idle = long;
+  each_cut = before.each_cut;
   of_input = before.of_input;
+  quiet = before.quiet;
   outputs = are;
 }

@@ -10,7 +10,7 @@ use Rattle.hid_device.specs.Config.{is_config}
 use Rattle.hid_device.specs.Inputs.{input_count}
 use Rattle.hid_device.specs.Outputs.{kept, kept_place, number_of}
 use Rattle.hid_device.specs.declared.config.Boot.{Boot}
-use Rattle.hid_device.specs.Deciding.{config_info, configuration_number, idle_set}
+use Rattle.hid_device.specs.Deciding.{config_info, configuration_number, endpoint_status, idle_set}
 use Rattle.hid_device.specs.Decisions.{Refuses, Reads, reads_if}
 use Rattle.hid_requests.specs.Descriptors.{configuration_bytes}
 
@@ -72,6 +72,13 @@ not_configured = refl
 
 configured_once : configuration_number true ≡ 1
 configured_once = refl
+
+-- the status of a halted endpoint (9.4.5)
+halted_status : endpoint_status true ≡ 1 ∷ 0 ∷ []
+halted_status = refl
+
+going_status : endpoint_status false ≡ 0 ∷ 0 ∷ []
+going_status = refl
 
 refused_before : reads_if false (0 ∷ []) ≡ Refuses
 refused_before = refl

@@ -1,19 +1,33 @@
--- What endpoint 0 of a device and its polls leave of one another (USB 2.0, 8.5.3, 8.5.4 and 9.1.1.5; HID 1.11, 7.2).
+-- What endpoint 0 of a device and its polls leave of one another (USB 2.0, 8.5.3, 8.5.4, 9.1.1.5 and 9.4.5; HID 1.11,
+-- 7.2).
 use Rattle.std.specs.Prelude.{◌≡◌, Bool, true, false}
 use Rattle.usb_control.specs.Device.{Effect, Applies}
 use Rattle.hid_device.specs.declared.decisions.Pending.{Pending}
-use Rattle.hid_device.specs.declared.decisions.Pending.TheVariants.{Configure}
+use Rattle.hid_device.specs.declared.decisions.Pending.TheVariants.{Configure, Halt, Clear}
 use Rattle.hid_device.specs.Standing.{with_idle}
-use Rattle.hid_device.specs.Core.{CoreState}
-use Rattle.hid_device.specs.Device.{DeviceState, core_of}
+use Rattle.hid_device.specs.Core.{CoreState, cleared_core, halted_core}
+use Rattle.hid_device.specs.Device.{DeviceState, core_of, with_core}
 
 -- a write that is carried out configures the device where this was asked for
 abbrev pub carries_out : Effect → Pending → Bool
 carries_out (Applies bytes) Configure = true
 carries_out _ _ = false
 
--- What polls go by stays: the snapshot, the parts last fixed, the frames that were counted, the open round, the toggle, and
--- whether the device is configured. What requests set, and the request itself, may be others.
+-- and it ends a round that is open where a halt, or the end of one, was asked for
+abbrev pub cuts : Effect → Pending → Bool
+cuts (Applies bytes) Halt = true
+cuts (Applies bytes) Clear = true
+cuts _ _ = false
+
+-- what it makes of the inside then
+abbrev pub cut_core : CoreState → Pending → CoreState
+cut_core core Halt = halted_core core
+cut_core core Clear = cleared_core core
+cut_core core _ = core
+
+-- What polls go by stays: the snapshot, the parts last fixed, the frames that were counted, which rounds were cut, the open
+-- round, the toggle, and whether the device is configured and its endpoint halted. What requests set, and the request
+-- itself, may be others.
 abbrev pub LeavesRounds : CoreState → CoreState → Type 0
 LeavesRounds old new =
     new ≡ record old {
@@ -25,7 +39,7 @@ LeavesRounds old new =
     }
 
 -- What requests go by stays: the idle times, the protocol, the Output and Feature reports, whether the device is
--- configured, the answer that was fixed, and what is to be carried out.
+-- configured and its endpoint halted, the answer that was fixed, and what is to be carried out.
 abbrev pub LeavesRequests : CoreState → CoreState → Type 0
 LeavesRequests old new =
     new ≡ record old {
@@ -39,6 +53,10 @@ pub record LeavesEndpoint (old new : DeviceState) : Type 0 where
   pub address : new.addr ≡ old.addr
   pub stage : new.control.stage ≡ old.control.stage
   pub requests : LeavesRequests (core_of old) (core_of new)
+
+-- the device with its endpoint halted or not, and all else as it is
+abbrev pub with_halt : DeviceState → Bool → DeviceState
+with_halt d halted = with_core d (record (core_of d) { halted = halted })
 
 -- and what is waited for: the data of a token to endpoint 0, or the host's ACK
 pub record LeavesWaits (old new : DeviceState) : Type 0 where

@@ -1,5 +1,5 @@
--- What a contract sees of a device's inside, and what befalls it (USB 2.0, 8.5.4, 8.6, 9.1.1.3, 9.2 and 9.4.7; HID
--- 1.11, 7.2.4 and 7.2.6).
+-- What a contract sees of a device's inside, and what befalls it (USB 2.0, 8.5.4, 8.6, 9.1.1.3, 9.2, 9.4.5 and 9.4.7;
+-- HID 1.11, 7.2.4 and 7.2.6).
 use Rattle.std.specs.Prelude.{◌≡◌, ℕ, ◌<◌, Bool, true, false, not, List, length, Option, Some, None}
 use Rattle.hid_layout.specs.Layout.{Contents}
 use Rattle.hid_layout.specs.Controls.{items_of}
@@ -19,12 +19,12 @@ use Rattle.hid_device.specs.declared.decisions.Pending.TheVariants.{Nothing}
 use Rattle.hid_device.specs.Laying.{Lays}
 use Rattle.hid_device.specs.Inputs.{input_count, AreInputsFirst}
 use Rattle.hid_device.specs.Outputs.{AreOutputs, bare_outputs}
-use Rattle.hid_device.specs.Standing.{Standing, configured, first_due, after_change, after_frame, after_opening, no_idle}
+use Rattle.hid_device.specs.Standing.{Standing, configured, cut_at, due_where, after_change, after_frame, after_opening, no_idle}
 
 -- Its layout, its configuration and its descriptor; whether SET_CONFIGURATION took effect; how it stands; the
--- report of the round that is open, where one is; whether data go out as DATA1; its protocol, and its Output and Feature
--- reports as they were set last; and of the last request the answer, where it has one, and what is carried out when its
--- status is asked for.
+-- report of the round that is open, where one is; whether data go out as DATA1, and whether the endpoint that they go out
+-- of is halted; its protocol, and its Output and Feature reports as they were set last; and of the last request the answer,
+-- where it has one, and what is carried out when its status is asked for.
 pub record CoreState : Type 0 where
   pub layout : Contents
   pub config : Config
@@ -33,6 +33,7 @@ pub record CoreState : Type 0 where
   pub standing : Standing
   pub current : Option ℕ
   pub toggle : Bool
+  pub halted : Bool
   pub protocol : Protocol
   pub outputs : List (List ℕ)
   pub answer : Option (List ℕ)
@@ -47,9 +48,10 @@ abbrev pub opened_core_if : CoreState → Option ℕ → CoreState
 opened_core_if core None = core
 opened_core_if core (Some r) = opened_core core r
 
--- A poll opens a round where none is open and some report is due, of the due report of the lowest number.
+-- A poll opens a round where none is open, the endpoint isn't halted and some report is due, of the due report of the
+-- lowest number.
 abbrev pub opened_core_where : CoreState → Option ℕ → CoreState
-opened_core_where core None = opened_core_if core (first_due (items_of core.layout) core.standing)
+opened_core_where core None = opened_core_if core (due_where (items_of core.layout) core.halted core.standing)
 opened_core_where core (Some r) = core
 
 -- what a poll makes of the inside before it is answered
@@ -65,24 +67,37 @@ flipped toggle (Some r) = not toggle
 abbrev pub closed_core : CoreState → CoreState
 closed_core core = record core { toggle = flipped core.toggle core.current; current = None }
 
--- SET_CONFIGURATION takes effect: no round is open, and data begin with DATA0 (USB 2.0, 9.1.1.5).
+-- SET_CONFIGURATION takes effect: no round is open, data begin with DATA0, and a halt ends (USB 2.0, 9.1.1.5 and 9.4.5).
 abbrev pub configured_core : CoreState → CoreState
 configured_core core = record core {
   is_configured = true;
   standing = configured (items_of core.layout) core.standing.snapshot core.standing.idle;
   current = None;
   toggle = false;
+  halted = false;
 }
 
--- The bus is reset: the device isn't configured (USB 2.0, 9.1.1.3), no round is open, no idle time is set (our choice),
--- reports are in the report protocol (HID 1.11, 7.2.6), Output and Feature reports are zeros (our choice), and the last
--- request is forgotten. What its controls show stays: the snapshot.
+-- The endpoint is halted: the round that is open ends, and its report is due (USB 2.0, 9.4.5; our choice). The toggle
+-- stays.
+abbrev pub halted_core : CoreState → CoreState
+halted_core core = record core { standing = cut_at core.current core.standing; current = None; halted = true }
+
+-- The halt is ended, where there is one: the round that is open ends all the same, its report is due, and data begin with
+-- DATA0 (USB 2.0, 9.4.5).
+abbrev pub cleared_core : CoreState → CoreState
+cleared_core core =
+    record core { standing = cut_at core.current core.standing; current = None; toggle = false; halted = false }
+
+-- The bus is reset: the device isn't configured (USB 2.0, 9.1.1.3), no round is open, its endpoint isn't halted, no idle
+-- time is set (our choice), reports are in the report protocol (HID 1.11, 7.2.6), Output and Feature reports are zeros (our
+-- choice), and the last request is forgotten. What its controls show stays: the snapshot.
 abbrev pub reset_core : CoreState → CoreState
 reset_core core = record core {
   is_configured = false;
   standing = configured (items_of core.layout) core.standing.snapshot (no_idle core.standing.idle);
   current = None;
   toggle = false;
+  halted = false;
   protocol = protocols.Report;
   outputs = bare_outputs core.layout;
   answer = None;
@@ -109,16 +124,22 @@ IsArmed layout parts None None = Unit {0}
 IsArmed layout parts (Some r) (Some bytes) = AreBytesOf layout parts r bytes
 IsArmed layout parts _ _ = ⊥
 
--- The answer to a poll: what is armed under the toggle, else NAK (USB 2.0, 8.4.6.1).
+-- The answer to a poll: STALL while the endpoint is halted, else what is armed under the toggle, else NAK (USB 2.0,
+-- 8.4.6.1).
 abbrev pub Answers : CoreState → Packet → Type 0
 Answers core packet =
     (armed : Option (List ℕ)) × IsArmed core.layout core.standing.fixed core.current armed
-    × (packet ≡ answer_with core.toggle armed)
+    × (packet ≡ answer_with core.halted core.toggle armed)
 
 -- the report of the open round is an Input report
 abbrev pub IsBelow : ℕ → Option ℕ → Type 0
 IsBelow count None = Unit {0}
 IsBelow count (Some r) = r < count
+
+-- no round is open while the endpoint is halted
+abbrev pub IsQuiet : Option ℕ → Bool → Type 0
+IsQuiet None halted = Unit {0}
+IsQuiet (Some r) halted = halted ≡ false
 
 -- What holds of every device.
 pub record IsSound (core : CoreState) : Type 0 where
@@ -130,7 +151,9 @@ pub record IsSound (core : CoreState) : Type 0 where
   pub fixed : FitsShown (items_of core.layout) core.standing.fixed
   pub each_frames : length core.standing.frames ≡ input_count core.layout.reports
   pub each_idle : length core.standing.idle ≡ input_count core.layout.reports
+  pub each_cut : length core.standing.cut ≡ input_count core.layout.reports
   pub of_input : IsBelow (input_count core.layout.reports) core.current
+  pub quiet : IsQuiet core.current core.halted
   pub outputs : AreOutputs core.layout core.outputs
 
 -- the same, with what its pipe has armed, and with room for the parts that are asked for

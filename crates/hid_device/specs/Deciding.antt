@@ -13,7 +13,7 @@ use Rattle.usb_control.specs.declared.descriptors.DeviceInfo.{DeviceInfo}
 use Rattle.usb_control.specs.declared.descriptors.ConfigInfo.{ConfigInfo}
 use Rattle.usb_control.specs.Computed.{Table}
 use Rattle.hid_requests.specs.declared.asked.Asked.{Asked}
-use Rattle.hid_requests.specs.declared.asked.Asked.TheVariants.{Status, InterfaceStatus, ControlStatus, ReportStatus, DeviceDescriptor, Configuration, HidDescriptor, ReportDescriptor, GetConfiguration, GetInterface, SetConfiguration, GetReport, GetIdle, GetProtocol, SetReport, SetIdle, SetProtocol}
+use Rattle.hid_requests.specs.declared.asked.Asked.TheVariants.{Status, InterfaceStatus, ControlStatus, ReportStatus, DeviceDescriptor, Configuration, HidDescriptor, ReportDescriptor, GetConfiguration, GetInterface, SetConfiguration, ClearFeature, SetFeature, GetReport, GetIdle, GetProtocol, SetReport, SetIdle, SetProtocol}
 use Rattle.hid_requests.specs.Asked.{asked_of}
 use Rattle.hid_requests.specs.Class.{number_of as protocol_number}
 use Rattle.hid_requests.specs.Descriptors.{device_bytes, configuration_bytes, hid_bytes}
@@ -22,13 +22,13 @@ use Rattle.hid_device.specs.declared.config.Boot.TheVariants as boot
 use Rattle.hid_device.specs.declared.config.Config.{Config}
 use Rattle.hid_device.specs.declared.device.TheConstants.{ENDPOINT}
 use Rattle.hid_device.specs.declared.decisions.Pending.{Pending}
-use Rattle.hid_device.specs.declared.decisions.Pending.TheVariants.{Nothing, Configure, Keep, Idle}
+use Rattle.hid_device.specs.declared.decisions.Pending.TheVariants.{Nothing, Configure, Keep, Idle, Halt, Clear}
 use Rattle.hid_device.specs.declared.decisions.Pending.TheVariants as pendings
 use Rattle.hid_device.specs.Config.{is_boot}
 use Rattle.hid_device.specs.Outputs.{kept, kept_bytes, kept_place, number_of}
 use Rattle.hid_device.specs.Standing.{with_idle}
 use Rattle.hid_device.specs.Decisions.{Decided, Refuses, Reads, Writes, is_accepted, reads_if, writes_if}
-use Rattle.hid_device.specs.Core.{CoreState, configured_core}
+use Rattle.hid_device.specs.Core.{CoreState, cleared_core, configured_core, halted_core}
 
 -- bInterfaceSubClass: 1 where it has the boot protocol (HID 1.11, 4.2)
 abbrev pub subclass_of : Boot → ℕ
@@ -59,6 +59,11 @@ config_info config len = record {
 abbrev pub configuration_number : Bool → ℕ
 configuration_number false = 0
 configuration_number true = 1
+
+-- the status of an endpoint: its lowest bit tells a halt (9.4.5)
+abbrev pub endpoint_status : Bool → List ℕ
+endpoint_status false = 0 ∷ 0 ∷ []
+endpoint_status true = 1 ∷ 0 ∷ []
 
 -- the bytes of an Input report as it is now, with every motion 0 (our choice): nothing is fixed or taken out for them
 abbrev pub still_bytes : CoreState → ℕ → List ℕ
@@ -104,13 +109,14 @@ sets_idle core id time =
     else sets_idle_of time (number_of core.layout.reports Input id)
 
 -- The answer or effect of each row. A status is two bytes of zeros: neither powered by itself nor able to wake its host,
--- and not halted (9.4.5). Protocols are those of boot devices alone (HID 1.11, 7.2.5 and 7.2.6), and are set before a
--- device is configured (our choice).
+-- and endpoint 0 is never halted; that of the other endpoint tells its halt (9.4.5). There is no such endpoint, and so no
+-- halt of it, before a device is configured (9.4.1, 9.4.5 and 9.4.9). Protocols are those of boot devices alone (HID 1.11,
+-- 7.2.5 and 7.2.6), and are set before a device is configured (our choice).
 abbrev pub decided_row : CoreState → Asked → Decided
 decided_row core Status = Reads (0 ∷ 0 ∷ [])
 decided_row core InterfaceStatus = reads_if core.is_configured (0 ∷ 0 ∷ [])
 decided_row core ControlStatus = Reads (0 ∷ 0 ∷ [])
-decided_row core ReportStatus = reads_if core.is_configured (0 ∷ 0 ∷ [])
+decided_row core ReportStatus = reads_if core.is_configured (endpoint_status core.halted)
 decided_row core DeviceDescriptor = Reads (device_bytes (device_info core.config))
 decided_row core Configuration =
     Reads (configuration_bytes (config_info core.config (length core.descriptor)) core.config.interval)
@@ -119,6 +125,8 @@ decided_row core ReportDescriptor = Reads core.descriptor
 decided_row core GetConfiguration = Reads (configuration_number core.is_configured ∷ [])
 decided_row core GetInterface = reads_if core.is_configured (0 ∷ [])
 decided_row core SetConfiguration = Writes Configure
+decided_row core ClearFeature = writes_if core.is_configured Clear
+decided_row core SetFeature = writes_if core.is_configured Halt
 decided_row core (GetReport kind id) = reads_any (report_now core kind id)
 decided_row core (GetIdle id) = reads_any (option_map (λ time. time ∷ []) (idle_told core id))
 decided_row core GetProtocol = reads_if (is_boot core.config.boot) (protocol_number core.protocol ∷ [])
@@ -155,6 +163,8 @@ effected core bytes (Keep i) = record core { outputs = kept core.outputs i bytes
 effected core bytes (Idle report time) =
     record core { standing = with_idle (idle_set core.standing.idle report time) core.standing }
 effected core bytes (pendings.Protocol protocol) = record core { protocol = protocol }
+effected core bytes Halt = halted_core core
+effected core bytes Clear = cleared_core core
 
 -- What answers the requests of a device.
 abbrev pub core_table : Table CoreState

@@ -7,19 +7,19 @@ use Rattle.usb_control.specs.declared.setup.Setup.{Setup}
 use Rattle.usb_control.specs.SetupBytes.{reads}
 use Rattle.usb_control.specs.Computed.{AppliesBy, PreparesBy}
 use Rattle.hid_requests.specs.declared.asked.Asked.{Asked}
-use Rattle.hid_requests.specs.declared.asked.Asked.TheVariants.{Status, InterfaceStatus, ControlStatus, ReportStatus, DeviceDescriptor, Configuration, HidDescriptor, ReportDescriptor, GetConfiguration, GetInterface, SetConfiguration, GetReport, GetIdle, GetProtocol, SetReport, SetIdle, SetProtocol}
+use Rattle.hid_requests.specs.declared.asked.Asked.TheVariants.{Status, InterfaceStatus, ControlStatus, ReportStatus, DeviceDescriptor, Configuration, HidDescriptor, ReportDescriptor, GetConfiguration, GetInterface, SetConfiguration, ClearFeature, SetFeature, GetReport, GetIdle, GetProtocol, SetReport, SetIdle, SetProtocol}
 use Rattle.hid_requests.specs.Asked.{IsSorted, asked_of}
 use Rattle.hid_descriptor.specs.declared.report.ReportKind.TheVariants.{Input}
 use Rattle.hid_requests.specs.Class.{number_of as protocol_number}
 use Rattle.hid_requests.proofs.AskedLemmas.{sorted}
 use Rattle.hid_device.specs.declared.decisions.Pending.{Pending}
-use Rattle.hid_device.specs.declared.decisions.Pending.TheVariants.{Nothing, Configure, Keep, Idle}
+use Rattle.hid_device.specs.declared.decisions.Pending.TheVariants.{Nothing, Configure, Keep, Idle, Halt, Clear}
 use Rattle.hid_device.specs.declared.decisions.Pending.TheVariants as pendings
 use Rattle.hid_device.specs.Config.{is_boot}
 use Rattle.hid_device.specs.Core.{CoreState}
 use Rattle.hid_device.specs.Decisions.{Decided, Refuses, Reads, Writes, is_accepted, reads_if, writes_if}
 use Rattle.hid_device.specs.Outputs.{kept_bytes, kept_place, number_of}
-use Rattle.hid_device.specs.Deciding.{core_table, decide, decided_on, decided_row, effected, idle_told, keeps, left_by, reads_any, report_now, sets_idle, sets_idle_of}
+use Rattle.hid_device.specs.Deciding.{core_table, decide, decided_on, decided_row, effected, endpoint_status, idle_told, keeps, left_by, reads_any, report_now, sets_idle, sets_idle_of}
 
 -- what is read is a read, and what is written is a write of no more bytes than a device takes
 abbrev IsOf : Setup → Decided → Type 0
@@ -74,7 +74,7 @@ of_row : (core : CoreState) (setup : Setup) (asked : Asked) → IsSorted setup a
 of_row core setup Status h = h.ways
 of_row core setup InterfaceStatus h = of_reads setup core.is_configured (0 ∷ 0 ∷ []) h.ways
 of_row core setup ControlStatus h = h.ways
-of_row core setup ReportStatus h = of_reads setup core.is_configured (0 ∷ 0 ∷ []) h.ways
+of_row core setup ReportStatus h = of_reads setup core.is_configured (endpoint_status core.halted) h.ways
 of_row core setup DeviceDescriptor h = h.ways
 of_row core setup Configuration h = h.ways
 of_row core setup HidDescriptor h = h.ways
@@ -82,6 +82,10 @@ of_row core setup ReportDescriptor h = h.ways
 of_row core setup GetConfiguration h = h.ways
 of_row core setup GetInterface h = of_reads setup core.is_configured (0 ∷ []) h.ways
 of_row core setup SetConfiguration h = of_write setup Configure h.ways (h.bytes refl)
+of_row core setup ClearFeature h =
+    of_writes setup core.is_configured Clear h.ways (λ holds. let none = h.bytes refl in omega (arith, none))
+of_row core setup SetFeature h =
+    of_writes setup core.is_configured Halt h.ways (λ holds. let none = h.bytes refl in omega (arith, none))
 of_row core setup (GetReport kind id) h = of_any setup (report_now core kind id) h.ways
 of_row core setup (GetIdle id) h = of_any setup (option_map (λ time. time ∷ []) (idle_told core id)) h.ways
 of_row core setup GetProtocol h =
@@ -157,6 +161,8 @@ same_row s answer pending ReportDescriptor = refl
 same_row s answer pending GetConfiguration = refl
 same_row s answer pending GetInterface = refl
 same_row s answer pending SetConfiguration = refl
+same_row s answer pending ClearFeature = refl
+same_row s answer pending SetFeature = refl
 same_row s answer pending (GetReport kind id) = refl
 same_row s answer pending (GetIdle id) = refl
 same_row s answer pending GetProtocol = refl

@@ -9,7 +9,7 @@ use Rattle.usb_control.specs.declared.device.Heard.TheVariants.{Nothing}
 use Rattle.usb_control.specs.Device.{DevControlState, Effect, effect, idle}
 use Rattle.usb_control.specs.Computed.{answer_to, control_after}
 use Rattle.hid_device.specs.declared.device.TheConstants.{ENDPOINT}
-use Rattle.hid_device.specs.Core.{CoreState, opening_of, closed_core, configured_core, reset_core, changed_core, framed_core, Answers}
+use Rattle.hid_device.specs.Core.{CoreState, opening_of, closed_core, configured_core, halted_core, reset_core, changed_core, framed_core, Answers}
 use Rattle.hid_device.specs.Deciding.{core_table}
 
 -- its address, its endpoint 0 with its inside, and whether the last packet was answered with data of its pipe, so that
@@ -107,6 +107,12 @@ DeviceAnswers d packet result =
 -- a configuration without a transfer ends the pipe's wait too
 abbrev pub configured_device : DeviceState → DeviceState
 configured_device d = record (with_core d (configured_core (core_of d))) { waits = false }
+
+-- A device that is configured halts its endpoint: its pipe awaits no ACK. One that isn't has none to halt (USB 2.0, 9.4.5;
+-- our choice).
+abbrev pub halted_device : DeviceState → DeviceState
+halted_device d =
+    if (core_of d).is_configured then record (with_core d (halted_core (core_of d))) { waits = false } else d
 
 -- The device behind a reset of the bus: no request is open, no ACK is awaited, and it keeps its address (USB 2.0, 7.1.7.5
 -- and 9.1.1.3; our choice).

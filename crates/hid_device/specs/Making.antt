@@ -35,9 +35,11 @@ new_core config descriptor layout = record {
     fixed = blank_parts (items_of layout);
     frames = replicate (input_count layout.reports) 0;
     idle = replicate (input_count layout.reports) 0;
+    cut = replicate (input_count layout.reports) false;
   };
   current = None;
   toggle = false;
+  halted = false;
   protocol = protocols.Report;
   outputs = bare_outputs layout;
   answer = None;

@@ -16,7 +16,7 @@ pub enum Answer {
 }
 
 /// What is carried out when the status of a write is asked for.
-#[derive(Clone, Copy, Debug, PartialEq, Eq)]
+#[derive(Clone, Copy)]
 pub enum Pending {
     /// Nothing: the last request was a read, or was refused.
     Nothing,
@@ -28,6 +28,10 @@ pub enum Pending {
     Idle { report: Option<usize>, time: u8 },
     /// Reports are sent in this form.
     Protocol(Protocol),
+    /// The endpoint of its Input reports is halted.
+    Halt,
+    /// The halt of that endpoint ends.
+    Clear,
 }
 
 /// What is decided on a request.

@@ -6,7 +6,7 @@ ghost use Rattle.hid_layout.specs.Controls.{items_of};
 ghost use Rattle.hid_cells.specs.Snapshots.{Changes};
 ghost use Rattle.usb_packet.specs.Spelling.{Fits};
 ghost use Rattle.hid_device.specs.Core.{IsSound, IsArmed, Answers, opening_of, round_of};
-ghost use Rattle.hid_device.specs.Device.{is_poll, device_after, DeviceAnswers, configured_device, controlled, core_of, changed_device, effect_of, framed_device, passed, polled_device, reset_device};
+ghost use Rattle.hid_device.specs.Device.{is_poll, device_after, DeviceAnswers, configured_device, halted_device, controlled, core_of, changed_device, effect_of, framed_device, passed, polled_device, reset_device};
 ghost use Rattle.hid_device.specs.Deciding.{output_of};
 ghost use Rattle.hid_device.specs.Making.{MakesDevice};
 
@@ -76,7 +76,7 @@ impl Device {
     }
 
     /// Takes effect as SET_CONFIGURATION does (USB 2.0, 9.1.1.5 and 9.4.7): the pipe goes back to DATA0, the open round
-    /// ends, parts last fixed are blank and frames are counted from 0. The snapshot and the idle times stay.
+    /// ends, a halt ends, parts last fixed are blank and frames are counted from 0. The snapshot and the idle times stay.
     pub fn configure(&mut self)
         ensures { self.new ≡ configured_device self.old }
     {
@@ -84,9 +84,22 @@ impl Device {
         self.waits = false;
     }
 
+    /// Halts the endpoint of its Input reports, as SET_FEATURE of ENDPOINT_HALT does (USB 2.0, 9.4.5 and 9.4.9): a poll is
+    /// answered with STALL until the halt ends, by CLEAR_FEATURE, a configuration or a reset. The round that is open ends, its
+    /// report is due from then on, and the toggle stays. On a device that isn't configured it changes nothing.
+    pub fn halt(&mut self)
+        ensures { self.new ≡ halted_device self.old }
+    {
+        if self.control.requests().is_configured() {
+            self.control.requests_mut().halt();
+            self.waits = false;
+        }
+    }
+
     /// A reset of the bus (USB 2.0, 7.1.7.5 and 9.1.1.3): it isn't configured, no request is open at its endpoint 0, the open
-    /// round ends, parts last fixed are blank, counts of frames and idle times are 0, reports are in the report protocol, and
-    /// Output and Feature reports are zeros again. The snapshot stays, and so does the address. No memory is taken.
+    /// round ends, and so does a halt, parts last fixed are blank, counts of frames and idle times are 0, reports are in the
+    /// report protocol, and Output and Feature reports are zeros again. The snapshot stays, and so does the address. No memory
+    /// is taken.
     pub fn reset(&mut self)
         ensures { self.new ≡ reset_device self.old }
     {
@@ -198,9 +211,10 @@ impl Device {
     }
 
     /// The pipe of its Input reports: something is armed exactly while a round is open, and it is the bytes of the part that
-    /// was fixed for it.
+    /// was fixed for it. It is halted while the endpoint is.
     pub fn pipe(&self) -> &DevPipe
         ensures toggle { result.now.toggle ≡ (core_of self.now).toggle }
+        ensures halted { result.now.halted ≡ (core_of self.now).halted }
         ensures armed { IsArmed (core_of self.now).layout (core_of self.now).standing.fixed
             (core_of self.now).current result.now.armed }
     {

@@ -4,29 +4,35 @@ ghost use Rattle.hid_cells.specs.declared.change.Change.{Change};
 ghost use Rattle.usb_packet.specs.declared.packet.Packet.{Packet};
 ghost use Rattle.usb_control.specs.Computed.{control_after};
 ghost use Rattle.usb_control.specs.Device.{Effect};
-ghost use Rattle.hid_device.specs.Apart.{LeavesEndpoint, LeavesRounds, LeavesWaits, carries_out};
+ghost use Rattle.hid_device.specs.Apart.{LeavesEndpoint, LeavesRounds, LeavesWaits, carries_out, cut_core, cuts, with_halt};
 ghost use Rattle.hid_device.specs.Core.{CoreState, IsSound, configured_core};
 ghost use Rattle.hid_device.specs.Deciding.{core_table};
-ghost use Rattle.hid_device.specs.Device.{DeviceState, changed_device, core_of, device_after, framed_device, is_control, reset_device};
+ghost use Rattle.hid_device.specs.Device.{DeviceState, changed_device, core_of, device_after, framed_device, halted_device, is_control, reset_device};
 ghost use Rattle.hid_device.specs.Making.{new_device_with};
 
 /// The endpoints of a device are apart. Whatever endpoint 0 is brought to by a packet, by itself or in a host's transfer, the
-/// snapshot stays, and polls go on as they did unless a configuration takes effect. A packet that isn't endpoint 0's, a
-/// change and a frame leave endpoint 0: the packet but for what was waited for, the others that too.
+/// snapshot stays, and polls go on as they did unless a configuration, a halt or its end takes effect. A packet that isn't
+/// endpoint 0's, a change, a frame and a halt of the device leave endpoint 0: the packet and the halt but for what was waited
+/// for, the others that too; and behind the halt it is the halted one that endpoint 0 tells of.
 pub fn ends_are_apart()
     ensures snapshot { (effect : Effect) (core : CoreState)
         → (control_after core_table effect core).requests.standing.snapshot
         ≡ core.standing.snapshot }
     ensures rounds { (effect : Effect) (core : CoreState) → carries_out effect core.pending ≡ false
+        → cuts effect core.pending ≡ false
         → LeavesRounds core (control_after core_table effect core).requests }
     ensures configures { (effect : Effect) (core : CoreState) → carries_out effect core.pending ≡ true
         → (control_after core_table effect core).requests ≡ configured_core core }
+    ensures cuts { (effect : Effect) (core : CoreState) → cuts effect core.pending ≡ true
+        → (control_after core_table effect core).requests ≡ cut_core core core.pending }
 
     ensures polls { (device : DeviceState) (packet : Packet) → is_control device packet ≡ false
         → LeavesEndpoint device (device_after device packet) }
     ensures changes { (device : DeviceState) (change : Change)
         → LeavesWaits device (changed_device device change) }
     ensures frames { (device : DeviceState) → LeavesWaits device (framed_device device) }
+    ensures halts { (device : DeviceState) → LeavesEndpoint
+        (with_halt device (core_of (halted_device device)).halted) (halted_device device) }
 {}
 
 /// Behind a reset of the bus a device is a new one, but that its controls are as they were.

@@ -7,7 +7,7 @@
 //!                            its motion is taken out                       Snapshot::take_motion
 //!                            its frames are counted anew                   frames
 //!                            its bytes are armed                           encode_report -> DevPipe::arm
-//!              <-------  what is armed under the toggle, else NAK          DevPipe::answer
+//!              <-------  what is armed under the toggle, else NAK          DevPipe::answer; STALL while it is halted
 //!   ACK 0xD2 --------->  directly behind data: the round is closed         DevPipe::acknowledged
 //!
 //!   SETUP 2D 01 00, DATA0 80 08 .. -->  endpoint 0: DevControl           Core::prepare: decides, fixes the answer
@@ -17,6 +17,7 @@
 //!   Device::change       the snapshot alone; the open round stays as it was fixed
 //!   Device::frame        a frame more for each report, up to 1,020
 //!   Device::configure    DATA0, nothing armed, no round, blank parts, no frames; the snapshot stays
+//!   Device::halt         nothing armed, no round, its report due; STALL until the halt ends
 //!   Device::reset        all as it was at first but the snapshot, and its address
 //! ```
 //! The rule to know: a round's part is fixed when the round opens, and goes out again and again, the same bytes under the

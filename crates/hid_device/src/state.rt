@@ -1,14 +1,14 @@
 //! The inside of a device: all that endpoint 0 reads and writes, and the pipe of its Input reports.
 
-ghost use Rattle.std.specs.Prelude.{◌≡◌, ◌<◌, ◌≤◌, length, None, IfSome, IfOk, IfErr};
+ghost use Rattle.std.specs.Prelude.{◌≡◌, ◌<◌, ◌≤◌, false, length, None, IfSome, IfOk, IfErr};
 ghost use Rattle.std.specs.Option.{option_copied};
 ghost use Rattle.hid_layout.specs.Controls.{items_of};
 ghost use Rattle.hid_cells.specs.Cells.{FitsSnapshot};
 ghost use Rattle.hid_parts.specs.Encoding.{AreBytes};
 ghost use Rattle.hid_cells.specs.Snapshots.{Changes};
 ghost use Rattle.usb_packet.specs.Spelling.{Fits};
-ghost use Rattle.hid_device.specs.Standing.{is_due, first_due};
-ghost use Rattle.hid_device.specs.Core.{IsSound, IsArmed, Answers, opened_core, opening_of, closed_core, configured_core, reset_core, changed_core, framed_core, round_of};
+ghost use Rattle.hid_device.specs.Standing.{is_due, due_where};
+ghost use Rattle.hid_device.specs.Core.{IsSound, IsArmed, Answers, opened_core, opening_of, closed_core, configured_core, halted_core, cleared_core, reset_core, changed_core, framed_core, round_of};
 ghost use Rattle.hid_device.specs.declared.decisions.Pending.TheVariants.{Keep, Nothing};
 ghost use Rattle.hid_device.specs.Decisions.{decided_by};
 ghost use Rattle.hid_device.specs.Deciding.{decided_row, effected, idle_told, keeps, output_of, reads_any, report_now, sets_idle, still_bytes};
@@ -51,6 +51,8 @@ pub struct Core {
     frames: Vec<u16>,
     /// For each Input report, its idle time in units of four frames; 0 is none.
     idle: Vec<u8>,
+    /// For each Input report, whether a halt or its end has cut its last round short, and none was opened since.
+    cut: Vec<bool>,
     pipe: DevPipe,
     /// The report of the open round.
     current: Option<usize>,
@@ -78,9 +80,16 @@ impl Model for Core {
       config = c.config;
       descriptor = c.descriptor.items;
       is_configured = c.is_configured;
-      standing = record { snapshot = c.snapshot; fixed = c.fixed; frames = c.frames.items; idle = c.idle.items };
+      standing = record {
+        snapshot = c.snapshot;
+        fixed = c.fixed;
+        frames = c.frames.items;
+        idle = c.idle.items;
+        cut = c.cut.items;
+      };
       current = c.current;
       toggle = c.pipe.toggle;
+      halted = c.pipe.halted;
       protocol = c.protocol;
       outputs = c.outputs.items;
       answer = option_map (answer_bytes c.descriptor.items) c.answer;
@@ -93,9 +102,16 @@ impl Model for Core {
       config = c.config;
       descriptor = c.descriptor.items;
       is_configured = c.is_configured;
-      standing = record { snapshot = c.snapshot; fixed = c.fixed; frames = c.frames.items; idle = c.idle.items };
+      standing = record {
+        snapshot = c.snapshot;
+        fixed = c.fixed;
+        frames = c.frames.items;
+        idle = c.idle.items;
+        cut = c.cut.items;
+      };
       current = c.current;
       toggle = c.pipe.toggle;
+      halted = c.pipe.halted;
       protocol = c.protocol;
       outputs = c.outputs.items;
       answer = option_map (answer_bytes c.descriptor.items) c.answer;
@@ -147,6 +163,7 @@ impl Core {
         let fixed = Shown::blank(alloc, &layout)?;
         let frames = vec![in alloc; 0; count]?;
         let idle = vec![in alloc; 0; count]?;
+        let cut = vec![in alloc; false; count]?;
         let outputs = bare_outputs(alloc, &layout)?;
         let still = Shown::blank(alloc, &layout)?;
         Ok(Core {
@@ -158,6 +175,7 @@ impl Core {
             fixed,
             frames,
             idle,
+            cut,
             pipe: DevPipe::new(),
             current: None,
             protocol: Protocol::Report,
@@ -204,6 +222,7 @@ impl Core {
 
     pub(crate) fn pipe(&self) -> &DevPipe
         ensures toggle { result.now.toggle ≡ self.now.toggle }
+        ensures halted { result.now.halted ≡ self.now.halted }
         ensures armed { IsArmed self.now.layout self.now.standing.fixed self.now.current
             result.now.armed }
     {
@@ -250,8 +269,28 @@ impl Core {
         self.is_configured = true;
         self.fixed.reset(&self.layout);
         self.frames.fill(0);
-        self.pipe.restart();
+        self.cut.fill(false);
+        self.pipe.restart(); // a halt ends with it
         self.current = None;
+    }
+
+    /// The endpoint is halted: the round that is open ends, and its report is due (USB 2.0, 9.4.5).
+    pub(crate) fn halt(&mut self)
+        ensures { self.new ≡ halted_core self.old }
+    {
+        if let Some(report) = self.current {
+            self.cut[report] = true;
+        }
+        self.pipe.halt();
+        self.current = None;
+    }
+
+    /// A halt ends, where there is one: a round that is open ends as by a halt, and data begin with DATA0 (USB 2.0, 9.4.5).
+    fn clear(&mut self)
+        ensures { self.new ≡ cleared_core self.old }
+    {
+        self.halt();
+        self.pipe.restart(); // it ends here
     }
 
     /// The bus is reset: the device isn't configured, and but for its snapshot it is as it was at first. No memory is taken.
@@ -274,7 +313,7 @@ impl Core {
         self.pending = Pending::Nothing;
     }
 
-    /// Opens a round where none is open and some report is due.
+    /// Opens a round where none is open, the endpoint isn't halted and some report is due.
     pub(crate) fn open_if_due(&mut self)
         ensures { self.new ≡ opening_of self.old }
     {
@@ -285,7 +324,8 @@ impl Core {
         }
     }
 
-    /// The answer to a poll: what is armed under the toggle, else NAK (USB 2.0, 8.4.6.1).
+    /// The answer to a poll: STALL while the endpoint is halted, else what is armed under the toggle, else NAK (USB 2.0,
+    /// 8.4.6.1).
     pub(crate) fn poll_answer(&self) -> Packet
         ensures answer { Answers self.now result }
         ensures fits { Fits result }
@@ -302,20 +342,25 @@ impl Core {
         self.current = None;
     }
 
-    /// Whether a report is due: its controls call for it, or its idle time is over.
+    /// Whether a report is due: its controls call for it, its idle time is over, or its last round was cut short.
     fn is_due(&self, report: usize) -> bool
         requires { report < length self.now.standing.frames }
         ensures { result ≡ is_due (items_of self.now.layout) self.now.standing report }
     {
         self.snapshot.due(&self.layout, report, &self.fixed)
             || is_idle_over(self.idle[report], self.frames[report])
+            || self.cut[report]
     }
 
-    /// The due report of the lowest number.
+    /// The report whose round a poll opens: the due one of the lowest number, and none while the endpoint is halted.
     fn first_due(&self) -> Option<usize>
-        ensures due { result ≡ first_due (items_of self.now.layout) self.now.standing }
+        ensures due { result ≡ due_where (items_of self.now.layout) self.now.halted self.now.standing }
         ensures input { IfSome result (λ report. report < length self.now.standing.frames) }
+        ensures going { IfSome result (λ _. self.now.halted ≡ false) }
     {
+        if self.pipe.halted() {
+            return None;
+        }
         for report in 0..self.frames.len() {
             if self.is_due(report) {
                 return Some(report);
@@ -325,15 +370,17 @@ impl Core {
     }
 
     /// Opens a round of a report: fixes its part, takes the part's motion out of the snapshot, counts its frames anew, and
-    /// arms its bytes.
+    /// arms its bytes. The report isn't cut any more.
     fn open(&mut self, report: usize)
         requires input { report < length self.old.standing.frames }
         requires none { self.old.current ≡ None }
+        requires going { self.old.halted ≡ false }
         ensures { self.new ≡ opened_core self.old report }
     {
         self.snapshot.shown(&self.layout, report, &mut self.fixed);
         self.snapshot.take_motion(&self.layout, report, &self.fixed);
         self.frames[report] = 0;
+        self.cut[report] = false;
         let bytes = encode_report::<WordCodec>(&self.layout, report, &self.fixed);
         are_bytes(&bytes);
         self.pipe.arm(&bytes);
@@ -450,7 +497,8 @@ impl Core {
     {
         match asked {
             Asked::Status | Asked::ControlStatus => reads(&[0, 0]),
-            Asked::InterfaceStatus | Asked::ReportStatus => reads_if(self.is_configured, &[0, 0]),
+            Asked::InterfaceStatus => reads_if(self.is_configured, &[0, 0]),
+            Asked::ReportStatus => reads_if(self.is_configured, &[u8::from(self.pipe.halted()), 0]),
             Asked::DeviceDescriptor => reads(&device_descriptor(&self.config.device_info())),
             Asked::Configuration => {
                 let info = self.config.config_info(self.report_length());
@@ -461,6 +509,8 @@ impl Core {
             Asked::GetConfiguration => reads(&[u8::from(self.is_configured)]),
             Asked::GetInterface => reads_if(self.is_configured, &[0]),
             Asked::SetConfiguration => Decision::Writes(Pending::Configure),
+            Asked::ClearFeature => writes_if(self.is_configured, Pending::Clear),
+            Asked::SetFeature => writes_if(self.is_configured, Pending::Halt),
             Asked::GetReport { kind, id } => self.get_report(kind, id),
             Asked::GetIdle { id } => match self.idle_time(id) {
                 Some(time) => reads(&[time]),
@@ -535,6 +585,8 @@ impl Requests for Core {
             Pending::Keep { place } => self.keep(place, bytes),
             Pending::Idle { report, time } => set_idle(&mut self.idle, report, time),
             Pending::Protocol(protocol) => self.protocol = protocol,
+            Pending::Halt => self.halt(),
+            Pending::Clear => self.clear(),
         }
     }
 }

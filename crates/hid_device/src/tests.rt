@@ -2,6 +2,7 @@
 //! answered was worked out by hand from their descriptors and from USB 2.0, 8.4.6.1 and 8.6.
 
 mod class;
+mod halts;
 mod idle;
 mod making;
 mod play;

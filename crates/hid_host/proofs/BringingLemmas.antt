@@ -32,13 +32,13 @@ use Rattle.hid_host.specs.declared.phase.HostPhase.{HostPhase}
 use Rattle.hid_host.specs.declared.phase.HostPhase.TheVariants.{Cold, Described, Parsed, Ready}
 use Rattle.hid_host.specs.Bringing.{IsComputed, TakesMemory, answering, brought, brought_about, brought_at, ends_after}
 use Rattle.hid_host.specs.Conclusions.{Configured, Makes, leads_to, phase_made}
-use Rattle.hid_host.specs.Host.{ConcludesAt, ControlSteps, HostEnd, TriesOnce, bytes_got, running, told_made}
-use Rattle.hid_host.specs.Knowing.{Carries, IsBehindSetup, Knows, KnowsAt, info_of}
+use Rattle.hid_host.specs.Host.{ConcludesAt, ControlSteps, HostEnd, TriesOnce, bytes_got, clearing_behind, running, told_made}
+use Rattle.hid_host.specs.Knowing.{BeginsAnew, Carries, HasEffect, IsBehindSetup, Knows, KnowsAt, asking_of, info_of}
 use Rattle.hid_host.specs.Phase.{may_begin, state_of}
 use Rattle.hid_host.specs.Ready.{known_at_start}
 use Rattle.hid_host.proofs.HostLemmas.{IsAnswer, config_is, device_is, fits_info, report_is}
-use Rattle.hid_host.proofs.LawLemmas.{answer_is, carried, got_so, knows_on, runs_so}
-use Rattle.hid_host.proofs.RoundLemmas.{parsed_by, tried_rounds}
+use Rattle.hid_host.proofs.LawLemmas.{answer_is, carried, done_effect, got_so, knows_on, runs_so}
+use Rattle.hid_host.proofs.RoundLemmas.{cleared_by, cut_by, parsed_by, tried_rounds}
 
 -- what is made of an answer: the phase to which its request leads, or nothing for want of memory
 abbrev MadeBy : Request → ℕ → CoreState → HostPhase → Result HostPhase StackFault → Type 0
@@ -81,6 +81,9 @@ made_is one apart addr (requests.Protocol boot) phase core bytes made lays short
 made_is one apart addr requests.GetProtocol phase core bytes made lays short knows needs answer is = inl is
 made_is one apart addr (requests.GetReport kind id) phase core bytes made lays short knows needs answer is = inl is
 made_is one apart addr (requests.SetReport kind id set) phase core bytes made lays short knows needs answer is = inl is
+made_is one apart addr requests.Halt phase core bytes made lays short knows needs answer is = inl is
+made_is one apart addr requests.Clear phase core bytes made lays short knows needs answer is = inl is
+made_is one apart addr requests.EndpointStatus phase core bytes made lays short knows needs answer is = inl is
 
 -- what is concluded: on an answer, or nothing, and then the phase stays
 concluded_so : (stage : HostStage) (addr : ℕ) (request : Request) (phase next : HostPhase) (bytes : List ℕ) (result : Result Progress StackFault) → ConcludesAt stage addr request phase bytes result next
@@ -96,10 +99,13 @@ concluded_so (stages.Failed fault) addr request phase next bytes result h = inr 
 
 -- the host behind it
 leads_on : (host : HostEnd) (t : Transfer) (ends other : HostTransferState) (next phase : HostPhase) → ends ≡ other → next ≡ phase
-    → record host { phase = next; transfer = Some (record t { ends = ends }) } ≡ record host { phase = phase; transfer = Some (record t { ends = other }) }
+    → (let behind : HostPhase → HostTransferState → HostEnd
+    = λ p e. record host { phase = p; transfer = Some (record t { ends = e }); clearing = clearing_behind e.stage t.request host.clearing } in
+    behind next ends ≡ behind phase other)
 leads_on host t ends other next phase same moves =
-    ap (λ (p : HostPhase). record host { phase = p; transfer = Some (record t { ends = ends }) }) moves
-    ∙ ap (λ (e : HostTransferState). record host { phase = phase; transfer = Some (record t { ends = e }) }) same
+    let behind : HostPhase → HostTransferState → HostEnd
+    = λ p e. record host { phase = p; transfer = Some (record t { ends = e }); clearing = clearing_behind e.stage t.request host.clearing } in
+    ap (λ (p : HostPhase). behind p ends) moves ∙ ap (behind phase) same
 
 once_computed : HasOneReading → AcceptsNoRefused → (fate : Fate) (host after : HostEnd) (t : Transfer) (old new : DevControlState CoreState) (result : Result Progress StackFault)
     → Lays old.requests.descriptor old.requests.layout → length old.requests.descriptor < 2 ^ 16 → KnowsAt host.phase host.addr old.requests → Carries host.phase t old → IsRunning t.ends.stage
@@ -107,6 +113,9 @@ once_computed : HasOneReading → AcceptsNoRefused → (fate : Fate) (host after
 once_computed one apart fate host after t old new result lays short knows c running tr =
     let e = (tries_are core_table fate t.ends old tr.ends new).0 tr.transacts in
     let ends : HostTransferState = ends_after fate t old in
+    let cleared : t.request ≡ requests.Clear → ends.stage ≡ stages.Done → BeginsAnew new.requests
+    = λ is finished. subst (λ (r : Request). HasEffect r new.requests) is
+    (done_effect fate host.phase t tr.ends old new short c running tr.transacts tr.same (ap (λ (x : HostTransferState). x.stage) e.0 ∙ finished)) in
     let brings = subst (λ (d : DevControlState CoreState). d.requests ≡ answering (brought_about fate t.ends old) d.requests) (sym e.1) (tried_rounds fate t.ends old) in
     elim (concluded_so tr.ends.stage host.addr t.request host.phase tr.next (bytes_got tr.ends) result tr.concludes) [
       | inl (done, (made, makes, told, moves)) ↦
@@ -117,7 +126,7 @@ once_computed one apart fate host after t old new result lays short knows c runn
           let is_done : IsDone d.place = (done_is core_table.answer_of (shape_of tr.ends.setup) (sends_of t.request) d.place tr.ends new d.stands).0 done in
           let behind : IsBehindSetup d.place.host = subst IsBehindSetup (sym is_done.1) tt in
           let answer = answer_is t.request new.requests d.place.decision (bytes_got tr.ends) (d.decided behind)
-          (got_so tr.ends (setup_for t.request (record { report_length = length new.requests.descriptor })) d.place.decision d.asked
+          (got_so tr.ends (setup_for t.request (asking_of new.requests)) d.place.decision d.asked
           (λ is_read. read_is core_table.answer_of (shape_of tr.ends.setup) (sends_of t.request) d.place tr.ends new d.stands is_done is_read)) in
           let lays_on : Lays new.requests.descriptor new.requests.layout = subst (λ (x : List ℕ). Lays x new.requests.layout) (sym goes.descriptor) (subst (λ l. Lays old.requests.descriptor l) (sym goes.layout) lays) in
           let short_on : length new.requests.descriptor < 2 ^ 16 = subst (λ (x : List ℕ). length x < 2 ^ 16) (sym goes.descriptor) short in
@@ -135,6 +144,9 @@ once_computed one apart fate host after t old new result lays short knows c runn
             needs = c.needs running;
             brings = brings;
             parsed = λ h. parsed_by fate host.phase t old c running h;
+            cut = λ h. cut_by fate host.phase t old c running h;
+            clears = λ h. cleared_by fate host.phase t old c running h;
+            cleared = cleared;
           }
       | inr (told, stays, leads) ↦ record {
         device_then = e.1;
@@ -146,6 +158,9 @@ once_computed one apart fate host after t old new result lays short knows c runn
         needs = c.needs running;
         brings = brings;
         parsed = λ h. parsed_by fate host.phase t old c running h;
+        cut = λ h. cut_by fate host.phase t old c running h;
+        clears = λ h. cleared_by fate host.phase t old c running h;
+        cleared = cleared;
       }
     ]
 

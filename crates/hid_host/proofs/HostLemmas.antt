@@ -25,7 +25,7 @@ use Rattle.hid_host.specs.declared.phase.HostPhase.TheVariants.{Cold, Described,
 use Rattle.hid_host.specs.Conclusions.{ConfigRead, Configured, DeviceRead, Makes, ReportRead, leads_to, phase_made}
 use Rattle.hid_host.specs.Host.{told_made}
 use Rattle.hid_host.specs.Knowing.{HasEffect, IsNoRefusal, KnowsAt, info_of}
-use Rattle.hid_host.specs.Phase.{may_begin, state_of}
+use Rattle.hid_host.specs.Phase.{cleared_phase, may_begin, state_of}
 
 -- ---- a configuration is read in one way
 
@@ -138,6 +138,13 @@ configured_learned addr info layout core (Ok next) says laid took is = record {
 }
 configured_learned addr info layout core (Err fault) says laid took is = learns_so addr (Parsed info layout) core (Err fault) (Err Memory) (ap (λ (f : StackFault). Err f) is) (record { knows = (says, laid); told = tt })
 
+-- a host whose pipe begins anew knows the same
+cleared_known : (phase : HostPhase) (addr : ℕ) (core : CoreState) → KnowsAt phase addr core → KnowsAt (cleared_phase phase) addr core
+cleared_known Cold addr core knows = knows
+cleared_known (Described info) addr core knows = knows
+cleared_known (Parsed info layout) addr core knows = knows
+cleared_known (Ready known) addr core knows = knows
+
 pub learned : HasOneReading → AcceptsNoRefused → (addr : ℕ) (request : Request) (phase : HostPhase) (core : CoreState) (bytes : List ℕ) (made : Result HostPhase StackFault)
     → Lays core.descriptor core.layout → length core.descriptor < 2 ^ 16 → KnowsAt phase addr core → may_begin request (state_of phase) ≡ true → IsAnswer request core bytes → HasEffect request core
     → Makes addr request phase bytes made → Learns addr phase core made
@@ -163,3 +170,7 @@ learned one apart addr (requests.Protocol boot) phase core bytes made lays short
 learned one apart addr requests.GetProtocol phase core bytes made lays short knows needs answer effect is = learns_so addr phase core made (Ok phase) is (record { knows = knows; told = tt })
 learned one apart addr (requests.GetReport kind id) phase core bytes made lays short knows needs answer effect is = learns_so addr phase core made (Ok phase) is (record { knows = knows; told = tt })
 learned one apart addr (requests.SetReport kind id set) phase core bytes made lays short knows needs answer effect is = learns_so addr phase core made (Ok phase) is (record { knows = knows; told = tt })
+learned one apart addr requests.Halt phase core bytes made lays short knows needs answer effect is = learns_so addr phase core made (Ok phase) is (record { knows = knows; told = tt })
+learned one apart addr requests.Clear phase core bytes made lays short knows needs answer effect is =
+    learns_so addr phase core made (Ok (cleared_phase phase)) is (record { knows = cleared_known phase addr core knows; told = tt })
+learned one apart addr requests.EndpointStatus phase core bytes made lays short knows needs answer effect is = learns_so addr phase core made (Ok phase) is (record { knows = knows; told = tt })

@@ -7,15 +7,16 @@ use Rattle.usb_control.specs.declared.setup.Setup.{Setup as Request'}
 use Rattle.usb_control.specs.Computed.{AppliesBy, PreparesBy}
 use Rattle.usb_control.specs.Transfer.{Act, Acts, Decides, Nothing, TakesEffect, Shape, shape_of, Decision, Accepted, Refused, decision_of, Position, Setup, Piece, Status, Past, Place, act_at, tried_at, setup_tried, piece_tried, applies, data_pieces, decided}
 use Rattle.hid_requests.specs.declared.request.Request.{Request}
+use Rattle.hid_requests.specs.declared.request.Request.TheVariants as requests
 use Rattle.hid_requests.specs.declared.request.Asking.{Asking}
-use Rattle.hid_requests.specs.Asking.{FitsRequest, row_of, setup_for}
+use Rattle.hid_requests.specs.Asking.{FitsRequest, IsOfReports, row_of, setup_for}
 use Rattle.hid_requests.proofs.AskedLemmas.{asked_so}
 use Rattle.hid_device.specs.declared.decisions.Pending.{Pending}
 use Rattle.hid_device.specs.declared.decisions.Pending.TheVariants as pendings
 use Rattle.hid_device.specs.Core.{CoreState}
-use Rattle.hid_device.specs.Decisions.{Decided, Refuses, Reads, Writes, is_accepted}
+use Rattle.hid_device.specs.Decisions.{Decided, Refuses, Reads, Writes, is_accepted, writes_if}
 use Rattle.hid_device.specs.Deciding.{core_table, decide, decided_on, decided_row, effected, left_by}
-use Rattle.hid_host.specs.Knowing.{IsBehindSetup, IsDecided, IsDecidedBy}
+use Rattle.hid_host.specs.Knowing.{BeginsAnew, IsBehindSetup, IsDecided, IsDecidedBy}
 use Rattle.hid_host.proofs.PlacesLemmas.{accepted_reaches, piece_decision, refused_applied, silent_host, silent_stays}
 
 -- what a device was made with stays, and so does its configuration
@@ -39,6 +40,8 @@ effect_goes core bytes pendings.Configure = record { layout = refl; config = ref
 effect_goes core bytes (pendings.Keep i) = record { layout = refl; config = refl; descriptor = refl; configured = λ h. h }
 effect_goes core bytes (pendings.Idle report time) = record { layout = refl; config = refl; descriptor = refl; configured = λ h. h }
 effect_goes core bytes (pendings.Protocol protocol) = record { layout = refl; config = refl; descriptor = refl; configured = λ h. h }
+effect_goes core bytes pendings.Halt = record { layout = refl; config = refl; descriptor = refl; configured = λ h. h }
+effect_goes core bytes pendings.Clear = record { layout = refl; config = refl; descriptor = refl; configured = λ h. h }
 
 abbrev pub ActsOn : Request' → List ℕ → Act → CoreState → CoreState → Type 0
 ActsOn setup bytes act old new = Acts (PreparesBy core_table) (AppliesBy core_table) core_table.answer_of setup bytes act old new
@@ -56,15 +59,15 @@ by_row core (Reads bytes) = (refl, refl)
 by_row core (Writes pending) = (refl, refl)
 
 -- what is decided on the setup of a request is what its row says
-decide_is : (request : Request) (asking : Asking) (core : CoreState) → FitsRequest request → decide core (setup_for request asking) ≡ decided_row core (row_of request)
+decide_is : (request : Request) (asking : Asking) (core : CoreState) → FitsRequest request → IsOfReports request asking → decide core (setup_for request asking) ≡ decided_row core (row_of request)
 unfolding decide
-decide_is request asking core fits = ap (decided_on core) (asked_so request asking fits)
+decide_is request asking core fits known = ap (decided_on core) (asked_so request asking fits known)
 
-decided_so : (request : Request) (asking : Asking) (setup : Request') (old new : CoreState) (said : Bool) (decision : Decision) → FitsRequest request → setup ≡ setup_for request asking
+decided_so : (request : Request) (asking : Asking) (setup : Request') (old new : CoreState) (said : Bool) (decision : Decision) → FitsRequest request → IsOfReports request asking → setup ≡ setup_for request asking
     → said ≡ is_accepted (decide old setup) → new ≡ left_by old (decide old setup) → decision ≡ decision_of said new.answer → IsDecided request new decision
-decided_so request asking setup old new said decision fits asks accepts leaves is =
+decided_so request asking setup old new said decision fits known asks accepts leaves is =
     let d = decided_row old (row_of request) in
-    let row : decide old setup ≡ d = ap (decide old) asks ∙ decide_is request asking old fits in
+    let row : decide old setup ≡ d = ap (decide old) asks ∙ decide_is request asking old fits known in
     let left : new ≡ left_by old d = leaves ∙ ap (left_by old) row in
     let says : said ≡ is_accepted d = accepts ∙ ap is_accepted row in
     let decides : decision ≡ decision_of (is_accepted d) (left_by old d).answer
@@ -85,6 +88,8 @@ pends_on core bytes pendings.Configure = refl
 pends_on core bytes (pendings.Keep i) = refl
 pends_on core bytes (pendings.Idle report time) = refl
 pends_on core bytes (pendings.Protocol protocol) = refl
+pends_on core bytes pendings.Halt = refl
+pends_on core bytes pendings.Clear = refl
 
 abbrev IsQuiet : Act → Type 0
 IsQuiet Nothing = Unit {0}
@@ -144,13 +149,13 @@ setup_behind ReplyLost count decision place at behind = absurd (subst IsBehindSe
 setup_behind AckLost count decision place at behind = absurd (subst IsBehindSetup (silent_host (decided count decision place) ∙ at) behind)
 setup_behind Clean count decision place at behind = refl
 
-by_setup : (request : Request) (asking : Asking) (setup : Request') (bytes : List ℕ) (fate : Fate) (decision : Decision) (place : Place) (old new : CoreState) → FitsRequest request → setup ≡ setup_for request asking
+by_setup : (request : Request) (asking : Asking) (setup : Request') (bytes : List ℕ) (fate : Fate) (decision : Decision) (place : Place) (old new : CoreState) → FitsRequest request → IsOfReports request asking → setup ≡ setup_for request asking
     → ActsOn setup bytes (act_at Setup (shape_of setup) fate decision place.decision place.applied) old new → fate ≡ Clean
     → IsDecided request new (setup_tried fate (data_pieces (shape_of setup) decision) decision place).decision
-by_setup request asking setup bytes Clean decision place old new fits asks (said, gives, is) clean = decided_so request asking setup old new said decision fits asks gives.0 gives.1 is
-by_setup request asking setup bytes TokenLost decision place old new fits asks acts clean = absurd (cc)
-by_setup request asking setup bytes ReplyLost decision place old new fits asks acts clean = absurd (cc)
-by_setup request asking setup bytes AckLost decision place old new fits asks acts clean = absurd (cc)
+by_setup request asking setup bytes Clean decision place old new fits known asks (said, gives, is) clean = decided_so request asking setup old new said decision fits known asks gives.0 gives.1 is
+by_setup request asking setup bytes TokenLost decision place old new fits known asks acts clean = absurd (cc)
+by_setup request asking setup bytes ReplyLost decision place old new fits known asks acts clean = absurd (cc)
+by_setup request asking setup bytes AckLost decision place old new fits known asks acts clean = absurd (cc)
 
 later : (request : Request) (setup : Request') (bytes : List ℕ) (fate : Fate) (decision : Decision) (p : Position) (place : Place) (old new : CoreState) → p ≢ Setup
     → ActsOn setup bytes (act_at p (shape_of setup) fate decision place.decision place.applied) old new → IsDecided request old place.decision
@@ -162,37 +167,103 @@ later request setup bytes fate decision p place old new apart acts h =
 
 -- what was decided behind SETUP, after a try
 pub decided_behind : (request : Request) (asking : Asking) (setup : Request') (bytes : List ℕ) (fate : Fate) (decision : Decision) (p : Position) (place : Place) (old new : CoreState)
-    → FitsRequest request → setup ≡ setup_for request asking → place.host ≡ p → ActsOn setup bytes (act_at p (shape_of setup) fate decision place.decision place.applied) old new
+    → FitsRequest request → IsOfReports request asking → setup ≡ setup_for request asking → place.host ≡ p → ActsOn setup bytes (act_at p (shape_of setup) fate decision place.decision place.applied) old new
     → (IsBehindSetup p → IsDecided request old place.decision)
     → IsBehindSetup (tried_at p (shape_of setup) fate decision place).host → IsDecided request new (tried_at p (shape_of setup) fate decision place).decision
-decided_behind request asking setup bytes fate decision Setup place old new fits asks at acts before behind =
-    by_setup request asking setup bytes fate decision place old new fits asks acts (setup_behind fate (data_pieces (shape_of setup) decision) decision place at behind)
-decided_behind request asking setup bytes fate decision (Piece k) place old new fits asks at acts before behind =
+decided_behind request asking setup bytes fate decision Setup place old new fits known asks at acts before behind =
+    by_setup request asking setup bytes fate decision place old new fits known asks acts (setup_behind fate (data_pieces (shape_of setup) decision) decision place at behind)
+decided_behind request asking setup bytes fate decision (Piece k) place old new fits known asks at acts before behind =
     later request setup bytes fate decision (Piece k) place old new (λ e. cc) acts (before tt)
-decided_behind request asking setup bytes fate decision Status place old new fits asks at acts before behind =
+decided_behind request asking setup bytes fate decision Status place old new fits known asks at acts before behind =
     later request setup bytes fate decision Status place old new (λ e. cc) acts (before tt)
-decided_behind request asking setup bytes fate decision Past place old new fits asks at acts before behind =
+decided_behind request asking setup bytes fate decision Past place old new fits known asks at acts before behind =
     later request setup bytes fate decision Past place old new (λ e. cc) acts (before tt)
 
 -- ---- what took effect
 
-configured_by : (bytes : List ℕ) (old new : CoreState) → new ≡ effected old bytes old.pending → old.pending ≡ pendings.Configure → new.is_configured ≡ true
-configured_by bytes old new same pends = ap (λ (c : CoreState). c.is_configured) (same ∙ ap (effected old bytes) pends)
+-- what a write brings about: it holds behind its effect, and behind what is decided later
+pub record Brings (pending : Pending) (holds : CoreState → Type 0) : Type 0 where
+  pub effect : (core : CoreState) (bytes : List ℕ) → holds (effected core bytes pending)
+  pub left : (core : CoreState) (d : Decided) → holds core → holds (left_by core d)
+
+pub configure_brings : Brings pendings.Configure (λ core. core.is_configured ≡ true)
+configure_brings = record { effect = λ core bytes. refl; left = λ core d h. (left_goes core d).configured h }
+
+left_anew : (core : CoreState) (d : Decided) → BeginsAnew core → BeginsAnew (left_by core d)
+left_anew core Refuses h = record { current = h.current; toggle = h.toggle }
+left_anew core (Reads bytes) h = record { current = h.current; toggle = h.toggle }
+left_anew core (Writes pending) h = record { current = h.current; toggle = h.toggle }
+
+pub clear_brings : Brings pendings.Clear BeginsAnew
+clear_brings = record { effect = λ core bytes. record { current = refl; toggle = refl }; left = left_anew }
+
+-- a request was accepted
+abbrev pub IsAccepted : Decision → Type 0
+IsAccepted Refused = ⊥
+IsAccepted (Accepted answer) = Unit {0}
+
+-- what is pending behind the SETUP of a write that is accepted
+pub pends_where : (b : Bool) (wanted pending : Pending) (q : Decision) → IsAccepted q → IsDecidedBy (writes_if b wanted) q pending → pending ≡ wanted
+pends_where true wanted pending q accepted h = h.1
+pends_where false wanted pending Refused accepted h = absurd accepted
+pends_where false wanted pending (Accepted answer) accepted h = let wrong = h.0 in absurd (cc)
+
+pub clear_pends : (core : CoreState) (q : Decision) → IsAccepted q → IsDecided requests.Clear core q → core.pending ≡ pendings.Clear
+clear_pends core q accepted h = pends_where h.then.is_configured pendings.Clear core.pending q accepted h.by
+
+-- no write takes effect
+abbrev IsKeeping : Act → Type 0
+IsKeeping Nothing = Unit {0}
+IsKeeping (Decides decision) = Unit {0}
+IsKeeping TakesEffect = ⊥
+
+acts_keep : {pending : Pending} {holds : CoreState → Type 0} → Brings pending holds → (setup : Request') (bytes : List ℕ) (act : Act) (old new : CoreState) → IsKeeping act → ActsOn setup bytes act old new
+    → holds old → holds new
+acts_keep {pending} {holds} brings setup bytes Nothing old new keeps same h = subst holds (sym same) h
+acts_keep {pending} {holds} brings setup bytes (Decides decision) old new keeps (said, gives, is) h = subst holds (sym gives.1) (brings.left old (decide old setup) h)
+acts_keep {pending} {holds} brings setup bytes TakesEffect old new keeps acts h = absurd keeps
+
+setup_keeps : (shape : Shape) (fate : Fate) (decision q : Decision) (a : Bool) → IsKeeping (act_at Setup shape fate decision q a)
+setup_keeps shape TokenLost decision q a = tt
+setup_keeps shape Clean decision q a = tt
+setup_keeps shape ReplyLost decision q a = tt
+setup_keeps shape AckLost decision q a = tt
+
+piece_keeps : (k : ℕ) (shape : Shape) (fate : Fate) (decision q : Decision) (a : Bool) → IsKeeping (act_at (Piece k) shape fate decision q a)
+piece_keeps k shape TokenLost decision q a = tt
+piece_keeps k shape Clean decision q a = tt
+piece_keeps k shape ReplyLost decision q a = tt
+piece_keeps k shape AckLost decision q a = tt
+
+past_keeps : (shape : Shape) (fate : Fate) (decision q : Decision) (a : Bool) → IsKeeping (act_at Past shape fate decision q a)
+past_keeps shape TokenLost decision q a = tt
+past_keeps shape Clean decision q a = tt
+past_keeps shape ReplyLost decision q a = tt
+past_keeps shape AckLost decision q a = tt
+
+refused_keeps : (shape : Shape) (fate : Fate) (decision : Decision) (a : Bool) → IsKeeping (act_at Status shape fate decision Refused a)
+refused_keeps shape TokenLost decision a = tt
+refused_keeps shape Clean decision a = tt
+refused_keeps shape ReplyLost decision a = tt
+refused_keeps shape AckLost decision a = tt
+
+effect_by : {pending : Pending} {holds : CoreState → Type 0} → Brings pending holds → (shape : Shape) (setup : Request') (bytes : List ℕ) (old new : CoreState) → shape.reads ≡ false → old.pending ≡ pending
+    → ActsOn setup bytes (if shape.reads then Nothing else TakesEffect) old new → holds new
+effect_by {pending} {holds} brings shape setup bytes old new writes pends acts =
+    let same : new ≡ effected old bytes old.pending = subst (λ (b : Bool). ActsOn setup bytes (if b then Nothing else TakesEffect) old new) writes acts in
+    subst holds (sym (same ∙ ap (effected old bytes) pends)) (brings.effect old bytes)
 
 -- the status of a write that arrives
-status_effect : (shape : Shape) (setup : Request') (bytes : List ℕ) (fate : Fate) (answer : Option (List ℕ)) (decision : Decision) (a : Bool) (old new : CoreState) → shape.reads ≡ false
-    → old.pending ≡ pendings.Configure → (a ≡ true → old.is_configured ≡ true)
-    → ActsOn setup bytes (act_at Status shape fate decision (Accepted answer) a) old new → applies shape fate Status || a ≡ true → new.is_configured ≡ true
-status_effect shape setup bytes TokenLost answer decision a old new writes pends effect acts h = (acts_go setup bytes Nothing old new acts).configured (effect h)
-status_effect shape setup bytes Clean answer decision true old new writes pends effect acts h = (acts_go setup bytes Nothing old new acts).configured (effect refl)
-status_effect shape setup bytes ReplyLost answer decision true old new writes pends effect acts h = (acts_go setup bytes Nothing old new acts).configured (effect refl)
-status_effect shape setup bytes AckLost answer decision true old new writes pends effect acts h = (acts_go setup bytes Nothing old new acts).configured (effect refl)
-status_effect shape setup bytes Clean answer decision false old new writes pends effect acts h =
-    configured_by bytes old new (subst (λ (b : Bool). ActsOn setup bytes (if b then Nothing else TakesEffect) old new) writes acts) pends
-status_effect shape setup bytes ReplyLost answer decision false old new writes pends effect acts h =
-    configured_by bytes old new (subst (λ (b : Bool). ActsOn setup bytes (if b then Nothing else TakesEffect) old new) writes acts) pends
-status_effect shape setup bytes AckLost answer decision false old new writes pends effect acts h =
-    configured_by bytes old new (subst (λ (b : Bool). ActsOn setup bytes (if b then Nothing else TakesEffect) old new) writes acts) pends
+status_effect : {pending : Pending} {holds : CoreState → Type 0} → Brings pending holds → (shape : Shape) (setup : Request') (bytes : List ℕ) (fate : Fate) (answer : Option (List ℕ)) (decision : Decision) (a : Bool) (old new : CoreState)
+    → shape.reads ≡ false → old.pending ≡ pending → (a ≡ true → holds old)
+    → ActsOn setup bytes (act_at Status shape fate decision (Accepted answer) a) old new → applies shape fate Status || a ≡ true → holds new
+status_effect brings shape setup bytes TokenLost answer decision a old new writes pends effect acts h = acts_keep brings setup bytes Nothing old new tt acts (effect h)
+status_effect brings shape setup bytes Clean answer decision true old new writes pends effect acts h = acts_keep brings setup bytes Nothing old new tt acts (effect refl)
+status_effect brings shape setup bytes ReplyLost answer decision true old new writes pends effect acts h = acts_keep brings setup bytes Nothing old new tt acts (effect refl)
+status_effect brings shape setup bytes AckLost answer decision true old new writes pends effect acts h = acts_keep brings setup bytes Nothing old new tt acts (effect refl)
+status_effect brings shape setup bytes Clean answer decision false old new writes pends effect acts h = effect_by brings shape setup bytes old new writes pends acts
+status_effect brings shape setup bytes ReplyLost answer decision false old new writes pends effect acts h = effect_by brings shape setup bytes old new writes pends acts
+status_effect brings shape setup bytes AckLost answer decision false old new writes pends effect acts h = effect_by brings shape setup bytes old new writes pends acts
 
 applies_piece : (shape : Shape) (fate : Fate) (k : ℕ) → applies shape fate (Piece k) ≡ false
 applies_piece shape TokenLost k = refl
@@ -215,33 +286,33 @@ setup_effect ReplyLost count decision place h = let none : false ≡ true = sym 
 setup_effect AckLost count decision place h = let none : false ≡ true = sym (silent_stays (decided count decision place)).applied ∙ h in absurd (cc)
 setup_effect Clean count decision place h = absurd (cc)
 
-pub effect_at : (setup : Request') (bytes : List ℕ) (fate : Fate) (p : Position) (decision q : Decision) (place : Place) (old new : CoreState) → (shape_of setup).reads ≡ false → place.host ≡ p → place.decision ≡ q
-    → (IsBehindSetup p → old.pending ≡ pendings.Configure) → (place.applied ≡ true → old.is_configured ≡ true)
+pub effect_at : {pending : Pending} {holds : CoreState → Type 0} → Brings pending holds → (setup : Request') (bytes : List ℕ) (fate : Fate) (p : Position) (decision q : Decision) (place : Place) (old new : CoreState)
+    → (shape_of setup).reads ≡ false → place.host ≡ p → place.decision ≡ q → (IsBehindSetup p → IsAccepted q → old.pending ≡ pending) → (place.applied ≡ true → holds old)
     → ActsOn setup bytes (act_at p (shape_of setup) fate decision q place.applied) old new
-    → (tried_at p (shape_of setup) fate decision place).applied ≡ true → new.is_configured ≡ true
-effect_at setup bytes fate Setup decision q place old new writes at held pends effect acts h =
+    → (tried_at p (shape_of setup) fate decision place).applied ≡ true → holds new
+effect_at brings setup bytes fate Setup decision q place old new writes at held pends effect acts h =
     let e = setup_effect fate (data_pieces (shape_of setup) decision) decision place h in
-    (acts_go setup bytes (act_at Setup (shape_of setup) fate decision q place.applied) old new acts).configured (effect e.1)
-effect_at setup bytes fate (Piece k) decision Refused place old new writes at held pends effect acts h =
-    (acts_go setup bytes (act_at (Piece k) (shape_of setup) fate decision Refused place.applied) old new acts).configured
+    acts_keep brings setup bytes (act_at Setup (shape_of setup) fate decision q place.applied) old new (setup_keeps (shape_of setup) fate decision q place.applied) acts (effect e.1)
+effect_at brings setup bytes fate (Piece k) decision Refused place old new writes at held pends effect acts h =
+    acts_keep brings setup bytes (act_at (Piece k) (shape_of setup) fate decision Refused place.applied) old new (piece_keeps k (shape_of setup) fate decision Refused place.applied) acts
     (effect (sym (refused_applied (shape_of setup) fate place) ∙ ap (λ (d : Decision). (piece_tried (shape_of setup) fate d place).applied) (sym held) ∙ h))
-effect_at setup bytes fate Status decision Refused place old new writes at held pends effect acts h =
-    (acts_go setup bytes (act_at Status (shape_of setup) fate decision Refused place.applied) old new acts).configured
+effect_at brings setup bytes fate Status decision Refused place old new writes at held pends effect acts h =
+    acts_keep brings setup bytes (act_at Status (shape_of setup) fate decision Refused place.applied) old new (refused_keeps (shape_of setup) fate decision place.applied) acts
     (effect (sym (refused_applied (shape_of setup) fate place) ∙ ap (λ (d : Decision). (piece_tried (shape_of setup) fate d place).applied) (sym held) ∙ h))
-effect_at setup bytes fate Past decision Refused place old new writes at held pends effect acts h =
-    (acts_go setup bytes (act_at Past (shape_of setup) fate decision Refused place.applied) old new acts).configured
+effect_at brings setup bytes fate Past decision Refused place old new writes at held pends effect acts h =
+    acts_keep brings setup bytes (act_at Past (shape_of setup) fate decision Refused place.applied) old new (past_keeps (shape_of setup) fate decision Refused place.applied) acts
     (effect (sym (refused_applied (shape_of setup) fate place) ∙ ap (λ (d : Decision). (piece_tried (shape_of setup) fate d place).applied) (sym held) ∙ h))
-effect_at setup bytes fate (Piece k) decision (Accepted answer) place old new writes at held pends effect acts h =
+effect_at brings setup bytes fate (Piece k) decision (Accepted answer) place old new writes at held pends effect acts h =
     let took = sym (accepted_reaches (shape_of setup) fate answer place).applied ∙ ap (λ (d : Decision). (piece_tried (shape_of setup) fate d place).applied) (sym held) ∙ h in
     let here : applies (shape_of setup) fate (Piece k) || place.applied ≡ true = sym (ap (λ (x : Position). applies (shape_of setup) fate x || place.applied) at) ∙ took in
-    (acts_go setup bytes (act_at (Piece k) (shape_of setup) fate decision (Accepted answer) place.applied) old new acts).configured
+    acts_keep brings setup bytes (act_at (Piece k) (shape_of setup) fate decision (Accepted answer) place.applied) old new (piece_keeps k (shape_of setup) fate decision (Accepted answer) place.applied) acts
     (effect (or_false (applies (shape_of setup) fate (Piece k)) place.applied (applies_piece (shape_of setup) fate k) here))
-effect_at setup bytes fate Past decision (Accepted answer) place old new writes at held pends effect acts h =
+effect_at brings setup bytes fate Past decision (Accepted answer) place old new writes at held pends effect acts h =
     let took = sym (accepted_reaches (shape_of setup) fate answer place).applied ∙ ap (λ (d : Decision). (piece_tried (shape_of setup) fate d place).applied) (sym held) ∙ h in
     let here : applies (shape_of setup) fate Past || place.applied ≡ true = sym (ap (λ (x : Position). applies (shape_of setup) fate x || place.applied) at) ∙ took in
-    (acts_go setup bytes (act_at Past (shape_of setup) fate decision (Accepted answer) place.applied) old new acts).configured
+    acts_keep brings setup bytes (act_at Past (shape_of setup) fate decision (Accepted answer) place.applied) old new (past_keeps (shape_of setup) fate decision (Accepted answer) place.applied) acts
     (effect (or_false (applies (shape_of setup) fate Past) place.applied (applies_past (shape_of setup) fate) here))
-effect_at setup bytes fate Status decision (Accepted answer) place old new writes at held pends effect acts h =
+effect_at brings setup bytes fate Status decision (Accepted answer) place old new writes at held pends effect acts h =
     let took = sym (accepted_reaches (shape_of setup) fate answer place).applied ∙ ap (λ (d : Decision). (piece_tried (shape_of setup) fate d place).applied) (sym held) ∙ h in
     let here : applies (shape_of setup) fate Status || place.applied ≡ true = sym (ap (λ (x : Position). applies (shape_of setup) fate x || place.applied) at) ∙ took in
-    status_effect (shape_of setup) setup bytes fate answer decision place.applied old new writes (pends tt) effect acts here
+    status_effect brings (shape_of setup) setup bytes fate answer decision place.applied old new writes (pends tt tt) effect acts here

@@ -24,8 +24,9 @@ use Rattle.usb_control.proofs.TryLemmas.{goes_on}
 use Rattle.hid_requests.specs.declared.request.Request.{Request}
 use Rattle.hid_requests.specs.declared.request.Request.TheVariants as requests
 use Rattle.hid_requests.specs.declared.request.Asking.{Asking}
-use Rattle.hid_requests.specs.Asking.{FitsRequest, sends_of, setup_for}
+use Rattle.hid_requests.specs.Asking.{FitsRequest, asks_endpoint, sends_of, setup_for}
 use Rattle.hid_requests.specs.Descriptors.{configuration_bytes, device_bytes}
+use Rattle.hid_device.specs.declared.device.TheConstants.{ENDPOINT}
 use Rattle.hid_device.specs.Core.{CoreState}
 use Rattle.hid_device.specs.Deciding.{config_info, core_table, device_info}
 use Rattle.hid_device.specs.Laying.{Lays}
@@ -35,13 +36,13 @@ use Rattle.hid_host.specs.declared.host.Transfer.{Transfer}
 use Rattle.hid_host.specs.declared.phase.HostPhase.{HostPhase}
 use Rattle.hid_host.specs.declared.phase.HostPhase.TheVariants.{Cold, Described, Parsed, Ready}
 use Rattle.hid_host.specs.Conclusions.{Makes, phase_made}
-use Rattle.hid_host.specs.Host.{ConcludesAt, ControlSteps, HostEnd, TriesOnce, begin_refusal, begun, bytes_got, ready_after, running, running_at, told_made}
-use Rattle.hid_host.specs.Knowing.{Carries, HasEffect, IsBehindSetup, IsDecided, IsNoRefusal, Knows, KnowsAt, LeavesTransfers, info_of}
-use Rattle.hid_host.specs.Phase.{IfReady, asking_at, may_begin, state_of}
+use Rattle.hid_host.specs.Host.{ConcludesAt, ControlSteps, HostEnd, TriesOnce, begin_refusal, begun, bytes_got, clearing_behind, clearing_with, ready_after, running, running_at, told_made}
+use Rattle.hid_host.specs.Knowing.{Carries, HasEffect, IsBehindSetup, IsDecided, IsNoRefusal, IsPending, Knows, KnowsAt, LeavesTransfers, asking_of, info_of}
+use Rattle.hid_host.specs.Phase.{IfReady, asking_at, has_endpoint, may_begin, state_of}
 use Rattle.hid_host.specs.Ready.{Known, known_behind}
-use Rattle.hid_requests.proofs.AskedLemmas.{sends_so, spelled_so}
+use Rattle.hid_requests.proofs.AskedLemmas.{of_reports, sends_so, spelled_so}
 use Rattle.hid_host.proofs.HostLemmas.{IsAnswer, learned}
-use Rattle.hid_host.proofs.KnowingLemmas.{ActsOn, Goes, acts_go, decided_behind, decided_stays, effect_at}
+use Rattle.hid_host.proofs.KnowingLemmas.{ActsOn, Goes, acts_go, clear_brings, clear_pends, configure_brings, decided_behind, decided_stays, effect_at}
 use Rattle.hid_host.proofs.PlacesLemmas.{open_place, past_applied}
 
 -- ---- the setups of requests
@@ -50,9 +51,16 @@ use Rattle.hid_host.proofs.PlacesLemmas.{open_place, past_applied}
 abbrev asks_with : ℕ → Setup
 asks_with n = record { request_type = 0x81; request = 6; value = 0x2200; index = 0; length = n }
 
+-- the endpoint that a host polls is its device's
+endpoint_with : (phase : HostPhase) (addr : ℕ) (core : CoreState) → KnowsAt phase addr core → has_endpoint (state_of phase) ≡ true → (asking_at phase).endpoint ≡ ENDPOINT
+endpoint_with Cold addr core knows needs = absurd (cc)
+endpoint_with (Described info) addr core knows needs = absurd (cc)
+endpoint_with (Parsed info layout) addr core knows needs = absurd (cc)
+endpoint_with (Ready known) addr core knows needs = knows.3
+
 -- what the host asks with is what the device has
 asked_with : (request : Request) (phase : HostPhase) (addr : ℕ) (core : CoreState) → KnowsAt phase addr core → may_begin request (state_of phase) ≡ true
-    → setup_for request (asking_at phase) ≡ setup_for request (record { report_length = length core.descriptor })
+    → setup_for request (asking_at phase) ≡ setup_for request (asking_of core)
 asked_with requests.Device phase addr core knows needs = refl
 asked_with requests.Config phase addr core knows needs = refl
 asked_with requests.Report Cold addr core knows needs = absurd (cc)
@@ -68,6 +76,9 @@ asked_with (requests.Protocol boot) phase addr core knows needs = refl
 asked_with requests.GetProtocol phase addr core knows needs = refl
 asked_with (requests.GetReport kind id) phase addr core knows needs = refl
 asked_with (requests.SetReport kind id bytes) phase addr core knows needs = refl
+asked_with requests.Halt phase addr core knows needs = ap (λ (e : ℕ). asks_endpoint 0x02 3 e 0) (endpoint_with phase addr core knows needs)
+asked_with requests.Clear phase addr core knows needs = ap (λ (e : ℕ). asks_endpoint 0x02 1 e 0) (endpoint_with phase addr core knows needs)
+asked_with requests.EndpointStatus phase addr core knows needs = ap (λ (e : ℕ). asks_endpoint 0x82 0 e 2) (endpoint_with phase addr core knows needs)
 
 -- ---- what a host knows stays so
 
@@ -92,19 +103,19 @@ take_all (suc n) (x ∷ xs) h = ap (λ (l : List ℕ). x ∷ l) (take_all n xs (
 
 -- the bytes of a read that is done are what the device answered
 pub answer_is : (request : Request) (core : CoreState) (decision : Decision) (bytes : List ℕ) → IsDecided request core decision
-    → (reads (setup_for request (record { report_length = length core.descriptor })) ≡ true → bytes ≡ answered_bytes (shape_of (setup_for request (record { report_length = length core.descriptor }))) decision)
+    → (reads (setup_for request (asking_of core)) ≡ true → bytes ≡ answered_bytes (shape_of (setup_for request (asking_of core))) decision)
     → IsAnswer request core bytes
 answer_is requests.Device core decision bytes says got =
-    got refl ∙ ap (answered_bytes (shape_of (setup_for requests.Device (record { report_length = length core.descriptor })))) says.by.0 ∙ take_all 18 (device_bytes (device_info says.then.config)) (omega arith)
+    got refl ∙ ap (answered_bytes (shape_of (setup_for requests.Device (asking_of core)))) says.by.0 ∙ take_all 18 (device_bytes (device_info says.then.config)) (omega arith)
     ∙ ap (λ config. device_bytes (device_info config)) (sym says.same.config)
 answer_is requests.Config core decision bytes says got =
-    got refl ∙ ap (answered_bytes (shape_of (setup_for requests.Config (record { report_length = length core.descriptor })))) says.by.0
+    got refl ∙ ap (answered_bytes (shape_of (setup_for requests.Config (asking_of core)))) says.by.0
     ∙ take_all 255 (configuration_bytes (info_of says.then) says.then.config.interval) (omega arith)
     ∙ ap (λ config. configuration_bytes (config_info config (length says.then.descriptor)) config.interval) (sym says.same.config)
     ∙ ap (λ (d : List ℕ). configuration_bytes (config_info core.config (length d)) core.config.interval) (sym says.same.descriptor)
 answer_is requests.Report core decision bytes says got =
     let all : length says.then.descriptor ≤ length core.descriptor = let same = ap (λ (d : List ℕ). length d) says.same.descriptor in omega (arith, same) in
-    got refl ∙ ap (answered_bytes (shape_of (setup_for requests.Report (record { report_length = length core.descriptor })))) says.by.0
+    got refl ∙ ap (answered_bytes (shape_of (setup_for requests.Report (asking_of core)))) says.by.0
     ∙ take_all (length core.descriptor) says.then.descriptor all ∙ sym says.same.descriptor
 answer_is requests.Configure core decision bytes says got = tt
 answer_is requests.Status core decision bytes says got = tt
@@ -115,12 +126,18 @@ answer_is (requests.Protocol boot) core decision bytes says got = tt
 answer_is requests.GetProtocol core decision bytes says got = tt
 answer_is (requests.GetReport kind id) core decision bytes says got = tt
 answer_is (requests.SetReport kind id set) core decision bytes says got = tt
+answer_is requests.Halt core decision bytes says got = tt
+answer_is requests.Clear core decision bytes says got = tt
+answer_is requests.EndpointStatus core decision bytes says got = tt
 
 effect_so : (request : Request) (asking : Asking) (setup : Setup) (fate : Fate) (decision : Decision) (place : Place) (old new : CoreState) → setup ≡ setup_for request asking
     → (IsBehindSetup place.host → IsDecided request old place.decision) → (place.applied ≡ true → HasEffect request old)
     → ActsOn setup (sends_of request) (act_of (shape_of setup) fate decision place) old new → (tried (shape_of setup) fate decision place).applied ≡ true → HasEffect request new
 effect_so requests.Configure asking setup fate decision place old new asks decided effect acts took =
-    effect_at setup [] fate place.host decision place.decision place old new (ap (λ (s : Setup). reads s) asks) refl refl (λ behind. (decided behind).by.1) effect acts took
+    effect_at configure_brings setup [] fate place.host decision place.decision place old new (ap (λ (s : Setup). reads s) asks) refl refl (λ behind accepted. (decided behind).by.1) effect acts took
+effect_so requests.Clear asking setup fate decision place old new asks decided effect acts took =
+    effect_at clear_brings setup [] fate place.host decision place.decision place old new (ap (λ (s : Setup). reads s) asks) refl refl
+    (λ behind accepted. clear_pends old place.decision accepted (decided behind)) effect acts took
 effect_so requests.Device asking setup fate decision place old new asks decided effect acts took = tt
 effect_so requests.Config asking setup fate decision place old new asks decided effect acts took = tt
 effect_so requests.Report asking setup fate decision place old new asks decided effect acts took = tt
@@ -132,39 +149,45 @@ effect_so (requests.Protocol boot) asking setup fate decision place old new asks
 effect_so requests.GetProtocol asking setup fate decision place old new asks decided effect acts took = tt
 effect_so (requests.GetReport kind id) asking setup fate decision place old new asks decided effect acts took = tt
 effect_so (requests.SetReport kind id bytes) asking setup fate decision place old new asks decided effect acts took = tt
+effect_so requests.Halt asking setup fate decision place old new asks decided effect acts took = tt
+effect_so requests.EndpointStatus asking setup fate decision place old new asks decided effect acts took = tt
 
 -- a transfer behind a try of it
 pub record Tried (next : HostPhase) (transfer : Transfer) (old new : DevControlState CoreState) : Type 0 where
   pub goes : Goes old.requests new.requests
   pub carries : Carries next transfer new
+  pub effect : carries.place.applied ≡ true → HasEffect transfer.request new.requests
 
 pub carried : (fate : Fate) (phase next : HostPhase) (t : Transfer) (ends : HostTransferState) (old new : DevControlState CoreState) → length old.requests.descriptor < 2 ^ 16 → Carries phase t old
     → IsRunning t.ends.stage → Transacts (PreparesBy core_table) (AppliesBy core_table) core_table.answer_of fate t.ends old ends new → ends.setup ≡ t.ends.setup
     → (IsRunning ends.stage → next ≡ phase) → Tried next (record t { ends = ends }) old new
 carried fate phase next t ends old new short c running transacts same stays =
-    let asking : Asking = record { report_length = length old.requests.descriptor } in
+    let asking : Asking = asking_of old.requests in
     let setup : Setup = t.ends.setup in
-    let spelled : IsSpelled setup = subst IsSpelled (sym c.asked) (spelled_so t.request asking c.fits short) in
+    let spelled : IsSpelled setup = subst IsSpelled (sym c.asked) (spelled_so t.request asking c.fits short (omega arith)) in
     let g = goes_on (PreparesBy core_table) (AppliesBy core_table) core_table.answer_of (sends_of t.request) fate c.place t.ends old ends new spelled running c.stands transacts in
     let decision : Decision = g.1.0 in
     let goes = acts_go setup (sends_of t.request) (act_of (shape_of setup) fate decision c.place) old.requests new.requests g.1.1 in
     let apart = open_place core_table.answer_of (shape_of setup) (sends_of t.request) c.place t.ends old c.stands running in
+    let effect : g.0.applied ≡ true → HasEffect t.request new.requests
+    = λ took. effect_so t.request asking setup fate decision c.place old.requests new.requests c.asked c.decided (c.effect running) g.1.1 (sym (ap (λ (p : Place). p.applied) g.1.2) ∙ took) in
     record {
       goes = goes;
       carries = record {
         place = g.0;
         stands = subst (λ (s : Setup). Stands core_table.answer_of (shape_of s) (sends_of t.request) g.0 ends new) (sym same) g.2;
-        asked = same ∙ c.asked ∙ ap (λ (d : List ℕ). setup_for t.request (record { report_length = length d })) (sym goes.descriptor);
+        asked = same ∙ c.asked ∙ ap (λ (d : List ℕ). setup_for t.request (record { report_length = length d; endpoint = ENDPOINT })) (sym goes.descriptor);
         fits = c.fits;
         needs = λ run. subst (λ (p : HostPhase). may_begin t.request (state_of p) ≡ true) (sym (stays run)) (c.needs running);
         decided = λ behind. subst (λ (p : Place). IsDecided t.request new.requests p.decision) (sym g.1.2)
-            (decided_behind t.request asking setup (sends_of t.request) fate decision c.place.host c.place old.requests new.requests c.fits c.asked refl g.1.1 c.decided
+            (decided_behind t.request asking setup (sends_of t.request) fate decision c.place.host c.place old.requests new.requests c.fits (of_reports t.request asking refl) c.asked refl g.1.1 c.decided
             (subst (λ (p : Place). IsBehindSetup p.host) g.1.2 behind));
-        effect = λ took. effect_so t.request asking setup fate decision c.place old.requests new.requests c.asked c.decided c.effect g.1.1 (sym (ap (λ (p : Place). p.applied) g.1.2) ∙ took);
+        effect = λ run took. effect took;
         applied = λ done writes. ap (λ (p : Place). p.applied) g.1.2
             ∙ past_applied (shape_of setup) fate decision c.place.host c.place.decision c.place (ap (λ (s : Setup). reads s) (sym same) ∙ writes) refl apart
             (sym (ap (λ (p : Place). p.host) g.1.2) ∙ done.1);
       };
+      effect = effect;
     }
 
 -- what is concluded: on an answer, or nothing
@@ -194,6 +217,18 @@ done_by (requests.Protocol boot) asking setup core applied asks effect took = tt
 done_by requests.GetProtocol asking setup core applied asks effect took = tt
 done_by (requests.GetReport kind id) asking setup core applied asks effect took = tt
 done_by (requests.SetReport kind id bytes) asking setup core applied asks effect took = tt
+done_by requests.Halt asking setup core applied asks effect took = tt
+done_by requests.Clear asking setup core applied asks effect took = effect (took (ap (λ (s : Setup). reads s) asks))
+done_by requests.EndpointStatus asking setup core applied asks effect took = tt
+
+pub done_effect : (fate : Fate) (phase : HostPhase) (t : Transfer) (ends : HostTransferState) (old new : DevControlState CoreState) → length old.requests.descriptor < 2 ^ 16 → Carries phase t old
+    → IsRunning t.ends.stage → Transacts (PreparesBy core_table) (AppliesBy core_table) core_table.answer_of fate t.ends old ends new → ends.setup ≡ t.ends.setup
+    → ends.stage ≡ stages.Done → HasEffect t.request new.requests
+done_effect fate phase t ends old new short c running transacts same done =
+    let tried_so = carried fate phase phase t ends old new short c running transacts same (λ run. refl) in
+    let d = tried_so.carries in
+    let is_done : IsDone d.place = (done_is core_table.answer_of (shape_of ends.setup) (sends_of t.request) d.place ends new d.stands).0 done in
+    done_by t.request (asking_of new.requests) ends.setup new.requests d.place.applied d.asked tried_so.effect (d.applied is_done)
 
 -- the bytes of a read that is done
 pub got_so : (ends : HostTransferState) (setup : Setup) (decision : Decision) → ends.setup ≡ setup → (reads ends.setup ≡ true → ends.bytes ≡ answered_bytes (shape_of ends.setup) decision)
@@ -209,10 +244,22 @@ record Behind (host : HostEnd) (result : Result Progress StackFault) (new : DevC
 is_told : (p : Progress) (result : Result Progress StackFault) → result ≡ Ok p → IsNoRefusal result
 is_told p result is = subst IsNoRefusal (sym is) tt
 
+-- a Clear that still runs is pending
+clears_on : (stage : HostStage) (request : Request) (clearing : Bool) → IsRunning stage → clearing ≡ true → clearing_behind stage request clearing ≡ true
+clears_on stages.Done request clearing run h = absurd (cc)
+clears_on stages.Setup request clearing run h = h
+clears_on (stages.DataIn one) request clearing run h = h
+clears_on (stages.DataOut sent one) request clearing run h = h
+clears_on stages.StatusIn request clearing run h = h
+clears_on stages.StatusOut request clearing run h = h
+clears_on (stages.Failed fault) request clearing run h = h
+
 once_known : HasOneReading → AcceptsNoRefused → (fate : Fate) (host after : HostEnd) (t : Transfer) (old new : DevControlState CoreState) (result : Result Progress StackFault)
-    → Lays old.requests.descriptor old.requests.layout → length old.requests.descriptor < 2 ^ 16 → KnowsAt host.phase host.addr old.requests → Carries host.phase t old → IsRunning t.ends.stage
+    → Lays old.requests.descriptor old.requests.layout → length old.requests.descriptor < 2 ^ 16 → KnowsAt host.phase host.addr old.requests → Carries host.phase t old → IsPending host.clearing t → IsRunning t.ends.stage
     → TriesOnce (PreparesBy core_table) (AppliesBy core_table) core_table.answer_of fate host t old result after new → Behind after result new
-once_known one apart fate host after t old new result lays short knows c running tr =
+once_known one apart fate host after t old new result lays short knows c pending running tr =
+    let clears : IsPending (clearing_behind tr.ends.stage t.request host.clearing) (record t { ends = tr.ends })
+    = λ is run. clears_on tr.ends.stage t.request host.clearing run (pending is running) in
     elim (concluded_by tr.ends.stage host.addr t.request host.phase tr.next (bytes_got tr.ends) result tr.concludes) [
       | inl (done, (made, makes, told, moves)) ↦
           let not_running : IsRunning tr.ends.stage → tr.next ≡ host.phase = λ run. let wrong = subst IsRunning done run in absurd (cc) in
@@ -222,14 +269,14 @@ once_known one apart fate host after t old new result lays short knows c running
           let is_done : IsDone d.place = (done_is core_table.answer_of (shape_of tr.ends.setup) (sends_of t.request) d.place tr.ends new d.stands).0 done in
           let behind : IsBehindSetup d.place.host = subst IsBehindSetup (sym is_done.1) tt in
           let answer = answer_is t.request new.requests d.place.decision (bytes_got tr.ends) (d.decided behind)
-          (got_so tr.ends (setup_for t.request (record { report_length = length new.requests.descriptor })) d.place.decision d.asked
+          (got_so tr.ends (setup_for t.request (asking_of new.requests)) d.place.decision d.asked
           (λ is_read. read_is core_table.answer_of (shape_of tr.ends.setup) (sends_of t.request) d.place tr.ends new d.stands is_done is_read)) in
-          let effect = done_by t.request (record { report_length = length new.requests.descriptor }) tr.ends.setup new.requests d.place.applied d.asked d.effect (d.applied is_done) in
+          let effect = done_effect fate host.phase t tr.ends old new short c running tr.transacts tr.same done in
           let lays_on : Lays new.requests.descriptor new.requests.layout = subst (λ (x : List ℕ). Lays x new.requests.layout) (sym goes.descriptor) (subst (λ l. Lays old.requests.descriptor l) (sym goes.layout) lays) in
           let short_on : length new.requests.descriptor < 2 ^ 16 = subst (λ (x : List ℕ). length x < 2 ^ 16) (sym goes.descriptor) short in
           let l = learned one apart host.addr t.request host.phase new.requests (bytes_got tr.ends) made lays_on short_on (knows_on host.phase host.addr old.requests new.requests goes knows) (c.needs running) answer effect makes in
           record {
-            knows = subst (λ (h : HostEnd). Knows h new) (sym tr.after) (record { phase = subst (λ (p : HostPhase). KnowsAt p host.addr new.requests) (sym moves) l.knows; transfer = d });
+            knows = subst (λ (h : HostEnd). Knows h new) (sym tr.after) (record { phase = subst (λ (p : HostPhase). KnowsAt p host.addr new.requests) (sym moves) l.knows; transfer = d; clears = clears });
             told = subst IsNoRefusal (sym told) l.told;
           }
       | inr (told, stays) ↦
@@ -238,6 +285,7 @@ once_known one apart fate host after t old new result lays short knows c running
             knows = subst (λ (h : HostEnd). Knows h new) (sym tr.after) (record {
               phase = subst (λ (p : HostPhase). KnowsAt p host.addr new.requests) (sym stays) (knows_on host.phase host.addr old.requests new.requests tried_so.goes knows);
               transfer = tried_so.carries;
+              clears = clears;
             });
             told = is_told (progress_of tr.ends.stage) result told;
           }
@@ -271,7 +319,8 @@ steps_by one apart fate host after old new result None lays short knows is (told
 }
 steps_by one apart fate host after old new result (Some t) lays short knows is tr =
     let r = runs_so host.transfer t is in
-    once_known one apart fate host after t old new result lays short knows.phase (subst (λ (o : Option Transfer). IfSome o (λ (x : Transfer). Carries host.phase x old)) r.0 knows.transfer) r.1 tr
+    once_known one apart fate host after t old new result lays short knows.phase (subst (λ (o : Option Transfer). IfSome o (λ (x : Transfer). Carries host.phase x old)) r.0 knows.transfer)
+    (subst (λ (o : Option Transfer). IfSome o (IsPending host.clearing)) r.0 knows.clears) r.1 tr
 
 pub steps_know : HasOneReading → AcceptsNoRefused → (fate : Fate) (host after : HostEnd) (old new : DevControlState CoreState) (result : Result Progress StackFault)
     → Lays old.requests.descriptor old.requests.layout → length old.requests.descriptor < 2 ^ 16 → Knows host old
@@ -299,49 +348,56 @@ begins_know host request control fits none knows =
         fits = fits;
         needs = λ run. needs;
         decided = λ behind. absurd behind;
-        effect = λ took. absurd (cc);
+        effect = λ run took. absurd (cc);
         applied = λ done writes. let wrong = done.1 in absurd (cc);
       };
+      clears = λ is run. ap (λ (r : Request). clearing_with r host.clearing) is;
     }
 
 -- ---- what leaves a transfer
 
-leaves_goes : (old new : DevControlState CoreState) → LeavesTransfers old new → Goes old.requests new.requests
-leaves_goes old new l = record { layout = l.layout; config = l.config; descriptor = l.descriptor; configured = l.configured }
+leaves_goes : (clearing : Bool) (old new : DevControlState CoreState) → LeavesTransfers clearing old new → Goes old.requests new.requests
+leaves_goes clearing old new l = record { layout = l.layout; config = l.config; descriptor = l.descriptor; configured = l.configured }
 
-effect_goes : (request : Request) (old new : CoreState) → Goes old new → HasEffect request old → HasEffect request new
-effect_goes requests.Configure old new goes h = goes.configured h
-effect_goes requests.Device old new goes h = tt
-effect_goes requests.Config old new goes h = tt
-effect_goes requests.Report old new goes h = tt
-effect_goes requests.Status old new goes h = tt
-effect_goes requests.GetConfiguration old new goes h = tt
-effect_goes (requests.Idle id time) old new goes h = tt
-effect_goes (requests.GetIdle id) old new goes h = tt
-effect_goes (requests.Protocol boot) old new goes h = tt
-effect_goes requests.GetProtocol old new goes h = tt
-effect_goes (requests.GetReport kind id) old new goes h = tt
-effect_goes (requests.SetReport kind id bytes) old new goes h = tt
+effect_goes : (request : Request) (clearing : Bool) (old new : DevControlState CoreState) → LeavesTransfers clearing old new → (request ≡ requests.Clear → clearing ≡ true)
+    → HasEffect request old.requests → HasEffect request new.requests
+effect_goes requests.Configure clearing old new l pending h = l.configured h
+effect_goes requests.Clear clearing old new l pending h = l.anew (pending refl) h
+effect_goes requests.Device clearing old new l pending h = tt
+effect_goes requests.Config clearing old new l pending h = tt
+effect_goes requests.Report clearing old new l pending h = tt
+effect_goes requests.Status clearing old new l pending h = tt
+effect_goes requests.GetConfiguration clearing old new l pending h = tt
+effect_goes (requests.Idle id time) clearing old new l pending h = tt
+effect_goes (requests.GetIdle id) clearing old new l pending h = tt
+effect_goes (requests.Protocol boot) clearing old new l pending h = tt
+effect_goes requests.GetProtocol clearing old new l pending h = tt
+effect_goes (requests.GetReport kind id) clearing old new l pending h = tt
+effect_goes (requests.SetReport kind id bytes) clearing old new l pending h = tt
+effect_goes requests.Halt clearing old new l pending h = tt
+effect_goes requests.EndpointStatus clearing old new l pending h = tt
 
-carries_on : (phase : HostPhase) (old new : DevControlState CoreState) (o : Option Transfer) → LeavesTransfers old new → IfSome o (λ t. Carries phase t old) → IfSome o (λ t. Carries phase t new)
-carries_on phase old new None l h = tt
-carries_on phase old new (Some t) l c =
-    let goes = leaves_goes old new l in
+carries_on : (phase : HostPhase) (clearing : Bool) (old new : DevControlState CoreState) (o : Option Transfer) → LeavesTransfers clearing old new → IfSome o (λ t. Carries phase t old)
+    → IfSome o (IsPending clearing) → IfSome o (λ t. Carries phase t new)
+carries_on phase clearing old new None l h pending = tt
+carries_on phase clearing old new (Some t) l c pending =
+    let goes = leaves_goes clearing old new l in
     record {
       place = c.place;
       stands = kept_is core_table.answer_of (shape_of t.ends.setup) (sends_of t.request) c.place t.ends old new c.stands l.answer l.stage;
-      asked = c.asked ∙ ap (λ (d : List ℕ). setup_for t.request (record { report_length = length d })) (sym goes.descriptor);
+      asked = c.asked ∙ ap (λ (d : List ℕ). setup_for t.request (record { report_length = length d; endpoint = ENDPOINT })) (sym goes.descriptor);
       fits = c.fits;
       needs = c.needs;
       decided = λ behind. decided_stays t.request old.requests new.requests c.place.decision goes l.pending (c.decided behind);
-      effect = λ took. effect_goes t.request old.requests new.requests goes (c.effect took);
+      effect = λ run took. effect_goes t.request clearing old new l (λ is. pending is run) (c.effect run took);
       applied = c.applied;
     }
 
-pub leaves_know : (host : HostEnd) (old new : DevControlState CoreState) → LeavesTransfers old new → Knows host old → Knows host new
+pub leaves_know : (host : HostEnd) (old new : DevControlState CoreState) → LeavesTransfers host.clearing old new → Knows host old → Knows host new
 leaves_know host old new l knows = record {
-  phase = knows_on host.phase host.addr old.requests new.requests (leaves_goes old new l) knows.phase;
-  transfer = carries_on host.phase old new host.transfer l knows.transfer;
+  phase = knows_on host.phase host.addr old.requests new.requests (leaves_goes host.clearing old new l) knows.phase;
+  transfer = carries_on host.phase host.clearing old new host.transfer l knows.transfer knows.clears;
+  clears = knows.clears;
 }
 
 -- ---- the answer to a poll
@@ -366,18 +422,20 @@ carries_so phase next control (Some t) same c = record {
   applied = c.applied;
 }
 
-replies_at : (phase : HostPhase) (addr : ℕ) (transfer : Option Transfer) (control : DevControlState CoreState) (took : Took) → Knows (record { addr = addr; phase = phase; transfer = transfer }) control
-    → IfReady phase (λ known. Knows (ready_after (record { addr = addr; phase = phase; transfer = transfer }) known took) control)
-replies_at Cold addr transfer control took knows = tt
-replies_at (Described info) addr transfer control took knows = tt
-replies_at (Parsed info layout) addr transfer control took knows = tt
-replies_at (Ready known) addr transfer control took knows = record {
+replies_at : (phase : HostPhase) (addr : ℕ) (transfer : Option Transfer) (clearing : Bool) (control : DevControlState CoreState) (took : Took)
+    → Knows (record { addr = addr; phase = phase; transfer = transfer; clearing = clearing }) control
+    → IfReady phase (λ known. Knows (ready_after (record { addr = addr; phase = phase; transfer = transfer; clearing = clearing }) known took) control)
+replies_at Cold addr transfer clearing control took knows = tt
+replies_at (Described info) addr transfer clearing control took knows = tt
+replies_at (Parsed info layout) addr transfer clearing control took knows = tt
+replies_at (Ready known) addr transfer clearing control took knows = record {
   phase = knows_behind known addr control.requests took knows.phase;
   transfer = carries_so (Ready known) (Ready (known_behind known took)) control transfer refl knows.transfer;
+  clears = knows.clears;
 }
 
 pub replies_know : (host : HostEnd) (control : DevControlState CoreState) (took : Took) → Knows host control → IfReady host.phase (λ known. Knows (ready_after host known took) control)
-replies_know host control took knows = replies_at host.phase host.addr host.transfer control took knows
+replies_know host control took knows = replies_at host.phase host.addr host.transfer host.clearing control took knows
 
 -- ---- a sound device
 

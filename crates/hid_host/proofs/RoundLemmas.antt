@@ -26,17 +26,17 @@ use Rattle.hid_device.specs.Core.{CoreState}
 use Rattle.hid_descriptor.specs.declared.report.ReportKind.TheVariants.{Input}
 use Rattle.hid_requests.specs.declared.class.Protocol.{Protocol}
 use Rattle.hid_requests.specs.Class.{number_of as protocol_number}
-use Rattle.hid_device.specs.Apart.{carries_out}
+use Rattle.hid_device.specs.Apart.{carries_out, cuts}
 use Rattle.hid_device.specs.Config.{is_boot}
 use Rattle.hid_device.specs.Outputs.{kept_place, number_of}
-use Rattle.hid_device.specs.Deciding.{core_table, decide, decided_row, idle_told, keeps, left_by, reads_any, report_now, sets_idle_of}
+use Rattle.hid_device.specs.Deciding.{core_table, decide, decided_row, endpoint_status, idle_told, keeps, left_by, reads_any, report_now, sets_idle_of}
 use Rattle.hid_device.specs.Decisions.{Decided, Reads, Refuses, Writes, reads_if, writes_if}
 use Rattle.hid_host.specs.declared.host.Transfer.{Transfer}
 use Rattle.hid_host.specs.declared.phase.HostPhase.{HostPhase}
 use Rattle.hid_host.specs.declared.phase.HostPhase.TheVariants.{Cold, Described, Parsed, Ready}
 use Rattle.hid_host.specs.declared.phase.HostState.TheVariants as states
 use Rattle.hid_requests.specs.Asking.{protocol_of, row_of, sends_of}
-use Rattle.hid_host.specs.Bringing.{answering, brought_about, carried_out, configures, is_configure}
+use Rattle.hid_host.specs.Bringing.{answering, brought_about, carried_out, clears, clears_in, configures, cuts_in, cuts_round, is_configure}
 use Rattle.hid_host.specs.Knowing.{Carries, IsBehindSetup, IsDecided, IsDecidedBy}
 use Rattle.hid_host.specs.Phase.{may_begin, state_of}
 
@@ -89,6 +89,8 @@ is_carried (Applies bytes) pendings.Nothing h = absurd (cc)
 is_carried (Applies bytes) (pendings.Keep i) h = absurd (cc)
 is_carried (Applies bytes) (pendings.Idle report time) h = absurd (cc)
 is_carried (Applies bytes) (pendings.Protocol protocol) h = absurd (cc)
+is_carried (Applies bytes) pendings.Halt h = absurd (cc)
+is_carried (Applies bytes) pendings.Clear h = absurd (cc)
 is_carried (Decides bytes) pending h = absurd (cc)
 is_carried (Answers answer stage heard) pending h = absurd (cc)
 
@@ -120,71 +122,130 @@ behind_by : (shape : Shape) (sends : List ℕ) (place : Place) (fault : Option C
 behind_by shape sends place (Some fault) ends control stands running apart = let wrong = subst IsRunning stands running in absurd (cc)
 behind_by shape sends place None ends control stands running apart = behind_unless place.host (λ at. apart (stands.sender.stage ∙ ap (host_stage shape) at))
 
--- ---- the request that configures is the one that asks for it
+-- ---- what is carried out is what its request asks for
 
--- whether a configuration is what is decided, or is to be carried out
-abbrev pub is_configured_by : Decided → Bool
-is_configured_by (Writes pendings.Configure) = true
-is_configured_by _ = false
-
+-- whether this is to be carried out: a configuration, what ends a round, or what ends a halt
 abbrev pub is_configuring : Pending → Bool
 is_configuring pendings.Configure = true
 is_configuring _ = false
 
-pends_by : (d : Decided) (decision : Decision) (pending : Pending) → IsDecidedBy d decision pending → is_configuring pending ≡ is_configured_by d
-pends_by Refuses decision pending h = ap is_configuring h.1
-pends_by (Reads bytes) decision pending h = ap is_configuring h.1
-pends_by (Writes pendings.Nothing) decision pending h = ap is_configuring h.1
-pends_by (Writes pendings.Configure) decision pending h = ap is_configuring h.1
-pends_by (Writes (pendings.Keep i)) decision pending h = ap is_configuring h.1
-pends_by (Writes (pendings.Idle report time)) decision pending h = ap is_configuring h.1
-pends_by (Writes (pendings.Protocol protocol)) decision pending h = ap is_configuring h.1
+abbrev pub is_cutting : Pending → Bool
+is_cutting pendings.Halt = true
+is_cutting pendings.Clear = true
+is_cutting _ = false
 
-any_is_read : (o : Option (List ℕ)) → is_configured_by (reads_any o) ≡ false
-any_is_read None = refl
-any_is_read (Some bytes) = refl
+abbrev pub is_clearing : Pending → Bool
+is_clearing pendings.Clear = true
+is_clearing _ = false
 
-read_is_read : (b : Bool) (bytes : List ℕ) → is_configured_by (reads_if b bytes) ≡ false
-read_is_read true bytes = refl
-read_is_read false bytes = refl
+-- a test of what is decided to be carried out
+abbrev pub writes_by : (Pending → Bool) → Decided → Bool
+writes_by test (Writes pending) = test pending
+writes_by test _ = false
 
-keep_is_kept : (b : Bool) (i : ℕ) → is_configured_by (writes_if b (pendings.Keep i)) ≡ false
-keep_is_kept true i = refl
-keep_is_kept false i = refl
+pends_by : (test : Pending → Bool) → test pendings.Nothing ≡ false → (d : Decided) (decision : Decision) (pending : Pending) → IsDecidedBy d decision pending → test pending ≡ writes_by test d
+pends_by test none Refuses decision pending h = ap test h.1 ∙ none
+pends_by test none (Reads bytes) decision pending h = ap test h.1 ∙ none
+pends_by test none (Writes held) decision pending h = ap test h.1
 
-keeps_only : (core : CoreState) (len : ℕ) (place : Option ℕ) → is_configured_by (keeps core len place) ≡ false
-keeps_only core len None = refl
-keeps_only core len (Some i) = keep_is_kept _ i
+any_is_read : (test : Pending → Bool) (o : Option (List ℕ)) → writes_by test (reads_any o) ≡ false
+any_is_read test None = refl
+any_is_read test (Some bytes) = refl
 
-idle_only : (time : ℕ) (report : Option ℕ) → is_configured_by (sets_idle_of time report) ≡ false
-idle_only time None = refl
-idle_only time (Some r) = refl
+read_is_read : (test : Pending → Bool) (b : Bool) (bytes : List ℕ) → writes_by test (reads_if b bytes) ≡ false
+read_is_read test true bytes = refl
+read_is_read test false bytes = refl
 
-idles_only : (b : Bool) (time : ℕ) (report : Option ℕ) → is_configured_by (if b then Writes (pendings.Idle None time) else sets_idle_of time report) ≡ false
-idles_only true time report = refl
-idles_only false time report = idle_only time report
+write_is_other : (test : Pending → Bool) (b : Bool) (pending : Pending) → test pending ≡ false → writes_by test (writes_if b pending) ≡ false
+write_is_other test true pending other = other
+write_is_other test false pending other = refl
 
-protocol_only : (b : Bool) (protocol : Protocol) → is_configured_by (writes_if b (pendings.Protocol protocol)) ≡ false
-protocol_only true protocol = refl
-protocol_only false protocol = refl
+-- of all writes, a test passes a configuration, a halt and its end alone
+pub record IsOfPipe (test : Pending → Bool) : Type 0 where
+  pub nothing : test pendings.Nothing ≡ false
+  pub keep : (i : ℕ) → test (pendings.Keep i) ≡ false
+  pub idle : (report : Option ℕ) (time : ℕ) → test (pendings.Idle report time) ≡ false
+  pub protocol : (protocol : Protocol) → test (pendings.Protocol protocol) ≡ false
 
-row_configures : (request : Request) (core : CoreState) → is_configured_by (decided_row core (row_of request)) ≡ is_configure request
-row_configures requests.Device core = refl
-row_configures requests.Config core = refl
-row_configures requests.Report core = refl
-row_configures requests.Configure core = refl
-row_configures requests.Status core = refl
-row_configures requests.GetConfiguration core = refl
-row_configures (requests.Idle id time) core = idles_only (id == 0) time (number_of core.layout.reports Input id)
-row_configures (requests.GetIdle id) core = any_is_read (option_map (λ time. time ∷ []) (idle_told core id))
-row_configures (requests.Protocol boot) core = protocol_only (is_boot core.config.boot && not core.is_configured) (protocol_of boot)
-row_configures requests.GetProtocol core = read_is_read (is_boot core.config.boot) (protocol_number core.protocol ∷ [])
-row_configures (requests.GetReport kind id) core = any_is_read (report_now core kind id)
-row_configures (requests.SetReport kind id set) core = keeps_only core (length set.items) (kept_place core.layout.reports kind id)
+configuring_of_pipe : IsOfPipe is_configuring
+configuring_of_pipe = record { nothing = refl; keep = λ i. refl; idle = λ report time. refl; protocol = λ protocol. refl }
+
+cutting_of_pipe : IsOfPipe is_cutting
+cutting_of_pipe = record { nothing = refl; keep = λ i. refl; idle = λ report time. refl; protocol = λ protocol. refl }
+
+clearing_of_pipe : IsOfPipe is_clearing
+clearing_of_pipe = record { nothing = refl; keep = λ i. refl; idle = λ report time. refl; protocol = λ protocol. refl }
+
+keeps_only : (test : Pending → Bool) → IsOfPipe test → (core : CoreState) (len : ℕ) (place : Option ℕ) → writes_by test (keeps core len place) ≡ false
+keeps_only test of core len None = refl
+keeps_only test of core len (Some i) = write_is_other test _ (pendings.Keep i) (of.keep i)
+
+idle_only : (test : Pending → Bool) → IsOfPipe test → (time : ℕ) (report : Option ℕ) → writes_by test (sets_idle_of time report) ≡ false
+idle_only test of time None = refl
+idle_only test of time (Some r) = of.idle (Some r) time
+
+idles_only : (test : Pending → Bool) → IsOfPipe test → (b : Bool) (time : ℕ) (report : Option ℕ)
+    → writes_by test (if b then Writes (pendings.Idle None time) else sets_idle_of time report) ≡ false
+idles_only test of true time report = of.idle None time
+idles_only test of false time report = idle_only test of time report
+
+-- what a request asks for is what is decided to be carried out
+record Asks (request : Request) (d : Decided) : Type 0 where
+  configures : writes_by is_configuring d ≡ is_configure request
+  cuts : writes_by is_cutting d ≡ true → cuts_round request ≡ true
+  clears : writes_by is_clearing d ≡ true → request ≡ requests.Clear
+
+-- of a request that asks for nothing of the pipe
+asks_else : (request : Request) (d : Decided) → is_configure request ≡ false → ((test : Pending → Bool) → IsOfPipe test → writes_by test d ≡ false) → Asks request d
+asks_else request d other none = record {
+  configures = none is_configuring configuring_of_pipe ∙ sym other;
+  cuts = λ h. let wrong : false ≡ true = sym (none is_cutting cutting_of_pipe) ∙ h in absurd (cc);
+  clears = λ h. let wrong : false ≡ true = sym (none is_clearing clearing_of_pipe) ∙ h in absurd (cc);
+}
+
+halt_asks : (configured : Bool) → Asks requests.Halt (writes_if configured pendings.Halt)
+halt_asks true = record { configures = refl; cuts = λ h. refl; clears = λ h. absurd (cc) }
+halt_asks false = record { configures = refl; cuts = λ h. refl; clears = λ h. absurd (cc) }
+
+clear_asks : (configured : Bool) → Asks requests.Clear (writes_if configured pendings.Clear)
+clear_asks true = record { configures = refl; cuts = λ h. refl; clears = λ h. refl }
+clear_asks false = record { configures = refl; cuts = λ h. refl; clears = λ h. refl }
+
+row_asks : (request : Request) (core : CoreState) → Asks request (decided_row core (row_of request))
+row_asks requests.Device core = asks_else requests.Device _ refl (λ test of. refl)
+row_asks requests.Config core = asks_else requests.Config _ refl (λ test of. refl)
+row_asks requests.Report core = asks_else requests.Report _ refl (λ test of. refl)
+row_asks requests.Configure core = record { configures = refl; cuts = λ h. absurd (cc); clears = λ h. absurd (cc) }
+row_asks requests.Status core = asks_else requests.Status _ refl (λ test of. refl)
+row_asks requests.GetConfiguration core = asks_else requests.GetConfiguration _ refl (λ test of. refl)
+row_asks (requests.Idle id time) core = asks_else (requests.Idle id time) _ refl (λ test of. idles_only test of (id == 0) time (number_of core.layout.reports Input id))
+row_asks (requests.GetIdle id) core = asks_else (requests.GetIdle id) _ refl (λ test of. any_is_read test (option_map (λ time. time ∷ []) (idle_told core id)))
+row_asks (requests.Protocol boot) core =
+    asks_else (requests.Protocol boot) _ refl
+    (λ test of. write_is_other test (is_boot core.config.boot && not core.is_configured) (pendings.Protocol (protocol_of boot)) (of.protocol (protocol_of boot)))
+row_asks requests.GetProtocol core = asks_else requests.GetProtocol _ refl (λ test of. read_is_read test (is_boot core.config.boot) (protocol_number core.protocol ∷ []))
+row_asks (requests.GetReport kind id) core = asks_else (requests.GetReport kind id) _ refl (λ test of. any_is_read test (report_now core kind id))
+row_asks (requests.SetReport kind id set) core =
+    asks_else (requests.SetReport kind id set) _ refl (λ test of. keeps_only test of core (length set.items) (kept_place core.layout.reports kind id))
+row_asks requests.Halt core = halt_asks core.is_configured
+row_asks requests.Clear core = clear_asks core.is_configured
+row_asks requests.EndpointStatus core = asks_else requests.EndpointStatus _ refl (λ test of. read_is_read test core.is_configured (endpoint_status core.halted))
+
+-- what is pending behind the SETUP of a request passes a test where its row does
+pends_by_row : (test : Pending → Bool) → test pendings.Nothing ≡ false → (request : Request) (core : CoreState) (decision : Decision) (says : IsDecided request core decision)
+    → test core.pending ≡ writes_by test (decided_row says.then (row_of request))
+pends_by_row test none request core decision says = pends_by test none (decided_row says.then (row_of request)) decision core.pending says.by
 
 -- a configuration is pending behind the SETUP of a request for it, and of no other
 pub pends_so : (request : Request) (core : CoreState) (decision : Decision) → IsDecided request core decision → is_configuring core.pending ≡ is_configure request
-pends_so request core decision says = pends_by (decided_row says.then (row_of request)) decision core.pending says.by ∙ row_configures request says.then
+pends_so request core decision says = pends_by_row is_configuring refl request core decision says ∙ (row_asks request says.then).configures
+
+-- what ends a round is pending behind that of a Halt or a Clear alone, and what ends a halt behind that of a Clear
+pub cuts_so : (request : Request) (core : CoreState) (decision : Decision) → IsDecided request core decision → is_cutting core.pending ≡ true → cuts_round request ≡ true
+cuts_so request core decision says h = (row_asks request says.then).cuts (sym (pends_by_row is_cutting refl request core decision says) ∙ h)
+
+pub clears_so : (request : Request) (core : CoreState) (decision : Decision) → IsDecided request core decision → is_clearing core.pending ≡ true → request ≡ requests.Clear
+clears_so request core decision says h = (row_asks request says.then).clears (sym (pends_by_row is_clearing refl request core decision says) ∙ h)
 
 asks_for : (request : Request) (phase : HostPhase) → is_configure request ≡ true → may_begin request (state_of phase) ≡ true → state_of phase ≡ states.Parsed
 asks_for requests.Configure Cold asks needs = absurd (cc)
@@ -202,11 +263,69 @@ asks_for (requests.Protocol boot) phase asks needs = absurd (cc)
 asks_for requests.GetProtocol phase asks needs = absurd (cc)
 asks_for (requests.GetReport kind id) phase asks needs = absurd (cc)
 asks_for (requests.SetReport kind id set) phase asks needs = absurd (cc)
+asks_for requests.Halt phase asks needs = absurd (cc)
+asks_for requests.Clear phase asks needs = absurd (cc)
+asks_for requests.EndpointStatus phase asks needs = absurd (cc)
+
+-- what is pending where a write takes effect was decided on
+decided_at : (phase : HostPhase) (t : Transfer) (control : DevControlState CoreState) (c : Carries phase t control) → IsRunning t.ends.stage → IsApplied (effect_reached core_table t.ends control)
+    → IsDecided t.request control.requests c.place.decision
+decided_at phase t control c running applied =
+    let apart = not_at_setup t.ends.stage t.ends.setup t.ends.bytes control.stage control.requests.answer applied in
+    c.decided (behind_by (shape_of t.ends.setup) (sends_of t.request) c.place c.place.fault t.ends control c.stands running apart)
 
 pub parsed_by : (fate : Fate) (phase : HostPhase) (t : Transfer) (control : DevControlState CoreState) → Carries phase t control → IsRunning t.ends.stage → configures fate t.ends control ≡ true
     → state_of phase ≡ states.Parsed
 parsed_by fate phase t control c running h =
     let by = configures_by fate t.ends control h in
-    let apart = not_at_setup t.ends.stage t.ends.setup t.ends.bytes control.stage control.requests.answer by.0 in
-    let behind = behind_by (shape_of t.ends.setup) (sends_of t.request) c.place c.place.fault t.ends control c.stands running apart in
-    asks_for t.request phase (sym (pends_so t.request control.requests c.place.decision (c.decided behind)) ∙ ap is_configuring by.1) (c.needs running)
+    asks_for t.request phase (sym (pends_so t.request control.requests c.place.decision (decided_at phase t control c running by.0)) ∙ ap is_configuring by.1) (c.needs running)
+
+-- ---- a round is cut by a request for that, and a halt ended by a Clear
+
+is_cut : (effect : Effect) (pending : Pending) → cuts effect pending ≡ true → IsApplied effect × (is_cutting pending ≡ true)
+is_cut (Applies bytes) pendings.Halt h = (tt, refl)
+is_cut (Applies bytes) pendings.Clear h = (tt, refl)
+is_cut (Applies bytes) pendings.Configure h = absurd (cc)
+is_cut (Applies bytes) pendings.Nothing h = absurd (cc)
+is_cut (Applies bytes) (pendings.Keep i) h = absurd (cc)
+is_cut (Applies bytes) (pendings.Idle report time) h = absurd (cc)
+is_cut (Applies bytes) (pendings.Protocol protocol) h = absurd (cc)
+is_cut (Decides bytes) pending h = absurd (cc)
+is_cut (Answers answer stage heard) pending h = absurd (cc)
+
+cuts_by : (fate : Fate) (ends : HostTransferState) (control : DevControlState CoreState) → cuts_in fate ends control ≡ true
+    → IsApplied (effect_reached core_table ends control) × (is_cutting control.requests.pending ≡ true)
+cuts_by TokenLost ends control h = absurd (cc)
+cuts_by Clean ends control h = is_cut (effect_reached core_table ends control) control.requests.pending h
+cuts_by ReplyLost ends control h = is_cut (effect_reached core_table ends control) control.requests.pending h
+cuts_by AckLost ends control h = is_cut (effect_reached core_table ends control) control.requests.pending h
+
+pub cut_by : (fate : Fate) (phase : HostPhase) (t : Transfer) (control : DevControlState CoreState) → Carries phase t control → IsRunning t.ends.stage → cuts_in fate t.ends control ≡ true
+    → cuts_round t.request ≡ true
+cut_by fate phase t control c running h =
+    let by = cuts_by fate t.ends control h in
+    cuts_so t.request control.requests c.place.decision (decided_at phase t control c running by.0) by.1
+
+is_cleared : (effect : Effect) (pending : Pending) → clears effect pending ≡ true → IsApplied effect × (is_clearing pending ≡ true)
+is_cleared (Applies bytes) pendings.Clear h = (tt, refl)
+is_cleared (Applies bytes) pendings.Halt h = absurd (cc)
+is_cleared (Applies bytes) pendings.Configure h = absurd (cc)
+is_cleared (Applies bytes) pendings.Nothing h = absurd (cc)
+is_cleared (Applies bytes) (pendings.Keep i) h = absurd (cc)
+is_cleared (Applies bytes) (pendings.Idle report time) h = absurd (cc)
+is_cleared (Applies bytes) (pendings.Protocol protocol) h = absurd (cc)
+is_cleared (Decides bytes) pending h = absurd (cc)
+is_cleared (Answers answer stage heard) pending h = absurd (cc)
+
+clears_by : (fate : Fate) (ends : HostTransferState) (control : DevControlState CoreState) → clears_in fate ends control ≡ true
+    → IsApplied (effect_reached core_table ends control) × (is_clearing control.requests.pending ≡ true)
+clears_by TokenLost ends control h = absurd (cc)
+clears_by Clean ends control h = is_cleared (effect_reached core_table ends control) control.requests.pending h
+clears_by ReplyLost ends control h = is_cleared (effect_reached core_table ends control) control.requests.pending h
+clears_by AckLost ends control h = is_cleared (effect_reached core_table ends control) control.requests.pending h
+
+pub cleared_by : (fate : Fate) (phase : HostPhase) (t : Transfer) (control : DevControlState CoreState) → Carries phase t control → IsRunning t.ends.stage → clears_in fate t.ends control ≡ true
+    → t.request ≡ requests.Clear
+cleared_by fate phase t control c running h =
+    let by = clears_by fate t.ends control h in
+    clears_so t.request control.requests c.place.decision (decided_at phase t control c running by.0) by.1

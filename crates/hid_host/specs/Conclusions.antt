@@ -1,4 +1,4 @@
--- What a host makes of the answer to a request that is done (USB 2.0, 9.1.1.5 and 9.6; HID 1.11, 6.2.1 and 6.2.2;
+-- What a host makes of the answer to a request that is done (USB 2.0, 9.1.1.5, 9.4.5 and 9.6; HID 1.11, 6.2.1 and 6.2.2;
 -- the phases are our choice).
 use Rattle.std.specs.Prelude.{◌≡◌, ◌≢◌, ℕ, ◌<◌, ◌≤◌, List, length, Result, Ok, Err}
 use Rattle.hid_layout.specs.Layout.{Contents}
@@ -15,6 +15,7 @@ use Rattle.hid_host.specs.declared.fault.StackFault.TheVariants.{BadDescriptor, 
 use Rattle.hid_host.specs.declared.fault.DescriptorFault.TheVariants.{Info, ReportLength, Layout}
 use Rattle.hid_host.specs.declared.phase.HostPhase.{HostPhase}
 use Rattle.hid_host.specs.declared.phase.HostPhase.TheVariants.{Described, Parsed, Ready}
+use Rattle.hid_host.specs.Phase.{cleared_phase}
 use Rattle.hid_host.specs.Ready.{known_at_start}
 
 -- why a host can't be given a layout: the descriptor is refused, or it isn't too long and memory was wanting
@@ -53,7 +54,8 @@ leads_to next (Ok read) = Ok (next read)
 leads_to next (Err fault) = Err fault
 
 -- The phase behind a request that is done, or why its answer is refused: nothing is kept of a device descriptor, what a
--- configuration says and the layout are kept, and a device that is configured is polled.
+-- configuration says and the layout are kept, a device that is configured is polled, and one whose endpoint was cleared is
+-- expected to begin with DATA0.
 abbrev pub Makes : ℕ → Request → HostPhase → List ℕ → Result HostPhase StackFault → Type 0
 Makes addr requests.Device phase bytes made =
     (read : Result (Unit {0}) StackFault) × DeviceRead bytes read × (made ≡ leads_to (λ _. phase) read)
@@ -63,6 +65,7 @@ Makes addr requests.Report (Described info) bytes made =
     (read : Result Contents StackFault) × ReportRead info bytes read
     × (made ≡ leads_to (Parsed info) read)
 Makes addr requests.Configure (Parsed info layout) bytes made = Configured addr info layout made
+Makes addr requests.Clear phase bytes made = made ≡ Ok (cleared_phase phase)
 Makes addr request phase bytes made = made ≡ Ok phase
 
 -- what is refused leaves the phase

@@ -1,5 +1,5 @@
--- The host of one device, and the transfer that it began last (USB 2.0, 8.5.3 and 9.1.1).
-use Rattle.std.specs.Prelude.{◌≡◌, ℕ, if◌then◌else◌, is_some, List, [], Option, Some, None, Result, Ok, Err}
+-- The host of one device, and the transfer that it began last (USB 2.0, 8.5.3, 9.1.1 and 9.4.5).
+use Rattle.std.specs.Prelude.{◌≡◌, ℕ, Bool, true, false, not, ◌&&◌, ◌||◌, if◌then◌else◌, is_some, List, [], Option, Some, None, Result, Ok, Err}
 use Rattle.hid_layout.specs.Layout.{Contents}
 use Rattle.usb_packet.specs.declared.packet.Packet.{Packet}
 use Rattle.usb_transact.specs.declared.host.Took.{Took}
@@ -20,6 +20,7 @@ use Rattle.usb_control.specs.SetupBytes.{reads}
 use Rattle.usb_control.specs.Transaction.{Transacts}
 use Rattle.hid_requests.specs.declared.request.Asking.{Asking}
 use Rattle.hid_requests.specs.declared.request.Request.{Request}
+use Rattle.hid_requests.specs.declared.request.Request.TheVariants as requests
 use Rattle.hid_requests.specs.Asking.{sends_of, setup_for}
 use Rattle.hid_host.specs.declared.fault.StackFault.{StackFault}
 use Rattle.hid_host.specs.declared.fault.StackFault.TheVariants.{NotReady, Control}
@@ -31,25 +32,32 @@ use Rattle.hid_host.specs.Conclusions.{Makes, phase_made}
 use Rattle.hid_host.specs.Phase.{asking_at, may_begin, state_of}
 use Rattle.hid_host.specs.Ready.{Known, known_at_start, known_behind}
 
--- the device's address, how far the host has come with it, and the transfer that it began last
+-- the device's address, how far the host has come with it, the transfer that it began last, and whether a Clear is
+-- pending: it was begun, and none has been done since
 pub record HostEnd : Type 0 where
   pub addr : ℕ
   pub phase : HostPhase
   pub transfer : Option Transfer
+  pub clearing : Bool
 
 -- a host that knows nothing of its device
 abbrev pub cold_host : ℕ → HostEnd
-cold_host addr = record { addr = addr; phase = Cold; transfer = None }
+cold_host addr = record { addr = addr; phase = Cold; transfer = None; clearing = false }
 
 -- a host that is ready from the start, at this address with this layout: it polls endpoint 1 (our choice: a virtual
 -- device has no other)
 abbrev pub ready_host : ℕ → Contents → HostEnd
-ready_host addr layout = record { addr = addr; phase = Ready (known_at_start addr 1 layout); transfer = None }
+ready_host addr layout =
+    record { addr = addr; phase = Ready (known_at_start addr 1 layout); transfer = None; clearing = false }
 
--- the token of a poll
-abbrev pub polls_with : HostPhase → Result Packet StackFault
-polls_with (Ready known) = Ok (token_to known.pipe)
-polls_with _ = Err NotReady
+-- the token of a poll, by whether a Clear is pending
+abbrev pub polls_at : HostPhase → Bool → Result Packet StackFault
+polls_at (Ready known) false = Ok (token_to known.pipe)
+polls_at _ clearing = Err NotReady
+
+-- A host polls where it is ready and no Clear is pending.
+abbrev pub polls_with : HostEnd → Result Packet StackFault
+polls_with host = polls_at host.phase host.clearing
 
 -- a ready host after it took what came
 abbrev pub ready_after : HostEnd → Known → Took → HostEnd
@@ -83,9 +91,26 @@ transfer_of addr asking request = record {
   ends = at_start addr (setup_for request asking) (sends_of request);
 }
 
--- the host with it
+-- a request ends a halt of the endpoint that is polled
+abbrev pub is_clear : Request → Bool
+is_clear requests.Clear = true
+is_clear _ = false
+
+-- a Clear is pending from its begin on
+abbrev pub clearing_with : Request → Bool → Bool
+clearing_with request clearing = is_clear request || clearing
+
+-- until it is done; one that failed leaves it so, for its status may have taken effect (8.5.3.3)
+abbrev pub clearing_behind : HostStage → Request → Bool → Bool
+clearing_behind Done request clearing = not (is_clear request) && clearing
+clearing_behind stage request clearing = clearing
+
+-- the host with a transfer of a request that begins
 abbrev pub begun : HostEnd → Request → HostEnd
-begun host request = record host { transfer = Some (transfer_of host.addr (asking_at host.phase) request) }
+begun host request = record host {
+  transfer = Some (transfer_of host.addr (asking_at host.phase) request);
+  clearing = clearing_with request host.clearing;
+}
 
 -- the bytes of a read
 abbrev pub bytes_got : HostTransferState → List ℕ
@@ -114,7 +139,11 @@ pub record TriesOnce {R : Type 0} (prepare_gives : PrepareGives R) (apply_gives 
   pub transacts : Transacts prepare_gives apply_gives answer_of fate transfer.ends old ends new
   pub same : ends.setup ≡ transfer.ends.setup
   pub concludes : ConcludesAt ends.stage host.addr transfer.request host.phase (bytes_got ends) result next
-  pub after : host_then ≡ record host { phase = next; transfer = Some (record transfer { ends = ends }) }
+  pub after : host_then ≡ record host {
+    phase = next;
+    transfer = Some (record transfer { ends = ends });
+    clearing = clearing_behind ends.stage transfer.request host.clearing;
+  }
 
 -- One control step: where no transfer runs nothing is sent, and nothing changes.
 abbrev pub ControlSteps :

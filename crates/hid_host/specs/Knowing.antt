@@ -1,6 +1,6 @@
 -- A host and the virtual device that it brings up: what it knows is what the device was made with, and a transfer between
--- the two is the one of a request (USB 2.0, 8.5.3, 9.1.1 and 9.4).
-use Rattle.std.specs.Prelude.{◌≡◌, ℕ, true, false, length, Some, None, Result, Err, IfSome}
+-- the two is the one of a request (USB 2.0, 8.5.3, 9.1.1, 9.4 and 9.4.5).
+use Rattle.std.specs.Prelude.{◌≡◌, ℕ, Bool, true, false, length, Some, None, Result, Err, IfSome}
 use Rattle.usb_control.specs.declared.descriptors.ConfigInfo.{ConfigInfo}
 use Rattle.usb_control.specs.declared.host.Progress.{Progress}
 use Rattle.usb_control.specs.Device.{DevControlState}
@@ -8,6 +8,7 @@ use Rattle.usb_control.specs.Host.{IsRunning}
 use Rattle.usb_control.specs.Runs.{IsDone}
 use Rattle.usb_control.specs.Standing.{Stands}
 use Rattle.usb_control.specs.Transfer.{Decision, Accepted, Refused, Place, Position, Setup, shape_of}
+use Rattle.hid_requests.specs.declared.request.Asking.{Asking}
 use Rattle.hid_requests.specs.declared.request.Request.{Request}
 use Rattle.hid_requests.specs.declared.request.Request.TheVariants as requests
 use Rattle.hid_requests.specs.Asking.{FitsRequest, row_of, sends_of, setup_for}
@@ -61,29 +62,43 @@ pub record IsDecided (request : Request) (core : CoreState) (decision : Decision
   pub same : IsSameDevice core then
   pub by : IsDecidedBy (decided_row then (row_of request)) decision core.pending
 
--- what a write that took effect has brought about, where a host relies on it: a configuration
+-- no round is open, and the next one begins with DATA0
+pub record BeginsAnew (core : CoreState) : Type 0 where
+  pub current : core.current ≡ None
+  pub toggle : core.toggle ≡ false
+
+-- what a write that took effect has brought about, where a host relies on it: a configuration, and the end of a halt
 abbrev pub HasEffect : Request → CoreState → Type 0
 HasEffect requests.Configure core = core.is_configured ≡ true
+HasEffect requests.Clear core = BeginsAnew core
 HasEffect _ core = Unit {0}
+
+-- what the host asked with: the length of the report descriptor and the endpoint of Input reports, as the device has them
+abbrev pub asking_of : CoreState → Asking
+asking_of core = record { report_length = length core.descriptor; endpoint = ENDPOINT }
 
 -- A transfer is the one of its request, and both ends stand somewhere in it.
 pub record Carries (phase : HostPhase) (transfer : Transfer) (control : DevControlState CoreState) : Type 0 where
   pub place : Place
   pub stands : Stands core_table.answer_of (shape_of transfer.ends.setup) (sends_of transfer.request) place transfer.ends control
-  pub asked :
-      transfer.ends.setup ≡ setup_for transfer.request (record { report_length = length control.requests.descriptor })
+  pub asked : transfer.ends.setup ≡ setup_for transfer.request (asking_of control.requests)
   pub fits : FitsRequest transfer.request
   -- it began in the state that its request needs
   pub needs : IsRunning transfer.ends.stage → may_begin transfer.request (state_of phase) ≡ true
-  -- what the device decided behind SETUP, and has done where it took effect, as it has where the write is done
+  -- what the device decided behind SETUP, and has done while it runs where it took effect, as it has where the write is done
   pub decided : IsBehindSetup place.host → IsDecided transfer.request control.requests place.decision
-  pub effect : place.applied ≡ true → HasEffect transfer.request control.requests
+  pub effect : IsRunning transfer.ends.stage → place.applied ≡ true → HasEffect transfer.request control.requests
   pub applied : IsDone place → (shape_of transfer.ends.setup).reads ≡ false → place.applied ≡ true
 
--- A host knows its device.
+-- a Clear that runs is pending
+abbrev pub IsPending : Bool → Transfer → Type 0
+IsPending clearing transfer = transfer.request ≡ requests.Clear → IsRunning transfer.ends.stage → clearing ≡ true
+
+-- A host knows its device, and holds its polls back while it ends a halt.
 pub record Knows (host : HostEnd) (control : DevControlState CoreState) : Type 0 where
   pub phase : KnowsAt host.phase host.addr control.requests
   pub transfer : IfSome host.transfer (λ transfer. Carries host.phase transfer control)
+  pub clears : IfSome host.transfer (IsPending host.clearing)
 
 -- nothing of a virtual device is refused
 abbrev pub IsNoRefusal : Result Progress StackFault → Type 0
@@ -91,8 +106,8 @@ IsNoRefusal (Err (BadDescriptor fault)) = ⊥
 IsNoRefusal result = Unit {0}
 
 -- What befalls a device beside its endpoint 0 leaves what it was made with, its configuration, and the request that was
--- decided on last.
-pub record LeavesTransfers (old new : DevControlState CoreState) : Type 0 where
+-- decided on last. While a Clear is pending it leaves a pipe that begins anew so, too.
+pub record LeavesTransfers (clearing : Bool) (old new : DevControlState CoreState) : Type 0 where
   pub layout : new.requests.layout ≡ old.requests.layout
   pub config : new.requests.config ≡ old.requests.config
   pub descriptor : new.requests.descriptor ≡ old.requests.descriptor
@@ -100,6 +115,7 @@ pub record LeavesTransfers (old new : DevControlState CoreState) : Type 0 where
   pub answer : new.requests.answer ≡ old.requests.answer
   pub pending : new.requests.pending ≡ old.requests.pending
   pub stage : new.stage ≡ old.stage
+  pub anew : clearing ≡ true → BeginsAnew old.requests → BeginsAnew new.requests
 
 -- endpoint 0 with another inside
 abbrev pub with_core : DevControlState CoreState → CoreState → DevControlState CoreState

@@ -1,15 +1,15 @@
--- How far a host has come with its device, and what it may ask at each phase (USB 2.0, 9.1.1; the phases are our
--- choice).
-use Rattle.std.specs.Prelude.{◌≤◌, Bool, true, false}
+-- How far a host has come with its device, and what it may ask at each phase (USB 2.0, 9.1.1 and 9.4.5; the phases are
+-- our choice).
+use Rattle.std.specs.Prelude.{◌≤◌, Bool, true, false, not}
 use Rattle.hid_requests.specs.declared.request.Request.{Request}
-use Rattle.hid_requests.specs.declared.request.Request.TheVariants.{Device, Config, Report, Configure, Status, GetConfiguration, Idle, GetIdle, Protocol, GetProtocol, GetReport, SetReport}
+use Rattle.hid_requests.specs.declared.request.Request.TheVariants.{Device, Config, Report, Configure, Status, GetConfiguration, Idle, GetIdle, Protocol, GetProtocol, GetReport, SetReport, Halt, Clear, EndpointStatus}
 use Rattle.hid_requests.specs.declared.request.Asking.{Asking}
 use Rattle.usb_packet.specs.declared.packet.TheConstants.{MAX_ENDPOINT}
 use Rattle.hid_host.specs.declared.phase.HostPhase.{HostPhase}
 use Rattle.hid_host.specs.declared.phase.HostPhase.TheVariants.{Cold, Described, Parsed, Ready}
 use Rattle.hid_host.specs.declared.phase.HostState.{HostState}
 use Rattle.hid_host.specs.declared.phase.HostState.TheVariants as states
-use Rattle.hid_host.specs.Ready.{Known}
+use Rattle.hid_host.specs.Ready.{Known, known_cleared}
 
 -- the phase without what is known there
 abbrev pub state_of : HostPhase → HostState
@@ -23,6 +23,11 @@ abbrev pub knows_reports : HostState → Bool
 knows_reports states.Parsed = true
 knows_reports states.Ready = true
 knows_reports _ = false
+
+-- the endpoint of its reports is one that a configured device has
+abbrev pub has_endpoint : HostState → Bool
+has_endpoint states.Ready = true
+has_endpoint _ = false
 
 -- the state in which a request may begin: a protocol is set before the device is configured
 abbrev pub may_begin : Request → HostState → Bool
@@ -42,13 +47,27 @@ may_begin (Protocol boot) _ = false
 may_begin GetProtocol state = knows_reports state
 may_begin (GetReport kind id) state = knows_reports state
 may_begin (SetReport kind id bytes) state = knows_reports state
+may_begin Halt state = has_endpoint state
+may_begin Clear state = has_endpoint state
+may_begin EndpointStatus state = has_endpoint state
 
--- what a request is asked with: the length of the report descriptor, where the configuration told it
+-- the state in which a host may poll, by whether a Clear is pending: none is in flight while the toggle begins anew
+abbrev pub may_poll : HostState → Bool → Bool
+may_poll states.Ready clearing = not clearing
+may_poll _ clearing = false
+
+-- What a request is asked with: the length of the report descriptor and the endpoint of reports, where the configuration
+-- told them; a host that polls has the endpoint alone.
 abbrev pub asking_at : HostPhase → Asking
-asking_at Cold = record { report_length = 0 }
-asking_at (Described info) = record { report_length = info.report_length }
-asking_at (Parsed info layout) = record { report_length = info.report_length }
-asking_at (Ready known) = record { report_length = 0 }
+asking_at Cold = record { report_length = 0; endpoint = 0 }
+asking_at (Described info) = record { report_length = info.report_length; endpoint = info.endpoint }
+asking_at (Parsed info layout) = record { report_length = info.report_length; endpoint = info.endpoint }
+asking_at (Ready known) = record { report_length = 0; endpoint = known.pipe.endp }
+
+-- a Clear that is done leads to a pipe that begins anew
+abbrev pub cleared_phase : HostPhase → HostPhase
+cleared_phase (Ready known) = Ready (known_cleared known)
+cleared_phase phase = phase
 
 -- the host has configured its device and polls it
 abbrev pub IsReady : HostPhase → Type 0

@@ -1,5 +1,5 @@
--- What a ready host keeps, and what it makes of the answers to its polls (USB 2.0, 8.5.4 and 8.6; HID 1.11, 5.6).
-use Rattle.std.specs.Prelude.{◌≡◌, ℕ, List, [], Result, Ok, Err}
+-- What a ready host keeps, and what it makes of the answers to its polls (USB 2.0, 8.5.4, 8.6 and 9.4.5; HID 1.11, 5.6).
+use Rattle.std.specs.Prelude.{◌≡◌, ℕ, false, List, [], Result, Ok, Err}
 use Rattle.hid_layout.specs.Layout.{Contents}
 use Rattle.hid_layout.specs.Controls.{items_of}
 use Rattle.hid_cells.specs.declared.cell.Cell.{Cell}
@@ -33,6 +33,10 @@ pub record AreViews (layout : Contents) (view first : List Cell) : Type 0 where
 abbrev pub known_at_start : ℕ → ℕ → Contents → Known
 known_at_start addr endpoint layout =
     record { layout = layout; pipe = host_at_start addr endpoint; view = blank (items_of layout) }
+
+-- a halt of the endpoint was ended: DATA0 is expected (9.4.5)
+abbrev pub known_cleared : Known → Known
+known_cleared known = record known { pipe = record known.pipe { expects = false } }
 
 -- What the host tells of what it took: fresh data that are no Input report are refused.
 abbrev pub read_or_refused : Took → Result ℕ ReportFault → Result Took StackFault

@@ -1,4 +1,5 @@
--- What a host tells at a reset of the bus (USB 2.0, 7.1.7.5, 8.6 and 9.1.1.3; our choice).
+-- What a host tells at a reset of the bus, and where a halt or its end cuts a round (USB 2.0, 7.1.7.5, 8.6, 9.1.1.3 and
+-- 9.4.5; our choice).
 use Rattle.std.specs.Prelude.{ℕ, Bool, if◌then◌else◌, List, [], Option, Some, None, IfSome}
 use Rattle.std.specs.Bool.{beq}
 use Rattle.hid_layout.specs.Layout.{Contents}
@@ -34,6 +35,23 @@ known_told_back known round parts =
 abbrev pub reset_told : HostPhase → Option (ℕ × Bool) → List Cell → List Event
 reset_told (Ready known) round parts = known_told_back known round parts
 reset_told _ round parts = []
+
+-- What is told where a round is cut: the view stays, and the motions of these parts that a report shows which is awaited
+-- are dropped.
+abbrev pub told_cut : List Item → List Cell → List Cell → Option ℕ → List Event
+told_cut items view parts None = []
+told_cut items view parts (Some r) = drops_between items r view view parts
+
+-- by a ready host
+abbrev pub known_cut : Known → Option (ℕ × Bool) → List Cell → List Event
+known_cut known round parts =
+    told_cut (items_of known.layout) known.view parts (awaited known.pipe.expects round)
+
+-- What a host tells where this round is cut that was open at its device, and these parts were fixed last: one that isn't
+-- ready has polled none.
+abbrev pub cut_told : HostPhase → Option (ℕ × Bool) → List Cell → List Event
+cut_told (Ready known) round parts = known_cut known round parts
+cut_told _ round parts = []
 
 -- the round is of an Input report of this layout, and the parts are of its controls
 pub record SuitsRound (layout : Contents) (round : Option (ℕ × Bool)) (parts : List Cell) : Type 0 where

@@ -115,6 +115,12 @@ pub(crate) fn conclude(
             Ok(())
         }
         Request::Configure => configured(alloc, addr, phase),
+        Request::Clear => {
+            if let HostPhase::Ready(host) = phase {
+                host.restart();
+            }
+            Ok(())
+        }
         Request::Status
         | Request::GetConfiguration
         | Request::Idle { .. }
@@ -122,6 +128,8 @@ pub(crate) fn conclude(
         | Request::Protocol { .. }
         | Request::GetProtocol
         | Request::GetReport { .. }
-        | Request::SetReport { .. } => Ok(()),
+        | Request::SetReport { .. }
+        | Request::Halt
+        | Request::EndpointStatus => Ok(()),
     }
 }

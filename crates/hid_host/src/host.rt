@@ -1,16 +1,17 @@
 //! The host of one device: the requests that it makes, and its polls.
-ghost use Rattle.std.specs.Prelude.{◌≡◌, ◌⊎◌, ◌≤◌, ◌<◌, ◌+◌, ◌++◌, length, IfOk, IfErr, vec_len, vec_capacity};
+ghost use Rattle.std.specs.Prelude.{◌≡◌, ◌⊎◌, false, ◌≤◌, ◌<◌, ◌+◌, ◌++◌, length, IfOk, IfErr, vec_len, vec_capacity};
 ghost use Rattle.std.specs.Option.{option_copied};
 ghost use Rattle.hid_layout.specs.Controls.{items_of, max_events};
 ghost use Rattle.hid_layout.specs.Layout.{Contents};
 ghost use Rattle.usb_packet.specs.Spelling.{Fits};
 ghost use Rattle.usb_transact.specs.Taken.{taken};
 ghost use Rattle.hid_device.specs.Laying.{Lays};
+ghost use Rattle.hid_host.specs.Bringing.{may_cut};
 ghost use Rattle.hid_host.specs.Conclusions.{IsNoLayout};
-ghost use Rattle.hid_host.specs.Host.{cold_host, polls_with, ready_host, ready_after};
-ghost use Rattle.hid_host.specs.Phase.{IsReady, IfReady, state_of};
+ghost use Rattle.hid_host.specs.Host.{cold_host, is_clear, polls_with, ready_host, ready_after};
+ghost use Rattle.hid_host.specs.Phase.{IsReady, IfReady, may_poll, state_of};
 ghost use Rattle.hid_host.specs.Ready.{told_of, events_behind};
-ghost use Rattle.hid_host.specs.Resetting.{SuitsRound, reset_told};
+ghost use Rattle.hid_host.specs.Resetting.{SuitsRound, cut_told, reset_told};
 
 use crate::conclusions::{conclude, layout_of};
 use crate::fault::StackFault;
@@ -34,13 +35,22 @@ pub(crate) struct Transfer {
     pub(crate) ends: HostTransfer,
 }
 
-/// The host of one device. A contract sees it as `addr`, `phase` and `transfer`, the one that it began last.
+/// Whether a request ends a halt of the endpoint that is polled.
+fn is_clear(request: &Request) -> bool
+    ensures { result ≡ is_clear request.now }
+{
+    matches!(request, Request::Clear)
+}
+
+/// The host of one device. A contract sees it as `addr`, `phase`, `transfer`, the one that it began last, and `clearing`,
+/// whether a `Clear` is pending.
 #[derive(Drop)]
 pub struct HostDevice {
     alloc: Global,
     addr: u8,
     phase: HostPhase,
     transfer: Option<Transfer>,
+    clearing: bool,
 }
 
 impl Model for HostDevice {
@@ -51,7 +61,7 @@ impl Model for HostDevice {
 
     ghost Value = { HostEnd };
 
-    ghost view = { λ h. record { addr = h.addr; phase = h.phase; transfer = h.transfer } };
+    ghost view = { λ h. record { addr = h.addr; phase = h.phase; transfer = h.transfer; clearing = h.clearing } };
 
     ghost invariant = { λ h. (0 < h.addr) × (h.addr ≤ MAX_ADDRESS) × HasEndpoint h.phase };
 }
@@ -68,6 +78,7 @@ impl HostDevice {
             addr,
             phase: HostPhase::Cold,
             transfer: None,
+            clearing: false,
         }
     }
 
@@ -93,6 +104,7 @@ impl HostDevice {
             addr,
             phase: HostPhase::Ready(host),
             transfer: None,
+            clearing: false,
         })
     }
 
@@ -114,15 +126,26 @@ impl HostDevice {
         }
     }
 
+    /// Whether the host polls: it has configured its device, and no `Clear` is pending (USB 2.0, 9.4.5).
+    pub fn may_poll(&self) -> bool
+        ensures { result ≡ may_poll (state_of self.now.phase) self.now.clearing }
+    {
+        self.phase.state().polls(self.clearing)
+    }
+
     /// The IN token of a poll (USB 2.0, 8.4.1).
     ///
     /// # Errors
-    /// [`StackFault::NotReady`] where the host hasn't configured its device.
+    /// [`StackFault::NotReady`] where the host hasn't configured its device, and from the begin of a `Clear` until one is
+    /// done: it may take effect at any try, and a poll behind that would meet another toggle than the host expects.
     pub fn token(&self) -> Result<Packet, StackFault>
-        ensures token { result ≡ polls_with self.now.phase }
+        ensures token { result ≡ polls_with self.now }
         ensures fits { IfOk result Fits }
-        ensures is_ready { IfOk result (λ _. IsReady self.now.phase) }
+        ensures is_ready { IfOk result (λ _. IsReady self.now.phase × (self.now.clearing ≡ false)) }
     {
+        if self.clearing {
+            return Err(StackFault::NotReady);
+        }
         match &self.phase {
             HostPhase::Cold | HostPhase::Described(_) | HostPhase::Parsed(..) => Err(
                 StackFault::NotReady,
@@ -186,6 +209,27 @@ impl HostDevice {
         }
         self.phase = HostPhase::Cold;
         self.transfer = None;
+        self.clearing = false;
+    }
+
+    /// A halt of the endpoint, or its end, cut the round that was open at the device: motion of it whose data the host hasn't
+    /// got is told as dropped, and nothing else. It is given that round, with whether its data went out as DATA1, and the
+    /// parts that were fixed last, and stands as it did before the cut; one that isn't ready tells nothing. There is reserved
+    /// room for `max_events` more where it is ready; no memory is taken.
+    pub fn tell_cut(&self, round: Option<(usize, bool)>, fixed: &Shown, out: &mut Vec<Event>)
+        requires suits { IfReady self.now.phase (λ host. SuitsRound host.layout round fixed.now) }
+        requires room { IfReady self.now.phase (λ host. vec_len out.old
+            + max_events (items_of host.layout) ≤ vec_capacity out.old) }
+        ensures events { out.new.items
+            ≡ out.old.items ++ cut_told self.now.phase round fixed.now }
+        ensures few { IfReady self.now.phase (λ host. length out.new.items
+            ≤ length out.old.items + max_events (items_of host.layout)) }
+        ensures room { vec_capacity out.new ≡ vec_capacity out.old }
+    {
+        match &self.phase {
+            HostPhase::Cold | HostPhase::Described(_) | HostPhase::Parsed(..) => {}
+            HostPhase::Ready(host) => host.tell_cut(round, fixed, out),
+        }
     }
 
     /// The pipe that the host polls.
@@ -215,7 +259,7 @@ impl HostDevice {
     ghost use Rattle.std.specs.Prelude.{Ok, Err, Some, None, OnOk, OnErr, is_some};
     ghost use Rattle.hid_requests.specs.Asking.{FitsRequest};
     ghost use Rattle.hid_host.specs.declared.fault.StackFault.{StackFault as Refusal};
-    ghost use Rattle.hid_host.specs.Host.{ConcludesAt, ControlSteps, ShowsLast, begin_refusal, begun, bytes_got, running};
+    ghost use Rattle.hid_host.specs.Host.{ConcludesAt, ControlSteps, ShowsLast, begin_refusal, begun, bytes_got, clearing_behind, running};
 
     /// Whether a transfer runs.
     fn is_busy(&self) -> bool
@@ -227,8 +271,21 @@ impl HostDevice {
         }
     }
 
+    /// Whether a try of the transfer that runs may cut the round that is open at the device: it is one of `Halt` or `Clear`.
+    pub fn may_cut(&self) -> bool
+        ensures { result ≡ may_cut (running self.now.transfer) }
+    {
+        match &self.transfer {
+            Some(transfer) => {
+                matches!(transfer.ends.outcome(), Outcome::Running)
+                    && matches!(transfer.request, Request::Halt | Request::Clear)
+            }
+            None => false,
+        }
+    }
+
     /// Begins a transfer of a request. Nothing is sent yet, and a call that is refused changes nothing. It takes the memory
-    /// for wLength bytes.
+    /// for wLength bytes. From the begin of a `Clear` until one is done the host doesn't poll.
     ///
     /// # Errors
     /// [`StackFault::Control`] with [`ControlFault::Busy`] where another transfer runs; then [`StackFault::NotReady`]
@@ -256,6 +313,7 @@ impl HostDevice {
             request: request.copied(),
             ends,
         });
+        self.clearing = is_clear(request) || self.clearing;
         Ok(())
     }
 
@@ -290,12 +348,16 @@ impl HostDevice {
     fn concluded(&mut self, transfer: &Transfer) -> Result<Progress, StackFault>
         ensures concludes { ConcludesAt transfer.now.ends.stage self.old.addr transfer.now.request
             self.old.phase (bytes_got transfer.now.ends) result self.new.phase }
-        ensures others { self.new ≡ record self.old { phase = self.new.phase } }
+        ensures others { self.new ≡ record self.old {
+          phase = self.new.phase;
+          clearing = clearing_behind transfer.now.ends.stage transfer.now.request self.old.clearing;
+        } }
     {
         match transfer.ends.outcome() {
             Outcome::Running => Ok(Progress::Running),
             Outcome::Failed(fault) => Ok(Progress::Failed(fault)),
             Outcome::Done(bytes) => {
+                self.clearing = !is_clear(&transfer.request) && self.clearing;
                 conclude(
                     self.alloc,
                     self.addr,

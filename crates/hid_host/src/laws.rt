@@ -1,5 +1,5 @@
 //! What follows for a host and the virtual device that it brings up.
-ghost use Rattle.std.specs.Prelude.{◌≡◌, ℕ, Some, None, true, Result};
+ghost use Rattle.std.specs.Prelude.{◌≡◌, ℕ, Bool, true, false, Some, None, Result};
 ghost use Rattle.usb_transact.specs.declared.host.Took.{Took};
 ghost use Rattle.usb_transact.specs.declared.transaction.Fate.{Fate};
 ghost use Rattle.usb_control.specs.declared.host.Progress.{Progress};
@@ -8,7 +8,7 @@ ghost use Rattle.usb_control.specs.Device.{DevControlState};
 ghost use Rattle.hid_requests.specs.declared.request.Request.{Request};
 ghost use Rattle.hid_requests.specs.Asking.{FitsRequest};
 ghost use Rattle.hid_cells.specs.declared.change.Change.{Change};
-ghost use Rattle.hid_device.specs.Core.{CoreState, IsSound, changed_core, closed_core, configured_core, framed_core, opening_of, round_of};
+ghost use Rattle.hid_device.specs.Core.{CoreState, IsSound, changed_core, closed_core, configured_core, framed_core, halted_core, opening_of, round_of};
 ghost use Rattle.hid_device.specs.Deciding.{core_table};
 ghost use Rattle.hid_host.specs.declared.fault.StackFault.{StackFault};
 ghost use Rattle.hid_host.specs.Host.{ControlSteps, HostEnd, begin_refusal, begun, cold_host, ready_after, ready_host, running};
@@ -46,7 +46,7 @@ pub fn hosts_know_their_devices()
         → Knows host control
         → IfReady host.phase (λ known. Knows (ready_after host known took) control) }
     ensures meanwhile { (host : HostEnd) (old new : DevControlState CoreState)
-        → LeavesTransfers old new → Knows host old → Knows host new }
+        → LeavesTransfers host.clearing old new → Knows host old → Knows host new }
 {
     one_reading();
     accepted_or_refused();
@@ -67,24 +67,26 @@ pub fn control_steps_are_computed()
 }
 
 /// What a device shows of its open round, and of the parts that were fixed last, suits a ready host that knows it: at a reset
-/// of the bus it may be given them.
+/// of the bus, and where a round is cut, it may be given them.
 pub fn rounds_suit_their_hosts()
     ensures { (host : HostEnd) (control : DevControlState CoreState)
         → IsSound control.requests → Knows host control → IfReady host.phase (λ known.
         SuitsRound known.layout (round_of control.requests) control.requests.standing.fixed) }
 {}
 
-/// What befalls a device beside its endpoint 0 leaves its transfers: changes of its controls, frames, polls and their
-/// acknowledgements, and a configuration without a transfer.
+/// What befalls a device beside its endpoint 0 leaves its transfers: changes of its controls, frames, a configuration and a
+/// halt without a transfer, and, while no Clear is pending, polls and their acknowledgements.
 pub fn devices_leave_transfers()
-    ensures changes { (control : DevControlState CoreState) (change : Change)
-        → LeavesTransfers control (with_core control (changed_core control.requests change)) }
-    ensures frames { (control : DevControlState CoreState)
-        → LeavesTransfers control (with_core control (framed_core control.requests)) }
+    ensures changes { (clearing : Bool) (control : DevControlState CoreState) (change : Change)
+        → LeavesTransfers clearing control (with_core control (changed_core control.requests change)) }
+    ensures frames { (clearing : Bool) (control : DevControlState CoreState)
+        → LeavesTransfers clearing control (with_core control (framed_core control.requests)) }
+    ensures configured { (clearing : Bool) (control : DevControlState CoreState)
+        → LeavesTransfers clearing control (with_core control (configured_core control.requests)) }
+    ensures halted { (clearing : Bool) (control : DevControlState CoreState)
+        → LeavesTransfers clearing control (with_core control (halted_core control.requests)) }
     ensures polls { (control : DevControlState CoreState)
-        → LeavesTransfers control (with_core control (opening_of control.requests)) }
+        → LeavesTransfers false control (with_core control (opening_of control.requests)) }
     ensures acknowledged { (control : DevControlState CoreState)
-        → LeavesTransfers control (with_core control (closed_core control.requests)) }
-    ensures configured { (control : DevControlState CoreState)
-        → LeavesTransfers control (with_core control (configured_core control.requests)) }
+        → LeavesTransfers false control (with_core control (closed_core control.requests)) }
 {}

@@ -1,6 +1,6 @@
 //! How far a host has come with its device.
 ghost use Rattle.std.specs.Prelude.{◌≡◌};
-ghost use Rattle.hid_host.specs.Phase.{asking_at, may_begin, state_of};
+ghost use Rattle.hid_host.specs.Phase.{asking_at, may_begin, may_poll, state_of};
 
 use crate::ready::ReadyHost;
 use hid_layout::Layout;
@@ -14,11 +14,11 @@ use usb_control::ConfigInfo;
 /// | `Cold` | nothing | `Config` | a configuration, to `Described` |
 /// | `Described` | what the configuration says | `Report` | a report descriptor, to `Parsed` |
 /// | `Parsed` | the layout of the reports | `Configure`, `Protocol` | the status of `Configure`, to `Ready` |
-/// | `Ready` | the pipe and the view of the controls | polls | nothing |
+/// | `Ready` | the pipe and the view of the controls | polls, `Halt`, `Clear`, `EndpointStatus` | nothing |
 ///
 /// `Device`, `Status` and `GetConfiguration` may begin in each; `Idle`, `GetIdle`, `GetProtocol`, `GetReport` and
-/// `SetReport` in `Parsed` and `Ready`. They lead nowhere, and an answer that is refused doesn't either. A reset of the bus
-/// leads back to `Cold`.
+/// `SetReport` in `Parsed` and `Ready`. They lead nowhere, and an answer that is refused doesn't either. From the begin of a
+/// `Clear` no poll begins until one is done (USB 2.0, 9.4.5). A reset of the bus leads back to `Cold`.
 #[derive(Clone, Copy, Debug, PartialEq, Eq)]
 pub enum HostState {
     /// It knows nothing of the device.
@@ -66,11 +66,17 @@ impl HostPhase {
     pub(crate) fn asking(&self) -> Asking
         ensures { result ≡ asking_at self.now }
     {
-        let report_length = match self {
-            HostPhase::Described(info) | HostPhase::Parsed(info, _) => info.report_length,
-            HostPhase::Cold | HostPhase::Ready(_) => 0,
+        let (report_length, endpoint) = match self {
+            HostPhase::Cold => (0, 0),
+            HostPhase::Described(info) | HostPhase::Parsed(info, _) => {
+                (info.report_length, info.endpoint)
+            }
+            HostPhase::Ready(host) => (0, host.endpoint()),
         };
-        Asking { report_length }
+        Asking {
+            report_length,
+            endpoint,
+        }
     }
 }
 
@@ -89,6 +95,16 @@ impl HostState {
             | Request::GetProtocol
             | Request::GetReport { .. }
             | Request::SetReport { .. } => matches!(self, HostState::Parsed | HostState::Ready),
+            Request::Halt | Request::Clear | Request::EndpointStatus => {
+                matches!(self, HostState::Ready)
+            }
         }
+    }
+
+    /// Whether a host polls here, by whether a `Clear` is pending.
+    pub(crate) fn polls(self, clearing: bool) -> bool
+        ensures { result ≡ may_poll self clearing }
+    {
+        matches!(self, HostState::Ready) && !clearing
     }
 }

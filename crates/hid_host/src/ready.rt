@@ -7,8 +7,8 @@ ghost use Rattle.hid_usages.specs.Cells.{FitsView, blank};
 ghost use Rattle.usb_packet.specs.Spelling.{Fits};
 ghost use Rattle.usb_transact.specs.Taken.{taken};
 ghost use Rattle.usb_transact.specs.Host.{token_to};
-ghost use Rattle.hid_host.specs.Ready.{Known, known_at_start, known_behind, told_of, events_behind};
-ghost use Rattle.hid_host.specs.Resetting.{SuitsRound, awaited, known_told_back};
+ghost use Rattle.hid_host.specs.Ready.{Known, known_at_start, known_behind, known_cleared, told_of, events_behind};
+ghost use Rattle.hid_host.specs.Resetting.{SuitsRound, awaited, known_cut, known_told_back};
 
 use crate::fault::StackFault;
 use hid_fields::WordCodec;
@@ -68,6 +68,23 @@ impl ReadyHost {
         ensures fits { Fits result }
     {
         self.pipe.token()
+    }
+
+    /// The endpoint that is polled.
+    pub(crate) fn endpoint(&self) -> u8
+        ensures { result ≡ self.now.pipe.endp }
+    {
+        match self.pipe.token() {
+            Packet::Token { endp, .. } => endp,
+            _ => unreachable!(),
+        }
+    }
+
+    /// A halt of the endpoint was ended: DATA0 is expected (USB 2.0, 9.4.5).
+    pub(crate) fn restart(&mut self)
+        ensures { self.new ≡ known_cleared self.old }
+    {
+        self.pipe.restart();
     }
 
     /// How many events a reply gives at most.
@@ -161,6 +178,22 @@ impl ReadyHost {
                 out,
             ),
             None => changes(&self.layout, &self.view, &self.initial, out),
+        }
+    }
+
+    /// Drops the motion of the round that was open at the device, where its data haven't come: a halt, or its end, cuts it.
+    /// There is reserved room for `max_events` more.
+    pub(crate) fn tell_cut(&self, round: Option<(usize, bool)>, fixed: &Shown, out: &mut Vec<Event>)
+        requires suits { SuitsRound self.now.layout round fixed.now }
+        requires room { vec_len out.old + max_events (items_of self.now.layout)
+            ≤ vec_capacity out.old }
+        ensures events { out.new.items ≡ out.old.items ++ known_cut self.now round fixed.now }
+        ensures few { length out.new.items
+            ≤ length out.old.items + max_events (items_of self.now.layout) }
+        ensures room { vec_capacity out.new ≡ vec_capacity out.old }
+    {
+        if let Some(report) = self.awaited(round) {
+            changes_and_drops(&self.layout, &self.view, &self.view, report, fixed, out);
         }
     }
 }

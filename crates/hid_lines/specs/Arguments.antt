@@ -79,6 +79,6 @@ poll_said (dev ∷ fate ∷ count ∷ []) = three (device_of dev) (fate_of fate)
 poll_said _ = None
 
 -- D
-unfoldable pub reset_said : List Word → Option ℕ
-reset_said (dev ∷ []) = device_of dev
-reset_said _ = None
+unfoldable pub one_device_said : List Word → Option ℕ
+one_device_said (dev ∷ []) = device_of dev
+one_device_said _ = None

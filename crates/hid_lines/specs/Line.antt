@@ -5,11 +5,11 @@ use Rattle.hid_host.specs.declared.phase.Start.{Start}
 use Rattle.hid_lines.specs.declared.line.Keyword.{Keyword}
 use Rattle.hid_lines.specs.declared.line.Keyword.TheVariants as keywords
 use Rattle.hid_lines.specs.declared.line.Line.{Line}
-use Rattle.hid_lines.specs.declared.line.Line.TheVariants.{Nothing, Layout, Values, Device, Press, Release, Null, Set, Move, Frame, Poll, Control, Reset}
+use Rattle.hid_lines.specs.declared.line.Line.TheVariants.{Nothing, Layout, Values, Device, Press, Release, Null, Set, Move, Frame, Poll, Control, Reset, Halt}
 use Rattle.hid_lines.specs.declared.fault.LineFault.{LineFault}
 use Rattle.hid_lines.specs.declared.fault.LineFault.TheVariants.{Syntax, LineTooLong, Memory}
 use Rattle.hid_lines.specs.Words.{Word, words_of, look_up, hex_of}
-use Rattle.hid_lines.specs.Arguments.{or_syntax, with_bytes, two, start_of, boot_of, control_said, set_said, move_said, frame_said, poll_said, reset_said}
+use Rattle.hid_lines.specs.Arguments.{or_syntax, with_bytes, two, start_of, boot_of, control_said, set_said, move_said, frame_said, poll_said, one_device_said}
 use Rattle.hid_lines.specs.Requests.{begin_said}
 
 -- the first word of a line
@@ -19,7 +19,7 @@ keyword_of = look_up (
     ∷ (codes "press", keywords.Press) ∷ (codes "release", keywords.Release) ∷ (codes "null", keywords.Null)
     ∷ (codes "set", keywords.Set) ∷ (codes "move", keywords.Move) ∷ (codes "frame", keywords.Frame)
     ∷ (codes "poll", keywords.Poll) ∷ (codes "control", keywords.Control) ∷ (codes "begin", keywords.Begin)
-    ∷ (codes "reset", keywords.Reset) ∷ [])
+    ∷ (codes "reset", keywords.Reset) ∷ (codes "halt", keywords.Halt) ∷ [])
 
 -- a device and its descriptor: START and KIND are looked at before the hex words
 abbrev pub attachment : Option (Start × Boot) → List Word → Result Line LineFault
@@ -45,7 +45,8 @@ said_by keywords.Frame words = or_syntax Frame (frame_said words)
 said_by keywords.Poll words = or_syntax (λ said. Poll said.0 said.1 said.2) (poll_said words)
 said_by keywords.Control words = or_syntax (λ said. Control said.0 said.1 said.2) (poll_said words)
 said_by keywords.Begin words = begin_said words
-said_by keywords.Reset words = or_syntax Reset (reset_said words)
+said_by keywords.Reset words = or_syntax Reset (one_device_said words)
+said_by keywords.Halt words = or_syntax Halt (one_device_said words)
 
 -- a line that begins with another word is none of the script's
 abbrev pub keyword_said : Option Keyword → List Word → Result Line LineFault

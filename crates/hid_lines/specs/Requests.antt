@@ -3,7 +3,7 @@ use Rattle.std.specs.Prelude.{ℕ, nat_lt, Bool, true, false, List, [], ◌∷�
 use Rattle.hid_descriptor.specs.declared.report.ReportKind.{ReportKind}
 use Rattle.hid_descriptor.specs.declared.report.ReportKind.TheVariants as kinds
 use Rattle.hid_requests.specs.declared.request.Request.{Request}
-use Rattle.hid_requests.specs.declared.request.Request.TheVariants.{Device, Config, Report, Configure, Status, GetConfiguration, Idle, GetIdle, Protocol, GetProtocol, GetReport, SetReport}
+use Rattle.hid_requests.specs.declared.request.Request.TheVariants.{Device, Config, Report, Configure, Status, GetConfiguration, Idle, GetIdle, Protocol, GetProtocol, GetReport, SetReport, Halt, Clear, EndpointStatus}
 use Rattle.hid_lines.specs.declared.fault.LineFault.{LineFault}
 use Rattle.hid_lines.specs.declared.fault.LineFault.TheVariants.{Syntax}
 use Rattle.hid_lines.specs.declared.line.Line.{Line}
@@ -22,7 +22,8 @@ request_word_of = look_up (
     ∷ (codes "get-configuration", words.GetConfiguration) ∷ (codes "idle", words.Idle)
     ∷ (codes "get-idle", words.GetIdle) ∷ (codes "protocol", words.Protocol)
     ∷ (codes "get-protocol", words.GetProtocol) ∷ (codes "get-report", words.GetReport)
-    ∷ (codes "set-report", words.SetReport) ∷ [])
+    ∷ (codes "set-report", words.SetReport) ∷ (codes "halt", words.Halt) ∷ (codes "clear", words.Clear)
+    ∷ (codes "endpoint-status", words.EndpointStatus) ∷ [])
 
 -- TYPE
 abbrev pub kind_of : Word → Option ReportKind
@@ -83,6 +84,9 @@ asked_by words.Protocol more = or_syntax Protocol (protocol_said more)
 asked_by words.GetProtocol more = alone GetProtocol more
 asked_by words.GetReport more = or_syntax (λ said. GetReport said.0 said.1) (report_said more)
 asked_by words.SetReport more = set_report_said more
+asked_by words.Halt more = alone Halt more
+asked_by words.Clear more = alone Clear more
+asked_by words.EndpointStatus more = alone EndpointStatus more
 
 -- a request that begins with another word is none
 abbrev pub word_asked : Option RequestWord → List Word → Result Request LineFault

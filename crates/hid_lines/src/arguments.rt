@@ -1,7 +1,7 @@
 //! What the words behind a line's first one say.
 
 ghost use Rattle.std.specs.Prelude.{◌≡◌, map};
-ghost use Rattle.hid_lines.specs.Arguments.{fate_of, boot_of, start_of, control_said, set_said, move_said, frame_said, poll_said, reset_said};
+ghost use Rattle.hid_lines.specs.Arguments.{fate_of, boot_of, start_of, control_said, set_said, move_said, frame_said, poll_said, one_device_said};
 
 use super::numbers::{read_amount, read_count, read_device, read_signed, read_usage};
 use super::words::look_up;
@@ -113,10 +113,10 @@ pub fn read_poll(words: &[&[u8]]) -> Option<(u8, Fate, u16)>
     Some((dev, fate, count))
 }
 
-/// `D`: a device alone.
-#[tactic(auto, unfolding(crate::specs::Arguments::reset_said))]
-pub fn read_reset(words: &[&[u8]]) -> Option<u8>
-    ensures { result ≡ reset_said (map (λ word. word.now) words.now) }
+/// `D`: a device alone, which is reset or halted.
+#[tactic(auto, unfolding(crate::specs::Arguments::one_device_said))]
+pub fn read_one_device(words: &[&[u8]]) -> Option<u8>
+    ensures { result ≡ one_device_said (map (λ word. word.now) words.now) }
 {
     let [dev] = words else {
         return None;

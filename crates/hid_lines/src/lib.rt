@@ -8,6 +8,7 @@
 //!   begin 1 config                       Begin { dev: 1, request: Config }
 //!   begin 1 idle 0 125                   Begin { dev: 1, request: Idle { id: 0, time: 125 } }
 //!   reset 2                              Reset { dev: 2 }
+//!   halt 2                               Halt { dev: 2 }
 //!   values 0a Ff10                       Values { bytes: 0A FF 10 }
 //!   # a comment                          Nothing
 //!   values 0                             BadHex

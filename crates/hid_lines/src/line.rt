@@ -5,7 +5,8 @@ ghost use Rattle.hid_lines.specs.Words.{total_length};
 ghost use Rattle.hid_lines.specs.Line.{Gives, keyword_of, meaning_of, words_said, said_by, device_said};
 
 use super::arguments::{
-    read_boot, read_control, read_frame, read_move, read_poll, read_reset, read_set, read_start,
+    read_boot, read_control, read_frame, read_move, read_one_device, read_poll, read_set,
+    read_start,
 };
 use super::fault::LineFault;
 use super::requests::read_begin;
@@ -95,6 +96,10 @@ pub enum Line {
     Reset {
         dev: u8,
     },
+    /// `halt D`: a device halts the endpoint that is polled (USB 2.0, 8.4.5 and 9.4.5).
+    Halt {
+        dev: u8,
+    },
 }
 
 #[derive(Clone, Copy, Debug)]
@@ -112,6 +117,7 @@ enum Keyword {
     Control,
     Begin,
     Reset,
+    Halt,
 }
 
 fn read_keyword(word: &[u8]) -> Option<Keyword>
@@ -132,6 +138,7 @@ fn read_keyword(word: &[u8]) -> Option<Keyword>
             (b"control", Keyword::Control),
             (b"begin", Keyword::Begin),
             (b"reset", Keyword::Reset),
+            (b"halt", Keyword::Halt),
         ],
         word,
     )
@@ -218,8 +225,12 @@ fn read_arguments(keyword: Keyword, words: &[&[u8]]) -> Result<Line, LineFault>
         }
         Keyword::Begin => read_begin(words),
         Keyword::Reset => {
-            let dev = read_reset(words).ok_or(LineFault::Syntax)?;
+            let dev = read_one_device(words).ok_or(LineFault::Syntax)?;
             Ok(Line::Reset { dev })
+        }
+        Keyword::Halt => {
+            let dev = read_one_device(words).ok_or(LineFault::Syntax)?;
+            Ok(Line::Halt { dev })
         }
     }
 }

@@ -29,6 +29,9 @@ enum RequestWord {
     GetProtocol,
     GetReport,
     SetReport,
+    Halt,
+    Clear,
+    EndpointStatus,
 }
 
 fn read_request_word(word: &[u8]) -> Option<RequestWord>
@@ -48,6 +51,9 @@ fn read_request_word(word: &[u8]) -> Option<RequestWord>
             (b"get-protocol", RequestWord::GetProtocol),
             (b"get-report", RequestWord::GetReport),
             (b"set-report", RequestWord::SetReport),
+            (b"halt", RequestWord::Halt),
+            (b"clear", RequestWord::Clear),
+            (b"endpoint-status", RequestWord::EndpointStatus),
         ],
         word,
     )
@@ -184,6 +190,9 @@ fn read_asked(word: RequestWord, words: &[&[u8]]) -> Result<Request, LineFault>
             Ok(Request::GetReport { kind, id })
         }
         RequestWord::SetReport => read_set_report(words),
+        RequestWord::Halt => alone(Request::Halt, words),
+        RequestWord::Clear => alone(Request::Clear, words),
+        RequestWord::EndpointStatus => alone(Request::EndpointStatus, words),
     }
 }
 

@@ -125,9 +125,29 @@ fn a_line_says_its_request(rt: HostRuntime) -> Result<(), Fail> {
     Ok(())
 }
 
+#[test]
+fn a_line_says_what_is_halted(rt: HostRuntime) -> Result<(), Fail> {
+    match parse_line(rt.alloc(), b"\thalt 6")? {
+        Line::Halt { dev } => assert_eq!(rt; dev, 6),
+        _ => assert!(rt; false, "halt"),
+    }
+    let requests: [(&[u8], Request); 3] = [
+        (b"begin 3 halt", Request::Halt),
+        (b"begin 3 clear", Request::Clear),
+        (b"begin 3 endpoint-status", Request::EndpointStatus),
+    ];
+    for (line, asked) in &requests {
+        match parse_line(rt.alloc(), line)? {
+            Line::Begin { dev, request } => assert!(rt; dev == 3 && request == *asked, "begin"),
+            _ => assert!(rt; false, "begin"),
+        }
+    }
+    Ok(())
+}
+
 /// Lines that are none of the script's.
 #[rattlefmt::skip]
-const NO_LINES: [&str; 38] = [
+const NO_LINES: [&str; 42] = [
     "press", "press 1", "press 0 07:04", "press 8 07:04", "press 11 07:04", "press 1 07:04 1",
     "press 1 0704", "press 1 :04", "press 1 07:", "press 1 00007:04", "press 1 07:04:05", "press 1 0G:04",
     "set 1 01:39", "set 1 01:39 -", "set 1 01:39 +1", "set 1 01:39 1234567890123456789",
@@ -137,6 +157,7 @@ const NO_LINES: [&str; 38] = [
     "control", "control 8", "control 1 lost", "control 1 clean 1 1",
     "begin 1", "begin 1 Status", "begin 1 status 1",
     "reset", "reset 0", "reset 8", "reset 1 2",
+    "halt", "halt 0", "halt 8", "halt 1 2",
 ];
 
 #[test]
@@ -165,6 +186,12 @@ begin 1 get-protocol 0
 begin 1 get-report input
 begin 1 get-report 1 0
 begin 1 get-report output 0 02
+begin 1 Halt
+begin 1 halt 81
+begin 1 clear 1
+begin 1 clear-halt
+begin 1 endpoint-status 81
+begin 1 endpoint
 begin 1 set-report output
 begin 1 set-report light 0 0G
 begin 1 set-report output 256 0G

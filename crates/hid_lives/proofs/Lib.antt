@@ -1,5 +1,6 @@
 pub mod LifeLemmas
 pub mod ScheduleLemmas
 pub mod ItemMotionLemmas
+pub mod HaltLemmas
 pub mod MotionLemmas
 mod Vectors

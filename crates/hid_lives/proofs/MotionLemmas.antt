@@ -26,9 +26,10 @@ use Rattle.usb_transact.specs.declared.transaction.Fate.{Fate}
 use Rattle.usb_transact.specs.declared.transaction.Fate.TheVariants.{Clean, TokenLost, ReplyLost, AckLost}
 use Rattle.hid_lives.specs.Motion.{Conserves, open_motion, accepted_in, AreBetweenRounds, KeepsThroughLife, given_by, given_motion, moved_by_change, moved_motion, station_motion, is_done, is_accepted, step_if, accepted, are_accepted, KeepsEach, HasMotions, kept_motions, relative_controls, KeepsMotion, KeepsAccepted}
 use Rattle.hid_lives.specs.Rounds.{OwnStep, Changes, Frame, Polls, part_events}
-use Rattle.hid_lives.specs.Standing.{Standing, first_due}
-use Rattle.hid_lives.specs.Stations.{Station, Open, fresh, opened_by, opened, arrived, answered, after, round_events, events_at, events_in, after_all}
-use Rattle.hid_lives.specs.Lives.{Deed, Own, Idles, Configures, Resets, owns, befallen, befallen_all, reset_events, told_in}
+use Rattle.hid_lives.specs.Standing.{Standing, cut_at, due_where}
+use Rattle.hid_lives.specs.Stations.{Station, Open, report_open, fresh, opened_by, opened, arrived, answered, after, round_events, events_at, events_in, after_all}
+use Rattle.hid_lives.specs.Lives.{Deed, Own, Idles, Configures, Halts, Clears, Resets, owns, befallen, befallen_all, cut_events, reset_events, told_in}
+use Rattle.hid_lives.proofs.LifeLemmas.{station}
 use Rattle.hid_lives.proofs.ScheduleLemmas.{own_told, own_stands}
 use Rattle.hid_lives.proofs.ItemMotionLemmas.{blank_moves, room_moves, shown_moves, minus_moves, split_motion, amount_at, ChangesMotion, changed_motion, has_motion_at, given_append, quiet_changes, told_here, told_elsewhere}
 
@@ -254,7 +255,7 @@ Keeps items s x c = station_motion items s c +ℤ moved_motion c (step_if (is_ac
 
 -- a change, by what comes of it
 abbrev standing_of : Standing → OrFault (List Cell) → Standing
-standing_of d (Ok cells) = record { snapshot = cells; fixed = d.fixed; frames = d.frames; idle = d.idle }
+standing_of d (Ok cells) = record { snapshot = cells; fixed = d.fixed; frames = d.frames; idle = d.idle; cut = d.cut }
 standing_of d (Err fault) = d
 
 change_keeps : (items : List Item) (s : Station) (change : Change) (c : ControlId) (o : OrFault (List Cell)) → HasMotions items s → changed items s.standing.snapshot change ≡ o
@@ -270,10 +271,10 @@ change_moving items s change (Ok cells) moving h = record { snapshot = (changed_
 change_moving items s change (Err fault) moving h = moving
 
 -- an opening takes out of the snapshot what its round carries
-opened_by_same : (items : List Item) (d : Standing) (odd : Bool) (view : List Cell) (due : Option ℕ) (c : ControlId) → KeepsEach items d.snapshot → KeepsEach items d.fixed
-    → station_motion items (record { standing = d; current = None; odd = odd; view = view }) c ≡ station_motion items (opened_by items (record { standing = d; current = None; odd = odd; view = view }) due) c
-opened_by_same items d odd view None c h k = refl
-opened_by_same items d odd view (Some r) c h k = sum_zero (motion_of d.snapshot c) ∙ opening_sum r c.item c.index items d.snapshot (shown items r d.snapshot d.fixed) h (moving_shown items r d.snapshot d.fixed h k)
+opened_by_same : (items : List Item) (d : Standing) (odd : Bool) (view : List Cell) (halted : Bool) (due : Option ℕ) (c : ControlId) → KeepsEach items d.snapshot → KeepsEach items d.fixed
+    → station_motion items (station d None odd view halted) c ≡ station_motion items (opened_by items (station d None odd view halted) due) c
+opened_by_same items d odd view halted None c h k = refl
+opened_by_same items d odd view halted (Some r) c h k = sum_zero (motion_of d.snapshot c) ∙ opening_sum r c.item c.index items d.snapshot (shown items r d.snapshot d.fixed) h (moving_shown items r d.snapshot d.fixed h k)
 
 opened_by_moving : (items : List Item) (s : Station) (due : Option ℕ) → HasMotions items s → HasMotions items (opened_by items s due)
 opened_by_moving items s None moving = moving
@@ -281,46 +282,46 @@ opened_by_moving items s (Some r) moving =
     let fixed = moving_shown items r s.standing.snapshot s.standing.fixed moving.snapshot moving.fixed in
     record { snapshot = moving_taken items r s.standing.snapshot (shown items r s.standing.snapshot s.standing.fixed) moving.snapshot fixed; fixed = fixed; view = moving.view }
 
-opened_same : (items : List Item) (d : Standing) (current : Option Open) (odd : Bool) (view : List Cell) (c : ControlId) → KeepsEach items d.snapshot → KeepsEach items d.fixed
-    → station_motion items (record { standing = d; current = current; odd = odd; view = view }) c ≡ station_motion items (opened items (record { standing = d; current = current; odd = odd; view = view })) c
-opened_same items d (Some round) odd view c h k = refl
-opened_same items d None odd view c h k = opened_by_same items d odd view (first_due items d) c h k
+opened_same : (items : List Item) (d : Standing) (current : Option Open) (odd : Bool) (view : List Cell) (halted : Bool) (c : ControlId) → KeepsEach items d.snapshot → KeepsEach items d.fixed
+    → station_motion items (station d current odd view halted) c ≡ station_motion items (opened items (station d current odd view halted)) c
+opened_same items d (Some round) odd view halted c h k = refl
+opened_same items d None odd view halted c h k = opened_by_same items d odd view halted (due_where items halted d) c h k
 
-opened_moving : (items : List Item) (d : Standing) (current : Option Open) (odd : Bool) (view : List Cell) → HasMotions items (record { standing = d; current = current; odd = odd; view = view })
-    → HasMotions items (opened items (record { standing = d; current = current; odd = odd; view = view }))
-opened_moving items d (Some round) odd view moving = moving
-opened_moving items d None odd view moving = opened_by_moving items (record { standing = d; current = None; odd = odd; view = view }) (first_due items d) moving
+opened_moving : (items : List Item) (d : Standing) (current : Option Open) (odd : Bool) (view : List Cell) (halted : Bool) → HasMotions items (station d current odd view halted)
+    → HasMotions items (opened items (station d current odd view halted))
+opened_moving items d (Some round) odd view halted moving = moving
+opened_moving items d None odd view halted moving = opened_by_moving items (station d None odd view halted) (due_where items halted d) moving
 
 arrived_same : (items : List Item) (s : Station) (fate : Fate) (c : ControlId) → HasMotions items s → station_motion items s c ≡ station_motion items (arrived items s fate) c
 arrived_same items s TokenLost c moving = refl
-arrived_same items s Clean c moving = opened_same items s.standing s.current s.odd s.view c moving.snapshot moving.fixed
-arrived_same items s ReplyLost c moving = opened_same items s.standing s.current s.odd s.view c moving.snapshot moving.fixed
-arrived_same items s AckLost c moving = opened_same items s.standing s.current s.odd s.view c moving.snapshot moving.fixed
+arrived_same items s Clean c moving = opened_same items s.standing s.current s.odd s.view s.halted c moving.snapshot moving.fixed
+arrived_same items s ReplyLost c moving = opened_same items s.standing s.current s.odd s.view s.halted c moving.snapshot moving.fixed
+arrived_same items s AckLost c moving = opened_same items s.standing s.current s.odd s.view s.halted c moving.snapshot moving.fixed
 
 arrived_moving : (items : List Item) (s : Station) (fate : Fate) → HasMotions items s → HasMotions items (arrived items s fate)
 arrived_moving items s TokenLost moving = moving
-arrived_moving items s Clean moving = opened_moving items s.standing s.current s.odd s.view moving
-arrived_moving items s ReplyLost moving = opened_moving items s.standing s.current s.odd s.view moving
-arrived_moving items s AckLost moving = opened_moving items s.standing s.current s.odd s.view moving
+arrived_moving items s Clean moving = opened_moving items s.standing s.current s.odd s.view s.halted moving
+arrived_moving items s ReplyLost moving = opened_moving items s.standing s.current s.odd s.view s.halted moving
+arrived_moving items s AckLost moving = opened_moving items s.standing s.current s.odd s.view s.halted moving
 
 -- a round tells its motion where it crosses, and carries none from then on
-round_keeps : (items : List Item) (d : Standing) (r : ℕ) (crossed odd : Bool) (view : List Cell) (fate : Fate) (c : ControlId) → KeepsEach items d.fixed → length view ≡ length items
-    → let s : Station = record { standing = d; current = Some (record { report = r; crossed = crossed }); odd = odd; view = view } in
+round_keeps : (items : List Item) (d : Standing) (r : ℕ) (crossed odd : Bool) (view : List Cell) (halted : Bool) (fate : Fate) (c : ControlId) → KeepsEach items d.fixed → length view ≡ length items
+    → let s : Station = station d (Some (record { report = r; crossed = crossed })) odd view halted in
     station_motion items s c ≡ given_motion c (round_events items s fate) +ℤ station_motion items (answered items s fate) c
-round_keeps items d r true odd view Clean c h k = omega (arith, ints)
-round_keeps items d r true odd view TokenLost c h k = omega (arith, ints)
-round_keeps items d r true odd view ReplyLost c h k = omega (arith, ints)
-round_keeps items d r true odd view AckLost c h k = omega (arith, ints)
-round_keeps items d r false odd view Clean c h k = let told = crossing_sum c r items view d.fixed k h in omega (arith, ints, told)
-round_keeps items d r false odd view TokenLost c h k = omega (arith, ints)
-round_keeps items d r false odd view ReplyLost c h k = omega (arith, ints)
-round_keeps items d r false odd view AckLost c h k = let told = crossing_sum c r items view d.fixed k h in omega (arith, ints, told)
+round_keeps items d r true odd view halted Clean c h k = omega (arith, ints)
+round_keeps items d r true odd view halted TokenLost c h k = omega (arith, ints)
+round_keeps items d r true odd view halted ReplyLost c h k = omega (arith, ints)
+round_keeps items d r true odd view halted AckLost c h k = omega (arith, ints)
+round_keeps items d r false odd view halted Clean c h k = let told = crossing_sum c r items view d.fixed k h in omega (arith, ints, told)
+round_keeps items d r false odd view halted TokenLost c h k = omega (arith, ints)
+round_keeps items d r false odd view halted ReplyLost c h k = omega (arith, ints)
+round_keeps items d r false odd view halted AckLost c h k = let told = crossing_sum c r items view d.fixed k h in omega (arith, ints, told)
 
-answer_keeps : (items : List Item) (d : Standing) (current : Option Open) (odd : Bool) (view : List Cell) (fate : Fate) (c : ControlId) → KeepsEach items d.fixed → length view ≡ length items
-    → let s : Station = record { standing = d; current = current; odd = odd; view = view } in
+answer_keeps : (items : List Item) (d : Standing) (current : Option Open) (odd : Bool) (view : List Cell) (halted : Bool) (fate : Fate) (c : ControlId) → KeepsEach items d.fixed → length view ≡ length items
+    → let s : Station = station d current odd view halted in
     station_motion items s c ≡ given_motion c (round_events items s fate) +ℤ station_motion items (answered items s fate) c
-answer_keeps items d None odd view fate c h k = omega (arith, ints)
-answer_keeps items d (Some round) odd view fate c h k = round_keeps items d round.report round.crossed odd view fate c h k
+answer_keeps items d None odd view halted fate c h k = omega (arith, ints)
+answer_keeps items d (Some round) odd view halted fate c h k = round_keeps items d round.report round.crossed odd view halted fate c h k
 
 seen_length : (items : List Item) (r : ℕ) (view parts : List Cell) → length view ≡ length items → KeepsEach items parts → length (seen items r view parts) ≡ length items
 seen_length items r view parts h k = by_item_length (seen_of r) items view parts h (moving_length items parts k)
@@ -329,13 +330,13 @@ view_length : (items : List Item) (r : ℕ) (crossed : Bool) (view parts : List 
 view_length items r true view parts h k = h
 view_length items r false view parts h k = seen_length items r view parts h k
 
-answer_moving : (items : List Item) (d : Standing) (current : Option Open) (odd : Bool) (view : List Cell) (fate : Fate) → HasMotions items (record { standing = d; current = current; odd = odd; view = view })
-    → HasMotions items (answered items (record { standing = d; current = current; odd = odd; view = view }) fate)
-answer_moving items d None odd view fate moving = moving
-answer_moving items d (Some round) odd view TokenLost moving = moving
-answer_moving items d (Some round) odd view ReplyLost moving = moving
-answer_moving items d (Some round) odd view Clean moving = record { snapshot = moving.snapshot; fixed = moving.fixed; view = view_length items round.report round.crossed view d.fixed moving.view moving.fixed }
-answer_moving items d (Some round) odd view AckLost moving = record { snapshot = moving.snapshot; fixed = moving.fixed; view = view_length items round.report round.crossed view d.fixed moving.view moving.fixed }
+answer_moving : (items : List Item) (d : Standing) (current : Option Open) (odd : Bool) (view : List Cell) (halted : Bool) (fate : Fate) → HasMotions items (station d current odd view halted)
+    → HasMotions items (answered items (station d current odd view halted) fate)
+answer_moving items d None odd view halted fate moving = moving
+answer_moving items d (Some round) odd view halted TokenLost moving = moving
+answer_moving items d (Some round) odd view halted ReplyLost moving = moving
+answer_moving items d (Some round) odd view halted Clean moving = record { snapshot = moving.snapshot; fixed = moving.fixed; view = view_length items round.report round.crossed view d.fixed moving.view moving.fixed }
+answer_moving items d (Some round) odd view halted AckLost moving = record { snapshot = moving.snapshot; fixed = moving.fixed; view = view_length items round.report round.crossed view d.fixed moving.view moving.fixed }
 
 step_keeps : (items : List Item) (s : Station) (x : OwnStep) (c : ControlId) → HasMotions items s → Keeps items s x c
 step_keeps items s (Changes change) c moving = change_keeps items s change c (changed items s.standing.snapshot change) moving refl
@@ -344,7 +345,7 @@ step_keeps items s (Polls fate) c moving =
     let t : Station = arrived items s fate in
     let arrives : station_motion items s c ≡ station_motion items t c = arrived_same items s fate c moving in
     let still : HasMotions items t = arrived_moving items s fate moving in
-    let answers : station_motion items t c ≡ given_motion c (round_events items t fate) +ℤ station_motion items (answered items t fate) c = answer_keeps items t.standing t.current t.odd t.view fate c still.fixed still.view in
+    let answers : station_motion items t c ≡ given_motion c (round_events items t fate) +ℤ station_motion items (answered items t fate) c = answer_keeps items t.standing t.current t.odd t.view t.halted fate c still.fixed still.view in
     sum_zero (station_motion items s c) ∙ arrives ∙ answers
 
 pub step_moving : (items : List Item) (s : Station) (x : OwnStep) → HasMotions items s → HasMotions items (after items s x)
@@ -352,7 +353,7 @@ step_moving items s (Changes change) moving = change_moving items s change (chan
 step_moving items s Frame moving = record { snapshot = moving.snapshot; fixed = moving.fixed; view = moving.view }
 step_moving items s (Polls fate) moving =
     let t : Station = arrived items s fate in
-    answer_moving items t.standing t.current t.odd t.view fate (arrived_moving items s fate moving)
+    answer_moving items t.standing t.current t.odd t.view t.halted fate (arrived_moving items s fate moving)
 
 -- whole lists
 moved_append : (c : ControlId) (xs ys : List OwnStep) → moved_motion c (xs ++ ys) ≡ moved_motion c xs +ℤ moved_motion c ys
@@ -370,6 +371,25 @@ blank_parts_each (item ∷ items) = joined _ _ _ _ (shown_moves (head_of item.fo
 blank_length : (items : List Item) → length (blank items) ≡ length items
 blank_length items = length-map items (λ item. blank_cell (head_of item.form))
 
+-- a round that is cut leaves the snapshot, the parts and the view
+cut_snapshot : (o : Option ℕ) (d : Standing) → (cut_at o d).snapshot ≡ d.snapshot
+cut_snapshot None d = refl
+cut_snapshot (Some r) d = refl
+
+cut_fixed : (o : Option ℕ) (d : Standing) → (cut_at o d).fixed ≡ d.fixed
+cut_fixed None d = refl
+cut_fixed (Some r) d = refl
+
+abbrev cut_off : Station → Bool → Bool → Station
+cut_off s halted odd = record { standing = cut_at (report_open s.current) s.standing; current = None; odd = odd; view = s.view; halted = halted }
+
+cut_moving : (items : List Item) (s : Station) (halted odd : Bool) → HasMotions items s → HasMotions items (cut_off s halted odd)
+cut_moving items s halted odd moving = record {
+  snapshot = subst (KeepsEach items) (sym (cut_snapshot (report_open s.current) s.standing)) moving.snapshot;
+  fixed = subst (KeepsEach items) (sym (cut_fixed (report_open s.current) s.standing)) moving.fixed;
+  view = moving.view;
+}
+
 -- what befalls a station leaves it its motions, and between rounds a configuration loses none
 deed_moving : (items : List Item) (s : Station) (x : Deed) → HasMotions items s → HasMotions items (befallen items s x)
 deed_moving items s (Own x) moving = step_moving items s x moving
@@ -379,6 +399,8 @@ deed_moving items s Configures moving = record {
   fixed = blank_parts_each items;
   view = blank_length items;
 }
+deed_moving items s Halts moving = cut_moving items s true s.odd moving
+deed_moving items s Clears moving = cut_moving items s false false moving
 deed_moving items s Resets moving = record { snapshot = moving.snapshot; fixed = blank_parts_each items; view = blank_length items }
 
 configured_same : (items : List Item) (s : Station) (c : ControlId) → s.current ≡ None → station_motion items s c ≡ station_motion items (befallen items s Configures) c
@@ -411,20 +433,36 @@ quiet_between c n (item ∷ items) (b ∷ bs) (a ∷ xs) =
     omega (arith, ints, front, quiet, rest)
 
 -- A reset tells the motion that its open round still carries, and that alone.
-gone_by : (items : List Item) (d : Standing) (r : ℕ) (crossed odd : Bool) (view : List Cell) (c : ControlId) → KeepsEach items d.fixed → length view ≡ length items
-    → let s : Station = record { standing = d; current = Some (record { report = r; crossed = crossed }); odd = odd; view = view } in
+gone_by : (items : List Item) (d : Standing) (r : ℕ) (crossed odd : Bool) (view : List Cell) (halted : Bool) (c : ControlId) → KeepsEach items d.fixed → length view ≡ length items
+    → let s : Station = station d (Some (record { report = r; crossed = crossed })) odd view halted in
     station_motion items s c ≡ given_motion c (reset_events items s) +ℤ station_motion items (befallen items s Resets) c
-gone_by items d r true odd view c h k = let quiet = quiet_between c 0 items view (blank items) in omega (arith, ints, quiet)
-gone_by items d r false odd view c h k =
+gone_by items d r true odd view halted c h k = let quiet = quiet_between c 0 items view (blank items) in omega (arith, ints, quiet)
+gone_by items d r false odd view halted c h k =
     let told = told_from c 0 c.item r items view (blank items) d.fixed (omega arith) k (blank_length items) h in
     let dropped = drops_give c (events_between items r view (blank items) d.fixed) in
     omega (arith, ints, told, dropped)
 
-gone_with : (items : List Item) (d : Standing) (current : Option Open) (odd : Bool) (view : List Cell) (c : ControlId) → KeepsEach items d.fixed → length view ≡ length items
-    → let s : Station = record { standing = d; current = current; odd = odd; view = view } in
+gone_with : (items : List Item) (d : Standing) (current : Option Open) (odd : Bool) (view : List Cell) (halted : Bool) (c : ControlId) → KeepsEach items d.fixed → length view ≡ length items
+    → let s : Station = station d current odd view halted in
     station_motion items s c ≡ given_motion c (reset_events items s) +ℤ station_motion items (befallen items s Resets) c
-gone_with items d None odd view c h k = let quiet = quiet_between c 0 items view (blank items) in omega (arith, ints, quiet)
-gone_with items d (Some round) odd view c h k = gone_by items d round.report round.crossed odd view c h k
+gone_with items d None odd view halted c h k = let quiet = quiet_between c 0 items view (blank items) in omega (arith, ints, quiet)
+gone_with items d (Some round) odd view halted c h k = gone_by items d round.report round.crossed odd view halted c h k
+
+-- A halt and a clear tell it too.
+cut_by : (items : List Item) (d : Standing) (r : ℕ) (crossed odd : Bool) (view : List Cell) (halted still even : Bool) (c : ControlId) → KeepsEach items d.fixed → length view ≡ length items
+    → let s : Station = station d (Some (record { report = r; crossed = crossed })) odd view halted in
+    station_motion items s c ≡ given_motion c (cut_events items s) +ℤ station_motion items (cut_off s still even) c
+cut_by items d r true odd view halted still even c h k = omega (arith, ints)
+cut_by items d r false odd view halted still even c h k =
+    let told = told_from c 0 c.item r items view view d.fixed (omega arith) k k h in
+    let dropped = drops_give c (events_between items r view view d.fixed) in
+    omega (arith, ints, told, dropped)
+
+cut_with : (items : List Item) (d : Standing) (current : Option Open) (odd : Bool) (view : List Cell) (halted still even : Bool) (c : ControlId) → KeepsEach items d.fixed → length view ≡ length items
+    → let s : Station = station d current odd view halted in
+    station_motion items s c ≡ given_motion c (cut_events items s) +ℤ station_motion items (cut_off s still even) c
+cut_with items d None odd view halted still even c h k = omega (arith, ints)
+cut_with items d (Some round) odd view halted still even c h k = cut_by items d round.report round.crossed odd view halted still even c h k
 
 pub lives_keep : (items : List Item) (s : Station) → HasMotions items s → (deeds : List Deed) → AreBetweenRounds items s deeds → KeepsThroughLife items s deeds
 lives_keep items s moving [] between c = omega (arith, ints)
@@ -440,8 +478,18 @@ lives_keep items s moving (Configures ∷ deeds) between c =
     let same : station_motion items s c ≡ station_motion items (befallen items s Configures) c = configured_same items s c between.0 in
     let rest = lives_keep items (befallen items s Configures) (deed_moving items s Configures moving) deeds between.1 c in
     omega (arith, ints, same, rest)
+lives_keep items s moving (Halts ∷ deeds) between c =
+    let cut = cut_with items s.standing s.current s.odd s.view s.halted true s.odd c moving.fixed moving.view in
+    let rest = lives_keep items (befallen items s Halts) (deed_moving items s Halts moving) deeds between.1 c in
+    let told = given_append c (cut_events items s) (told_in items (befallen items s Halts) deeds) in
+    omega (arith, ints, cut, rest, told)
+lives_keep items s moving (Clears ∷ deeds) between c =
+    let cut = cut_with items s.standing s.current s.odd s.view s.halted false false c moving.fixed moving.view in
+    let rest = lives_keep items (befallen items s Clears) (deed_moving items s Clears moving) deeds between.1 c in
+    let told = given_append c (cut_events items s) (told_in items (befallen items s Clears) deeds) in
+    omega (arith, ints, cut, rest, told)
 lives_keep items s moving (Resets ∷ deeds) between c =
-    let gone = gone_with items s.standing s.current s.odd s.view c moving.fixed moving.view in
+    let gone = gone_with items s.standing s.current s.odd s.view s.halted c moving.fixed moving.view in
     let rest = lives_keep items (befallen items s Resets) (deed_moving items s Resets moving) deeds between.1 c in
     let told = given_append c (reset_events items s) (told_in items (befallen items s Resets) deeds) in
     omega (arith, ints, gone, rest, told)

@@ -135,7 +135,7 @@ counted_anew : idle_rounds (replicate 4 Frame ++ Polls Clean ∷ Polls Clean ∷
 counted_anew = refl
 
 abbrev after_frames : ℕ → List ℕ
-after_frames n = (after_frame (record { snapshot = []; fixed = []; frames = n ∷ 0 ∷ []; idle = 0 ∷ 0 ∷ [] })).frames
+after_frames n = (after_frame (record { snapshot = []; fixed = []; frames = n ∷ 0 ∷ []; idle = 0 ∷ 0 ∷ []; cut = false ∷ false ∷ [] })).frames
 
 counted_up : after_frames 1019 ≡ 1020 ∷ 1 ∷ []
 counted_up = refl
@@ -144,7 +144,7 @@ counted_out : after_frames 1020 ≡ 1020 ∷ 1 ∷ []
 counted_out = refl
 
 -- a configuration forgets the parts and the counts, and keeps the snapshot and the idle times
-kept_over : configured hat (blank hat) (7 ∷ []) ≡ record { snapshot = blank hat; fixed = blank_parts hat; frames = 0 ∷ []; idle = 7 ∷ [] }
+kept_over : configured hat (blank hat) (7 ∷ []) ≡ record { snapshot = blank hat; fixed = blank_parts hat; frames = 0 ∷ []; idle = 7 ∷ []; cut = false ∷ [] }
 kept_over = refl
 
 -- what is pressed before a configuration is told after it

@@ -1,5 +1,5 @@
 -- How a station stands behind its life, and behind the rounds of its own steps (USB 2.0, 8.5.4 and 8.6).
-use Rattle.std.specs.Prelude.{◌≡◌, ℕ, zero, suc, Bool, not, List, length, None, IfSome}
+use Rattle.std.specs.Prelude.{◌≡◌, ℕ, zero, suc, Bool, false, not, List, length, None, IfSome}
 use Rattle.std.specs.List.{filter}
 use Rattle.std.specs.Option.{option_map}
 use Rattle.hid_layout.specs.Controls.{Item}
@@ -16,7 +16,8 @@ open_of round = record { report = round.report; crossed = has_crossed round }
 -- How a station stands behind what happened, from this view and this toggle on, and what was told: it stands as the
 -- course does, with the round that is open there, whose part is the one that was fixed last; the view took the parts
 -- of the rounds that crossed, the device's toggle was changed once for each round closed, and the one that the host
--- expects once for each round crossed, all since both ends began anew.
+-- expects once for each round crossed, all since both ends began anew, and of toggles since a clear. (Nothing is said of
+-- what the host expects of a halted endpoint, which sends no data.)
 pub record FollowsLife (items : List Item) (before : List Cell) (odd : Bool) (happened : List Happening)
     (course : Course) (told : List Event) (s : Station) : Type 0 where
   pub events : told ≡ told_from items before happened
@@ -24,12 +25,13 @@ pub record FollowsLife (items : List Item) (before : List Cell) (odd : Bool) (ha
   pub open_round : s.current ≡ option_map open_of course.current
   pub part : IfSome course.current (λ round. round.parts ≡ s.standing.fixed)
   pub view : s.view ≡ view_from items before happened
+  pub halted : s.halted ≡ course.halted
   pub toggle : s.odd ≡ toggle_from has_closed odd happened
-  pub expects : expected s ≡ toggle_from has_crossed odd happened
+  pub expects : s.halted ≡ false → expected s ≡ toggle_from has_crossed odd happened
 
 -- a course begins where no round is open
 abbrev pub course_from : Station → Course
-course_from from = record { standing = from.standing; current = None }
+course_from from = record { standing = from.standing; current = None; halted = from.halted }
 
 -- what befalls a station makes of it, and tells, what comes of its course
 abbrev pub LivesOn : List Item → Station → List Deed → Type 0
@@ -53,6 +55,7 @@ pub record FollowsRounds (items : List Item) (before : List Cell) (odd : Bool)
   pub open_round : s.current ≡ option_map open_of course.current
   pub part : IfSome course.current (λ round. round.parts ≡ s.standing.fixed)
   pub view : s.view ≡ view_of items before (filter has_crossed gone)
+  pub halted : s.halted ≡ course.halted
   pub toggle : s.odd ≡ flips (length (filter has_closed gone)) odd
   pub expects : expected s ≡ flips (length (filter has_crossed gone)) odd
 

@@ -15,7 +15,7 @@ use Rattle.hid_cells.specs.Parts.{is_of, item_at, motion_of}
 use Rattle.hid_cells.specs.Snapshots.{changed}
 use Rattle.hid_lives.specs.Rounds.{OwnStep, Changes, Frame, Polls}
 use Rattle.hid_lives.specs.Stations.{Station, Open, after, after_all, events_in}
-use Rattle.hid_lives.specs.Lives.{Deed, Own, Idles, Configures, Resets, befallen, befallen_all, told_in}
+use Rattle.hid_lives.specs.Lives.{Deed, Own, Idles, Configures, Halts, Clears, Resets, befallen, befallen_all, told_in}
 
 -- two IDs name the same control
 abbrev pub is_same_control : ControlId → ControlId → Bool
@@ -141,13 +141,17 @@ accepted_in items s [] = []
 accepted_in items s (Own x ∷ deeds) = step_if (is_accepted items s x) x ++ accepted_in items (after items s x) deeds
 accepted_in items s (Idles idle ∷ deeds) = accepted_in items (befallen items s (Idles idle)) deeds
 accepted_in items s (Configures ∷ deeds) = accepted_in items (befallen items s Configures) deeds
+accepted_in items s (Halts ∷ deeds) = accepted_in items (befallen items s Halts) deeds
+accepted_in items s (Clears ∷ deeds) = accepted_in items (befallen items s Clears) deeds
 accepted_in items s (Resets ∷ deeds) = accepted_in items (befallen items s Resets) deeds
 
--- no round is open where a device is configured; a reset may end one, and tells its motion as dropped
+-- no round is open where a device is configured; a halt, a clear and a reset may end one, and tell its motion as dropped
 abbrev pub IsBetweenRounds : Station → Deed → Type 0
 IsBetweenRounds s (Own x) = Unit {0}
 IsBetweenRounds s (Idles idle) = Unit {0}
 IsBetweenRounds s Configures = s.current ≡ None
+IsBetweenRounds s Halts = Unit {0}
+IsBetweenRounds s Clears = Unit {0}
 IsBetweenRounds s Resets = Unit {0}
 
 -- and so at each configuration of a life
@@ -155,8 +159,8 @@ abbrev pub AreBetweenRounds : List Item → Station → List Deed → Type 0
 AreBetweenRounds items s [] = Unit {0}
 AreBetweenRounds items s (x ∷ deeds) = IsBetweenRounds s x × AreBetweenRounds items (befallen items s x) deeds
 
--- Neither does what else befalls a device, resets too, whose drops are told: a configuration would forget the motion of
--- an open round alone.
+-- Neither does what else befalls a device, halts, clears and resets too, whose drops are told: a configuration would
+-- forget the motion of an open round alone.
 abbrev pub KeepsThroughLife : List Item → Station → List Deed → Type 0
 KeepsThroughLife items s deeds =
     (c : ControlId) → Conserves c (accepted_in items s deeds) (station_motion items s c)

@@ -1,7 +1,8 @@
--- Rounds of interrupt-IN polls: what a part goes through from its opening to its acknowledgement (USB 2.0, 8.5.4
--- and 8.6).
+-- Rounds of interrupt-IN polls: what a part goes through from its opening to its acknowledgement (USB 2.0, 8.5.4, 8.6
+-- and 9.4.5).
 use Rattle.std.specs.Prelude.{ℕ, Bool, true, false, List, [], ◌∷◌, ◌++◌, Option, Some, None}
 use Rattle.std.specs.List.{list_any, filter}
+use Rattle.std.specs.Option.{option_map}
 use Rattle.hid_layout.specs.Controls.{Item}
 use Rattle.hid_cells.specs.declared.cell.Cell.{Cell}
 use Rattle.hid_cells.specs.declared.change.Change.{Change}
@@ -10,7 +11,7 @@ use Rattle.hid_cells.specs.Cells.{blank}
 use Rattle.hid_cells.specs.Views.{seen, events_between}
 use Rattle.usb_transact.specs.declared.transaction.Fate.{Fate}
 use Rattle.usb_transact.specs.declared.transaction.Fate.TheVariants.{Clean, TokenLost, ReplyLost, AckLost}
-use Rattle.hid_lives.specs.Standing.{Standing, configured, first_due, after_change, after_frame, after_opening}
+use Rattle.hid_lives.specs.Standing.{Standing, configured, due_where, after_change, after_frame, after_opening}
 
 -- What happens at one device: a control changes, a frame passes, or the host polls it and this fate befalls the poll.
 pub data OwnStep : Type 0 where
@@ -47,24 +48,31 @@ has_crossed round = list_any reaches_host round.polls
 abbrev pub has_closed : Round → Bool
 has_closed round = list_any is_clean round.polls
 
--- the course of a device: how it stands, and the round that is open, where one is
+-- the course of a device: how it stands, the round that is open, where one is, and whether its endpoint is halted
 pub record Course : Type 0 where
   pub standing : Standing
   pub current : Option Round
+  pub halted : Bool
+
+-- the report of a round, where there is one
+abbrev pub round_report : Option Round → Option ℕ
+round_report current = option_map (λ round. round.report) current
 
 -- the round that a device opened as it came to stand so
 abbrev pub new_round : ℕ → Standing → Round
 new_round r d = record { report = r; parts = d.fixed; polls = [] }
 
 -- where some report is due, a round of it opens
-abbrev pub opened_if : List Item → Standing → Option ℕ → Course
-opened_if items d None = record { standing = d; current = None }
-opened_if items d (Some r) =
-    record { standing = after_opening items r d; current = Some (new_round r (after_opening items r d)) }
+abbrev pub opened_if : List Item → Course → Option ℕ → Course
+opened_if items c None = c
+opened_if items c (Some r) = record c {
+  standing = after_opening items r c.standing;
+  current = Some (new_round r (after_opening items r c.standing));
+}
 
--- a token that arrives opens a round where none is open and some report is due
+-- a token that arrives opens a round where none is open, the endpoint isn't halted and some report is due
 abbrev pub opening : List Item → Course → Course
-opening items c = elim c.current [ Some round ↦ c | None ↦ opened_if items c.standing (first_due items c.standing) ]
+opening items c = elim c.current [ Some round ↦ c | None ↦ opened_if items c (due_where items c.halted c.standing) ]
 
 -- of a poll, before its answer: its token arrives, or is lost
 abbrev pub at_arrival : List Item → Course → Fate → Course
@@ -95,12 +103,12 @@ closed_by_poll (Some round) AckLost = []
 
 -- a poll leaves the device as it stands, and its round open or not
 abbrev pub after_poll : Course → Fate → Course
-after_poll c fate = record { standing = c.standing; current = open_after c.current fate }
+after_poll c fate = record c { current = open_after c.current fate }
 
 -- The course after a step, and the round that the step closes.
 abbrev pub after_step : List Item → Course → OwnStep → Course
-after_step items c (Changes change) = record { standing = after_change items c.standing change; current = c.current }
-after_step items c Frame = record { standing = after_frame c.standing; current = c.current }
+after_step items c (Changes change) = record c { standing = after_change items c.standing change }
+after_step items c Frame = record c { standing = after_frame c.standing }
 after_step items c (Polls fate) = after_poll (at_arrival items c fate) fate
 
 -- changes and frames close no round
@@ -140,9 +148,10 @@ abbrev pub view_of : List Item → List Cell → List Round → List Cell
 view_of items view [] = view
 view_of items view (round ∷ rest) = view_of items (seen items round.report view round.parts) rest
 
--- a device that was just configured, with this snapshot and these idle times: no round is open
+-- a device that was just configured, with this snapshot and these idle times: no round is open, and no halt stands
 abbrev pub fresh_course : List Item → List Cell → List ℕ → Course
-fresh_course items snapshot idle = record { standing = configured items snapshot idle; current = None }
+fresh_course items snapshot idle =
+    record { standing = configured items snapshot idle; current = None; halted = false }
 
 -- the rounds that crossed since the configuration
 abbrev pub crossed_rounds : List Item → List Cell → List ℕ → List OwnStep → List Round

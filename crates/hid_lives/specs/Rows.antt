@@ -1,5 +1,5 @@
--- Worked lives of known devices, by what is told of them (USB 2.0, 8.5.4, 8.6 and 9.4.7).
-use Rattle.std.specs.Prelude.{◌≡◌, ℕ, List, [], ◌∷◌, map, ℤ}
+-- Worked lives of known devices, by what is told of them (USB 2.0, 8.5.4, 8.6, 9.4.5 and 9.4.7).
+use Rattle.std.specs.Prelude.{◌≡◌, ℕ, false, List, [], ◌∷◌, map, ℤ}
 use Rattle.hid_layout.specs.Controls.{Item}
 use Rattle.hid_cells.specs.declared.change.Change.TheVariants as change
 use Rattle.hid_cells.specs.declared.event.Event.{Event}
@@ -56,5 +56,10 @@ stands_after items steps = after_all items (fresh items (blank items) (0 ∷ [])
 
 -- a device with nothing pressed or moved and no idle times, and so many frames counted for each report
 abbrev pub counted : List Item → List ℕ → Standing
-counted items frames =
-    record { snapshot = blank items; fixed = blank_parts items; frames = frames; idle = map (λ n. 0) frames }
+counted items frames = record {
+  snapshot = blank items;
+  fixed = blank_parts items;
+  frames = frames;
+  idle = map (λ n. 0) frames;
+  cut = map (λ n. false) frames;
+}

@@ -1,6 +1,7 @@
 -- A configured device with its ready host, between transactions: the state that both ends together keep (USB 2.0,
--- 8.5.4 and 8.6).
+-- 8.5.4, 8.6 and 9.4.5).
 use Rattle.std.specs.Prelude.{ℕ, Bool, true, false, not, if◌then◌else◌, List, [], ◌∷◌, ◌++◌, Option, Some, None}
+use Rattle.std.specs.Option.{option_map}
 use Rattle.hid_layout.specs.Controls.{Item}
 use Rattle.hid_cells.specs.declared.cell.Cell.{Cell}
 use Rattle.hid_cells.specs.declared.event.Event.{Event}
@@ -8,7 +9,7 @@ use Rattle.hid_cells.specs.Cells.{blank}
 use Rattle.hid_cells.specs.Views.{seen}
 use Rattle.usb_transact.specs.declared.transaction.Fate.{Fate}
 use Rattle.usb_transact.specs.declared.transaction.Fate.TheVariants.{Clean, TokenLost, ReplyLost, AckLost}
-use Rattle.hid_lives.specs.Standing.{Standing, configured, first_due, after_opening, after_change, after_frame}
+use Rattle.hid_lives.specs.Standing.{Standing, configured, due_where, after_opening, after_change, after_frame}
 use Rattle.hid_lives.specs.Rounds.{OwnStep, Changes, Frame, Polls, reaches_host, part_events}
 
 -- the open round: its report, whose part is the one that was fixed last, and whether it has crossed
@@ -16,18 +17,28 @@ pub record Open : Type 0 where
   pub report : ℕ
   pub crossed : Bool
 
--- How the device stands, the round that is open, whether the rounds closed since the configuration are odd in number,
--- and what the host holds.
+-- How the device stands, the round that is open, whether the rounds closed since the configuration or the last clear are
+-- odd in number, what the host holds, and whether the endpoint is halted.
 pub record Station : Type 0 where
   pub standing : Standing
   pub current : Option Open
   pub odd : Bool
   pub view : List Cell
+  pub halted : Bool
 
--- both ends freshly configured: no round is open, none has closed, and the host's view is the initial one
+-- the report of the open round, where one is
+abbrev pub report_open : Option Open → Option ℕ
+report_open current = option_map (λ round. round.report) current
+
+-- both ends freshly configured: no round is open, none has closed, the host's view is the initial one, and no halt stands
 abbrev pub fresh : List Item → List Cell → List ℕ → Station
-fresh items snapshot idle =
-    record { standing = configured items snapshot idle; current = None; odd = false; view = blank items }
+fresh items snapshot idle = record {
+  standing = configured items snapshot idle;
+  current = None;
+  odd = false;
+  view = blank items;
+  halted = false;
+}
 
 -- a round of this report opens
 abbrev pub opened_by : List Item → Station → Option ℕ → Station
@@ -35,9 +46,9 @@ opened_by items s None = s
 opened_by items s (Some r) =
     record s { standing = after_opening items r s.standing; current = Some (record { report = r; crossed = false }) }
 
--- a token arrives: where no round is open and some report is due, a round of it opens
+-- a token arrives: where no round is open, the endpoint isn't halted and some report is due, a round of it opens
 abbrev pub opened : List Item → Station → Station
-opened items s = elim s.current [ Some round ↦ s | None ↦ opened_by items s (first_due items s.standing) ]
+opened items s = elim s.current [ Some round ↦ s | None ↦ opened_by items s (due_where items s.halted s.standing) ]
 
 -- of a poll, before its answer
 abbrev pub arrived : List Item → Station → Fate → Station
@@ -58,7 +69,7 @@ round_polled items s round AckLost =
 round_polled items s round TokenLost = s
 round_polled items s round ReplyLost = s
 
--- a poll behind its token: where no round is open nothing is sent but NAK
+-- a poll behind its token: where no round is open nothing is sent but NAK, or STALL from a halted endpoint
 abbrev pub answered : List Item → Station → Fate → Station
 answered items s fate = elim s.current [ None ↦ s | Some round ↦ round_polled items s round fate ]
 
@@ -92,6 +103,7 @@ abbrev pub events_in : List Item → Station → List OwnStep → List Event
 events_in items s [] = []
 events_in items s (x ∷ steps) = events_at items s x ++ events_in items (after items s x) steps
 
--- the toggle that the host expects: the device's, or the other one where the open round has crossed
+-- The toggle that the host expects: the device's, or the other one where the open round has crossed. (Where a halt ended
+-- a round that had crossed this isn't the host's until the endpoint is cleared.)
 abbrev pub expected : Station → Bool
 expected s = elim s.current [ None ↦ s.odd | Some round ↦ (if round.crossed then not s.odd else s.odd) ]

@@ -6,7 +6,8 @@ ghost use Rattle.hid_layout.specs.Controls.{Item};
 ghost use Rattle.hid_cells.specs.declared.cell.Cell.{Cell};
 ghost use Rattle.hid_cells.specs.Cells.{blank, FitsSnapshot, FitsShown, FitsView};
 ghost use Rattle.hid_lives.specs.Following.{LivesOn, StandsByRounds, StandsInEpoch, course_from};
-ghost use Rattle.hid_lives.specs.Lives.{Deed, AreWithinEpoch, happenings, rounds_ended, told_from, told_in, befallen_all};
+ghost use Rattle.hid_lives.specs.Halting.{HasCuts, OpensNext, StaysDue};
+ghost use Rattle.hid_lives.specs.Lives.{Clears, Deed, Halts, AreWithinEpoch, happenings, rounds_ended, told_from, told_in, befallen_all};
 ghost use Rattle.hid_lives.specs.Motion.{HasMotions, KeepsMotion, KeepsAccepted, KeepsThroughLife, AreBetweenRounds, are_accepted};
 ghost use Rattle.hid_lives.specs.Rounds.{OwnStep, has_crossed, rounds, events_of, events_of_epoch, fresh_course};
 ghost use Rattle.hid_lives.specs.Stations.{Station, fresh, after_all, events_in};
@@ -54,10 +55,27 @@ pub fn rounds_say_all_of_an_epoch()
         → StandsInEpoch items from deeds (befallen_all items from deeds) }
 {}
 
+/// A halt or a clear loses no report: where it cuts a round, whether that had crossed or not, its report is due behind it,
+/// through any changes, frames, idle times, further halts and clears, and polls that are lost, silent or of other reports,
+/// until a round of it opens. That is so of each station with a cut for each report, as those are behind any life from a
+/// configuration on; and where a report is due, no round is open and the endpoint isn't halted, the next token that arrives
+/// opens a round, of that report or of a due one before it.
+pub fn halts_lose_nothing()
+    ensures halts { (items : List Item) (s : Station) (deeds : List Deed)
+        → StaysDue items s Halts deeds }
+    ensures clears { (items : List Item) (s : Station) (deeds : List Deed)
+        → StaysDue items s Clears deeds }
+    ensures next { (items : List Item) (s : Station) (report : ℕ) → OpensNext items s report }
+    ensures fresh { (items : List Item) (snapshot : List Cell) (idle : List ℕ)
+        → HasCuts (fresh items snapshot idle) }
+    ensures lived { (items : List Item) (s : Station) (deeds : List Deed) → HasCuts s
+        → HasCuts (befallen_all items s deeds) }
+{}
+
 /// Steps neither lose nor double the motion of a control: what a station had of it and what accepted moves added is
 /// what was told of it and what the station still has. A station keeps its motions behind any steps. Idle times that
-/// are set lose no motion either, resets none, since what they drop is told, and configurations none where no round is
-/// open.
+/// are set lose no motion either, halts, clears and resets none, since what they drop is told, and configurations none where
+/// no round is open.
 #[tactic(auto, using(crate::proofs::MotionLemmas::keeps))]
 pub fn motion_is_kept()
     ensures kept { (items : List Item) (s : Station) → HasMotions items s → (steps : List OwnStep)

@@ -4,11 +4,11 @@ ghost use Rattle.std.specs.Prelude.{◌≡◌, [], ◌∷◌, ◌++◌, replicat
 ghost use Rattle.hid_cells.specs.Events.{at};
 ghost use Rattle.hid_cells.specs.Samples.{keyboard, mouse, wheel_and_button};
 ghost use Rattle.usb_transact.specs.declared.transaction.Fate.TheVariants as fate;
-ghost use Rattle.hid_lives.specs.Lives.{Configures, Idles, Resets, owns};
+ghost use Rattle.hid_lives.specs.Lives.{Clears, Configures, Halts, Idles, Resets, owns};
 ghost use Rattle.hid_lives.specs.Motion.{station_motion};
 ghost use Rattle.hid_lives.specs.Rounds.{Frame as AFrame, Polls};
 ghost use Rattle.hid_lives.specs.Rows.{Tells, behind, counted, press, release, move, key_down, key_up, button_down, button_up, motion_x, drop_x, stands_after};
-ghost use Rattle.hid_lives.specs.Standing.{after_frame, first_due, with_idle};
+ghost use Rattle.hid_lives.specs.Standing.{after_frame, cut_at, due_where, first_due, with_idle};
 ghost use Rattle.hid_lives.specs.Stations.{expected};
 
 /// A lost acknowledgement: the report goes once more, and is told once.
@@ -81,6 +81,97 @@ pub fn bus_is_reset()
     ensures nothing_twice { Tells keyboard 0
         (owns (press 4 4 ∷ Polls fate.Clean ∷ []) ++ Resets ∷ Resets ∷ [])
         (key_down 4 ∷ key_up 4 ∷ []) }
+{}
+
+/// The endpoint is halted in a round: its motion is dropped where the round hadn't crossed, and told once where it had. What
+/// is pressed is told behind the clear, a key that was let go meanwhile goes up, and one that never crossed is never told.
+pub fn endpoint_is_halted_in_a_round()
+    ensures not_crossed { Tells mouse 0
+        (owns (press 0 0 ∷ move 2 0 (pos 5) ∷ Polls fate.ReplyLost ∷ []) ++ Halts
+        ∷ owns (Polls fate.Clean ∷ []) ++ Clears ∷ owns (Polls fate.Clean ∷ []))
+        (drop_x (pos 5) ∷ button_down ∷ []) }
+    ensures crossed { Tells mouse 0
+        (owns (move 2 0 (pos 5) ∷ Polls fate.AckLost ∷ []) ++ Halts ∷ Clears
+        ∷ owns (Polls fate.Clean ∷ []))
+        (motion_x (pos 5) ∷ []) }
+    ensures no_key_is_lost { Tells keyboard 0
+        (owns (press 4 4 ∷ Polls fate.Clean ∷ press 4 5 ∷ Polls fate.ReplyLost ∷ []) ++ Halts
+        ∷ owns (release 4 4 ∷ Polls fate.Clean ∷ []) ++ Clears ∷ owns (Polls fate.Clean ∷ []))
+        (key_down 4 ∷ key_up 4 ∷ key_down 5 ∷ []) }
+    ensures never_seen { Tells keyboard 0
+        (owns (press 4 4 ∷ Polls fate.ReplyLost ∷ []) ++ Halts
+        ∷ owns (release 4 4 ∷ []) ++ Clears ∷ owns (Polls fate.Clean ∷ [])) [] }
+    ensures rest_goes_on { Tells mouse 0
+        (owns (move 2 0 (pos 200) ∷ Polls fate.ReplyLost ∷ []) ++ Halts ∷ Clears
+        ∷ owns (Polls fate.Clean ∷ []))
+        (drop_x (pos 127) ∷ motion_x (pos 73) ∷ []) }
+    ensures nothing_twice { Tells mouse 0
+        (owns (move 2 0 (pos 5) ∷ Polls fate.ReplyLost ∷ []) ++ Halts ∷ Halts ∷ Clears ∷ [])
+        (drop_x (pos 5) ∷ []) }
+    ensures nothing_is_left { station_motion mouse (behind mouse 0
+        (owns (move 2 0 (pos 5) ∷ Polls fate.ReplyLost ∷ []) ++ Halts ∷ [])) (at 2 0) ≡ pos 0 }
+{}
+
+/// A halted endpoint opens no round, whatever is due, until it is cleared, configured or reset; a configuration's first poll
+/// then tells what is pressed.
+pub fn halted_endpoint_is_silent()
+    ensures no_round_opens { (behind keyboard 0
+        (Halts ∷ owns (press 4 4 ∷ Polls fate.AckLost ∷ []))).current ≡ None }
+    ensures key_is_due { first_due keyboard (behind keyboard 0
+        (Halts ∷ owns (press 4 4 ∷ Polls fate.Clean ∷ []))).standing ≡ Some 0 }
+    ensures none_goes { due_where keyboard true (behind keyboard 0
+        (Halts ∷ owns (press 4 4 ∷ []))).standing ≡ None }
+    ensures nothing_is_told { Tells keyboard 0
+        (Halts ∷ owns (press 4 4 ∷ Polls fate.Clean ∷ Polls fate.AckLost ∷ [])) [] }
+    ensures cleared { Tells keyboard 0
+        (Halts ∷ owns (press 4 4 ∷ Polls fate.Clean ∷ []) ++ Clears ∷ owns (Polls fate.Clean ∷ []))
+        (key_down 4 ∷ []) }
+    ensures configured { Tells keyboard 0
+        (Halts ∷ owns (press 4 4 ∷ []) ++ Configures ∷ owns (Polls fate.Clean ∷ []))
+        (key_down 4 ∷ []) }
+    ensures reset { (behind keyboard 0 (Halts ∷ Resets ∷ [])).halted ≡ false }
+    ensures frames_count { (behind keyboard 0
+        (Halts ∷ owns (replicate 3 AFrame))).standing.frames ≡ 3 ∷ [] }
+{}
+
+/// The report whose round was cut is due, though nothing of it changed: one round of it opens behind a clear, which may tell
+/// nothing, and then it is due no more. A configuration and a reset forget it.
+pub fn cut_round_is_due()
+    ensures due { first_due mouse (behind mouse 0
+        (owns (move 2 0 (pos 5) ∷ Polls fate.AckLost ∷ []) ++ Halts ∷ [])).standing ≡ Some 0 }
+    ensures one_round_more { (behind mouse 0
+        (owns (move 2 0 (pos 5) ∷ Polls fate.AckLost ∷ []) ++ Halts ∷ Clears
+        ∷ owns (Polls fate.Clean ∷ Polls fate.Clean ∷ []))).odd ≡ true }
+    ensures due_no_more { first_due mouse (behind mouse 0
+        (owns (move 2 0 (pos 5) ∷ Polls fate.AckLost ∷ []) ++ Clears
+        ∷ owns (Polls fate.ReplyLost ∷ []))).standing ≡ None }
+    ensures configuration_forgets { first_due mouse (behind mouse 0
+        (owns (move 2 0 (pos 5) ∷ Polls fate.AckLost ∷ []) ++ Halts ∷ Configures ∷ [])).standing
+        ≡ None }
+    ensures reset_forgets { first_due mouse (behind mouse 0
+        (owns (move 2 0 (pos 5) ∷ Polls fate.AckLost ∷ []) ++ Halts ∷ Resets ∷ [])).standing ≡ None }
+    ensures of_the_second_report_alone { first_due wheel_and_button
+        (cut_at (Some 1) (counted wheel_and_button (0 ∷ 0 ∷ []))) ≡ Some 1 }
+    ensures nothing_was_open { first_due mouse (behind mouse 0 (Halts ∷ Clears ∷ [])).standing ≡ None }
+{}
+
+/// A halt leaves the device's toggle, and a clear begins both ends at DATA0, also where nothing was halted; rounds are counted
+/// from there.
+pub fn toggles_begin_anew_at_a_clear()
+    ensures halt_leaves_it { (behind keyboard 0
+        (owns (press 4 4 ∷ Polls fate.Clean ∷ press 4 5 ∷ Polls fate.AckLost ∷ []) ++ Halts
+        ∷ [])).odd ≡ true }
+    ensures clear_is_even { (behind keyboard 0
+        (owns (press 4 4 ∷ Polls fate.Clean ∷ []) ++ Halts ∷ Clears ∷ [])).odd ≡ false }
+    ensures host_is_even { expected (behind keyboard 0
+        (owns (press 4 4 ∷ Polls fate.AckLost ∷ []) ++ Clears ∷ [])) ≡ false }
+    ensures counted_anew { (behind mouse 0
+        (owns (move 2 0 (pos 1) ∷ Polls fate.Clean ∷ []) ++ Clears
+        ∷ owns (move 2 0 (pos 2) ∷ Polls fate.Clean ∷ []))).odd ≡ true }
+    ensures both_are_told { Tells mouse 0
+        (owns (move 2 0 (pos 1) ∷ Polls fate.Clean ∷ []) ++ Clears
+        ∷ owns (move 2 0 (pos 2) ∷ Polls fate.Clean ∷ []))
+        (motion_x (pos 1) ∷ motion_x (pos 2) ∷ []) }
 {}
 
 /// A configuration keeps the idle time: four frames behind a report it goes again, and tells nothing new. Two rounds closed

@@ -8,14 +8,14 @@ use Rattle.usb_control.specs.declared.setup.Setup.{Setup}
 use Rattle.usb_control.specs.SetupBytes.{IsSpelled, reads}
 use Rattle.usb_control.specs.Host.{sent_length}
 use Rattle.hid_requests.specs.declared.asked.Asked.{Asked}
-use Rattle.hid_requests.specs.declared.asked.Asked.TheVariants.{Status, InterfaceStatus, ControlStatus, ReportStatus, DeviceDescriptor, Configuration, HidDescriptor, ReportDescriptor, GetConfiguration, GetInterface, SetConfiguration, GetReport, GetIdle, GetProtocol, SetReport, SetIdle, SetProtocol}
+use Rattle.hid_requests.specs.declared.asked.Asked.TheVariants.{Status, InterfaceStatus, ControlStatus, ReportStatus, DeviceDescriptor, Configuration, HidDescriptor, ReportDescriptor, GetConfiguration, GetInterface, SetConfiguration, ClearFeature, SetFeature, GetReport, GetIdle, GetProtocol, SetReport, SetIdle, SetProtocol}
 use Rattle.hid_requests.specs.declared.class.Protocol.TheVariants as protocols
 use Rattle.hid_requests.specs.declared.request.Request.{Request}
 use Rattle.hid_requests.specs.declared.request.Request.TheVariants as requests
 use Rattle.hid_requests.specs.declared.request.Asking.{Asking}
 use Rattle.hid_requests.specs.Class.{kind_of, type_of}
 use Rattle.hid_requests.specs.Asked.{IsSorted, asked_of, class_row, high_of, is_bare_class, is_bare_row, is_class, is_read, is_row, low_of, standard_row, written}
-use Rattle.hid_requests.specs.Asking.{FitsRequest, asks, row_of, sends_of, setup_for, word_of}
+use Rattle.hid_requests.specs.Asking.{FitsRequest, IsOfReports, asks, asks_endpoint, row_of, sends_of, setup_for, word_of}
 
 -- the row that there is, if any, is one of the request's
 abbrev AreSorted : Setup → Option Asked → Type 0
@@ -59,12 +59,12 @@ with_data setup type number asked same bytes h =
     record { ways = way setup type number (setup.index == 0) h ∙ same; bytes = bytes }
 
 -- rows that write without data
-writing : (setup : Setup) (type number value : ℕ) (asked : Asked) → nat_le 128 type ≡ is_read asked → written asked ≡ 0
-    → is_bare_row setup type number value 0 ≡ true → AreSorted setup (Some asked)
-writing setup type number value asked same none h =
+writing : (setup : Setup) (type number value index : ℕ) (asked : Asked) → nat_le 128 type ≡ is_read asked → written asked ≡ 0
+    → is_bare_row setup type number value index ≡ true → AreSorted setup (Some asked)
+writing setup type number value index asked same none h =
     let empty : setup.length ≡ 0 = grind (arith, nat_tests, h) in
     one setup asked (record {
-      ways = way setup type number ((setup.value == value) && (setup.index == 0)) (grind (arith, h)) ∙ same;
+      ways = way setup type number ((setup.value == value) && (setup.index == index)) (grind (arith, h)) ∙ same;
       bytes = λ writes. empty ∙ sym none;
     })
 
@@ -90,8 +90,10 @@ standard_sorted setup =
     (row setup (is_row setup 0x81 6 0x2200 0) (Some ReportDescriptor) _ (reading setup 0x81 6 0x2200 0 ReportDescriptor refl refl)
     (row setup (is_row setup 0x80 8 0 0) (Some GetConfiguration) _ (reading setup 0x80 8 0 0 GetConfiguration refl refl)
     (row setup (is_row setup 0x81 10 0 0) (Some GetInterface) _ (reading setup 0x81 10 0 0 GetInterface refl refl)
-    (row setup (is_bare_row setup 0x00 9 1 0) (Some SetConfiguration) None (writing setup 0x00 9 1 SetConfiguration refl refl)
-    (λ other h. absurd (cc)))))))))))))
+    (row setup (is_bare_row setup 0x00 9 1 0) (Some SetConfiguration) _ (writing setup 0x00 9 1 0 SetConfiguration refl refl)
+    (row setup (is_bare_row setup 0x02 1 0 0x81) (Some ClearFeature) _ (writing setup 0x02 1 0 0x81 ClearFeature refl refl)
+    (row setup (is_bare_row setup 0x02 3 0 0x81) (Some SetFeature) None (writing setup 0x02 3 0 0x81 SetFeature refl refl)
+    (λ other h. absurd (cc)))))))))))))))
 
 class_sorted : (setup : Setup) → AreSorted setup (class_row setup)
 class_sorted setup =
@@ -102,8 +104,8 @@ class_sorted setup =
     (row setup (is_class setup 0x21 9) (option_map (λ kind. SetReport kind (low_of setup) setup.length) (kind_of (high_of setup))) _
     (λ h. of_kind setup (kind_of (high_of setup)) _ (λ kind. with_data setup 0x21 9 (SetReport kind (low_of setup) setup.length) refl (λ writes. refl) h))
     (row setup (is_bare_class setup 0x21 10) (Some (SetIdle (low_of setup) (high_of setup))) _ (writing_any setup 0x21 10 (SetIdle (low_of setup) (high_of setup)) refl refl)
-    (row setup (is_bare_row setup 0x21 11 0 0) (Some (SetProtocol protocols.Boot)) _ (writing setup 0x21 11 0 (SetProtocol protocols.Boot) refl refl)
-    (row setup (is_bare_row setup 0x21 11 1 0) (Some (SetProtocol protocols.Report)) None (writing setup 0x21 11 1 (SetProtocol protocols.Report) refl refl)
+    (row setup (is_bare_row setup 0x21 11 0 0) (Some (SetProtocol protocols.Boot)) _ (writing setup 0x21 11 0 0 (SetProtocol protocols.Boot) refl refl)
+    (row setup (is_bare_row setup 0x21 11 1 0) (Some (SetProtocol protocols.Report)) None (writing setup 0x21 11 1 0 (SetProtocol protocols.Report) refl refl)
     (λ other h. absurd (cc))))))))
 
 first_sorted : (setup : Setup) (first second : Option Asked) → AreSorted setup first → AreSorted setup second
@@ -127,25 +129,46 @@ kind_back Input = refl
 kind_back Output = refl
 kind_back Feature = refl
 
-pub asked_so : (request : Request) (asking : Asking) → FitsRequest request → asked_of (setup_for request asking) ≡ Some (row_of request)
+-- a host that knows that endpoint asks of it
+pub of_reports : (request : Request) (asking : Asking) → asking.endpoint ≡ 1 → IsOfReports request asking
+of_reports requests.Device asking known = tt
+of_reports requests.Config asking known = tt
+of_reports requests.Report asking known = tt
+of_reports requests.Configure asking known = tt
+of_reports requests.Status asking known = tt
+of_reports requests.GetConfiguration asking known = tt
+of_reports (requests.Idle id time) asking known = tt
+of_reports (requests.GetIdle id) asking known = tt
+of_reports (requests.Protocol boot) asking known = tt
+of_reports requests.GetProtocol asking known = tt
+of_reports (requests.GetReport kind id) asking known = tt
+of_reports (requests.SetReport kind id bytes) asking known = tt
+of_reports requests.Halt asking known = known
+of_reports requests.Clear asking known = known
+of_reports requests.EndpointStatus asking known = known
+
+pub asked_so : (request : Request) (asking : Asking) → FitsRequest request → IsOfReports request asking → asked_of (setup_for request asking) ≡ Some (row_of request)
 unfolding asked_of
-asked_so requests.Device asking fits = refl
-asked_so requests.Config asking fits = refl
-asked_so requests.Report asking fits = refl
-asked_so requests.Configure asking fits = refl
-asked_so requests.Status asking fits = refl
-asked_so requests.GetConfiguration asking fits = refl
-asked_so (requests.Idle id time) asking fits = rw (high_is time id fits.0, low_is time id fits.0) refl
-asked_so (requests.GetIdle id) asking fits =
+asked_so requests.Device asking fits known = refl
+asked_so requests.Config asking fits known = refl
+asked_so requests.Report asking fits known = refl
+asked_so requests.Configure asking fits known = refl
+asked_so requests.Status asking fits known = refl
+asked_so requests.GetConfiguration asking fits known = refl
+asked_so (requests.Idle id time) asking fits known = rw (high_is time id fits.0, low_is time id fits.0) refl
+asked_so (requests.GetIdle id) asking fits known =
     let low : id % 2 ^ 8 ≡ id = omega (arith, fits) in
     rw (low, eq-eqb id id refl) refl
-asked_so (requests.Protocol true) asking fits = refl
-asked_so (requests.Protocol false) asking fits = refl
-asked_so requests.GetProtocol asking fits = refl
-asked_so (requests.GetReport kind id) asking fits =
+asked_so (requests.Protocol true) asking fits known = refl
+asked_so (requests.Protocol false) asking fits known = refl
+asked_so requests.GetProtocol asking fits known = refl
+asked_so (requests.GetReport kind id) asking fits known =
     rw (high_is (type_of kind) id fits, low_is (type_of kind) id fits, kind_back kind) refl
-asked_so (requests.SetReport kind id bytes) asking fits =
+asked_so (requests.SetReport kind id bytes) asking fits known =
     rw (high_is (type_of kind) id fits.0, low_is (type_of kind) id fits.0, kind_back kind) refl
+asked_so requests.Halt asking fits known = rw known refl
+asked_so requests.Clear asking fits known = rw known refl
+asked_so requests.EndpointStatus asking fits known = rw known refl
 
 -- the data that go with a request are as long as it says
 pub sends_so : (request : Request) (asking : Asking) → length (sends_of request) ≡ sent_length (setup_for request asking)
@@ -161,6 +184,9 @@ sends_so (requests.Protocol boot) asking = refl
 sends_so requests.GetProtocol asking = refl
 sends_so (requests.GetReport kind id) asking = refl
 sends_so (requests.SetReport kind id bytes) asking = refl
+sends_so requests.Halt asking = refl
+sends_so requests.Clear asking = refl
+sends_so requests.EndpointStatus asking = refl
 
 word_back : (n : ℕ) → n < 2 ^ 16 → n % 256 + 256 * (n / 256 % 256) ≡ n
 word_back n small = omega arith
@@ -170,30 +196,38 @@ spelled type number value len v l =
     ap (λ (n : ℕ). asks type number n (len % 256 + 256 * (len / 256 % 256))) (word_back value v)
     ∙ ap (asks type number value) (word_back len l)
 
+spelled_endpoint : (type number endpoint len : ℕ) → endpoint < 2 ^ 8 → len < 2 ^ 16 → IsSpelled (asks_endpoint type number endpoint len)
+spelled_endpoint type number endpoint len e l =
+    ap (λ (n : ℕ). record (asks_endpoint type number endpoint (len % 256 + 256 * (len / 256 % 256))) { index = n }) (word_back (0x80 + endpoint) (omega (arith, e)))
+    ∙ ap (asks_endpoint type number endpoint) (word_back len l)
+
 type_small : (kind : ReportKind) → type_of kind < 2 ^ 8
 type_small Input = omega arith
 type_small Output = omega arith
 type_small Feature = omega arith
 
-pub spelled_so : (request : Request) (asking : Asking) → FitsRequest request → asking.report_length < 2 ^ 16 → IsSpelled (setup_for request asking)
-spelled_so requests.Device asking fits short = refl
-spelled_so requests.Config asking fits short = refl
-spelled_so requests.Report asking fits short = spelled 0x81 6 0x2200 asking.report_length (omega arith) short
-spelled_so requests.Configure asking fits short = refl
-spelled_so requests.Status asking fits short = refl
-spelled_so requests.GetConfiguration asking fits short = refl
-spelled_so (requests.Idle id time) asking fits short =
+pub spelled_so : (request : Request) (asking : Asking) → FitsRequest request → asking.report_length < 2 ^ 16 → asking.endpoint < 2 ^ 8 → IsSpelled (setup_for request asking)
+spelled_so requests.Device asking fits short few = refl
+spelled_so requests.Config asking fits short few = refl
+spelled_so requests.Report asking fits short few = spelled 0x81 6 0x2200 asking.report_length (omega arith) short
+spelled_so requests.Configure asking fits short few = refl
+spelled_so requests.Status asking fits short few = refl
+spelled_so requests.GetConfiguration asking fits short few = refl
+spelled_so (requests.Idle id time) asking fits short few =
     let h = fits.0 in let t = fits.1 in
     spelled 0x21 10 (word_of time id) 0 (omega arith) (omega arith)
-spelled_so (requests.GetIdle id) asking fits short = spelled 0xA1 2 id 1 (omega (arith, fits)) (omega arith)
-spelled_so (requests.Protocol true) asking fits short = refl
-spelled_so (requests.Protocol false) asking fits short = refl
-spelled_so requests.GetProtocol asking fits short = refl
-spelled_so (requests.GetReport kind id) asking fits short =
+spelled_so (requests.GetIdle id) asking fits short few = spelled 0xA1 2 id 1 (omega (arith, fits)) (omega arith)
+spelled_so (requests.Protocol true) asking fits short few = refl
+spelled_so (requests.Protocol false) asking fits short few = refl
+spelled_so requests.GetProtocol asking fits short few = refl
+spelled_so (requests.GetReport kind id) asking fits short few =
     let t = type_small kind in
     spelled 0xA1 1 (word_of (type_of kind) id) 64 (omega (arith, fits)) (omega arith)
-spelled_so (requests.SetReport kind id bytes) asking fits short =
+spelled_so (requests.SetReport kind id bytes) asking fits short few =
     let t = type_small kind in
     let i = fits.0 in
     let l = fits.1 in
     spelled 0x21 9 (word_of (type_of kind) id) (length bytes.items) (omega arith) (omega arith)
+spelled_so requests.Halt asking fits short few = spelled_endpoint 0x02 3 asking.endpoint 0 few (omega arith)
+spelled_so requests.Clear asking fits short few = spelled_endpoint 0x02 1 asking.endpoint 0 few (omega arith)
+spelled_so requests.EndpointStatus asking fits short few = spelled_endpoint 0x82 0 asking.endpoint 2 few (omega arith)

@@ -6,13 +6,13 @@ use Rattle.usb_control.specs.SetupBytes.{setup_bytes, setup_of}
 use Rattle.hid_requests.specs.declared.asked.Asked.TheVariants.{ReportDescriptor}
 use Rattle.hid_requests.specs.declared.asked.Asked.TheVariants as rows
 use Rattle.hid_requests.specs.declared.class.Protocol.TheVariants.{Boot}
-use Rattle.hid_requests.specs.declared.request.Request.TheVariants.{Report, Idle, GetReport, Protocol}
+use Rattle.hid_requests.specs.declared.request.Request.TheVariants.{Report, Idle, GetReport, Protocol, Halt, Clear, EndpointStatus}
 use Rattle.hid_requests.specs.Asked.{asked_of}
 use Rattle.hid_requests.specs.Asking.{setup_for}
 use Rattle.hid_requests.specs.Descriptors.{configuration_bytes, device_bytes}
 
 -- a keyboard's report descriptor has 63 bytes (HID 1.11, appendix E.6)
-report_bytes : setup_bytes (setup_for Report (record { report_length = 63 }))
+report_bytes : setup_bytes (setup_for Report (record { report_length = 63; endpoint = 1 }))
     ≡ 0x81 ∷ 0x06 ∷ 0x00 ∷ 0x22 ∷ 0x00 ∷ 0x00 ∷ 0x3F ∷ 0x00 ∷ []
 report_bytes = refl
 
@@ -26,12 +26,12 @@ unfolding asked_of
 second_report = refl
 
 -- an idle time of 500 ms for all Input reports (HID 1.11, 7.2.4): its duration is 125
-idle_bytes : setup_bytes (setup_for (Idle 0 125) (record { report_length = 63 }))
+idle_bytes : setup_bytes (setup_for (Idle 0 125) (record { report_length = 63; endpoint = 1 }))
     ≡ 0x21 ∷ 0x0A ∷ 0x00 ∷ 0x7D ∷ 0x00 ∷ 0x00 ∷ 0x00 ∷ 0x00 ∷ []
 idle_bytes = refl
 
 -- the Feature report of ID 7 (7.2.1)
-feature_bytes : setup_bytes (setup_for (GetReport Feature 7) (record { report_length = 63 }))
+feature_bytes : setup_bytes (setup_for (GetReport Feature 7) (record { report_length = 63; endpoint = 1 }))
     ≡ 0xA1 ∷ 0x01 ∷ 0x07 ∷ 0x03 ∷ 0x00 ∷ 0x00 ∷ 0x40 ∷ 0x00 ∷ []
 feature_bytes = refl
 
@@ -45,13 +45,35 @@ unfolding asked_of
 fourth_type = refl
 
 -- the boot protocol is 0 (7.2.6)
-boot_bytes : setup_bytes (setup_for (Protocol true) (record { report_length = 63 }))
+boot_bytes : setup_bytes (setup_for (Protocol true) (record { report_length = 63; endpoint = 1 }))
     ≡ 0x21 ∷ 0x0B ∷ 0x00 ∷ 0x00 ∷ 0x00 ∷ 0x00 ∷ 0x00 ∷ 0x00 ∷ []
 boot_bytes = refl
 
 boot_row : asked_of (setup_of (0x21 ∷ 0x0B ∷ 0x00 ∷ 0x00 ∷ 0x00 ∷ 0x00 ∷ 0x00 ∷ 0x00 ∷ [])) ≡ Some (rows.SetProtocol Boot)
 unfolding asked_of
 boot_row = refl
+
+-- endpoint 1, to the host, is halted, its halt is ended, and its status is asked for (9.4.9, 9.4.1 and 9.4.5)
+halt_bytes : setup_bytes (setup_for Halt (record { report_length = 63; endpoint = 1 }))
+    ≡ 0x02 ∷ 0x03 ∷ 0x00 ∷ 0x00 ∷ 0x81 ∷ 0x00 ∷ 0x00 ∷ 0x00 ∷ []
+halt_bytes = refl
+
+clear_bytes : setup_bytes (setup_for Clear (record { report_length = 63; endpoint = 1 }))
+    ≡ 0x02 ∷ 0x01 ∷ 0x00 ∷ 0x00 ∷ 0x81 ∷ 0x00 ∷ 0x00 ∷ 0x00 ∷ []
+clear_bytes = refl
+
+status_bytes : setup_bytes (setup_for EndpointStatus (record { report_length = 63; endpoint = 1 }))
+    ≡ 0x82 ∷ 0x00 ∷ 0x00 ∷ 0x00 ∷ 0x81 ∷ 0x00 ∷ 0x02 ∷ 0x00 ∷ []
+status_bytes = refl
+
+halt_row : asked_of (setup_of (0x02 ∷ 0x03 ∷ 0x00 ∷ 0x00 ∷ 0x81 ∷ 0x00 ∷ 0x00 ∷ 0x00 ∷ [])) ≡ Some rows.SetFeature
+unfolding asked_of
+halt_row = refl
+
+-- of endpoint 1 from the host it is no row
+halt_from_the_host : asked_of (setup_of (0x02 ∷ 0x03 ∷ 0x00 ∷ 0x00 ∷ 0x01 ∷ 0x00 ∷ 0x00 ∷ 0x00 ∷ [])) ≡ None
+unfolding asked_of
+halt_from_the_host = refl
 
 -- vendor FFFF, product 0001
 device : device_bytes (record { vendor = 0xFFFF; product = 0x0001 })

@@ -3,7 +3,7 @@ use Rattle.std.specs.Prelude.{◌≡◌, ℕ, ◌/◌, ◌%◌, ◌^◌, Bool, t
 use Rattle.usb_control.specs.declared.setup.Setup.{Setup}
 use Rattle.usb_control.specs.SetupBytes.{reads}
 use Rattle.hid_requests.specs.declared.asked.Asked.{Asked}
-use Rattle.hid_requests.specs.declared.asked.Asked.TheVariants.{Status, InterfaceStatus, ControlStatus, ReportStatus, DeviceDescriptor, Configuration, HidDescriptor, ReportDescriptor, GetConfiguration, GetInterface, SetConfiguration, GetReport, GetIdle, GetProtocol, SetReport, SetIdle, SetProtocol}
+use Rattle.hid_requests.specs.declared.asked.Asked.TheVariants.{Status, InterfaceStatus, ControlStatus, ReportStatus, DeviceDescriptor, Configuration, HidDescriptor, ReportDescriptor, GetConfiguration, GetInterface, SetConfiguration, ClearFeature, SetFeature, GetReport, GetIdle, GetProtocol, SetReport, SetIdle, SetProtocol}
 use Rattle.hid_requests.specs.declared.class.Protocol.TheVariants.{Boot, Report}
 use Rattle.hid_requests.specs.Class.{kind_of}
 
@@ -18,10 +18,11 @@ abbrev pub is_bare_row : Setup → ℕ → ℕ → ℕ → ℕ → Bool
 is_bare_row setup type number value index = is_row setup type number value index && (setup.length == 0)
 
 -- Its row among the standard requests. bmRequestType is 0x80, 0x81 or 0x82 to read of the device, an interface or an
--- endpoint, and 0x00 to write to the device (table 9-2). bRequest is 0 GET_STATUS, 6 GET_DESCRIPTOR,
--- 8 GET_CONFIGURATION, 9 SET_CONFIGURATION or 10 GET_INTERFACE (table 9-4). wValue of GET_DESCRIPTOR has the type in its
--- high byte, 1 device or 2 configuration (table 9-5), 0x21 HID or 0x22 report (HID 1.11, 7.1), and in its low byte which
--- of that type.
+-- endpoint, and 0x00 or 0x02 to write to the device or an endpoint (table 9-2). bRequest is 0 GET_STATUS, 1 CLEAR_FEATURE,
+-- 3 SET_FEATURE, 6 GET_DESCRIPTOR, 8 GET_CONFIGURATION, 9 SET_CONFIGURATION or 10 GET_INTERFACE (table 9-4). wValue of
+-- GET_DESCRIPTOR has the type in its high byte, 1 device or 2 configuration (table 9-5), 0x21 HID or 0x22 report (HID
+-- 1.11, 7.1), and in its low byte which of that type. The one feature is 0, ENDPOINT_HALT (table 9-6), of endpoint 1 to
+-- the host.
 abbrev pub standard_row : Setup → Option Asked
 standard_row setup =
     if is_row setup 0x80 0 0 0 then Some Status
@@ -36,6 +37,8 @@ standard_row setup =
     else if is_row setup 0x80 8 0 0 then Some GetConfiguration
     else if is_row setup 0x81 10 0 0 then Some GetInterface
     else if is_bare_row setup 0x00 9 1 0 then Some SetConfiguration
+    else if is_bare_row setup 0x02 1 0 0x81 then Some ClearFeature
+    else if is_bare_row setup 0x02 3 0 0x81 then Some SetFeature
     else None
 
 -- a request of interface 0 with this bmRequestType and bRequest, whatever its wValue
@@ -77,6 +80,8 @@ asked_of setup = elim (standard_row setup) [ None ↦ class_row setup | Some ask
 -- whether data of a row go to the host
 abbrev pub is_read : Asked → Bool
 is_read SetConfiguration = false
+is_read ClearFeature = false
+is_read SetFeature = false
 is_read (SetReport kind id len) = false
 is_read (SetIdle id time) = false
 is_read (SetProtocol protocol) = false

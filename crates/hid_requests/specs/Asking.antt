@@ -1,12 +1,12 @@
 -- What a host asks: the setup data of its requests, and the data that go with them (USB 2.0, 9.4; HID 1.11, 7.2).
-use Rattle.std.specs.Prelude.{ℕ, ◌+◌, ◌*◌, ◌<◌, ◌≤◌, ◌^◌, Bool, true, false, List, [], length}
+use Rattle.std.specs.Prelude.{◌≡◌, ℕ, ◌+◌, ◌*◌, ◌<◌, ◌≤◌, ◌^◌, Bool, true, false, List, [], length}
 use Rattle.usb_control.specs.declared.setup.Setup.{Setup}
 use Rattle.hid_requests.specs.declared.asked.Asked.{Asked}
 use Rattle.hid_requests.specs.declared.asked.Asked.TheVariants as rows
 use Rattle.hid_requests.specs.declared.class.Protocol.{Protocol}
 use Rattle.hid_requests.specs.declared.class.Protocol.TheVariants as protocols
 use Rattle.hid_requests.specs.declared.request.Request.{Request}
-use Rattle.hid_requests.specs.declared.request.Request.TheVariants.{Device, Config, Report, Configure, Status, GetConfiguration, Idle, GetIdle, GetProtocol, GetReport, SetReport}
+use Rattle.hid_requests.specs.declared.request.Request.TheVariants.{Device, Config, Report, Configure, Status, GetConfiguration, Idle, GetIdle, GetProtocol, GetReport, SetReport, Halt, Clear, EndpointStatus}
 use Rattle.hid_requests.specs.declared.request.Request.TheVariants as requests
 use Rattle.hid_requests.specs.declared.request.Asking.{Asking}
 use Rattle.hid_requests.specs.Class.{number_of, type_of}
@@ -15,6 +15,11 @@ use Rattle.hid_requests.specs.Class.{number_of, type_of}
 abbrev pub asks : ℕ → ℕ → ℕ → ℕ → Setup
 asks type number value len =
     record { request_type = type; request = number; value = value; index = 0; length = len }
+
+-- a request of the endpoint of this number, to the host, with wValue 0: bmRequestType, bRequest, wLength (9.3.4)
+abbrev pub asks_endpoint : ℕ → ℕ → ℕ → ℕ → Setup
+asks_endpoint type number endpoint len =
+    record { request_type = type; request = number; value = 0; index = 0x80 + endpoint; length = len }
 
 -- a word of this high and low byte
 abbrev pub word_of : ℕ → ℕ → ℕ
@@ -27,7 +32,7 @@ protocol_of false = protocols.Report
 
 -- The setup data of each request: the status is two bytes (9.4.5) and the configuration's number one (9.4.2), as an idle
 -- time and a protocol are (HID 1.11, 7.2.3 and 7.2.5). A configuration is asked for with 255 bytes and a report with 64
--- (our choice).
+-- (our choice). The feature that is set and cleared is 0, ENDPOINT_HALT (table 9-6).
 abbrev pub setup_for : Request → Asking → Setup
 setup_for Device asking = asks 0x80 6 0x0100 18
 setup_for Config asking = asks 0x80 6 0x0200 255
@@ -41,6 +46,9 @@ setup_for (requests.Protocol boot) asking = asks 0x21 11 (number_of (protocol_of
 setup_for GetProtocol asking = asks 0xA1 3 0 1
 setup_for (GetReport kind id) asking = asks 0xA1 1 (word_of (type_of kind) id) 64
 setup_for (SetReport kind id bytes) asking = asks 0x21 9 (word_of (type_of kind) id) (length bytes.items)
+setup_for Halt asking = asks_endpoint 0x02 3 asking.endpoint 0
+setup_for Clear asking = asks_endpoint 0x02 1 asking.endpoint 0
+setup_for EndpointStatus asking = asks_endpoint 0x82 0 asking.endpoint 2
 
 -- the data that go with it: those of the report that is set
 abbrev pub sends_of : Request → List ℕ
@@ -54,6 +62,13 @@ FitsRequest (GetIdle id) = id < 2 ^ 8
 FitsRequest (GetReport kind id) = id < 2 ^ 8
 FitsRequest (SetReport kind id bytes) = (id < 2 ^ 8) × (length bytes.items ≤ 64)
 FitsRequest _ = Unit {0}
+
+-- the endpoint that a request is about, where it is about one, is 1: that of Input reports (our choice)
+abbrev pub IsOfReports : Request → Asking → Type 0
+IsOfReports Halt asking = asking.endpoint ≡ 1
+IsOfReports Clear asking = asking.endpoint ≡ 1
+IsOfReports EndpointStatus asking = asking.endpoint ≡ 1
+IsOfReports _ asking = Unit {0}
 
 -- and the row that it means
 abbrev pub row_of : Request → Asked
@@ -69,3 +84,6 @@ row_of (requests.Protocol boot) = rows.SetProtocol (protocol_of boot)
 row_of GetProtocol = rows.GetProtocol
 row_of (GetReport kind id) = rows.GetReport kind id
 row_of (SetReport kind id bytes) = rows.SetReport kind id (length bytes.items)
+row_of Halt = rows.SetFeature
+row_of Clear = rows.ClearFeature
+row_of EndpointStatus = rows.ReportStatus

@@ -4,10 +4,10 @@ ghost use Rattle.hid_requests.specs.Asked.{asked_of, class_row, is_bare_class, i
 
 use crate::class::{Protocol, kind_of};
 use crate::codes::{
-    FIRST_CONFIGURATION, FIRST_DEVICE, FIRST_HID, FIRST_REPORT, GET_CONFIGURATION, GET_DESCRIPTOR,
-    GET_IDLE, GET_INTERFACE, GET_PROTOCOL, GET_REPORT, GET_STATUS, OF_CLASS, OF_DEVICE,
-    OF_ENDPOINT, OF_INTERFACE, SET_CONFIGURATION, SET_IDLE, SET_PROTOCOL, SET_REPORT, TO_CLASS,
-    TO_DEVICE,
+    CLEAR_FEATURE, ENDPOINT_HALT, FIRST_CONFIGURATION, FIRST_DEVICE, FIRST_HID, FIRST_REPORT,
+    GET_CONFIGURATION, GET_DESCRIPTOR, GET_IDLE, GET_INTERFACE, GET_PROTOCOL, GET_REPORT,
+    GET_STATUS, OF_CLASS, OF_DEVICE, OF_ENDPOINT, OF_INTERFACE, SET_CONFIGURATION, SET_FEATURE,
+    SET_IDLE, SET_PROTOCOL, SET_REPORT, TO_CLASS, TO_DEVICE, TO_ENDPOINT,
 };
 use hid_descriptor::ReportKind;
 use usb_control::Setup;
@@ -37,6 +37,10 @@ pub enum Asked {
     GetInterface,
     /// SET_CONFIGURATION with 1.
     SetConfiguration,
+    /// CLEAR_FEATURE of ENDPOINT_HALT, of endpoint 1, to the host.
+    ClearFeature,
+    /// SET_FEATURE of ENDPOINT_HALT, of the same endpoint.
+    SetFeature,
     /// GET_REPORT (HID 1.11, 7.2.1).
     GetReport {
         kind: ReportKind,
@@ -129,6 +133,10 @@ fn standard_row(setup: &Setup) -> Option<Asked>
         Some(Asked::GetInterface)
     } else if is_bare_row(setup, TO_DEVICE, SET_CONFIGURATION, 1, 0) {
         Some(Asked::SetConfiguration)
+    } else if is_bare_row(setup, TO_ENDPOINT, CLEAR_FEATURE, ENDPOINT_HALT, 0x81) {
+        Some(Asked::ClearFeature)
+    } else if is_bare_row(setup, TO_ENDPOINT, SET_FEATURE, ENDPOINT_HALT, 0x81) {
+        Some(Asked::SetFeature)
     } else {
         None
     }

@@ -1,4 +1,4 @@
-//! Numbers of requests and descriptors (USB 2.0, tables 9-2, 9-4 and 9-5; HID 1.11, 7.1 and 7.2).
+//! Numbers of requests and descriptors (USB 2.0, tables 9-2 and 9-4 to 9-6; HID 1.11, 7.1 and 7.2).
 
 /// bmRequestType: a read of the device.
 pub const OF_DEVICE: u8 = 0x80;
@@ -12,6 +12,9 @@ pub const OF_ENDPOINT: u8 = 0x82;
 /// bmRequestType: a write to the device.
 pub const TO_DEVICE: u8 = 0x00;
 
+/// bmRequestType: a write to an endpoint.
+pub const TO_ENDPOINT: u8 = 0x02;
+
 /// bmRequestType: a read of an interface, by its class (HID 1.11, 7.2).
 pub const OF_CLASS: u8 = 0xA1;
 
@@ -20,6 +23,12 @@ pub const TO_CLASS: u8 = 0x21;
 
 /// bRequest.
 pub const GET_STATUS: u8 = 0x00;
+
+/// bRequest.
+pub const CLEAR_FEATURE: u8 = 0x01;
+
+/// bRequest.
+pub const SET_FEATURE: u8 = 0x03;
 
 /// bRequest.
 pub const GET_DESCRIPTOR: u8 = 0x06;
@@ -68,6 +77,9 @@ pub const HID: u8 = 0x21;
 
 /// The type of a report descriptor.
 pub const REPORT: u8 = 0x22;
+
+/// wValue of SET_FEATURE and CLEAR_FEATURE: the halt of an endpoint (table 9-6).
+pub const ENDPOINT_HALT: u16 = 0;
 
 /// wValue of GET_DESCRIPTOR: the type in the high byte, and the first of its type in the low one.
 pub const FIRST_DEVICE: u16 = 0x0100;

@@ -10,7 +10,7 @@ ghost use Rattle.hid_requests.specs.declared.asked.Asked.{Asked};
 ghost use Rattle.hid_requests.specs.declared.request.Request.{Request};
 ghost use Rattle.hid_requests.specs.declared.request.Asking.{Asking};
 ghost use Rattle.hid_requests.specs.Asked.{IsSorted, asked_of};
-ghost use Rattle.hid_requests.specs.Asking.{FitsRequest, row_of, sends_of, setup_for};
+ghost use Rattle.hid_requests.specs.Asking.{FitsRequest, IsOfReports, row_of, sends_of, setup_for};
 ghost use Rattle.hid_requests.specs.Descriptors.{FitsConfig, FitsDevice, configuration_bytes, device_bytes};
 
 /// A request reads or writes as its row does, and a write has as many bytes as its row.
@@ -19,10 +19,10 @@ pub fn rows_are_sorted()
     ensures { (setup : Setup) (asked : Asked) → asked_of setup ≡ Some asked → IsSorted setup asked }
 {}
 
-/// What a host asks is of the row that it means.
+/// What a host asks is of the row that it means; what it asks of an endpoint, where that is the one of Input reports.
 #[tactic(auto, using(crate::proofs::AskedLemmas::asked_so))]
 pub fn requests_have_rows()
-    ensures { (request : Request) (asking : Asking) → FitsRequest request
+    ensures { (request : Request) (asking : Asking) → FitsRequest request → IsOfReports request asking
         → asked_of (setup_for request asking) ≡ Some (row_of request) }
 {}
 
@@ -37,7 +37,7 @@ pub fn data_are_announced()
 #[tactic(auto, using(crate::proofs::AskedLemmas::spelled_so))]
 pub fn requests_are_spelled()
     ensures { (request : Request) (asking : Asking) → FitsRequest request → asking.report_length < 2 ^ 16
-        → IsSpelled (setup_for request asking) }
+        → asking.endpoint < 2 ^ 8 → IsSpelled (setup_for request asking) }
 {}
 
 /// What a host reads of a configuration is what it was made of.

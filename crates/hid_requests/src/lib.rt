@@ -9,6 +9,7 @@
 //!   Report     81 06 00 22 00 00 length           ReportDescriptor   the descriptor of the device's reports
 //!   Configure  00 09 01 00 00 00 00 00            SetConfiguration   it takes effect
 //!   Idle       21 0A id time 00 00 00 00          SetIdle            of the class: wValue is two bytes
+//!   Halt       02 03 00 00 81 00 00 00            SetFeature         of endpoint 1, to the host
 //! ```
 //! The rule to know: a standard row has one wValue and one wIndex, the status of endpoint 0 two; a request with others is
 //! nothing that a device answers. A row of the class has wIndex 0, and in wValue a Report ID with the type of that report
@@ -19,8 +20,8 @@
 //! reads of a device's configuration is what it was made of ([`laws::configurations_are_read`]). No call takes memory, and
 //! none is refused.
 //! ```text
-//!   let setup = Request::Configure.setup(&Asking { report_length: 63 });    // 00 09 01 00 00 00 00 00
-//!   what_is_asked(&setup)                                                   // Some(Asked::SetConfiguration)
+//!   let setup = Request::Configure.setup(&Asking { report_length: 63, endpoint: 1 });    // 00 09 01 00 00 00 00 00
+//!   what_is_asked(&setup)                                                                // Some(Asked::SetConfiguration)
 //! ```
 #![tactic(auto)]
 

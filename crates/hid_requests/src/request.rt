@@ -1,13 +1,14 @@
 //! What a host asks.
 ghost use Rattle.std.specs.Prelude.{◌≡◌};
 ghost use Rattle.usb_control.specs.SetupBytes.{IsSpelled};
-ghost use Rattle.hid_requests.specs.Asking.{FitsRequest, asks, protocol_of, sends_of, setup_for, word_of};
+ghost use Rattle.hid_requests.specs.Asking.{FitsRequest, asks, asks_endpoint, protocol_of, sends_of, setup_for, word_of};
 
 use crate::class::{Protocol, type_of};
 use crate::codes::{
-    FIRST_CONFIGURATION, FIRST_DEVICE, FIRST_REPORT, GET_CONFIGURATION, GET_DESCRIPTOR, GET_IDLE,
-    GET_PROTOCOL, GET_REPORT, GET_STATUS, OF_CLASS, OF_DEVICE, OF_INTERFACE, SET_CONFIGURATION,
-    SET_IDLE, SET_PROTOCOL, SET_REPORT, TO_CLASS, TO_DEVICE,
+    CLEAR_FEATURE, FIRST_CONFIGURATION, FIRST_DEVICE, FIRST_REPORT, GET_CONFIGURATION,
+    GET_DESCRIPTOR, GET_IDLE, GET_PROTOCOL, GET_REPORT, GET_STATUS, OF_CLASS, OF_DEVICE,
+    OF_ENDPOINT, OF_INTERFACE, SET_CONFIGURATION, SET_FEATURE, SET_IDLE, SET_PROTOCOL, SET_REPORT,
+    TO_CLASS, TO_DEVICE, TO_ENDPOINT,
 };
 use arrayvec::ArrayVec;
 use hid_descriptor::ReportKind;
@@ -60,6 +61,12 @@ pub enum Request {
         /// The report, its ID first where it has one.
         bytes: ArrayVec<u8, 64>,
     },
+    /// To halt the endpoint of its Input reports: SET_FEATURE of ENDPOINT_HALT (USB 2.0, 9.4.9).
+    Halt,
+    /// To end a halt of that endpoint, which begins at DATA0 again: CLEAR_FEATURE of ENDPOINT_HALT (9.4.1 and 9.4.5).
+    Clear,
+    /// The status of that endpoint: whether it is halted (9.4.5).
+    EndpointStatus,
 }
 
 /// What a host knows of a device when it asks.
@@ -67,6 +74,8 @@ pub enum Request {
 pub struct Asking {
     /// In bytes, the report descriptor, by the configuration; 0 before that was read.
     pub report_length: u16,
+    /// The number of the endpoint of its Input reports, by the configuration; 0 before that was read.
+    pub endpoint: u8,
 }
 
 impl Request {
@@ -110,6 +119,9 @@ impl Request {
                 word_of(type_of(*kind), *id),
                 bytes.len() as u16,
             ),
+            Request::Halt => asks_endpoint(TO_ENDPOINT, SET_FEATURE, asking.endpoint, 0),
+            Request::Clear => asks_endpoint(TO_ENDPOINT, CLEAR_FEATURE, asking.endpoint, 0),
+            Request::EndpointStatus => asks_endpoint(OF_ENDPOINT, GET_STATUS, asking.endpoint, 2),
         }
     }
 
@@ -150,6 +162,9 @@ impl Request {
                 id: *id,
                 bytes: ArrayVec::try_from(bytes.as_slice()).unwrap(),
             },
+            Request::Halt => Request::Halt,
+            Request::Clear => Request::Clear,
+            Request::EndpointStatus => Request::EndpointStatus,
         }
     }
 }
@@ -182,6 +197,20 @@ fn asks(request_type: u8, request: u8, value: u16, length: u16) -> Setup
         request,
         value,
         index: 0,
+        length,
+    }
+}
+
+// A request of an endpoint to the host, with wValue 0: of SET_FEATURE and CLEAR_FEATURE that is ENDPOINT_HALT (table 9-6).
+fn asks_endpoint(request_type: u8, request: u8, endpoint: u8, length: u16) -> Setup
+    ensures setup { result ≡ asks_endpoint request_type request endpoint length }
+    ensures spelled { IsSpelled result }
+{
+    Setup {
+        request_type,
+        request,
+        value: 0,
+        index: 0x80 + u16::from(endpoint),
         length,
     }
 }

@@ -7,7 +7,7 @@ use usb_control::{ConfigInfo, DeviceInfo, Setup};
 
 /// What a host asks, with its eight bytes and what that asks of a device.
 #[rattlefmt::skip]
-const REQUESTS: [(&str, Request, [u8; 8], Asked); 14] = [
+const REQUESTS: [(&str, Request, [u8; 8], Asked); 17] = [
     ("device",        Request::Device,           [0x80, 0x06, 0x00, 0x01, 0x00, 0x00, 0x12, 0x00], Asked::DeviceDescriptor),
     ("configuration", Request::Config,           [0x80, 0x06, 0x00, 0x02, 0x00, 0x00, 0xFF, 0x00], Asked::Configuration),
     ("report",        Request::Report,           [0x81, 0x06, 0x00, 0x22, 0x00, 0x00, 0x32, 0x01], Asked::ReportDescriptor),
@@ -29,12 +29,16 @@ const REQUESTS: [(&str, Request, [u8; 8], Asked); 14] = [
                                                  [0xA1, 0x01, 0x02, 0x01, 0x00, 0x00, 0x40, 0x00], Asked::GetReport { kind: ReportKind::Input, id: 2 }),
     ("feature",       Request::GetReport { kind: ReportKind::Feature, id: 0 },
                                                  [0xA1, 0x01, 0x00, 0x03, 0x00, 0x00, 0x40, 0x00], Asked::GetReport { kind: ReportKind::Feature, id: 0 }),
+    ("halt",          Request::Halt,             [0x02, 0x03, 0x00, 0x00, 0x81, 0x00, 0x00, 0x00], Asked::SetFeature),
+    ("its end",       Request::Clear,            [0x02, 0x01, 0x00, 0x00, 0x81, 0x00, 0x00, 0x00], Asked::ClearFeature),
+    ("is asked for",  Request::EndpointStatus,   [0x82, 0x00, 0x00, 0x00, 0x81, 0x00, 0x02, 0x00], Asked::ReportStatus),
 ];
 
 #[test]
 fn a_host_asks_in_the_bytes_of_the_standard(rt: HostRuntime) {
     let asking = Asking {
         report_length: 0x0132,
+        endpoint: 1,
     };
     for (name, request, bytes, asked) in REQUESTS {
         let setup = request.setup(&asking);
@@ -55,7 +59,10 @@ const REPORTS: [(ReportKind, u8, &[u8], [u8; 8]); 2] = [
 
 #[test]
 fn a_report_goes_with_its_request(rt: HostRuntime) {
-    let asking = Asking { report_length: 63 };
+    let asking = Asking {
+        report_length: 63,
+        endpoint: 1,
+    };
     for (kind, id, report, wanted) in REPORTS {
         let mut bytes = ArrayVec::new();
         assert!(rt; bytes.try_extend_from_slice(report).is_ok());
@@ -77,7 +84,7 @@ fn a_report_goes_with_its_request(rt: HostRuntime) {
 
 /// Setup data, each row beside the nearest that is none.
 #[rattlefmt::skip]
-const ROWS: [(&str, [u8; 8], Option<Asked>); 62] = [
+const ROWS: [(&str, [u8; 8], Option<Asked>); 73] = [
     ("the device's status",             [0x80, 0x00, 0, 0, 0, 0, 2, 0],          Some(Asked::Status)),
     ("with a value",                    [0x80, 0x00, 1, 0, 0, 0, 2, 0],          None),
     ("with an index",                   [0x80, 0x00, 0, 0, 1, 0, 2, 0],          None),
@@ -110,7 +117,18 @@ const ROWS: [(&str, [u8; 8], Option<Asked>); 62] = [
     ("the second",                      [0x00, 0x09, 2, 0, 0, 0, 0, 0],          None),
     ("with data",                       [0x00, 0x09, 1, 0, 0, 0, 1, 0],          None),
     ("an address",                      [0x00, 0x05, 1, 0, 0, 0, 0, 0],          None),
-    ("a feature",                       [0x02, 0x03, 0, 0, 0x81, 0, 0, 0],       None),
+    ("a halt",                          [0x02, 0x03, 0, 0, 0x81, 0, 0, 0],       Some(Asked::SetFeature)),
+    ("of endpoint 0",                   [0x02, 0x03, 0, 0, 0x80, 0, 0, 0],       None),
+    ("of endpoint 1 from the host",     [0x02, 0x03, 0, 0, 0x01, 0, 0, 0],       None),
+    ("with data",                       [0x02, 0x03, 0, 0, 0x81, 0, 1, 0],       None),
+    ("another feature",                 [0x02, 0x03, 1, 0, 0x81, 0, 0, 0],       None),
+    ("of the device",                   [0x00, 0x03, 0, 0, 0x81, 0, 0, 0],       None),
+    ("the device may wake its host",    [0x00, 0x03, 1, 0, 0, 0, 0, 0],          None),
+    ("the end of a halt",               [0x02, 0x01, 0, 0, 0x81, 0, 0, 0],       Some(Asked::ClearFeature)),
+    ("of endpoint 2",                   [0x02, 0x01, 0, 0, 0x82, 0, 0, 0],       None),
+    ("with data",                       [0x02, 0x01, 0, 0, 0x81, 0, 2, 0],       None),
+    ("of another feature",              [0x02, 0x01, 0, 1, 0x81, 0, 0, 0],       None),
+    ("of an interface",                 [0x01, 0x01, 0, 0, 0x81, 0, 0, 0],       None),
     ("an input report",                 [0xA1, 0x01, 0, 1, 0, 0, 8, 0],          Some(Asked::GetReport { kind: ReportKind::Input, id: 0 })),
     ("of ID 2",                         [0xA1, 0x01, 2, 1, 0, 0, 8, 0],          Some(Asked::GetReport { kind: ReportKind::Input, id: 2 })),
     ("more bytes than any has",         [0xA1, 0x01, 2, 1, 0, 0, 0xFF, 0xFF],    Some(Asked::GetReport { kind: ReportKind::Input, id: 2 })),

@@ -93,6 +93,7 @@ once_prints_nothing (line.Poll dev fate count) session text cause h = no_step_te
 once_prints_nothing (line.Control dev fate count) session text cause h = no_step_text (step.Control dev fate) session text cause h
 once_prints_nothing (line.Begin dev request) session text cause h = no_step_text (step.Begin dev request) session text cause h
 once_prints_nothing (line.Reset dev) session text cause h = no_step_text (step.Reset dev) session text cause h
+once_prints_nothing (line.Halt dev) session text cause h = no_step_text (step.Halt dev) session text cause h
 
 -- ---- the text of a refused line is that of its first times
 

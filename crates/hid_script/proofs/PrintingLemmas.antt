@@ -14,7 +14,7 @@ use Rattle.hid_host.specs.declared.fault.StackFault.{StackFault}
 use Rattle.hid_host.specs.declared.phase.Start.{Start}
 use Rattle.hid_host.specs.declared.phase.Start.TheVariants.{Ready, Cold}
 use Rattle.hid_stack.specs.declared.step.Step.{Step}
-use Rattle.hid_stack.specs.declared.step.Step.TheVariants.{Change, Frame, Poll, Begin, Control, Reset}
+use Rattle.hid_stack.specs.declared.step.Step.TheVariants.{Change, Frame, Poll, Begin, Control, Halt, Reset}
 use Rattle.hid_stack.specs.declared.step.Delivered.{Delivered}
 use Rattle.hid_stack.specs.declared.rig.TheConstants.{MAX_DEVICES}
 use Rattle.hid_stack.specs.Attaching.{Attaches, member_at_start}
@@ -110,7 +110,8 @@ few_at members (Change dev change) few = tt
 few_at members Frame few = tt
 few_at members (Poll dev fate) few = few_of_one members dev _ few
 few_at members (Begin dev request) few = tt
-few_at members (Control dev fate) few = tt
+few_at members (Control dev fate) few = few_of_one members dev _ few
+few_at members (Halt dev) few = few_of_one members dev _ few
 few_at members (Reset dev) few = few_of_one members dev _ few
 
 step_done : (x : Step) (session next : Session) (text : List ℕ) → length session.members < 10 → TellsStep x session (accepted text next) → Done session.members text (Taken x ∷ []) next.members
@@ -226,6 +227,7 @@ line_done (line.Poll dev fate count) session next text few h = (replicate count 
 line_done (line.Control dev fate count) session next text few h = (replicate count (Taken (Control dev fate)), refl, steps_done (line.Control dev fate count) (Control dev fate) (λ s o told. told) count session next text few h)
 line_done (line.Begin dev request) session next text few h = (Taken (Begin dev request) ∷ [], refl, step_done (Begin dev request) session next text few (just_once (Once (line.Begin dev request)) session next text h))
 line_done (line.Reset dev) session next text few h = (Taken (Reset dev) ∷ [], refl, step_done (Reset dev) session next text few (just_once (Once (line.Reset dev)) session next text h))
+line_done (line.Halt dev) session next text few h = (Taken (Halt dev) ∷ [], refl, step_done (Halt dev) session next text few (just_once (Once (line.Halt dev)) session next text h))
 
 meant_done : (session next : Session) (bytes text : List ℕ) (meaning : Result Line LineFault) → meaning_of bytes ≡ meaning → length session.members < 10 → Means session meaning (accepted text next)
     → (said : Line) × (meaning_of bytes ≡ Ok said) × LineDone said session text next

@@ -114,6 +114,7 @@ one_once reading apart cause place one (line.Poll dev fate count) session o othe
 one_once reading apart cause place one (line.Control dev fate count) session o other h k = one_step one (step.Control dev fate) session o other h k
 one_once reading apart cause place one (line.Begin dev request) session o other h k = one_step one (step.Begin dev request) session o other h k
 one_once reading apart cause place one (line.Reset dev) session o other h k = one_step one (step.Reset dev) session o other h k
+one_once reading apart cause place one (line.Halt dev) session o other h k = one_step one (step.Halt dev) session o other h k
 
 session_in : Session → Result Session Cause → Session
 session_in d (Ok session) = session

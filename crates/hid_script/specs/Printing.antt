@@ -54,6 +54,7 @@ Does (line.Poll dev fate count) members acts = acts ≡ replicate count (Taken (
 Does (line.Control dev fate count) members acts = acts ≡ replicate count (Taken (step.Control dev fate))
 Does (line.Begin dev request) members acts = acts ≡ Taken (step.Begin dev request) ∷ []
 Does (line.Reset dev) members acts = acts ≡ Taken (step.Reset dev) ∷ []
+Does (line.Halt dev) members acts = acts ≡ Taken (step.Halt dev) ∷ []
 
 -- and what lines do, one after the other
 abbrev pub AllDo : List Member → List (List ℕ) → List Act → Type 0

@@ -34,6 +34,7 @@ Once (line.Poll dev fate count) session o = TellsStep (step.Poll dev fate) sessi
 Once (line.Control dev fate count) session o = TellsStep (step.Control dev fate) session o
 Once (line.Begin dev request) session o = TellsStep (step.Begin dev request) session o
 Once (line.Reset dev) session o = TellsStep (step.Reset dev) session o
+Once (line.Halt dev) session o = TellsStep (step.Halt dev) session o
 
 -- and how many times it is
 unfoldable pub times : Line → ℕ

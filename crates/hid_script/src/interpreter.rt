@@ -60,7 +60,8 @@ fn times(line: &Line) -> u16
         | Line::Set { .. }
         | Line::Move { .. }
         | Line::Begin { .. }
-        | Line::Reset { .. } => 1,
+        | Line::Reset { .. }
+        | Line::Halt { .. } => 1,
     }
 }
 
@@ -173,6 +174,10 @@ impl Interpreter {
             Line::Reset { dev } => {
                 let dev = *dev;
                 self.step(&Step::Reset { dev }, writer)
+            }
+            Line::Halt { dev } => {
+                let dev = *dev;
+                self.step(&Step::Halt { dev }, writer)
             }
         }
     }

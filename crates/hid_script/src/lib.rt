@@ -10,6 +10,8 @@
 //!   poll 1                                              1 down 07:04
 //!   begin 1 status
 //!   control 1 clean 3                                   1 control done 00 00
+//!   halt 1
+//!   poll 1                                              (with `trace`) 1 poll STALL stall
 //! ```
 //! A line is read whole, carried out, and its text is written at once, of a line with a count each time: a line that
 //! is refused ends the run, and what stands in the output is what was told before it.
@@ -23,6 +25,8 @@ mod fault;
 mod fault_text;
 #[cfg(test)]
 mod flush_tests;
+#[cfg(test)]
+mod halt_tests;
 mod interpreter;
 pub mod laws;
 mod output;

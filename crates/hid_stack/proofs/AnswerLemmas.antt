@@ -23,7 +23,7 @@ use Rattle.hid_device.specs.Making as making
 use Rattle.hid_host.specs.declared.fault.StackFault.{StackFault}
 use Rattle.hid_host.specs.declared.fault.StackFault.TheVariants.{NoDevice, NotReady, Refused, Control, BadDescriptor, Report, TooManyDevices, Memory}
 use Rattle.hid_host.specs.declared.fault.DescriptorFault.TheVariants.{Info, ReportLength, Layout, Device}
-use Rattle.hid_stack.specs.declared.step.Step.TheVariants.{Change, Frame, Poll, Begin, Control, Reset}
+use Rattle.hid_stack.specs.declared.step.Step.TheVariants.{Change, Frame, Poll, Begin, Control, Halt, Reset}
 use Rattle.hid_stack.specs.declared.step.Told.{Told}
 use Rattle.hid_stack.specs.Attaching.{Suits, wants_memory, Attaches, IsBefore, IsLeast, Finds, member_at_start}
 use Rattle.hid_stack.specs.Laws.{TellsOneThing, FindsOneControl, AttachesOneDevice}
@@ -87,6 +87,7 @@ tells_one members (Change dev change) told other h k = h ∙ sym k
 tells_one members Frame told other h k = h ∙ sym k
 tells_one members (Poll dev fate) told other h k = one_of_found (member_at members dev) fate told other h k
 tells_one members (Begin dev request) told other h k = h ∙ sym k
+tells_one members (Halt dev) told other h k = h ∙ sym k
 tells_one members (Reset dev) told other h k = h ∙ sym k
 tells_one members (Control dev fate) told other h k = one_try (member_at members dev) fate told other h k
 

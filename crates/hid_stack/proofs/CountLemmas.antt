@@ -1,6 +1,6 @@
 -- A write takes effect at a device as often as the tries of its request say, whatever comes between them.
 use Rattle.std.proofs.Common.{◌≡◌, ◌∙◌, ℕ, suc, ◌+◌, Bool, true, false, ◌&&◌, List, [], ◌∷◌, ◌++◌, Option, Some, None, refl, ap, sym, subst, inl, inr, arith}
-use Rattle.std.specs.Prelude.{if◌then◌else◌, length}
+use Rattle.std.specs.Prelude.{if◌then◌else◌}
 use Rattle.std.specs.List.{cons_option}
 use Rattle.std.proofs.lemmas.Bool.{cases_Bool}
 use Rattle.usb_transact.specs.declared.transaction.Fate.{Fate}
@@ -26,14 +26,14 @@ use Rattle.hid_device.specs.Core.{CoreState}
 use Rattle.hid_device.specs.Deciding.{core_table}
 use Rattle.hid_host.specs.declared.host.Transfer.{Transfer}
 use Rattle.hid_host.specs.declared.phase.HostState.{HostState}
-use Rattle.hid_host.specs.declared.phase.HostState.TheVariants as states
 use Rattle.hid_requests.specs.Asking.{FitsRequest, sends_of}
 use Rattle.hid_host.specs.Bringing.{is_configure}
 use Rattle.hid_host.specs.Host.{running, running_at}
-use Rattle.hid_host.specs.Knowing.{IsBehindSetup, IsDecided}
+use Rattle.hid_requests.proofs.AskedLemmas.{of_reports}
+use Rattle.hid_host.specs.Knowing.{IsBehindSetup, IsDecided, asking_of}
 use Rattle.hid_host.proofs.KnowingLemmas.{acts_go, decided_behind, decided_stays}
 use Rattle.hid_host.proofs.RoundLemmas.{is_configuring, pends_so}
-use Rattle.hid_stack.specs.Members.{Member, MemberStep, Scheduled, Begins, Controls, Resets, brought_deed, control_at, core_at, deeds_in, effect_deed, ends_tried_at, member_after, scheduled_deed, tried_deed, tried_of, tried_to, written_deed}
+use Rattle.hid_stack.specs.Members.{Member, MemberStep, Scheduled, Begins, Controls, Halts, Resets, brought_deed, control_at, core_at, deeds_in, effect_deed, ends_tried_at, halted_deed, halted_if, member_after, polls_it, scheduled_deed, tried_deed, tried_of, tried_to, written_deed}
 use Rattle.hid_stack.specs.Transfers.{BeginsNone, configurations, effects_in, ends_at, more_if, setup_at, takes_effect_at, tries_of, try_at}
 
 -- ---- one try
@@ -56,6 +56,8 @@ written_as core pendings.Configure bytes rest = refl
 written_as core (pendings.Keep i) bytes rest = refl
 written_as core (pendings.Idle report time) bytes rest = refl
 written_as core (pendings.Protocol protocol) bytes rest = refl
+written_as core pendings.Halt bytes rest = refl
+written_as core pendings.Clear bytes rest = refl
 
 effect_as : (e : Effect) (core : CoreState) (sets : Bool) (rest : List Deed) → (is_applied e ≡ true → is_configuring core.pending ≡ sets)
     → configurations (cons_option (effect_deed e core) rest) ≡ more_if (is_applied e && sets) (configurations rest)
@@ -92,6 +94,23 @@ stood_scheduled x m t place s =
       decided = λ behind. decided_stays t.request (core_at m) (core_at n) place.decision (record { layout = refl; config = refl; descriptor = refl; configured = λ h. h }) refl (s.decided behind);
     }
 
+-- and so does a halt of the device
+stood_halted : (b : Bool) (m : Member) (t : Transfer) (place : Place) → Stood m t place → Stood (halted_if b m) t place
+stood_halted false m t place s = s
+stood_halted true m t place s =
+    let n = halted_if true m in
+    record {
+      asked = s.asked;
+      spelled = s.spelled;
+      fits = s.fits;
+      stands = kept_is core_table.answer_of (shape_of t.ends.setup) (sends_of t.request) place t.ends (control_at m) (control_at n) s.stands refl refl;
+      decided = λ behind. decided_stays t.request (core_at m) (core_at n) place.decision (record { layout = refl; config = refl; descriptor = refl; configured = λ h. h }) refl (s.decided behind);
+    }
+
+pub halted_transfer : (b : Bool) (m : Member) → (halted_if b m).transfer ≡ m.transfer
+halted_transfer true m = refl
+halted_transfer false m = refl
+
 -- and a try leads on
 abbrev tried_transfer : Fate → Member → Transfer → Transfer
 tried_transfer fate m t = record t { ends = ends_tried_at fate m t }
@@ -104,7 +123,7 @@ stood_tried : (fate : Fate) (m : Member) (t : Transfer) (place : Place) (host : 
 stood_tried fate m t place host s g =
     let n = tried_to fate m t host in
     let control = control_tried core_table fate t.ends (control_at m) in
-    let asking : Asking = record { report_length = length m.descriptor } in
+    let asking : Asking = asking_of (core_at m) in
     let goes = acts_go t.ends.setup (sends_of t.request) (act_now core_table place fate (ends_at m t)) (core_at m) control.requests g.acts in
     record {
       asked = g.asked ∙ s.asked;
@@ -113,7 +132,7 @@ stood_tried fate m t place host s g =
       stands = kept_is core_table.answer_of (shape_of (ends_tried_at fate m t).setup) (sends_of t.request) (place_behind fate m t place) (ends_tried_at fate m t) control (control_at n) g.stands refl refl;
       decided = λ behind. decided_stays t.request control.requests (core_at n) (place_behind fate m t place).decision
           (record { layout = sym goes.layout; config = sym goes.config; descriptor = sym goes.descriptor; configured = λ h. h }) refl
-          (decided_behind t.request asking t.ends.setup (sends_of t.request) fate (decision_now core_table (ends_at m t)) place.host place (core_at m) control.requests s.fits s.asked refl g.acts s.decided behind);
+          (decided_behind t.request asking t.ends.setup (sends_of t.request) fate (decision_now core_table (ends_at m t)) place.host place (core_at m) control.requests s.fits (of_reports t.request asking refl) s.asked refl g.acts s.decided behind);
     }
 
 -- what a try adds to both counts
@@ -157,16 +176,18 @@ more_before : (b : Bool) (m n : ℕ) → m + more_if b n ≡ more_if b m + n
 more_before true m n = omega arith
 more_before false m n = refl
 
-poll_deed : (host : HostState) (fate : Fate) (deeds : List Deed) → configurations (cons_option (scheduled_deed host (Polls fate)) deeds) ≡ configurations deeds
-poll_deed states.Cold fate deeds = refl
-poll_deed states.Described fate deeds = refl
-poll_deed states.Parsed fate deeds = refl
-poll_deed states.Ready fate deeds = refl
+poll_deed : (polls : Bool) (fate : Fate) (deeds : List Deed) → configurations (cons_option (scheduled_deed polls (Polls fate)) deeds) ≡ configurations deeds
+poll_deed true fate deeds = refl
+poll_deed false fate deeds = refl
 
-own_deed : (host : HostState) (x : OwnStep) (deeds : List Deed) → configurations (cons_option (scheduled_deed host x) deeds) ≡ configurations deeds
-own_deed host (Changes change) deeds = refl
-own_deed host Frame deeds = refl
-own_deed host (Polls fate) deeds = poll_deed host fate deeds
+own_deed : (polls : Bool) (x : OwnStep) (deeds : List Deed) → configurations (cons_option (scheduled_deed polls x) deeds) ≡ configurations deeds
+own_deed polls (Changes change) deeds = refl
+own_deed polls Frame deeds = refl
+own_deed polls (Polls fate) deeds = poll_deed polls fate deeds
+
+halt_deed : (is_configured : Bool) (deeds : List Deed) → configurations (cons_option (halted_deed is_configured) deeds) ≡ configurations deeds
+halt_deed true deeds = refl
+halt_deed false deeds = refl
 
 open_acts : (shape : Shape) (x : Fate × Decision) (xs : List (Fate × Decision)) (place : Place) → is_open place ≡ true → acts shape (x ∷ xs) place ≡ act_of shape x.0 x.1 place ∷ acts shape xs (tried shape x.0 x.1 place)
 open_acts shape x xs place h = ap (λ (b : Bool). if b then act_of shape x.0 x.1 place ∷ acts shape xs (tried shape x.0 x.1 place) else []) h
@@ -238,8 +259,12 @@ pub counted : (steps : List MemberStep) → Behind steps
 counted [] m t place n has none s = record { took = none_yet n; configures = none_counts (is_configure t.request) }
 counted (Scheduled x ∷ steps) m t place n has none s =
     let rest = counted steps (member_after m (Scheduled x)) t place n has none (stood_scheduled x m t place s) in
-    record { took = rest.took; configures = own_deed m.host x (deeds_in (member_after m (Scheduled x)) steps) ∙ rest.configures }
+    record { took = rest.took; configures = own_deed (polls_it m) x (deeds_in (member_after m (Scheduled x)) steps) ∙ rest.configures }
 counted (Begins request ∷ steps) m t place n has none s = absurd none
+counted (Halts ∷ steps) m t place n has none s =
+    let k = member_after m Halts in
+    let rest = counted steps k t place n (halted_transfer m.endpoint.is_configured m ∙ has) none (stood_halted m.endpoint.is_configured m t place s) in
+    record { took = rest.took; configures = halt_deed m.endpoint.is_configured (deeds_in k steps) ∙ rest.configures }
 counted (Resets ∷ steps) m t place n has none s = absurd none
 counted (Controls fate ∷ steps) m t place n has none s = elim (cases_Bool (is_running t.ends.stage)) [
   | inl runs ↦

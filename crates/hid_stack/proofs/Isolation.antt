@@ -14,18 +14,20 @@ use Rattle.hid_cells.proofs.ItemLemmas.{set_here, set_there}
 use Rattle.hid_lives.specs.Rounds.{OwnStep, Changes, Polls}
 use Rattle.hid_lives.specs.Rounds as own_steps
 use Rattle.hid_stack.specs.declared.step.Step.{Step}
-use Rattle.hid_stack.specs.declared.step.Step.TheVariants.{Change, Frame, Poll, Begin, Control, Reset}
+use Rattle.hid_stack.specs.declared.step.Step.TheVariants.{Change, Frame, Poll, Begin, Control, Halt, Reset}
 use Rattle.hid_stack.specs.declared.step.Delivered.{Delivered}
 use Rattle.hid_lives.specs.Following.{FollowsLife, course_from}
 use Rattle.hid_lives.specs.Lives.{course_behind, happenings, told_in}
 use Rattle.hid_lives.specs.Stations.{Station, after_all, events_in}
-use Rattle.hid_host.specs.Host.{running}
-use Rattle.hid_stack.specs.Members.{Member, MemberStep, Scheduled, Begins, Controls, Resets, deed_at, deeds_in, events_by, member_after, member_after_all}
+use Rattle.hid_host.specs.declared.phase.HostState.{HostState}
+use Rattle.hid_host.specs.declared.phase.HostState.TheVariants.{Ready}
+use Rattle.hid_host.specs.Phase.{may_poll}
+use Rattle.hid_stack.specs.Members.{Member, MemberStep, Scheduled, Begins, Controls, Halts, Resets, deed_at, deeds_in, events_by, member_after, member_after_all}
 use Rattle.hid_stack.specs.Rig.{HasOnlySchedule, member_at, with_member, one_after, bus_after, tagged, one_delivers, delivered_at, bus_after_all, delivered_in, is_scheduled, member_step, member_steps, own_step, own, own_event, from_device, IsIsolated}
 use Rattle.hid_stack.specs.Headline.{DeliversChanges, DevicesLive, KeepsToRounds}
 use Rattle.hid_lives.proofs.LifeLemmas.{lives_on}
 use Rattle.hid_lives.proofs.ScheduleLemmas.{delivers_epoch, own_told as own_told_in, stands_by_rounds}
-use Rattle.hid_stack.proofs.MemberLemmas.{layout_stays, ready_deeds, ready_stands, stations, told_on, tried_quiet}
+use Rattle.hid_stack.proofs.MemberLemmas.{layout_stays, ready_deeds, ready_stands, stations, told_on}
 
 same_places : (d e : ℕ) → eqb d 0 ≡ false → eqb e 0 ≡ false → d - 1 ≡ e - 1 → d ≡ e
 same_places d e some_d some_e same = grind (arith, nat_tests)
@@ -98,6 +100,7 @@ step_state device members m Frame h = member_at-map (λ (n : Member). member_aft
 step_state device members m (Poll d fate) h = one_state d device members m (Scheduled (Polls fate)) h
 step_state device members m (Begin d request) h = one_state d device members m (Begins request) h
 step_state device members m (Control d fate) h = one_state d device members m (Controls fate) h
+step_state device members m (Halt d) h = one_state d device members m Halts h
 step_state device members m (Reset d) h = one_state d device members m Resets h
 
 -- what one step delivers of one device
@@ -146,7 +149,8 @@ step_events device members m (Change d change) h = quiet_own m d device (Schedul
 step_events device members m Frame h = refl
 step_events device members m (Poll d fate) h = one_told d device members m (Scheduled (Polls fate)) h
 step_events device members m (Begin d request) h = quiet_own m d device (Begins request) refl
-step_events device members m (Control d fate) h = quiet_own m d device (Controls fate) (tried_quiet (items_of m.layout) m.station fate m (running m.transfer))
+step_events device members m (Control d fate) h = one_told d device members m (Controls fate) h
+step_events device members m (Halt d) h = one_told d device members m Halts h
 step_events device members m (Reset d) h = one_told d device members m Resets h
 
 -- one more own step
@@ -217,6 +221,11 @@ only_step device (Control d fate) h = by_number (eqb d device) h
     by_number : (b : Bool) → not b ≡ true → cond b (Some (Controls fate)) None ≡ None
     by_number true k = absurd (cc)
     by_number false k = refl
+only_step device (Halt d) h = by_number (eqb d device) h
+  where
+    by_number : (b : Bool) → not b ≡ true → cond b (Some Halts) None ≡ None
+    by_number true k = absurd (cc)
+    by_number false k = refl
 only_step device (Reset d) h = by_number (eqb d device) h
   where
     by_number : (b : Bool) → not b ≡ true → cond b (Some Resets) None ≡ None
@@ -234,7 +243,11 @@ only_schedule device (x ∷ steps) h =
     ∙ ap (cons_option (option_map (λ y. Scheduled y) (own_step device x))) (only_schedule device steps (λ k d lt. h (suc k) d (omega (arith, lt))))
     ∙ cons_mapped (own_step device x) (own device steps)
 
--- a device that was just configured delivers the events of its epoch
+-- a device that was just configured is polled
+fresh_polls : (m : Member) → m.host ≡ Ready → m.clearing ≡ false → may_poll m.host m.clearing ≡ true
+fresh_polls m ready clear = ap (λ (h : HostState). may_poll h m.clearing) ready ∙ ap (may_poll Ready) clear
+
+-- and delivers the events of its epoch
 pub headline : (members : List Member) (steps : List Step) (old new : List Delivered) → new ≡ old ++ delivered_in members steps → DeliversChanges members steps old new
 headline members steps old new told_are device m snapshot idle h just only =
     let items = items_of m.layout in
@@ -242,7 +255,7 @@ headline members steps old new told_are device m snapshot idle h just only =
     ∙ ap (λ (es : List Event). from_device device old ++ es)
     (told steps members device m h
     ∙ ap (λ (xs : List MemberStep). told_in items m.station (deeds_in m xs)) (only_schedule device steps only)
-    ∙ ap (told_in items m.station) (ready_deeds (own device steps) m just.host)
+    ∙ ap (told_in items m.station) (ready_deeds (own device steps) m (fresh_polls m just.host just.clear))
     ∙ own_told_in items (own device steps) m.station
     ∙ ap (λ (s : Station). events_in items s (own device steps)) just.station ∙ delivers_epoch items snapshot idle (own device steps))
 

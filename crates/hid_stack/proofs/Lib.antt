@@ -10,6 +10,7 @@ pub mod SumLemmas
 pub mod RoomLemmas
 pub mod RigLemmas
 pub mod ResetLemmas
+pub mod HaltLemmas
 pub mod AttachLemmas
 pub mod StoryLemmas
 pub mod AnswerLemmas

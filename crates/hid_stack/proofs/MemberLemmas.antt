@@ -1,5 +1,6 @@
 -- What the steps of one device make of it and its host.
-use Rattle.std.proofs.Common.{ℕ, ◌≡◌, ◌++◌, ◌∙◌, List, [], ◌∷◌, Option, Some, None, map, refl, sym, ap, subst}
+use Rattle.std.proofs.Common.{ℕ, ◌≡◌, ◌++◌, ◌∙◌, List, [], ◌∷◌, Bool, true, false, Option, Some, None, map, refl, sym, ap, subst}
+use Rattle.std.specs.Prelude.{if◌then◌else◌}
 use Rattle.std.specs.List.{cons_option}
 use Rattle.hid_layout.specs.Controls.{Item, items_of}
 use Rattle.usb_transact.specs.declared.transaction.Fate.{Fate}
@@ -15,10 +16,9 @@ use Rattle.hid_lives.specs.Rounds.{OwnStep, Changes, Frame, Polls}
 use Rattle.hid_lives.specs.Stations.{Station, after_all}
 use Rattle.hid_host.specs.declared.fault.StackFault.{StackFault}
 use Rattle.hid_host.specs.declared.host.Transfer.{Transfer}
-use Rattle.hid_host.specs.declared.phase.HostState.{HostState}
-use Rattle.hid_host.specs.declared.phase.HostState.TheVariants as states
+use Rattle.hid_host.specs.Bringing.{cuts_round}
 use Rattle.hid_host.specs.Host.{running}
-use Rattle.hid_stack.specs.Members.{Member, MemberStep, Scheduled, Begins, Controls, Resets, befallen_by, begin_refusal_at, begun_unless, brought_deed, control_at, deed_at, deeds_in, effect_deed, events_by, member_after, member_after_all, scheduled_deed, tried_deed, tried_of, unconcluded_of, written_deed}
+use Rattle.hid_stack.specs.Members.{Member, MemberStep, Scheduled, Begins, Controls, Halts, Resets, befallen_by, begin_refusal_at, begun_unless, brought_deed, control_at, deed_at, deeds_in, effect_deed, events_by, halted_deed, halted_if, member_after, member_after_all, polls_it, scheduled_deed, tried_deed, tried_of, tried_to, unconcluded_of, written_deed}
 use Rattle.hid_layout.specs.Layout.{Contents}
 use Rattle.hid_device.specs.declared.config.Config.{Config}
 use Rattle.hid_device.specs.declared.decisions.Pending.{Pending}
@@ -26,7 +26,7 @@ use Rattle.hid_device.specs.declared.decisions.Pending.TheVariants as pendings
 use Rattle.hid_device.specs.Core.{CoreState}
 use Rattle.hid_device.specs.Deciding.{core_table}
 use Rattle.hid_stack.specs.Laws.{IsMadeAs}
-use Rattle.hid_stack.specs.Sums.{IsBetween}
+use Rattle.hid_stack.specs.Sums.{CutsNone, IsBetween}
 
 -- ---- what stays, and how the station stands
 
@@ -45,10 +45,15 @@ tried_made : (fate : Fate) (m : Member) (o : Option Transfer) → made_of (tried
 tried_made fate m None = refl
 tried_made fate m (Some t) = refl
 
+halted_made : (b : Bool) (m : Member) → made_of (halted_if b m) ≡ made_of m
+halted_made true m = refl
+halted_made false m = refl
+
 made_stays : (m : Member) (x : MemberStep) → made_of (member_after m x) ≡ made_of m
 made_stays m (Scheduled x) = refl
 made_stays m (Begins request) = begun_made (begin_refusal_at m request) m request
 made_stays m (Controls fate) = tried_made fate m (running m.transfer)
+made_stays m Halts = halted_made m.endpoint.is_configured m
 made_stays m Resets = refl
 
 made_stays_all : (xs : List MemberStep) (m : Member) → made_of (member_after_all m xs) ≡ made_of m
@@ -76,20 +81,37 @@ tried_station : (fate : Fate) (m : Member) (o : Option Transfer) → (tried_of f
 tried_station fate m None = refl
 tried_station fate m (Some t) = refl
 
+halted_station : (b : Bool) (m : Member) → (halted_if b m).station ≡ befallen_by (items_of m.layout) m.station (halted_deed b)
+halted_station true m = refl
+halted_station false m = refl
+
 pub station_is : (m : Member) (x : MemberStep) → (member_after m x).station ≡ befallen_by (items_of m.layout) m.station (deed_at m x)
 station_is m (Scheduled x) = refl
 station_is m (Begins request) = begun_station (begin_refusal_at m request) m request
 station_is m (Controls fate) = tried_station fate m (running m.transfer)
+station_is m Halts = halted_station m.endpoint.is_configured m
 station_is m Resets = refl
 
--- a try that isn't concluded leaves both as one that is
+-- a try that isn't concluded leaves both as one that is, or nothing was tried
+abbrev pub unconcluded_deed : Fate → Member → Option Transfer → Option Deed
+unconcluded_deed fate m None = None
+unconcluded_deed fate m (Some t) = if cuts_round t.request then None else tried_deed fate m (Some t)
+
 pub unconcluded_layout : (fate : Fate) (m : Member) (o : Option Transfer) → (unconcluded_of fate m o).layout ≡ m.layout
 unconcluded_layout fate m None = refl
-unconcluded_layout fate m (Some t) = refl
+unconcluded_layout fate m (Some t) = by_request (cuts_round t.request)
+  where
+    by_request : (b : Bool) → (if b then m else tried_to fate m t m.host).layout ≡ m.layout
+    by_request true = refl
+    by_request false = refl
 
-pub unconcluded_station : (fate : Fate) (m : Member) (o : Option Transfer) → (unconcluded_of fate m o).station ≡ befallen_by (items_of m.layout) m.station (tried_deed fate m o)
+pub unconcluded_station : (fate : Fate) (m : Member) (o : Option Transfer) → (unconcluded_of fate m o).station ≡ befallen_by (items_of m.layout) m.station (unconcluded_deed fate m o)
 unconcluded_station fate m None = refl
-unconcluded_station fate m (Some t) = refl
+unconcluded_station fate m (Some t) = by_request (cuts_round t.request)
+  where
+    by_request : (b : Bool) → (if b then m else tried_to fate m t m.host).station ≡ befallen_by (items_of m.layout) m.station (if b then None else tried_deed fate m (Some t))
+    by_request true = refl
+    by_request false = refl
 
 -- what a try brings about is no step of the schedule, and no reset
 abbrev pub IsEffect : Option Deed → Type 0
@@ -103,6 +125,8 @@ written_effect core pendings.Configure = tt
 written_effect core (pendings.Keep i) = tt
 written_effect core (pendings.Idle report time) = tt
 written_effect core (pendings.Protocol protocol) = tt
+written_effect core pendings.Halt = tt
+written_effect core pendings.Clear = tt
 
 is_effect : (effect : Effect) (core : CoreState) → IsEffect (effect_deed effect core)
 is_effect (Answers answer stage heard) core = tt
@@ -115,17 +139,15 @@ brings_effect Clean ends control = is_effect (effect_reached core_table ends con
 brings_effect ReplyLost ends control = is_effect (effect_reached core_table ends control) control.requests
 brings_effect AckLost ends control = is_effect (effect_reached core_table ends control) control.requests
 
--- so transfers deliver nothing
-quiet_effect : (items : List Item) (s : Station) (o : Option Deed) → IsEffect o → events_by items s o ≡ []
-quiet_effect items s None is = refl
-quiet_effect items s (Some (Own x)) is = absurd is
-quiet_effect items s (Some (Idles idle)) is = refl
-quiet_effect items s (Some Configures) is = refl
-quiet_effect items s (Some lives.Resets) is = absurd is
-
-pub tried_quiet : (items : List Item) (s : Station) (fate : Fate) (m : Member) (o : Option Transfer) → events_by items s (tried_deed fate m o) ≡ []
-tried_quiet items s fate m None = refl
-tried_quiet items s fate m (Some t) = quiet_effect items s (brought_deed fate t.ends (control_at m)) (brings_effect fate t.ends (control_at m))
+-- so it delivers nothing where it cuts no round
+pub quiet_effect : (items : List Item) (s : Station) (o : Option Deed) → IsEffect o → CutsNone o → events_by items s o ≡ []
+quiet_effect items s None is none = refl
+quiet_effect items s (Some (Own x)) is none = absurd is
+quiet_effect items s (Some (Idles idle)) is none = refl
+quiet_effect items s (Some Configures) is none = refl
+quiet_effect items s (Some lives.Halts) is none = absurd none
+quiet_effect items s (Some lives.Clears) is none = absurd none
+quiet_effect items s (Some lives.Resets) is none = absurd is
 
 -- ---- lists of steps
 
@@ -155,26 +177,26 @@ told_on m x xs =
     ap (λ (s : Station). events_by (items_of m.layout) m.station (deed_at m x) ++ told_in (items_of m.layout) s (deeds_in (member_after m x) xs)) (station_is m x)
     ∙ told_more (items_of m.layout) m.station (deed_at m x) (deeds_in (member_after m x) xs)
 
--- ---- a device whose host is ready, by its schedule alone
+-- ---- a device that is polled, by its schedule alone
 
 abbrev scheduled : List OwnStep → List MemberStep
 scheduled steps = map (λ x. Scheduled x) steps
 
-ready_deed : (host : HostState) (x : OwnStep) → host ≡ states.Ready → scheduled_deed host x ≡ Some (Own x)
-ready_deed host (Changes change) ready = refl
-ready_deed host Frame ready = refl
-ready_deed host (Polls fate) ready = ap (λ (h : HostState). scheduled_deed h (Polls fate)) ready
+ready_deed : (polls : Bool) (x : OwnStep) → polls ≡ true → scheduled_deed polls x ≡ Some (Own x)
+ready_deed polls (Changes change) ready = refl
+ready_deed polls Frame ready = refl
+ready_deed polls (Polls fate) ready = ap (λ (b : Bool). scheduled_deed b (Polls fate)) ready
 
-ready_after_step : (m : Member) (x : OwnStep) → m.host ≡ states.Ready → member_after m (Scheduled x) ≡ record m { station = befallen (items_of m.layout) m.station (Own x) }
-ready_after_step m x ready = ap (λ (o : Option Deed). record m { station = befallen_by (items_of m.layout) m.station o }) (ready_deed m.host x ready)
+ready_after_step : (m : Member) (x : OwnStep) → polls_it m ≡ true → member_after m (Scheduled x) ≡ record m { station = befallen (items_of m.layout) m.station (Own x) }
+ready_after_step m x ready = ap (λ (o : Option Deed). record m { station = befallen_by (items_of m.layout) m.station o }) (ready_deed (polls_it m) x ready)
 
-pub ready_deeds : (xs : List OwnStep) (m : Member) → m.host ≡ states.Ready → deeds_in m (scheduled xs) ≡ owns xs
+pub ready_deeds : (xs : List OwnStep) (m : Member) → polls_it m ≡ true → deeds_in m (scheduled xs) ≡ owns xs
 ready_deeds [] m ready = refl
 ready_deeds (x ∷ xs) m ready =
-    ap (λ (o : Option Deed). cons_option o (deeds_in (member_after m (Scheduled x)) (scheduled xs))) (ready_deed m.host x ready)
+    ap (λ (o : Option Deed). cons_option o (deeds_in (member_after m (Scheduled x)) (scheduled xs))) (ready_deed (polls_it m) x ready)
     ∙ ap (λ (ds : List Deed). Own x ∷ ds) (ready_deeds xs (member_after m (Scheduled x)) ready)
 
-pub ready_stands : (xs : List OwnStep) (m : Member) → m.host ≡ states.Ready → member_after_all m (scheduled xs) ≡ record m { station = after_all (items_of m.layout) m.station xs }
+pub ready_stands : (xs : List OwnStep) (m : Member) → polls_it m ≡ true → member_after_all m (scheduled xs) ≡ record m { station = after_all (items_of m.layout) m.station xs }
 ready_stands [] m ready = refl
 ready_stands (x ∷ xs) m ready =
     ap (λ (n : Member). member_after_all n (scheduled xs)) (ready_after_step m x ready)

@@ -21,16 +21,19 @@ use Rattle.hid_host.specs.declared.fault.StackFault.{StackFault}
 use Rattle.hid_host.specs.declared.fault.StackFault.TheVariants.{NoDevice, Refused, Memory}
 use Rattle.hid_host.specs.declared.fault.StackFault.TheVariants as faults
 use Rattle.hid_host.specs.declared.host.Transfer.{Transfer}
+use Rattle.hid_host.specs.Bringing.{may_cut}
 use Rattle.hid_host.specs.Host.{running}
+use Rattle.hid_layout.specs.Layout.{Contents}
 use Rattle.hid_stack.specs.declared.step.Delivered.{Delivered}
-use Rattle.hid_stack.specs.declared.step.Step.TheVariants.{Change as ChangeStep, Poll, Begin, Control, Reset}
+use Rattle.hid_stack.specs.declared.step.Step.{Step}
+use Rattle.hid_stack.specs.declared.step.Step.TheVariants.{Change as ChangeStep, Poll, Begin, Control}
 use Rattle.hid_stack.specs.declared.step.Told.{Told}
 use Rattle.hid_stack.specs.declared.step.Told.TheVariants.{Quiet}
 use Rattle.hid_stack.specs.declared.step.Told.TheVariants as tellings
-use Rattle.hid_stack.specs.Members.{Member, MemberStep, Scheduled, Controls, begin_refusal_at, deed_at, ends_tried_at, events_by, member_after, tried_of, unconcluded_of}
-use Rattle.hid_stack.specs.Rig.{GivesMore, TakesMemory, member_at, with_member, one_after, one_delivers, one_unconcluded, tagged, change_refusal, control_refusal, poll_refusal, refusal, refused_after, IsRefusal, HasRoomFor}
+use Rattle.hid_stack.specs.Members.{Member, MemberStep, Scheduled, Controls, begin_refusal_at, deed_at, ends_tried_at, events_by, member_after, polls_it, tried_of, unconcluded_of}
+use Rattle.hid_stack.specs.Rig.{GivesMore, HasRoomToTry, TakesMemory, TriesWithMemory, member_at, most_events, most_tried, with_member, one_after, one_delivers, one_unconcluded, tagged, change_refusal, control_refusal, poll_refusal, refusal, refused_after, IsRefusal, HasRoomFor}
 use Rattle.hid_stack.specs.Slot.{TriesTransfer}
-use Rattle.hid_stack.specs.Sums.{ConfiguresBetweenRounds, IsBetween}
+use Rattle.hid_stack.specs.Sums.{ConfiguresBetweenRounds, CutsByRequest, IsBetween, OnlyHaltsCut}
 use Rattle.hid_stack.specs.Tells.{TellsPoll, TellsTry, Tells}
 use Rattle.hid_stack.proofs.SumLemmas.{try_between}
 
@@ -106,27 +109,27 @@ poll_tells members dev i m fate r at_place tells =
     (λ told h. subst (λ (o : Option Member). elim o as (λ _. Type 0) [ None ↦ ⊥ | Some k ↦ TellsPoll k.layout k.station fate told ]) (sym at_place.here) h) tells
 
 -- what a step of it delivers
-pub one_delivered : (members : List Member) (dev i : ℕ) (m : Member) (x : MemberStep) (r : Result Told StackFault) (old new : List Delivered) → IsNamed members dev i m
+pub one_delivered : {A : Type 0} (members : List Member) (dev i : ℕ) (m : Member) (x : MemberStep) (r : Result A StackFault) (old new : List Delivered) → IsNamed members dev i m
     → OnOk r (new ≡ old ++ map (tagged dev) (events_by (items_of m.layout) m.station (deed_at m x))) → OnOk r (new ≡ old ++ one_delivers members dev x)
 one_delivered members dev i m x r old new at_place told =
     let one : one_delivers members dev x ≡ map (tagged dev) (events_by (items_of m.layout) m.station (deed_at m x))
     = ap (λ (o : Option Member). elim o as (λ _. List Delivered) [ None ↦ [] | Some k ↦ map (tagged dev) (events_by (items_of k.layout) k.station (deed_at k x)) ]) at_place.here in
     on_ok_weaker r (λ h. h ∙ sym (ap (λ (es : List Delivered). old ++ es) one)) told
 
-poll_stands : (members : List Member) (dev i : ℕ) (m : Member) (fate : Fate) → IsNamed members dev i m → refusal members (Poll dev fate) ≡ poll_refusal m.host
+poll_stands : (members : List Member) (dev i : ℕ) (m : Member) (fate : Fate) → IsNamed members dev i m → refusal members (Poll dev fate) ≡ poll_refusal (polls_it m)
 poll_stands members dev i m fate at_place =
-    ap (λ (o : Option Member). elim o as (λ _. Option StackFault) [ None ↦ Some NoDevice | Some k ↦ poll_refusal k.host ]) at_place.here
+    ap (λ (o : Option Member). elim o as (λ _. Option StackFault) [ None ↦ Some NoDevice | Some k ↦ poll_refusal (polls_it k) ]) at_place.here
 
 -- a call that is refused for what stands, or for want of memory
 abbrev pub RefusedBy : {A : Type 0} → Option StackFault → Result A StackFault → Type 0
 RefusedBy stands r = IfErr r (λ e. (stands ≡ Some e) ⊎ ((stands ≡ None) × (e ≡ Memory)))
 
 pub poll_refused : (members : List Member) (dev i : ℕ) (m : Member) (fate : Fate) (r : Result Told StackFault) → IsNamed members dev i m
-    → ((e : StackFault) → poll_refusal m.host ≡ Some e → r ≡ Err e) → (e : StackFault) → refusal members (Poll dev fate) ≡ Some e → r ≡ Err e
+    → ((e : StackFault) → poll_refusal (polls_it m) ≡ Some e → r ≡ Err e) → (e : StackFault) → refusal members (Poll dev fate) ≡ Some e → r ≡ Err e
 poll_refused members dev i m fate r at_place refused e stands = refused e (sym (poll_stands members dev i m fate at_place) ∙ stands)
 
 pub poll_only : (members : List Member) (dev i : ℕ) (m : Member) (fate : Fate) (r : Result Told StackFault) → IsNamed members dev i m
-    → RefusedBy (poll_refusal m.host) r → IfErr r (λ e. IsRefusal members (Poll dev fate) e)
+    → RefusedBy (poll_refusal (polls_it m)) r → IfErr r (λ e. IsRefusal members (Poll dev fate) e)
 poll_only members dev i m fate (Ok told) at_place only = tt
 poll_only members dev i m fate (Err fault) at_place (inl stands) = inl (poll_stands members dev i m fate at_place ∙ stands)
 poll_only members dev i m fate (Err fault) at_place (inr (none, memory)) = inr (poll_stands members dev i m fate at_place ∙ none, memory, tt)
@@ -145,18 +148,18 @@ few_of_it members dev i m used now at_place few =
     = ap (λ (o : Option Member). elim o as (λ _. ℕ) [ None ↦ 0 | Some k ↦ max_events (items_of k.layout) ]) at_place.here in
     subst (λ (n : ℕ). now ≤ used + n) (sym most) few
 
--- a reset of it
-reset_stands : (members : List Member) (dev i : ℕ) (m : Member) → IsNamed members dev i m → refusal members (Reset dev) ≡ None
-reset_stands members dev i m at_place =
+-- a halt or a reset of it: nothing but want of memory refuses these
+pub never_stands : (members : List Member) (dev i : ℕ) (m : Member) → IsNamed members dev i m
+    → (elim (member_at members dev) as (λ _. Option StackFault) [ None ↦ Some NoDevice | Some k ↦ None ]) ≡ None
+never_stands members dev i m at_place =
     ap (λ (o : Option Member). elim o as (λ _. Option StackFault) [ None ↦ Some NoDevice | Some k ↦ None ]) at_place.here
 
-pub reset_refused : (members : List Member) (dev i : ℕ) (m : Member) (r : Result Told StackFault) → IsNamed members dev i m → (e : StackFault) → refusal members (Reset dev) ≡ Some e → r ≡ Err e
-reset_refused members dev i m r at_place e stands =
-    let wrong : None ≡ Some e = sym (reset_stands members dev i m at_place) ∙ stands in absurd (cc)
+pub never_refused : (members : List Member) (x : Step) (r : Result Told StackFault) → refusal members x ≡ None → (e : StackFault) → refusal members x ≡ Some e → r ≡ Err e
+never_refused members x r none e stands = let wrong : None ≡ Some e = sym none ∙ stands in absurd (cc)
 
-pub reset_only : (members : List Member) (dev i : ℕ) (m : Member) (r : Result Told StackFault) → IsNamed members dev i m → IfErr r (λ fault. fault ≡ Memory) → IfErr r (λ e. IsRefusal members (Reset dev) e)
-reset_only members dev i m (Ok told) at_place only = tt
-reset_only members dev i m (Err fault) at_place only = inr (reset_stands members dev i m at_place, only, tt)
+pub memory_only : (members : List Member) (x : Step) (r : Result Told StackFault) → refusal members x ≡ None → TakesMemory members x → IfErr r (λ fault. fault ≡ Memory) → IfErr r (λ e. IsRefusal members x e)
+memory_only members x (Ok told) none takes only = tt
+memory_only members x (Err fault) none takes only = inr (none, only, takes)
 
 -- a request that begins
 abbrev pub begin_told : Result (Unit {0}) StackFault → Result Told StackFault
@@ -230,13 +233,12 @@ control_stands members dev i m fate at_place =
     ap (λ (o : Option Member). elim o as (λ _. Option StackFault) [ None ↦ Some NoDevice | Some k ↦ control_refusal (running k.transfer) ]) at_place.here
 
 -- what a try of the transfer that runs comes to at the bus
-pub record TriesNamed (slots members : List Member) (dev i : ℕ) (m n : Member) (fate : Fate) (used capacity : ℕ) (r : Result Told StackFault) : Type 0 where
+pub record TriesNamed (slots members : List Member) (dev i : ℕ) (m n : Member) (fate : Fate) (r : Result Told StackFault) : Type 0 where
   pub told : IfOk r (λ told. Tells members (Control dev fate) told)
   pub after : OnOk r (slice_set slots i n ≡ one_after members dev (Controls fate))
   pub refused : (e : StackFault) → refusal members (Control dev fate) ≡ Some e → r ≡ Err e
   pub only : IfErr r (λ e. IsRefusal members (Control dev fate) e)
   pub err : IfErr r (λ e. slice_set slots i n ≡ refused_after members (Control dev fate) e)
-  pub room : HasRoomFor members (Control dev fate) used capacity → r ≢ Err Memory
 
 tells_named : (members : List Member) (dev i : ℕ) (m : Member) (fate : Fate) (t : Transfer) (told : Told) → IsNamed members dev i m → running m.transfer ≡ Some t → told ≡ tellings.Transfer (progress_of (ends_tried_at fate m t).stage)
     → Tells members (Control dev fate) told
@@ -253,21 +255,20 @@ unconcluded_at slots members dev i m n fate same at_place is =
     let moved : slice_set slots i n ≡ with_member members dev (unconcluded_of fate m (running m.transfer)) = cc in
     moved ∙ to_one
 
-tries_by : (slots members : List Member) (dev i : ℕ) (m n : Member) (fate : Fate) (used capacity : ℕ) (o : Option Transfer) (done : Result Progress StackFault) → slots ≡ members → IsNamed members dev i m
-    → running m.transfer ≡ o → TriesTransfer fate m o done n → TriesNamed slots members dev i m n fate used capacity (control_told done)
-tries_by slots members dev i m n fate used capacity None done same at_place runs tries =
+tries_by : (slots members : List Member) (dev i : ℕ) (m n : Member) (fate : Fate) (o : Option Transfer) (done : Result Progress StackFault) → slots ≡ members → IsNamed members dev i m
+    → running m.transfer ≡ o → TriesTransfer fate m o done n → TriesNamed slots members dev i m n fate (control_told done)
+tries_by slots members dev i m n fate None done same at_place runs tries =
     let stands : refusal members (Control dev fate) ≡ Some (faults.Control NoTransfer) = control_stands members dev i m fate at_place ∙ ap control_refusal runs in
     let told : control_told done ≡ Err (faults.Control NoTransfer) = ap control_told tries.0 in
-    let Named : Result Told StackFault → Type 0 = TriesNamed slots members dev i m n fate used capacity in
+    let Named : Result Told StackFault → Type 0 = TriesNamed slots members dev i m n fate in
     subst Named (sym told) (record {
       told = tt;
       after = tt;
       refused = λ e refused. let one : Some (faults.Control NoTransfer) ≡ Some e = sym stands ∙ refused in cc;
       only = inl stands;
       err = stays slots members dev i m n same at_place tries.1;
-      room = λ room memory. cc;
     })
-tries_by slots members dev i m n fate used capacity (Some t) (Ok progress) same at_place runs tries =
+tries_by slots members dev i m n fate (Some t) (Ok progress) same at_place runs tries =
     let stands : refusal members (Control dev fate) ≡ None = control_stands members dev i m fate at_place ∙ ap control_refusal runs in
     record {
       told = tells_named members dev i m fate t (tellings.Transfer progress) at_place runs (ap tellings.Transfer tries.0);
@@ -275,27 +276,56 @@ tries_by slots members dev i m n fate used capacity (Some t) (Ok progress) same 
       refused = λ e refused. let wrong : None ≡ Some e = sym stands ∙ refused in absurd (cc);
       only = tt;
       err = tt;
-      room = λ room memory. cc;
     }
-tries_by slots members dev i m n fate used capacity (Some t) (Err fault) same at_place runs tries =
+tries_by slots members dev i m n fate (Some t) (Err fault) same at_place runs tries =
     let stands : refusal members (Control dev fate) ≡ None = control_stands members dev i m fate at_place ∙ ap control_refusal runs in
-    let gives : GivesMore fate m (running m.transfer) = subst (GivesMore fate m) (sym runs) tries.1 in
+    let gives : TriesWithMemory fate m (running m.transfer) = subst (TriesWithMemory fate m) (sym runs) tries.1 in
     let takes : TakesMemory members (Control dev fate) = (m, at_place.here, gives) in
     let told : control_told (Err fault) ≡ Err Memory = ap (λ (f : StackFault). control_told (Err f)) tries.0 in
-    let Named : Result Told StackFault → Type 0 = TriesNamed slots members dev i m n fate used capacity in
+    let Named : Result Told StackFault → Type 0 = TriesNamed slots members dev i m n fate in
     subst Named (sym told) (record {
       told = tt;
       after = tt;
       refused = λ e refused. let wrong : None ≡ Some e = sym stands ∙ refused in absurd (cc);
       only = inr (stands, refl, takes);
       err = unconcluded_at slots members dev i m n fate same at_place (tries.2 ∙ ap (unconcluded_of fate m) (sym runs));
-      room = λ room memory. absurd (room takes);
     })
 
-pub tries_named : (slots members : List Member) (dev i : ℕ) (m n : Member) (fate : Fate) (used capacity : ℕ) (done : Result Progress StackFault) (r : Result Told StackFault) → slots ≡ members → IsNamed members dev i m
-    → TriesTransfer fate m (running m.transfer) done n → r ≡ control_told done → TriesNamed slots members dev i m n fate used capacity r
-tries_named slots members dev i m n fate used capacity done r same at_place tries told =
-    subst (λ (o : Result Told StackFault). TriesNamed slots members dev i m n fate used capacity o) (sym told) (tries_by slots members dev i m n fate used capacity (running m.transfer) done same at_place refl tries)
+pub tries_named : (slots members : List Member) (dev i : ℕ) (m n : Member) (fate : Fate) (done : Result Progress StackFault) (r : Result Told StackFault) → slots ≡ members → IsNamed members dev i m
+    → TriesTransfer fate m (running m.transfer) done n → r ≡ control_told done → TriesNamed slots members dev i m n fate r
+tries_named slots members dev i m n fate done r same at_place tries told =
+    subst (λ (o : Result Told StackFault). TriesNamed slots members dev i m n fate o) (sym told) (tries_by slots members dev i m n fate (running m.transfer) done same at_place refl tries)
+
+-- what it delivers, and the room for that
+pub control_done : (done : Result Progress StackFault) (r : Result Told StackFault) (P : Type 0) → r ≡ control_told done → OnOk done P → OnOk r P
+control_done (Ok progress) r P told holds = subst (λ (o : Result Told StackFault). OnOk o P) (sym told) holds
+control_done (Err fault) r P told holds = subst (λ (o : Result Told StackFault). OnOk o P) (sym told) tt
+
+pub control_undone : (done : Result Progress StackFault) (r : Result Told StackFault) (P : Type 0) → r ≡ control_told done → OnErr done P → OnErr r P
+control_undone (Ok progress) r P told holds = subst (λ (o : Result Told StackFault). OnErr o P) (sym told) tt
+control_undone (Err fault) r P told holds = subst (λ (o : Result Told StackFault). OnErr o P) (sym told) holds
+
+memory_told : (done : Result Progress StackFault) → control_told done ≡ Err Memory → done ≡ Err Memory
+memory_told (Ok progress) h = absurd (cc)
+memory_told (Err fault) h = cc
+
+pub control_room : (members : List Member) (dev i : ℕ) (m : Member) (fate : Fate) (done : Result Progress StackFault) (r : Result Told StackFault) (used capacity : ℕ) → IsNamed members dev i m → r ≡ control_told done
+    → (HasRoomToTry fate m (running m.transfer) used capacity → done ≢ Err Memory) → HasRoomFor members (Control dev fate) used capacity → r ≢ Err Memory
+control_room members dev i m fate done r used capacity at_place told enough room memory =
+    enough (subst (λ (o : Option Member). IfSome o (λ (k : Member). HasRoomToTry fate k (running k.transfer) used capacity)) at_place.here room) (memory_told done (sym told ∙ memory))
+
+pub control_few : (members : List Member) (dev i : ℕ) (m : Member) (fate : Fate) (used now : ℕ) → IsNamed members dev i m
+    → now ≤ used + most_tried m.layout (may_cut (running m.transfer)) → now ≤ used + most_events members (Control dev fate)
+control_few members dev i m fate used now at_place few =
+    let most : most_events members (Control dev fate) ≡ most_tried m.layout (may_cut (running m.transfer))
+    = ap (λ (o : Option Member). elim o as (λ _. ℕ) [ None ↦ 0 | Some k ↦ most_tried k.layout (may_cut (running k.transfer)) ]) at_place.here in
+    subst (λ (n : ℕ). now ≤ used + n) (sym most) few
+
+pub control_cuts : (members : List Member) (dev i : ℕ) (m : Member) (fate : Fate) → IsNamed members dev i m → CutsByRequest fate m (running m.transfer) → OnlyHaltsCut members (Control dev fate)
+control_cuts members dev i m fate at_place cuts k there =
+    let same : (let o = Some m in o) ≡ Some k = sym at_place.here ∙ there in
+    let is : m ≡ k = cc in
+    subst (λ (n : Member). CutsByRequest fate n (running n.transfer)) is cuts
 
 pub control_between : (members : List Member) (dev i : ℕ) (m : Member) (fate : Fate) → IsNamed members dev i m → IsBetween m.station (deed_at m (Controls fate)) → ConfiguresBetweenRounds members (Control dev fate ∷ [])
 control_between members dev i m fate at_place between = try_between members dev fate (Some m) at_place.here between

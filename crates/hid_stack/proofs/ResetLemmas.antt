@@ -48,12 +48,12 @@ unready_tells core untouched =
     let items = items_of core.layout in
     sym (ap (round_told_back items (blank items) core.standing.fixed core.toggle core.toggle) untouched.no_round ∙ same_view 0 items (blank items))
 
-pub told_at_reset : (device : DeviceState) (phase : HostPhase) → StandTogether device phase
+pub told_at_reset : (device : DeviceState) (clearing : Bool) (phase : HostPhase) → StandTogether device clearing phase
     → reset_told phase (round_of (core_of device)) (core_of device).standing.fixed ≡ reset_events (items_of (core_of device).layout) (station_of (core_of device) phase)
-told_at_reset device Cold together = unready_tells (core_of device) together
-told_at_reset device (Described info) together = unready_tells (core_of device) together
-told_at_reset device (Parsed info layout) together = unready_tells (core_of device) together
-told_at_reset device (Ready known) together =
+told_at_reset device clearing Cold together = unready_tells (core_of device) together
+told_at_reset device clearing (Described info) together = unready_tells (core_of device) together
+told_at_reset device clearing (Parsed info layout) together = unready_tells (core_of device) together
+told_at_reset device clearing (Ready known) together =
     let core = core_of device in
     ap (λ l. told_back (items_of l) known.view core.standing.fixed (awaited known.pipe.expects (round_of core))) together.layout
     ∙ by_round (items_of core.layout) known.view core.standing.fixed core.toggle known.pipe.expects core.current

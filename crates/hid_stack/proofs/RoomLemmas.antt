@@ -1,4 +1,4 @@
--- Room for what steps deliver: no step changes a layout, so behind any steps a device delivers as many events at most.
+-- Room for what steps deliver; and no step changes a layout.
 use Rattle.std.proofs.Common.{◌≡◌, ◌∙◌, ◌≤◌, ◌<◌, ◌+◌, ◌-◌, ◌++◌, ℕ, zero, suc, Bool, true, false, List, [], ◌∷◌, length, map, take, get_or, cond, eqb, not, Option, Some, None, Result, Ok, Err, refl, ap, sym, subst, arith}
 use Rattle.std.specs.Prelude.{slice_get, IfOk, IfSome}
 use Rattle.std.specs.Option.{option_map}
@@ -13,8 +13,8 @@ use Rattle.hid_layout.specs.Layout.{Contents}
 use Rattle.hid_lives.specs.Rounds.{Changes, Polls}
 use Rattle.hid_lives.specs.Rounds as own_steps
 use Rattle.hid_stack.specs.declared.step.Step.{Step}
-use Rattle.hid_stack.specs.declared.step.Step.TheVariants.{Change, Frame, Poll, Begin, Control, Reset}
-use Rattle.hid_stack.specs.Members.{Member, MemberStep, Scheduled, Begins, Controls, Resets, member_after}
+use Rattle.hid_stack.specs.declared.step.Step.TheVariants.{Change, Frame, Poll, Begin, Control, Halt, Reset}
+use Rattle.hid_stack.specs.Members.{Member, MemberStep, Scheduled, Begins, Controls, Halts, Resets, member_after}
 use Rattle.hid_stack.specs.Rig.{AreScheduled, member_at, with_member, one_after, bus_after, bus_after_all, HasRoomFor, is_scheduled, most_events, most_in, refusal, refused_after, stopped_after, IsRefusal, NoneIsRefused, StopsAt}
 use Rattle.hid_stack.specs.declared.step.Told.{Told}
 use Rattle.hid_host.specs.declared.fault.StackFault.{StackFault}
@@ -46,63 +46,30 @@ bus_layouts members Frame = map-map layout_of_member (λ (m : Member). member_af
 bus_layouts members (Poll dev fate) = one_layouts members dev (Scheduled (Polls fate))
 bus_layouts members (Begin dev request) = one_layouts members dev (Begins request)
 bus_layouts members (Control dev fate) = one_layouts members dev (Controls fate)
+bus_layouts members (Halt dev) = one_layouts members dev Halts
 bus_layouts members (Reset dev) = one_layouts members dev Resets
 
-all_layouts : (members : List Member) (steps : List Step) → layouts (bus_after_all members steps) ≡ layouts members
-all_layouts members [] = refl
-all_layouts members (x ∷ steps) = all_layouts (bus_after members x) steps ∙ bus_layouts members x
-
--- what a device can deliver, by its layout alone
-abbrev most_of : Option Contents → ℕ
-most_of None = 0
-most_of (Some layout) = max_events (items_of layout)
-
+-- what a device can deliver
 abbrev polled_most : Option Member → ℕ
 polled_most found = elim found [ None ↦ 0 | Some m ↦ max_events (items_of m.layout) ]
 
-most_named : (members : List Member) (dev : ℕ) → polled_most (member_at members dev) ≡ most_of (cond (eqb dev 0) None (slice_get (layouts members) (dev - 1)))
-most_named members dev = by_number (eqb dev 0)
-  where
-    by_member : (o : Option Member) → polled_most o ≡ most_of (option_map layout_of_member o)
-    by_member None = refl
-    by_member (Some m) = refl
-
-    by_number : (b : Bool) → polled_most (cond b None (slice_get members (dev - 1))) ≡ most_of (cond b None (slice_get (layouts members) (dev - 1)))
-    by_number true = refl
-    by_number false = by_member (slice_get members (dev - 1)) ∙ sym (ap most_of (slice_get-map layout_of_member members (dev - 1)))
-
-named_same : (members : List Member) (steps : List Step) (dev : ℕ) → polled_most (member_at (bus_after_all members steps) dev) ≡ polled_most (member_at members dev)
-named_same members steps dev =
-    most_named (bus_after_all members steps) dev
-    ∙ ap (λ (ls : List Contents). most_of (cond (eqb dev 0) None (slice_get ls (dev - 1)))) (all_layouts members steps)
-    ∙ sym (most_named members dev)
-
--- what a step can deliver is the same behind any steps
-most_same : (members : List Member) (steps : List Step) (x : Step) → most_events (bus_after_all members steps) x ≡ most_events members x
-most_same members steps (Change dev change) = refl
-most_same members steps Frame = refl
-most_same members steps (Begin dev request) = refl
-most_same members steps (Control dev fate) = refl
-most_same members steps (Poll dev fate) = named_same members steps dev
-most_same members steps (Reset dev) = named_same members steps dev
-
-most_push : (members : List Member) (steps : List Step) (x : Step) → most_in members (steps ++ x ∷ []) ≡ most_in members steps + most_events members x
+most_push : (members : List Member) (steps : List Step) (x : Step) → most_in members (steps ++ x ∷ []) ≡ most_in members steps + most_events (bus_after_all members steps) x
 most_push members [] x = omega arith
-most_push members (y ∷ steps) x = omega (arith, most_push members steps x)
+most_push members (y ∷ steps) x = omega (arith, most_push (bus_after members y) steps x)
 
 -- one more step of a run
 pub most_more : (members mid : List Member) (steps : List Step) (i : ℕ) (d : Step) (first used new : ℕ) → i < length steps → mid ≡ bus_after_all members (take i steps)
     → used ≤ first + most_in members (take i steps) → new ≤ used + most_events mid (get_or steps i d) → new ≤ first + most_in members (take (i + 1) steps)
 most_more members mid steps i d first used new lt before few one =
     let more = ap (most_in members) (take_more steps i d lt) ∙ most_push members (take i steps) (get_or steps i d) in
-    let same = ap (λ (ms : List Member). most_events ms (get_or steps i d)) before ∙ most_same members (take i steps) (get_or steps i d) in
+    let same = ap (λ (ms : List Member). most_events ms (get_or steps i d)) before in
     omega (arith, few, one, more, same)
 
 -- the steps up to one of them deliver no more than all of them
-most_part : (members : List Member) (steps : List Step) (i : ℕ) (d : Step) → i < length steps → most_in members (take i steps) + most_events members (get_or steps i d) ≤ most_in members steps
+most_part : (members : List Member) (steps : List Step) (i : ℕ) (d : Step) → i < length steps → most_in members (take i steps) + most_events (bus_after_all members (take i steps)) (get_or steps i d) ≤ most_in members steps
 most_part members [] i d lt = absurd (omega arith)
 most_part members (x ∷ steps) zero d lt = omega arith
-most_part members (x ∷ steps) (suc i) d lt = omega (arith, most_part members steps i d (omega arith))
+most_part members (x ∷ steps) (suc i) d lt = omega (arith, most_part (bus_after members x) steps i d (omega arith))
 
 -- a step that is of no transfer of any device
 abbrev IsOfNone : Step → Type 0
@@ -119,6 +86,7 @@ has_room members (Poll dev fate) used capacity none room = by_member (member_at 
     by_member : (o : Option Member) → used + polled_most o ≤ capacity → IfSome o (λ (m : Member). used + max_events (items_of m.layout) ≤ capacity)
     by_member None h = tt
     by_member (Some m) h = h
+has_room members (Halt dev) used capacity none room = absurd (names_itself dev (none dev))
 has_room members (Reset dev) used capacity none room = absurd (names_itself dev (none dev))
 has_room members (Begin dev request) used capacity none room = absurd (names_itself dev (none dev))
 has_room members (Control dev fate) used capacity none room = absurd (names_itself dev (none dev))
@@ -130,7 +98,7 @@ none_at steps i d lt all device = All-get_or (λ x. is_scheduled device x ≡ tr
 pub room_at : (members mid : List Member) (steps : List Step) (i : ℕ) (d : Step) (first used capacity now : ℕ) → i < length steps → mid ≡ bus_after_all members (take i steps)
     → used ≤ first + most_in members (take i steps) → capacity ≤ now → AreScheduled steps → first + most_in members steps ≤ capacity → HasRoomFor mid (get_or steps i d) used now
 room_at members mid steps i d first used capacity now lt before few grows all room =
-    let same = ap (λ (ms : List Member). most_events ms (get_or steps i d)) before ∙ most_same members (take i steps) (get_or steps i d) in
+    let same = ap (λ (ms : List Member). most_events ms (get_or steps i d)) before in
     let part = most_part members steps i d lt in
     has_room mid (get_or steps i d) used now (none_at steps i d lt all) (omega (arith, few, grows, room, same, part))
 

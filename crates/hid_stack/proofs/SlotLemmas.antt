@@ -1,5 +1,5 @@
 -- A device and its host as one slot of the bus.
-use Rattle.std.proofs.Common.{◌≡◌, ◌∙◌, ◌≤◌, ℕ, Bool, true, List, Option, Ok, refl, ap, sym, subst}
+use Rattle.std.proofs.Common.{◌≡◌, ◌∙◌, ◌≤◌, ℕ, Bool, true, false, ◌||◌, List, Option, Ok, refl, ap, sym, subst}
 use Rattle.hid_layout.specs.Controls.{items_of, max_events}
 use Rattle.hid_descriptor.specs.Laws.{HasOneReading, AcceptsNoRefused}
 use Rattle.hid_layout.specs.Layout.{Contents, layout_of}
@@ -17,9 +17,8 @@ use Rattle.hid_host.specs.declared.fault.StackFault.TheVariants as faults
 use Rattle.hid_host.specs.declared.fault.DescriptorFault.TheVariants.{Info, ReportLength, Layout, Device}
 use Rattle.usb_control.specs.Device.{DevControlState}
 use Rattle.hid_host.specs.Knowing.{Knows, LeavesTransfers, with_core}
-use Rattle.hid_host.specs.Phase.{state_of}
+use Rattle.hid_host.specs.Phase.{may_poll, state_of}
 use Rattle.hid_host.specs.Ready.{Known}
-use Rattle.hid_host.specs.declared.phase.HostState.TheVariants as states
 use Rattle.hid_host.specs.declared.phase.Start.{Start}
 use Rattle.hid_host.specs.declared.phase.Start.TheVariants as starts
 use Rattle.hid_stack.specs.Attaching.{Suits, IsNoPair, member_at_start}
@@ -27,7 +26,7 @@ use Rattle.hid_host.specs.Conclusions.{IsNoLayout}
 use Rattle.hid_host.specs.Host.{HostEnd, cold_host, ready_host}
 use Rattle.hid_host.specs.declared.phase.HostPhase.{HostPhase}
 use Rattle.hid_host.specs.declared.phase.HostPhase.TheVariants.{Cold, Described, Parsed, Ready}
-use Rattle.hid_stack.specs.Slot.{joint, IsEven, IsPair, IsUntouched, StandTogether}
+use Rattle.hid_stack.specs.Slot.{joint, IsEvenUnless, IsPair, IsUntouched, StandTogether}
 
 -- where the device accepts the descriptor, its host lacks nothing but memory
 pub no_pair : (addr : ℕ) (config : Config) (descriptor : List ℕ) (fault : StackFault) (made : DeviceState)
@@ -50,7 +49,7 @@ pub record Made (start : Start) (addr : ℕ) (config : Config) (descriptor : Lis
   pub layout : Contents
   pub suits : Suits addr config descriptor layout
   pub member : joint device host ≡ member_at_start start addr config descriptor layout
-  pub together : StandTogether device host.phase
+  pub together : StandTogether device host.clearing host.phase
   pub knows : Knows host device.control
   pub home : host.addr ≡ device.addr
 
@@ -77,7 +76,7 @@ makes_ready addr config descriptor made device host law begins (fits, (layout, s
       layout = layout;
       suits = record { config_fits = fits; serves = serves };
       member = ap (λ (d : DeviceState). joint d host) device_is ∙ ap (λ (h : HostEnd). joint (configured_device (new_device addr config descriptor layout)) h) host_is;
-      together = subst (λ (d : DeviceState). StandTogether d host.phase) (sym device_is) (subst (λ (h : HostEnd). StandTogether (configured_device (new_device addr config descriptor layout)) h.phase) (sym host_is) (record {
+      together = subst (λ (d : DeviceState). StandTogether d host.clearing host.phase) (sym device_is) (subst (λ (h : HostEnd). StandTogether (configured_device (new_device addr config descriptor layout)) h.clearing h.phase) (sym host_is) (record {
         configured = refl;
         layout = refl;
         addr = refl;
@@ -101,7 +100,7 @@ makes_cold addr config descriptor device host begins (fits, (layout, serves, dev
       layout = layout;
       suits = record { config_fits = fits; serves = serves };
       member = ap (λ (d : DeviceState). joint d host) device_is ∙ ap (λ (h : HostEnd). joint made h) host_is;
-      together = subst (λ (h : HostEnd). StandTogether device h.phase) (sym host_is) (record {
+      together = subst (λ (h : HostEnd). StandTogether device h.clearing h.phase) (sym host_is) (record {
         sound = sound;
         no_round = ap (λ (d : DeviceState). (core_of d).current) device_is;
         even = ap (λ (d : DeviceState). (core_of d).toggle) device_is;
@@ -119,24 +118,27 @@ pub record Leaves (device device_then : DeviceState) : Type 0 where
   pub configured : (core_of device_then).is_configured ≡ (core_of device).is_configured
   pub current : (core_of device_then).current ≡ (core_of device).current
   pub toggle : (core_of device_then).toggle ≡ (core_of device).toggle
+  pub halted : (core_of device_then).halted ≡ (core_of device).halted
   pub sound : IsSound (core_of device_then)
 
 untouched_on : (device device_then : DeviceState) → Leaves device device_then → IsUntouched (core_of device) → IsUntouched (core_of device_then)
 untouched_on device device_then l u = record { sound = l.sound; no_round = l.current ∙ u.no_round; even = l.toggle ∙ u.even }
 
-even_on : (known : Known) (t u : Bool) (o p : Option ℕ) → u ≡ t → p ≡ o → IsEven t known.pipe.expects o → IsEven u known.pipe.expects p
-even_on known t u o p toggle current even = subst (λ (b : Bool). IsEven b known.pipe.expects p) (sym toggle) (subst (λ (x : Option ℕ). IsEven t known.pipe.expects x) (sym current) even)
+even_on : (known : Known) (clearing h t i u : Bool) (o p : Option ℕ) → i ≡ h → u ≡ t → p ≡ o → IsEvenUnless (h || clearing) t known.pipe.expects o → IsEvenUnless (i || clearing) u known.pipe.expects p
+even_on known clearing h t i u o p halted toggle current even =
+    subst (λ (b : Bool). IsEvenUnless (b || clearing) u known.pipe.expects p) (sym halted)
+    (subst (λ (b : Bool). IsEvenUnless (h || clearing) b known.pipe.expects p) (sym toggle) (subst (λ (x : Option ℕ). IsEvenUnless (h || clearing) t known.pipe.expects x) (sym current) even))
 
-pub stays_together : (phase : HostPhase) (device device_then : DeviceState) → Leaves device device_then → StandTogether device phase → StandTogether device_then phase
-stays_together Cold device device_then l u = untouched_on device device_then l u
-stays_together (Described info) device device_then l u = untouched_on device device_then l u
-stays_together (Parsed info layout) device device_then l u = untouched_on device device_then l u
-stays_together (Ready known) device device_then l pair = record {
+pub stays_together : (clearing : Bool) (phase : HostPhase) (device device_then : DeviceState) → Leaves device device_then → StandTogether device clearing phase → StandTogether device_then clearing phase
+stays_together clearing Cold device device_then l u = untouched_on device device_then l u
+stays_together clearing (Described info) device device_then l u = untouched_on device device_then l u
+stays_together clearing (Parsed info layout) device device_then l u = untouched_on device device_then l u
+stays_together clearing (Ready known) device device_then l pair = record {
   configured = l.configured ∙ pair.configured;
   layout = pair.layout ∙ sym l.layout;
   addr = pair.addr ∙ sym l.addr;
   endp = pair.endp;
-  even = even_on known (core_of device).toggle (core_of device_then).toggle (core_of device).current (core_of device_then).current l.toggle l.current pair.even;
+  even = even_on known clearing (core_of device).halted (core_of device).toggle (core_of device_then).halted (core_of device_then).toggle (core_of device).current (core_of device_then).current l.halted l.toggle l.current pair.even;
   sound = l.sound;
   laid = pair.laid;
   fits = pair.fits;
@@ -144,15 +146,15 @@ stays_together (Ready known) device device_then l pair = record {
 
 -- and of the invariant of a slot
 abbrev Holds : DeviceState → HostEnd → ℕ → Type 0
-Holds device host capacity = StandTogether device host.phase × Knows host device.control × (host.addr ≡ device.addr) × (max_events (items_of (core_of device).layout) ≤ capacity)
+Holds device host capacity = StandTogether device host.clearing host.phase × Knows host device.control × (host.addr ≡ device.addr) × (max_events (items_of (core_of device).layout) ≤ capacity)
 
 abbrev OthersLeave : Type 0
-OthersLeave = (host : HostEnd) (old new : DevControlState CoreState) → LeavesTransfers old new → Knows host old → Knows host new
+OthersLeave = (host : HostEnd) (old new : DevControlState CoreState) → LeavesTransfers host.clearing old new → Knows host old → Knows host new
 
-pub holds_on : (device device_then : DeviceState) (host : HostEnd) (capacity : ℕ) → OthersLeave → LeavesTransfers device.control device_then.control → Leaves device device_then
+pub holds_on : (device device_then : DeviceState) (host : HostEnd) (capacity : ℕ) → OthersLeave → LeavesTransfers host.clearing device.control device_then.control → Leaves device device_then
     → Holds device host capacity → Holds device_then host capacity
 holds_on device device_then host capacity others transfers l (together, knows, home, room) = (
-  stays_together host.phase device device_then l together,
+  stays_together host.clearing host.phase device device_then l together,
   others host device.control device_then.control transfers knows,
   home ∙ sym l.addr,
   subst (λ (x : Contents). max_events (items_of x) ≤ capacity) (sym l.layout) room,
@@ -165,24 +167,26 @@ changed_leaves device device_then change is sound = record {
   configured = ap (λ (d : DeviceState). (core_of d).is_configured) is;
   current = ap (λ (d : DeviceState). (core_of d).current) is;
   toggle = ap (λ (d : DeviceState). (core_of d).toggle) is;
+  halted = ap (λ (d : DeviceState). (core_of d).halted) is;
   sound = sound;
 }
 
-pub changed_transfers : (device device_then : DeviceState) (change : Change)
-    → ((control : DevControlState CoreState) (change : Change) → LeavesTransfers control (with_core control (changed_core control.requests change)))
-    → device_then ≡ changed_device device change → LeavesTransfers device.control device_then.control
-changed_transfers device device_then change law is = subst (λ (d : DeviceState). LeavesTransfers device.control d.control) (sym is) (law device.control change)
+pub changed_transfers : (clearing : Bool) (device device_then : DeviceState) (change : Change)
+    → ((clearing : Bool) (control : DevControlState CoreState) (change : Change) → LeavesTransfers clearing control (with_core control (changed_core control.requests change)))
+    → device_then ≡ changed_device device change → LeavesTransfers clearing device.control device_then.control
+changed_transfers clearing device device_then change law is = subst (λ (d : DeviceState). LeavesTransfers clearing device.control d.control) (sym is) (law clearing device.control change)
 
 -- ---- polls
 
-pub pair_where_ready : (device : DeviceState) (phase : HostPhase) → state_of phase ≡ states.Ready → StandTogether device phase → IsPair device phase
-pair_where_ready device Cold is together = absurd (cc)
-pair_where_ready device (Described info) is together = absurd (cc)
-pair_where_ready device (Parsed info layout) is together = absurd (cc)
-pair_where_ready device (Ready known) is together = together
+pub pair_where_polled : (device : DeviceState) (clearing : Bool) (phase : HostPhase) → may_poll (state_of phase) clearing ≡ true → StandTogether device clearing phase → IsPair device false phase × (clearing ≡ false)
+pair_where_polled device clearing Cold is together = absurd (cc)
+pair_where_polled device clearing (Described info) is together = absurd (cc)
+pair_where_polled device clearing (Parsed info layout) is together = absurd (cc)
+pair_where_polled device true (Ready known) is together = absurd (cc)
+pair_where_polled device false (Ready known) is together = (together, refl)
 
-pub pair_together : (device : DeviceState) (phase : HostPhase) → IsPair device phase → StandTogether device phase
-pair_together device Cold pair = absurd pair
-pair_together device (Described info) pair = absurd pair
-pair_together device (Parsed info layout) pair = absurd pair
-pair_together device (Ready known) pair = pair
+pub pair_together : (device : DeviceState) (clearing : Bool) (phase : HostPhase) → IsPair device clearing phase → StandTogether device clearing phase
+pair_together device clearing Cold pair = absurd pair
+pair_together device clearing (Described info) pair = absurd pair
+pair_together device clearing (Parsed info layout) pair = absurd pair
+pair_together device clearing (Ready known) pair = pair

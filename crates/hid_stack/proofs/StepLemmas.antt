@@ -1,6 +1,7 @@
 -- A poll packet by packet, over a bus that loses packets, is a poll of the station (USB 2.0, 8.5.4 and 8.6).
-use Rattle.std.proofs.Common.{◌≡◌, ◌∙◌, ◌≤◌, ◌+◌, length, ℕ, Bool, true, false, List, [], Option, Some, None, Result, Ok, refl, ap, sym, subst, arith, eqb, cond}
-use Rattle.std.specs.Prelude.{IfSome, ◌&&◌}
+use Rattle.std.proofs.Common.{◌≡◌, ◌∙◌, ◌≤◌, ◌+◌, length, ℕ, Bool, true, false, List, [], Option, Some, None, Result, Ok, refl, ap, sym, subst, arith, eqb, cond, inl, inr}
+use Rattle.std.proofs.lemmas.Bool.{cases_Bool}
+use Rattle.std.specs.Prelude.{IfSome, ◌&&◌, ◌||◌}
 use Rattle.std.proofs.lemmas.Bool.Decides.{nat_tests}
 use Rattle.hid_layout.specs.Layout.{Contents}
 use Rattle.hid_layout.specs.Controls.{items_of, max_events}
@@ -10,6 +11,7 @@ use Rattle.hid_usages.specs.Cells.{FitsView}
 use Rattle.hid_usages.specs.Crossing.{ReadsAsShown}
 use Rattle.hid_views.proofs.CrossingLemmas.{parts_back}
 use Rattle.usb_packet.specs.declared.packet.Packet.{Packet}
+use Rattle.usb_packet.specs.declared.packet.Packet.TheVariants as packets
 use Rattle.usb_packet.specs.Spelling.{spelling}
 use Rattle.usb_transact.specs.declared.bus.Phase.TheVariants.{Token, Reply}
 use Rattle.usb_transact.specs.declared.host.Took.{Took}
@@ -24,8 +26,8 @@ use Rattle.usb_transact.specs.Taken.{taken}
 use Rattle.usb_transact.proofs.TableLemmas.{read_whole, read_lost}
 use Rattle.hid_device.specs.declared.device.TheConstants.{ENDPOINT}
 use Rattle.hid_device.specs.Inputs.{input_count}
-use Rattle.hid_lives.specs.Standing.{first_due}
-use Rattle.hid_device.specs.Core.{CoreState, IsSound, IsArmed, IsBelow, opened_core_if, opening_of}
+use Rattle.hid_lives.specs.Standing.{due_where}
+use Rattle.hid_device.specs.Core.{CoreState, IsSound, IsArmed, IsBelow, IsQuiet, opened_core_if, opening_of}
 use Rattle.hid_device.specs.Device.{DeviceState, is_poll, polled_device, AnswersPoll, AnswersIf, control_answer, heard, core_of}
 use Rattle.hid_lives.specs.Rounds.{Polls}
 use Rattle.hid_host.specs.declared.fault.StackFault.{StackFault}
@@ -35,7 +37,7 @@ use Rattle.hid_stack.specs.declared.step.Told.{Told}
 use Rattle.hid_stack.specs.declared.step.Told.TheVariants.{Polled}
 use Rattle.hid_host.specs.Host.{HostEnd, ready_after}
 use Rattle.hid_host.specs.Phase.{IfReady}
-use Rattle.hid_stack.specs.Slot.{joined, station_of, joint, IsEven, ArePaired, IsPair}
+use Rattle.hid_stack.specs.Slot.{joined, station_of, joint, held_of, IsEven, IsEvenUnless, ArePaired, IsPair}
 use Rattle.hid_host.specs.Ready.{Known, told_of, events_behind}
 use Rattle.hid_stack.specs.Polls.{Hears, Ends, PollsOver, GoesByPackets, HasBytes, spelled, told_with}
 use Rattle.hid_lives.specs.Stations.{Station, opened, answered, round_events, after, events_at}
@@ -43,38 +45,39 @@ use Rattle.hid_stack.specs.Laws.{PacketsMakePolls}
 use Rattle.usb_control.specs.Device.{DevControlState}
 use Rattle.hid_host.specs.declared.host.Transfer.{Transfer}
 use Rattle.hid_host.specs.Knowing.{Knows, LeavesTransfers}
-use Rattle.hid_stack.specs.Members.{Member, Scheduled, member_after}
+use Rattle.hid_stack.specs.Members.{Member, Scheduled, held_if, member_after}
 use Rattle.hid_stack.specs.Tells.{ShowsRound, TellsOpened, TellsPoll, told_by}
-use Rattle.hid_stack.proofs.PollLemmas.{opens, Meets, Arrives, Lands, ready_member, sharing, ready_with, member_of, pair_of, comes, clean, ack_lost_poll, reply_lost}
+use Rattle.hid_stack.proofs.PollLemmas.{opens, Meets, Arrives, Lands, going, stalled, unpending, ready_member, sharing, ready_with, member_of, pair_of, comes, clean, ack_lost_poll, reply_lost, stall_clean, stall_ack_lost, stall_lost}
 
 -- opening a round keeps the layout, the configuration and the toggle
 pub record Keeps (c d : CoreState) : Type 0 where
   pub layout : d.layout ≡ c.layout
   pub configured : d.is_configured ≡ c.is_configured
   pub toggle : d.toggle ≡ c.toggle
+  pub halted : d.halted ≡ c.halted
 
 keeps_if : (c : CoreState) (due : Option ℕ) → Keeps c (opened_core_if c due)
-keeps_if c None = record { layout = refl; configured = refl; toggle = refl }
-keeps_if c (Some r) = record { layout = refl; configured = refl; toggle = refl }
+keeps_if c None = record { layout = refl; configured = refl; toggle = refl; halted = refl }
+keeps_if c (Some r) = record { layout = refl; configured = refl; toggle = refl; halted = refl }
 
 keeps_at : (c : CoreState) (current : Option ℕ) → Keeps (record c { current = current }) (opening_of (record c { current = current }))
-keeps_at c None = keeps_if (record c { current = None }) (first_due (items_of c.layout) c.standing)
-keeps_at c (Some r) = record { layout = refl; configured = refl; toggle = refl }
+keeps_at c None = keeps_if (record c { current = None }) (due_where (items_of c.layout) c.halted c.standing)
+keeps_at c (Some r) = record { layout = refl; configured = refl; toggle = refl; halted = refl }
 
 keeps : (c : CoreState) → Keeps c (opening_of c)
 keeps c = keeps_at c c.current
 
 -- and all that the device was made with
-member_kept_if : (d : DeviceState) (home : HostEnd) (c : CoreState) (due : Option ℕ) → ready_member d home (opened_core_if c due) ≡ ready_member d home c
-member_kept_if d home c None = refl
-member_kept_if d home c (Some r) = refl
+member_kept_if : (d : DeviceState) (home : HostEnd) (held : Option Bool) (c : CoreState) (due : Option ℕ) → ready_member d home (opened_core_if c due) held ≡ ready_member d home c held
+member_kept_if d home held c None = refl
+member_kept_if d home held c (Some r) = refl
 
-member_kept_at : (d : DeviceState) (home : HostEnd) (c : CoreState) (current : Option ℕ) → ready_member d home (opening_of (record c { current = current })) ≡ ready_member d home c
-member_kept_at d home c None = member_kept_if d home (record c { current = None }) (first_due (items_of c.layout) c.standing)
-member_kept_at d home c (Some r) = refl
+member_kept_at : (d : DeviceState) (home : HostEnd) (held : Option Bool) (c : CoreState) (current : Option ℕ) → ready_member d home (opening_of (record c { current = current })) held ≡ ready_member d home c held
+member_kept_at d home held c None = member_kept_if d home held (record c { current = None }) (due_where (items_of c.layout) c.halted c.standing)
+member_kept_at d home held c (Some r) = refl
 
-member_kept : (d : DeviceState) (home : HostEnd) (c : CoreState) → ready_member d home (opening_of c) ≡ ready_member d home c
-member_kept d home c = member_kept_at d home c c.current
+member_kept : (d : DeviceState) (home : HostEnd) (held : Option Bool) (c : CoreState) → ready_member d home (opening_of c) held ≡ ready_member d home c held
+member_kept d home held c = member_kept_at d home held c c.current
 
 -- where no round is open then, the toggles are still the same
 even_if : (c : CoreState) (expects : Bool) (due : Option ℕ) → c.toggle ≡ expects
@@ -84,11 +87,11 @@ even_if c expects (Some r) even = tt
 
 even_at : (c : CoreState) (expects : Bool) (current : Option ℕ) → IsEven c.toggle expects current
     → IsEven (opening_of (record c { current = current })).toggle expects (opening_of (record c { current = current })).current
-even_at c expects None even = even_if c expects (first_due (items_of c.layout) c.standing) even
+even_at c expects None even = even_if c expects (due_where (items_of c.layout) c.halted c.standing) even
 even_at c expects (Some r) even = tt
 
 -- the token of a host polls its device
-polls_it : (device : DeviceState) (known : Known) → ArePaired device known → is_poll device (token_to known.pipe) ≡ true
+polls_it : (device : DeviceState) (known : Known) → ArePaired device known false → is_poll device (token_to known.pipe) ≡ true
 polls_it device known pair =
     let addr : eqb known.pipe.addr device.addr ≡ true = let same = pair.addr in grind (arith, nat_tests) in
     let endp : eqb known.pipe.endp ENDPOINT ≡ true = let same = pair.endp in grind (arith, nat_tests) in
@@ -98,7 +101,7 @@ polls_it device known pair =
 
 -- the bytes that a device sends show its part
 reads_at : (c : CoreState) (known : Known) (packet : Packet) (armed : Option (List ℕ)) → IsSound c → IsLayout c.layout → FitsView (items_of c.layout) known.view
-    → IsArmed c.layout c.standing.fixed c.current armed → HasBytes packet → packet ≡ answer_with c.toggle armed
+    → IsArmed c.layout c.standing.fixed c.current armed → HasBytes packet → packet ≡ answer_with false c.toggle armed
     → (r : ℕ) (bytes : List ℕ) → c.current ≡ Some r → armed ≡ Some bytes → ReadsAsShown c.layout r c.standing.fixed bytes known.view
 reads_at c known packet armed sound laid fits arms has packet_is r bytes current_is armed_is =
     let shows = subst (λ (o : Option (List ℕ)). IsArmed c.layout c.standing.fixed (Some r) o) armed_is (subst (λ (o : Option ℕ). IsArmed c.layout c.standing.fixed o armed) current_is arms) in
@@ -108,17 +111,17 @@ reads_at c known packet armed sound laid fits arms has packet_is r bytes current
       input = sound.inputs_first.first r below;
       fits = sound.fixed;
       empty_codes = sound.empty_codes;
-      are_bytes = subst (λ (o : Option (List ℕ)). HasBytes (answer_with c.toggle o)) armed_is (subst HasBytes packet_is has);
+      are_bytes = subst (λ (o : Option (List ℕ)). HasBytes (answer_with false c.toggle o)) armed_is (subst HasBytes packet_is has);
       encoding = shows.shows;
     }) fits
 
 -- what a poll comes to at the two ends
-pub record PollsAs (fate : Fate) (device : DeviceState) (home : HostEnd) (s : Station)
+pub record PollsAs (fate : Fate) (device : DeviceState) (home : HostEnd) (held : Option Bool) (s : Station)
     (result : Result Told StackFault) (device_then : DeviceState) (host_then : HostEnd) (events : List Event) : Type 0 where
-  pub member : joint device_then host_then ≡ ready_member device home (core_of device) (after (items_of (core_of device).layout) s (Polls fate))
+  pub member : joint device_then host_then ≡ ready_member device home (core_of device) held (after (items_of (core_of device).layout) s (Polls fate))
   pub delivered : events ≡ events_at (items_of (core_of device).layout) s (Polls fate)
   pub told : (told : Told) × (result ≡ Ok told) × TellsPoll (core_of device).layout s fate told
-  pub pair : IsPair device_then host_then.phase
+  pub pair : IsPair device_then host_then.clearing host_then.phase
 
 -- a token that is lost changes nothing
 stays_closed : (layout : Contents) (c : CoreState) (known : Known) (current : Option ℕ) → joined (record c { current = current }) known ≡ answered (items_of layout) (joined (record c { current = current }) known) TokenLost
@@ -134,18 +137,18 @@ tells_none layout c known None = refl
 tells_none layout c known (Some r) = either_none _
 
 token_lost : (device : DeviceState) (known : Known) (home : HostEnd) (result : Result Told StackFault) (device_then : DeviceState) (host_then : HostEnd) (events : List Event)
-    → ArePaired device known → PollsOver (arrives_under TokenLost) device home known result device_then host_then [] events
-    → PollsAs TokenLost device home (joined (core_of device) known) result device_then host_then events
+    → ArePaired device known false → PollsOver (arrives_under TokenLost) device (unpending home) known result device_then host_then [] events
+    → PollsAs TokenLost device home (held_of (core_of device) false (Ready known)) (joined (core_of device) known) result device_then host_then events
 token_lost device known home result device_then host_then events pair t =
     let lost = read_lost (arrives_under TokenLost) Token (token_to known.pipe) t.token refl t.polled in
     let heard : Hears device None t.answer t.between = subst (λ (o : Option Packet). Hears device o t.answer t.between) lost t.heard in
     let none : t.reply ≡ None = subst (λ (o : Option Packet). Replies (arrives_under TokenLost) Reply o t.reply) heard.0 t.replied in
     let took : taken known.pipe.expects t.reply ≡ Silent = ap (taken known.pipe.expects) none in
     let device_is : device_then ≡ device = subst (λ (x : Took). Ends (arrives_under TokenLost) (told_of known.layout x) t.between device_then) took t.ended ∙ heard.1 in
-    let host_is : host_then ≡ ready_with home known = t.host_moved ∙ ap (ready_after home known) took in
+    let host_is : host_then ≡ ready_with home known = t.host_moved ∙ ap (ready_after (unpending home) known) took in
     record {
       member = member_of device_then device host_then home known device_is host_is
-          ∙ ap (ready_member device home (core_of device)) (stays_closed (core_of device).layout (core_of device) known (core_of device).current);
+          ∙ ap (ready_member device home (core_of device) (held_of (core_of device) false (Ready known))) (stays_closed (core_of device).layout (core_of device) known (core_of device).current);
       delivered = t.delivers ∙ ap (events_behind known) took ∙ tells_none (core_of device).layout (core_of device) known (core_of device).current;
       told = (Polled None Silent, t.told ∙ ap (λ (x : Took). told_with t.answer (told_of known.layout x)) took ∙ ap (λ (o : Option Packet). Ok (Polled (spelled o) Silent)) heard.0, refl);
       pair = pair_of device_then device host_then home known device_is host_is pair;
@@ -157,7 +160,7 @@ pub record Answered (device : DeviceState) (known : Known) (answer : Option Pack
   pub armed : Option (List ℕ)
   pub is : answer ≡ Some packet
   pub arms : IsArmed (opening_of (core_of device)).layout (opening_of (core_of device)).standing.fixed (opening_of (core_of device)).current armed
-  pub packet_is : packet ≡ answer_with (opening_of (core_of device)).toggle armed
+  pub packet_is : packet ≡ answer_with (opening_of (core_of device)).halted (opening_of (core_of device)).toggle armed
   pub stands : between ≡ polled_device device (opening_of (core_of device))
   pub sound : IsSound (opening_of (core_of device))
 
@@ -168,8 +171,8 @@ answered_by device known (Some packet) between (armed, arms, packet_is) stands s
     record { packet = packet; armed = armed; is = refl; arms = arms; packet_is = packet_is; stands = stands; sound = sound }
 
 token_came : (fate : Fate) (device : DeviceState) (known : Known) (home : HostEnd) (result : Result Told StackFault) (device_then : DeviceState) (host_then : HostEnd) (events : List Event)
-    → ((bytes : List ℕ) → arrives_under fate Token bytes ≡ Some bytes) → ArePaired device known
-    → (t : PollsOver (arrives_under fate) device home known result device_then host_then [] events) → Answered device known t.answer t.between
+    → ((bytes : List ℕ) → arrives_under fate Token bytes ≡ Some bytes) → ArePaired device known false
+    → (t : PollsOver (arrives_under fate) device (unpending home) known result device_then host_then [] events) → Answered device known t.answer t.between
 token_came fate device known home result device_then host_then events whole pair t =
     let came = read_whole (arrives_under fate) Token (token_to known.pipe) t.token (whole (spelling (token_to known.pipe))) t.polled in
     let h : Hears device (Some (token_to known.pipe)) t.answer t.between = subst (λ (o : Option Packet). Hears device o t.answer t.between) came t.heard in
@@ -181,8 +184,8 @@ token_came fate device known home result device_then host_then events whole pair
 
 -- from there on
 arrives : (fate : Fate) (device : DeviceState) (known : Known) (home : HostEnd) (result : Result Told StackFault) (device_then : DeviceState) (host_then : HostEnd) (events : List Event)
-    → ArePaired device known
-    → (t : PollsOver (arrives_under fate) device home known result device_then host_then [] events) → (a : Answered device known t.answer t.between)
+    → ArePaired device known false
+    → (t : PollsOver (arrives_under fate) device (unpending home) known result device_then host_then [] events) → (a : Answered device known t.answer t.between)
     → Arrives fate (opening_of (core_of device)) known device home a.packet result device_then host_then events
 arrives fate device known home result device_then host_then events pair t a =
     let layout : known.layout ≡ (opening_of (core_of device)).layout = pair.layout ∙ sym (keeps (core_of device)).layout in
@@ -192,13 +195,13 @@ arrives fate device known home result device_then host_then events pair t a =
       replied = subst (λ (o : Option Packet). Replies (arrives_under fate) Reply o t.reply) a.is t.replied;
       told = t.told ∙ ap (λ (o : Option Packet). told_with o (told_of known.layout (taken known.pipe.expects t.reply))) a.is
           ∙ ap (λ (l : Contents). told_with (Some a.packet) (told_of l (taken known.pipe.expects t.reply))) layout;
-      host_moved = t.host_moved ∙ ap (λ (k : Known). ready_after home k (taken known.pipe.expects t.reply)) shared;
+      host_moved = t.host_moved ∙ ap (λ (k : Known). ready_after (unpending home) k (taken known.pipe.expects t.reply)) shared;
       delivers = t.delivers ∙ ap (λ (k : Known). events_behind k (taken known.pipe.expects t.reply)) shared;
       ended = subst (λ (d : DeviceState). Ends (arrives_under fate) (told_of (opening_of (core_of device)).layout (taken known.pipe.expects t.reply)) d device_then) a.stands
           (subst (λ (l : Contents). Ends (arrives_under fate) (told_of l (taken known.pipe.expects t.reply)) t.between device_then) layout t.ended);
     }
 
-meets : (device : DeviceState) (known : Known) → ArePaired device known → IsSound (opening_of (core_of device)) → Meets device.addr (opening_of (core_of device)) known
+meets : (device : DeviceState) (known : Known) → ArePaired device known false → IsSound (opening_of (core_of device)) → Meets device.addr (opening_of (core_of device)) known
 meets device known pair sound =
     let layout : known.layout ≡ (opening_of (core_of device)).layout = pair.layout ∙ sym (keeps (core_of device)).layout in
     record {
@@ -212,11 +215,12 @@ meets device known pair sound =
 
 -- the station from before the token
 landed : (fate : Fate) (device : DeviceState) (known : Known) (home : HostEnd) (result : Result Told StackFault) (device_then : DeviceState) (host_then : HostEnd) (events : List Event)
-    → ArePaired device known → Lands fate (ready_member device home (opening_of (core_of device))) (joined (opening_of (core_of device)) known) result device_then host_then events
-    → Lands fate (ready_member device home (core_of device)) (opened (items_of (core_of device).layout) (joined (core_of device) known)) result device_then host_then events
-landed fate device known home result device_then host_then events pair lands =
-    subst (λ (s : Station). Lands fate (ready_member device home (core_of device)) s result device_then host_then events) (opens (core_of device) known pair.even)
-    (subst (λ (of : Station → Member). Lands fate of (joined (opening_of (core_of device)) known) result device_then host_then events) (member_kept device home (core_of device)) lands)
+    → IsEven (core_of device).toggle known.pipe.expects (core_of device).current
+    → Lands fate (ready_member device home (opening_of (core_of device)) None) (joined (opening_of (core_of device)) known) result device_then host_then events
+    → Lands fate (ready_member device home (core_of device) None) (opened (items_of (core_of device).layout) (joined (core_of device) known)) result device_then host_then events
+landed fate device known home result device_then host_then events even lands =
+    subst (λ (s : Station). Lands fate (ready_member device home (core_of device) None) s result device_then host_then events) (opens (core_of device) known even)
+    (subst (λ (of : Station → Member). Lands fate of (joined (opening_of (core_of device)) known) result device_then host_then events) (member_kept device home None (core_of device)) lands)
 
 -- what is told, by the bytes that show the part
 abbrev TellsSome : Contents → Station → Fate → Result Told StackFault → Type 0
@@ -226,53 +230,176 @@ told_by_report : (layout : Contents) (s : Station) (fate : Fate) (result : Resul
     → (report : List ℕ) × ShowsRound layout s report × (result ≡ Ok (told_by s fate report)) → TellsSome layout s fate result
 told_by_report layout s fate result (report, shows, is) = (told_by s fate report, is, (report, shows, refl))
 
-pub polls : (fate : Fate) (device : DeviceState) (known : Known) (home : HostEnd) (result : Result Told StackFault) (device_then : DeviceState) (host_then : HostEnd) (events : List Event)
-    → ArePaired device known → PollsOver (arrives_under fate) device home known result device_then host_then [] events
-    → PollsAs fate device home (joined (core_of device) known) result device_then host_then events
-polls TokenLost device known home result device_then host_then events pair t = token_lost device known home result device_then host_then events pair t
-polls ReplyLost device known home result device_then host_then events pair t =
+-- ---- a poll of a device that isn't halted
+
+-- the two ends with a round that was opened where one is due
+record Going (fate : Fate) (device : DeviceState) (known : Known) (home : HostEnd) (packet : Packet) (armed : Option (List ℕ))
+    (result : Result Told StackFault) (device_then : DeviceState) (host_then : HostEnd) (events : List Event) : Type 0 where
+  even : IsEven (core_of device).toggle known.pipe.expects (core_of device).current
+  even_then : IsEven (opening_of (core_of device)).toggle known.pipe.expects (opening_of (core_of device)).current
+  same : opening_of (core_of device) ≡ going (opening_of (core_of device)) (opening_of (core_of device)).current
+  meets : Meets device.addr (going (opening_of (core_of device)) (opening_of (core_of device)).current) known
+  packet_is : packet ≡ answer_with false (opening_of (core_of device)).toggle armed
+  arrives : Arrives fate (going (opening_of (core_of device)) (opening_of (core_of device)).current) known device home packet result device_then host_then events
+
+goes : (fate : Fate) (device : DeviceState) (known : Known) (home : HostEnd) (result : Result Told StackFault) (device_then : DeviceState) (host_then : HostEnd) (events : List Event)
+    → (core_of device).halted ≡ false → ArePaired device known false → (t : PollsOver (arrives_under fate) device (unpending home) known result device_then host_then [] events)
+    → (a : Answered device known t.answer t.between) → Going fate device known home a.packet a.armed result device_then host_then events
+goes fate device known home result device_then host_then events is pair t a =
+    let c = opening_of (core_of device) in
+    let halted : c.halted ≡ false = (keeps (core_of device)).halted ∙ is in
+    let same : c ≡ going c c.current = ap (λ (b : Bool). record c { halted = b }) halted in
+    let even = subst (λ (b : Bool). IsEvenUnless (b || false) (core_of device).toggle known.pipe.expects (core_of device).current) is pair.even in
+    record {
+      even = even;
+      even_then = even_at (core_of device) known.pipe.expects (core_of device).current even;
+      same = same;
+      meets = subst (λ (x : CoreState). Meets device.addr x known) same (meets device known pair a.sound);
+      packet_is = a.packet_is ∙ ap (λ (b : Bool). answer_with b c.toggle a.armed) halted;
+      arrives = subst (λ (x : CoreState). Arrives fate x known device home a.packet result device_then host_then events) same
+          (arrives fate device known home result device_then host_then events pair t a);
+    }
+
+-- what it comes to
+going_as : (fate : Fate) (device : DeviceState) (known : Known) (home : HostEnd) (packet : Packet) (armed : Option (List ℕ)) (result : Result Told StackFault) (device_then : DeviceState) (host_then : HostEnd) (events : List Event)
+    → (core_of device).halted ≡ false → Going fate device known home packet armed result device_then host_then events
+    → Lands fate (ready_member device home (opening_of (core_of device)) None) (joined (going (opening_of (core_of device)) (opening_of (core_of device)).current) known) result device_then host_then events
+    → Lands fate (ready_member device home (core_of device) (held_of (core_of device) false (Ready known))) (opened (items_of (core_of device).layout) (joined (core_of device) known)) result device_then host_then events
+going_as fate device known home packet armed result device_then host_then events is g lands =
+    let c = opening_of (core_of device) in
+    let here = landed fate device known home result device_then host_then events g.even
+    (subst (λ (x : CoreState). Lands fate (ready_member device home c None) (joined x known) result device_then host_then events) (sym g.same) lands) in
+    subst (λ (held : Option Bool). Lands fate (ready_member device home (core_of device) held) (opened (items_of (core_of device).layout) (joined (core_of device) known)) result device_then host_then events)
+    (sym (ap (λ (b : Bool). held_if (b || false) known.pipe.expects) is)) here
+
+polls_going : (fate : Fate) (device : DeviceState) (known : Known) (home : HostEnd) (result : Result Told StackFault) (device_then : DeviceState) (host_then : HostEnd) (events : List Event)
+    → (core_of device).halted ≡ false → ArePaired device known false → PollsOver (arrives_under fate) device (unpending home) known result device_then host_then [] events
+    → PollsAs fate device home (held_of (core_of device) false (Ready known)) (joined (core_of device) known) result device_then host_then events
+polls_going TokenLost device known home result device_then host_then events is pair t = token_lost device known home result device_then host_then events pair t
+polls_going ReplyLost device known home result device_then host_then events is pair t =
     let a = token_came ReplyLost device known home result device_then host_then events (λ bytes. refl) pair t in
     let c = opening_of (core_of device) in
-    let even = even_at (core_of device) known.pipe.expects (core_of device).current pair.even in
-    let lands = landed ReplyLost device known home result device_then host_then events pair
-    (reply_lost c known device home c.current a.armed a.packet result device_then host_then events even (meets device known pair a.sound) a.arms a.packet_is
-    (arrives ReplyLost device known home result device_then host_then events pair t a)) in
+    let g = goes ReplyLost device known home result device_then host_then events is pair t a in
+    let lands = going_as ReplyLost device known home a.packet a.armed result device_then host_then events is g
+    (reply_lost c known device home c.current a.armed a.packet result device_then host_then events g.even_then g.meets a.arms g.packet_is g.arrives) in
     record { member = lands.member; delivered = lands.delivered; told = told_by_report (core_of device).layout (opened (items_of (core_of device).layout) (joined (core_of device) known)) ReplyLost result lands.told; pair = lands.pair }
-polls Clean device known home result device_then host_then events pair t =
+polls_going Clean device known home result device_then host_then events is pair t =
     let a = token_came Clean device known home result device_then host_then events (λ bytes. refl) pair t in
     let c = opening_of (core_of device) in
-    let even = even_at (core_of device) known.pipe.expects (core_of device).current pair.even in
-    let m = meets device known pair a.sound in
+    let g = goes Clean device known home result device_then host_then events is pair t a in
     let has = subst (λ (o : Option Packet). IfSome o HasBytes) a.is t.bytes in
-    let lands = landed Clean device known home result device_then host_then events pair
-    (clean c known device home c.current a.armed result device_then host_then events even m a.arms
-    (reads_at c known a.packet a.armed a.sound m.laid m.fits a.arms has a.packet_is)
-    (comes Clean c known device home a.armed a.packet result device_then host_then events (λ bytes. refl) a.packet_is
-    (arrives Clean device known home result device_then host_then events pair t a))) in
+    let lands = going_as Clean device known home a.packet a.armed result device_then host_then events is g
+    (clean c known device home c.current a.armed result device_then host_then events g.even_then g.meets a.arms
+    (reads_at c known a.packet a.armed a.sound g.meets.laid g.meets.fits a.arms has g.packet_is)
+    (comes Clean (going c c.current) known device home a.armed a.packet result device_then host_then events (λ bytes. refl) g.packet_is g.arrives)) in
     record { member = lands.member; delivered = lands.delivered; told = told_by_report (core_of device).layout (opened (items_of (core_of device).layout) (joined (core_of device) known)) Clean result lands.told; pair = lands.pair }
-polls AckLost device known home result device_then host_then events pair t =
+polls_going AckLost device known home result device_then host_then events is pair t =
     let a = token_came AckLost device known home result device_then host_then events (λ bytes. refl) pair t in
     let c = opening_of (core_of device) in
-    let even = even_at (core_of device) known.pipe.expects (core_of device).current pair.even in
-    let m = meets device known pair a.sound in
+    let g = goes AckLost device known home result device_then host_then events is pair t a in
     let has = subst (λ (o : Option Packet). IfSome o HasBytes) a.is t.bytes in
-    let lands = landed AckLost device known home result device_then host_then events pair
-    (ack_lost_poll c known device home c.current a.armed result device_then host_then events even m a.arms
-    (reads_at c known a.packet a.armed a.sound m.laid m.fits a.arms has a.packet_is)
-    (comes AckLost c known device home a.armed a.packet result device_then host_then events (λ bytes. refl) a.packet_is
-    (arrives AckLost device known home result device_then host_then events pair t a))) in
+    let lands = going_as AckLost device known home a.packet a.armed result device_then host_then events is g
+    (ack_lost_poll c known device home c.current a.armed result device_then host_then events g.even_then g.meets a.arms
+    (reads_at c known a.packet a.armed a.sound g.meets.laid g.meets.fits a.arms has g.packet_is)
+    (comes AckLost (going c c.current) known device home a.armed a.packet result device_then host_then events (λ bytes. refl) g.packet_is g.arrives)) in
     record { member = lands.member; delivered = lands.delivered; told = told_by_report (core_of device).layout (opened (items_of (core_of device).layout) (joined (core_of device) known)) AckLost result lands.told; pair = lands.pair }
+
+-- ---- a poll of one that is
+
+no_round : (current : Option ℕ) (halted : Bool) → IsQuiet current halted → halted ≡ true → current ≡ None
+no_round None halted quiet is = refl
+no_round (Some r) halted quiet is = let wrong : true ≡ false = sym is ∙ quiet in absurd (cc)
+
+is_stalled : (c : CoreState) → IsSound c → c.halted ≡ true → c ≡ stalled c
+is_stalled c sound is = ap (λ (o : Option ℕ). record c { current = o }) (no_round c.current c.halted sound.quiet is) ∙ ap (λ (b : Bool). record c { current = None; halted = b }) is
+
+-- no round is opened for it
+record Stalling (fate : Fate) (device : DeviceState) (known : Known) (home : HostEnd) (packet : Packet) (armed : Option (List ℕ))
+    (result : Result Told StackFault) (device_then : DeviceState) (host_then : HostEnd) (events : List Event) : Type 0 where
+  same : core_of device ≡ stalled (core_of device)
+  meets : Meets device.addr (stalled (core_of device)) known
+  packet_is : packet ≡ packets.Stall
+  arrives : Arrives fate (stalled (core_of device)) known device home packet result device_then host_then events
+
+stalls : (fate : Fate) (device : DeviceState) (known : Known) (home : HostEnd) (result : Result Told StackFault) (device_then : DeviceState) (host_then : HostEnd) (events : List Event)
+    → (core_of device).halted ≡ true → ArePaired device known false → (t : PollsOver (arrives_under fate) device (unpending home) known result device_then host_then [] events)
+    → (a : Answered device known t.answer t.between) → Stalling fate device known home a.packet a.armed result device_then host_then events
+stalls fate device known home result device_then host_then events is pair t a =
+    let same = is_stalled (core_of device) pair.sound is in
+    let there : opening_of (core_of device) ≡ stalled (core_of device) = ap opening_of same in
+    record {
+      same = same;
+      meets = subst (λ (x : CoreState). Meets device.addr x known) there (meets device known pair a.sound);
+      packet_is = a.packet_is ∙ ap (λ (x : CoreState). answer_with x.halted x.toggle a.armed) there;
+      arrives = subst (λ (x : CoreState). Arrives fate x known device home a.packet result device_then host_then events) there
+          (arrives fate device known home result device_then host_then events pair t a);
+    }
+
+-- the station stays
+stalled_as : (fate : Fate) (device : DeviceState) (known : Known) (home : HostEnd) (result : Result Told StackFault) (device_then : DeviceState) (host_then : HostEnd) (events : List Event)
+    → (core_of device).halted ≡ true → core_of device ≡ stalled (core_of device)
+    → PollsAs fate device home (Some known.pipe.expects) (joined (stalled (core_of device)) known) result device_then host_then events
+    → PollsAs fate device home (held_of (core_of device) false (Ready known)) (joined (core_of device) known) result device_then host_then events
+stalled_as fate device known home result device_then host_then events is same done =
+    subst (λ (held : Option Bool). PollsAs fate device home held (joined (core_of device) known) result device_then host_then events)
+    (sym (ap (λ (b : Bool). held_if (b || false) known.pipe.expects) is))
+    (subst (λ (x : CoreState). PollsAs fate device home (Some known.pipe.expects) (joined x known) result device_then host_then events) (sym same) done)
+
+polls_stalled : (fate : Fate) (device : DeviceState) (known : Known) (home : HostEnd) (result : Result Told StackFault) (device_then : DeviceState) (host_then : HostEnd) (events : List Event)
+    → (core_of device).halted ≡ true → ArePaired device known false → PollsOver (arrives_under fate) device (unpending home) known result device_then host_then [] events
+    → PollsAs fate device home (held_of (core_of device) false (Ready known)) (joined (core_of device) known) result device_then host_then events
+polls_stalled TokenLost device known home result device_then host_then events is pair t = token_lost device known home result device_then host_then events pair t
+polls_stalled ReplyLost device known home result device_then host_then events is pair t =
+    let a = token_came ReplyLost device known home result device_then host_then events (λ bytes. refl) pair t in
+    let g = stalls ReplyLost device known home result device_then host_then events is pair t a in
+    let lands = stall_lost (core_of device) known device home a.packet result device_then host_then events g.meets g.packet_is g.arrives in
+    stalled_as ReplyLost device known home result device_then host_then events is g.same
+    (record { member = lands.member; delivered = lands.delivered; told = told_by_report (core_of device).layout (joined (stalled (core_of device)) known) ReplyLost result lands.told; pair = lands.pair })
+polls_stalled Clean device known home result device_then host_then events is pair t =
+    let a = token_came Clean device known home result device_then host_then events (λ bytes. refl) pair t in
+    let g = stalls Clean device known home result device_then host_then events is pair t a in
+    let lands = stall_clean (core_of device) known device home result device_then host_then events g.meets
+    (comes Clean (stalled (core_of device)) known device home a.armed a.packet result device_then host_then events (λ bytes. refl) g.packet_is g.arrives) in
+    stalled_as Clean device known home result device_then host_then events is g.same
+    (record { member = lands.member; delivered = lands.delivered; told = told_by_report (core_of device).layout (joined (stalled (core_of device)) known) Clean result lands.told; pair = lands.pair })
+polls_stalled AckLost device known home result device_then host_then events is pair t =
+    let a = token_came AckLost device known home result device_then host_then events (λ bytes. refl) pair t in
+    let g = stalls AckLost device known home result device_then host_then events is pair t a in
+    let lands = stall_ack_lost (core_of device) known device home result device_then host_then events g.meets
+    (comes AckLost (stalled (core_of device)) known device home a.armed a.packet result device_then host_then events (λ bytes. refl) g.packet_is g.arrives) in
+    stalled_as AckLost device known home result device_then host_then events is g.same
+    (record { member = lands.member; delivered = lands.delivered; told = told_by_report (core_of device).layout (joined (stalled (core_of device)) known) AckLost result lands.told; pair = lands.pair })
+
+-- of either
+pub polls : (fate : Fate) (device : DeviceState) (known : Known) (home : HostEnd) (result : Result Told StackFault) (device_then : DeviceState) (host_then : HostEnd) (events : List Event)
+    → ArePaired device known false → PollsOver (arrives_under fate) device (unpending home) known result device_then host_then [] events
+    → PollsAs fate device home (held_of (core_of device) false (Ready known)) (joined (core_of device) known) result device_then host_then events
+polls fate device known home result device_then host_then events pair t = elim (cases_Bool (core_of device).halted) [
+  | inl is ↦ polls_stalled fate device known home result device_then host_then events is pair t
+  | inr is ↦ polls_going fate device known home result device_then host_then events is pair t
+]
 
 -- the same of a host, which is ready
 pub polls_at : (fate : Fate) (device : DeviceState) (host : HostEnd) (phase : HostPhase) (result : Result Told StackFault) (device_then : DeviceState) (host_then : HostEnd) (before events : List Event)
-    → IsPair device phase → before ≡ [] → GoesByPackets (arrives_under fate) device host phase result device_then host_then before events
-    → PollsAs fate device host (station_of (core_of device) phase) result device_then host_then events
+    → IsPair device false phase → before ≡ [] → GoesByPackets (arrives_under fate) device (unpending host) false phase result device_then host_then before events
+    → PollsAs fate device host (held_of (core_of device) false phase) (station_of (core_of device) phase) result device_then host_then events
 polls_at fate device host Cold result device_then host_then before events pair none t = absurd pair
 polls_at fate device host (Described info) result device_then host_then before events pair none t = absurd pair
 polls_at fate device host (Parsed info layout) result device_then host_then before events pair none t = absurd pair
 polls_at fate device host (Ready known) result device_then host_then before events pair none t =
     polls fate device known host result device_then host_then events pair
-    (subst (λ (es : List Event). PollsOver (arrives_under fate) device host known result device_then host_then es events) none t)
+    (subst (λ (es : List Event). PollsOver (arrives_under fate) device (unpending host) known result device_then host_then es events) none t)
+
+-- a host without a clear that is pending
+no_clear : (host : HostEnd) → host.clearing ≡ false → host ≡ unpending host
+no_clear host free = ap (λ (b : Bool). record host { clearing = b }) free
+
+pub polls_by : (fate : Fate) (device : DeviceState) (host : HostEnd) (result : Result Told StackFault) (device_then : DeviceState) (host_then : HostEnd) (before events : List Event)
+    → IsPair device false host.phase → host.clearing ≡ false → before ≡ [] → GoesByPackets (arrives_under fate) device host host.clearing host.phase result device_then host_then before events
+    → PollsAs fate device host (held_of (core_of device) false host.phase) (station_of (core_of device) host.phase) result device_then host_then events
+polls_by fate device host result device_then host_then before events pair free none t =
+    polls_at fate device host host.phase result device_then host_then before events pair none
+    (subst (λ (h : HostEnd). GoesByPackets (arrives_under fate) device h h.clearing h.phase result device_then host_then before events) (no_clear host free) t)
 
 -- what is told is what was returned
 pub told_is : (layout : Contents) (s : Station) (fate : Fate) (result : Result Told StackFault) (told : Told)
@@ -283,15 +410,19 @@ told_is layout s fate result told is (other, other_is, tells) =
     subst (TellsPoll layout s fate) (sym same) tells
 
 -- the host keeps its device's address
-pub home_stays : (arrivals : Arrivals) (device : DeviceState) (host : HostEnd) (phase : HostPhase) (result : Result Told StackFault) (device_then : DeviceState) (host_then : HostEnd) (before events : List Event)
-    → GoesByPackets arrivals device host phase result device_then host_then before events → host_then.addr ≡ host.addr
-home_stays arrivals device host Cold result device_then host_then before events t = ap (λ (h : HostEnd). h.addr) t.host_stays
-home_stays arrivals device host (Described info) result device_then host_then before events t = ap (λ (h : HostEnd). h.addr) t.host_stays
-home_stays arrivals device host (Parsed info layout) result device_then host_then before events t = ap (λ (h : HostEnd). h.addr) t.host_stays
-home_stays arrivals device host (Ready known) result device_then host_then before events t = ap (λ (h : HostEnd). h.addr) t.host_moved
+pub home_stays : (arrivals : Arrivals) (device : DeviceState) (host : HostEnd) (clearing : Bool) (phase : HostPhase) (result : Result Told StackFault) (device_then : DeviceState) (host_then : HostEnd) (before events : List Event)
+    → GoesByPackets arrivals device host clearing phase result device_then host_then before events → host_then.addr ≡ host.addr
+home_stays arrivals device host true Cold result device_then host_then before events t = ap (λ (h : HostEnd). h.addr) t.host_stays
+home_stays arrivals device host false Cold result device_then host_then before events t = ap (λ (h : HostEnd). h.addr) t.host_stays
+home_stays arrivals device host true (Described info) result device_then host_then before events t = ap (λ (h : HostEnd). h.addr) t.host_stays
+home_stays arrivals device host false (Described info) result device_then host_then before events t = ap (λ (h : HostEnd). h.addr) t.host_stays
+home_stays arrivals device host true (Parsed info layout) result device_then host_then before events t = ap (λ (h : HostEnd). h.addr) t.host_stays
+home_stays arrivals device host false (Parsed info layout) result device_then host_then before events t = ap (λ (h : HostEnd). h.addr) t.host_stays
+home_stays arrivals device host true (Ready known) result device_then host_then before events t = ap (λ (h : HostEnd). h.addr) t.host_stays
+home_stays arrivals device host false (Ready known) result device_then host_then before events t = ap (λ (h : HostEnd). h.addr) t.host_moved
 
 -- no more is delivered than a report of the device's layout can tell
-pub few_of : (device : DeviceState) (phase : HostPhase) (before events : List Event) → IsPair device phase → before ≡ []
+pub few_of : (device : DeviceState) (phase : HostPhase) (before events : List Event) → IsPair device false phase → before ≡ []
     → IfReady phase (λ (known : Known). length events ≤ length before + max_events (items_of known.layout)) → length events ≤ max_events (items_of (core_of device).layout)
 few_of device Cold before events pair none few = absurd pair
 few_of device (Described info) before events pair none few = absurd pair
@@ -302,30 +433,32 @@ few_of device (Ready known) before events pair none few =
     omega (arith, same, zero, few)
 
 -- the member of a pair after a poll
-polled_member : (fate : Fate) (device : DeviceState) (host : HostEnd) (phase : HostPhase) → IsPair device phase
-    → ready_member device host (core_of device) (after (items_of (core_of device).layout) (station_of (core_of device) phase) (Polls fate))
-    ≡ member_after (joint device (record host { phase = phase })) (Scheduled (Polls fate))
+polled_member : (fate : Fate) (device : DeviceState) (host : HostEnd) (phase : HostPhase) → IsPair device false phase
+    → ready_member device host (core_of device) (held_of (core_of device) false phase) (after (items_of (core_of device).layout) (station_of (core_of device) phase) (Polls fate))
+    ≡ member_after (joint device (record { addr = host.addr; phase = phase; transfer = host.transfer; clearing = false })) (Scheduled (Polls fate))
 polled_member fate device host Cold pair = absurd pair
 polled_member fate device host (Described info) pair = absurd pair
 polled_member fate device host (Parsed info layout) pair = absurd pair
 polled_member fate device host (Ready known) pair = refl
 
-pub polled_to : (fate : Fate) (device : DeviceState) (host : HostEnd) (result : Result Told StackFault) (device_then : DeviceState) (host_then : HostEnd) (events : List Event) → IsPair device host.phase
-    → PollsAs fate device host (station_of (core_of device) host.phase) result device_then host_then events → joint device_then host_then ≡ member_after (joint device host) (Scheduled (Polls fate))
-polled_to fate device host result device_then host_then events pair done = done.member ∙ polled_member fate device host host.phase pair
+pub polled_to : (fate : Fate) (device : DeviceState) (host : HostEnd) (result : Result Told StackFault) (device_then : DeviceState) (host_then : HostEnd) (events : List Event) → IsPair device false host.phase → host.clearing ≡ false
+    → PollsAs fate device host (held_of (core_of device) false host.phase) (station_of (core_of device) host.phase) result device_then host_then events → joint device_then host_then ≡ member_after (joint device host) (Scheduled (Polls fate))
+polled_to fate device host result device_then host_then events pair free done =
+    done.member ∙ polled_member fate device host host.phase pair
+    ∙ ap (λ (h : HostEnd). member_after (joint device h) (Scheduled (Polls fate))) (sym (no_clear host free))
 
 -- a poll of a pair, by its packets
 pub packets_make_polls : PacketsMakePolls
-packets_make_polls fate device host result device_then host_then events pair t =
-    let done = polls_at fate device host host.phase result device_then host_then [] events pair refl t in
-    record { told = done.told; after = polled_to fate device host result device_then host_then events pair done; delivers = done.delivered; pair = done.pair }
+packets_make_polls fate device host result device_then host_then events pair free t =
+    let done = polls_by fate device host result device_then host_then [] events pair free refl t in
+    record { told = done.told; after = polled_to fate device host result device_then host_then events pair free done; delivers = done.delivered; pair = done.pair }
 
 -- ---- what a host knows behind a poll
 
 -- what a poll leaves of a device's transfers
-leaves : (device device_then : DeviceState) (host host_then : HostEnd) (s : Station) → joint device_then host_then ≡ ready_member device host (core_of device) s
-    → LeavesTransfers device.control device_then.control
-leaves device device_then host host_then s same = record {
+leaves : (device device_then : DeviceState) (host host_then : HostEnd) (held : Option Bool) (s : Station) → joint device_then host_then ≡ ready_member device host (core_of device) held s
+    → LeavesTransfers false device.control device_then.control
+leaves device device_then host host_then held s same = record {
   layout = ap (λ (m : Member). m.layout) same;
   config = ap (λ (m : Member). m.config) same;
   descriptor = ap (λ (m : Member). m.descriptor) same;
@@ -333,6 +466,7 @@ leaves device device_then host host_then s same = record {
   answer = ap (λ (m : Member). m.endpoint.answer) same;
   pending = ap (λ (m : Member). m.endpoint.pending) same;
   stage = ap (λ (m : Member). m.endpoint.stage) same;
+  anew = λ h. absurd (cc);
 }
 
 -- laws of hosts that know their devices
@@ -340,24 +474,37 @@ abbrev RepliesLeave : Type 0
 RepliesLeave = (host : HostEnd) (control : DevControlState CoreState) (took : Took) → Knows host control → IfReady host.phase (λ known. Knows (ready_after host known took) control)
 
 abbrev OthersLeave : Type 0
-OthersLeave = (host : HostEnd) (old new : DevControlState CoreState) → LeavesTransfers old new → Knows host old → Knows host new
+OthersLeave = (host : HostEnd) (old new : DevControlState CoreState) → LeavesTransfers host.clearing old new → Knows host old → Knows host new
 
-knows_by : (arrivals : Arrivals) (device device_then : DeviceState) (addr : ℕ) (transfer : Option Transfer) (phase : HostPhase) (host_then : HostEnd) (result : Result Told StackFault) (before events : List Event) (s : Station)
-    → RepliesLeave → OthersLeave → IsPair device phase
-    → GoesByPackets arrivals device (record { addr = addr; phase = phase; transfer = transfer }) phase result device_then host_then before events
-    → joint device_then host_then ≡ ready_member device (record { addr = addr; phase = phase; transfer = transfer }) (core_of device) s
-    → Knows (record { addr = addr; phase = phase; transfer = transfer }) device.control → Knows host_then device_then.control
-knows_by arrivals device device_then addr transfer Cold host_then result before events s replies others pair t same knows = absurd pair
-knows_by arrivals device device_then addr transfer (Described info) host_then result before events s replies others pair t same knows = absurd pair
-knows_by arrivals device device_then addr transfer (Parsed info layout) host_then result before events s replies others pair t same knows = absurd pair
-knows_by arrivals device device_then addr transfer (Ready known) host_then result before events s replies others pair t same knows =
-    let host : HostEnd = record { addr = addr; phase = Ready known; transfer = transfer } in
+-- with the host's layout, pipe and view as they are then
+known_then : (arrivals : Arrivals) (device device_then : DeviceState) (addr : ℕ) (transfer : Option Transfer) (known : Known) (host_then : HostEnd) (result : Result Told StackFault) (before events : List Event) (held : Option Bool) (s : Station)
+    → (let host : HostEnd = record { addr = addr; phase = Ready known; transfer = transfer; clearing = false } in
+    RepliesLeave → OthersLeave → PollsOver arrivals device host known result device_then host_then before events
+    → joint device_then host_then ≡ ready_member device host (core_of device) held s → Knows host device.control → Knows host_then device_then.control)
+known_then arrivals device device_then addr transfer known host_then result before events held s replies others t same knows =
+    let host : HostEnd = record { addr = addr; phase = Ready known; transfer = transfer; clearing = false } in
     let took = taken known.pipe.expects t.reply in
-    others host_then device.control device_then.control (leaves device device_then host host_then s same)
+    let still : host_then.clearing ≡ false = ap (λ (h : HostEnd). h.clearing) t.host_moved in
+    others host_then device.control device_then.control
+    (subst (λ (b : Bool). LeavesTransfers b device.control device_then.control) (sym still) (leaves device device_then host host_then held s same))
     (subst (λ (h : HostEnd). Knows h device.control) (sym t.host_moved) (replies host device.control took knows))
 
-pub polls_know : (arrivals : Arrivals) (device device_then : DeviceState) (host host_then : HostEnd) (result : Result Told StackFault) (before events : List Event) (s : Station)
-    → RepliesLeave → OthersLeave → IsPair device host.phase → GoesByPackets arrivals device host host.phase result device_then host_then before events
-    → joint device_then host_then ≡ ready_member device host (core_of device) s → Knows host device.control → Knows host_then device_then.control
-polls_know arrivals device device_then host host_then result before events s replies others pair t same knows =
-    knows_by arrivals device device_then host.addr host.transfer host.phase host_then result before events s replies others pair t same knows
+knows_by : (arrivals : Arrivals) (device device_then : DeviceState) (addr : ℕ) (transfer : Option Transfer) (phase : HostPhase) (host_then : HostEnd) (result : Result Told StackFault) (before events : List Event) (held : Option Bool) (s : Station)
+    → RepliesLeave → OthersLeave → IsPair device false phase
+    → GoesByPackets arrivals device (record { addr = addr; phase = phase; transfer = transfer; clearing = false }) false phase result device_then host_then before events
+    → joint device_then host_then ≡ ready_member device (record { addr = addr; phase = phase; transfer = transfer; clearing = false }) (core_of device) held s
+    → Knows (record { addr = addr; phase = phase; transfer = transfer; clearing = false }) device.control → Knows host_then device_then.control
+knows_by arrivals device device_then addr transfer Cold host_then result before events held s replies others pair t same knows = absurd pair
+knows_by arrivals device device_then addr transfer (Described info) host_then result before events held s replies others pair t same knows = absurd pair
+knows_by arrivals device device_then addr transfer (Parsed info layout) host_then result before events held s replies others pair t same knows = absurd pair
+knows_by arrivals device device_then addr transfer (Ready known) host_then result before events held s replies others pair t same knows =
+    known_then arrivals device device_then addr transfer known host_then result before events held s replies others t same knows
+
+pub polls_know : (arrivals : Arrivals) (device device_then : DeviceState) (host host_then : HostEnd) (result : Result Told StackFault) (before events : List Event) (held : Option Bool) (s : Station)
+    → RepliesLeave → OthersLeave → IsPair device false host.phase → host.clearing ≡ false → GoesByPackets arrivals device host host.clearing host.phase result device_then host_then before events
+    → joint device_then host_then ≡ ready_member device host (core_of device) held s → Knows host device.control → Knows host_then device_then.control
+polls_know arrivals device device_then host host_then result before events held s replies others pair free t same knows =
+    let is = no_clear host free in
+    knows_by arrivals device device_then host.addr host.transfer host.phase host_then result before events held s replies others pair
+    (subst (λ (h : HostEnd). GoesByPackets arrivals device h h.clearing h.phase result device_then host_then before events) is t) same
+    (subst (λ (h : HostEnd). Knows h device.control) is knows)

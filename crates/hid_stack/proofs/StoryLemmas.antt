@@ -11,9 +11,9 @@ use Rattle.hid_lives.specs.Stations.{Station}
 use Rattle.hid_lives.proofs.LifeLemmas.{lives_on}
 use Rattle.hid_cells.specs.declared.event.Event.{Event}
 use Rattle.hid_stack.specs.declared.step.Step.{Step}
-use Rattle.hid_stack.specs.declared.step.Step.TheVariants.{Change, Frame, Poll, Begin, Control, Reset}
+use Rattle.hid_stack.specs.declared.step.Step.TheVariants.{Change, Frame, Poll, Begin, Control, Halt, Reset}
 use Rattle.hid_stack.specs.declared.step.Delivered.{Delivered}
-use Rattle.hid_stack.specs.Members.{Member, MemberStep, Scheduled, Resets, deed_at, deeds_in, events_by, member_after_all}
+use Rattle.hid_stack.specs.Members.{Member, MemberStep, Scheduled, Controls, Halts, Resets, deed_at, deeds_in, events_by, member_after_all}
 use Rattle.hid_stack.specs.Rig.{bus_after, delivered_at, from_device, member_at, member_step, member_steps, one_delivers, tagged}
 use Rattle.hid_stack.specs.Stories.{Act, Attached, IsItsOwn, Taken, bus_behind, delivered_behind, next_number, own_story, steps_of}
 use Rattle.hid_stack.proofs.AttachLemmas.{stands_last, stands_still}
@@ -67,7 +67,8 @@ step_tells_nothing members device (Change dev change) none = refl
 step_tells_nothing members device Frame none = refl
 step_tells_nothing members device (Poll dev fate) none = nothing_yet members dev device (Scheduled (Polls fate)) none
 step_tells_nothing members device (Begin dev request) none = refl
-step_tells_nothing members device (Control dev fate) none = refl
+step_tells_nothing members device (Control dev fate) none = nothing_yet members dev device (Controls fate) none
+step_tells_nothing members device (Halt dev) none = nothing_yet members dev device Halts none
 step_tells_nothing members device (Reset dev) none = nothing_yet members dev device Resets none
 
 -- what isn't there at the end wasn't there before

@@ -22,16 +22,15 @@ use Rattle.hid_host.specs.declared.fault.StackFault.TheVariants.{NoDevice, NotRe
 use Rattle.hid_host.specs.declared.fault.StackFault.TheVariants as faults
 use Rattle.hid_host.specs.declared.host.Transfer.{Transfer}
 use Rattle.hid_host.specs.Host.{running}
-use Rattle.hid_host.specs.declared.phase.HostState.{HostState}
-use Rattle.hid_host.specs.declared.phase.HostState.TheVariants as states
+use Rattle.hid_host.specs.Bringing.{cuts_round}
 use Rattle.hid_stack.specs.declared.step.Step.{Step}
-use Rattle.hid_stack.specs.declared.step.Step.TheVariants.{Change, Frame, Poll, Begin, Control, Reset}
+use Rattle.hid_stack.specs.declared.step.Step.TheVariants.{Change, Frame, Poll, Begin, Control, Halt, Reset}
 use Rattle.hid_stack.specs.declared.step.Delivered.{Delivered}
-use Rattle.hid_stack.specs.Members.{Member, MemberStep, Scheduled, Begins, Controls, Resets, befallen_by, brought_deed, control_at, deed_at, deeds_in, member_after, member_after_all, scheduled_deed, tried_deed, unconcluded_of}
+use Rattle.hid_stack.specs.Members.{Member, MemberStep, Scheduled, Begins, Controls, Halts, Resets, befallen_by, brought_deed, control_at, deed_at, deeds_in, halted_deed, member_after, member_after_all, polls_it, scheduled_deed, tried_deed, unconcluded_of}
 use Rattle.hid_stack.specs.Rig.{member_at, with_member, one_after, one_unconcluded, refused_after, bus_after, bus_after_all, delivered_in, member_step, member_steps, from_device}
-use Rattle.hid_stack.specs.Sums.{AllHaveMotions, ConfiguresBetweenRounds, IsBetween, RefusedKeepMotion, SumsUp}
+use Rattle.hid_stack.specs.Sums.{AllHaveMotions, ConfiguresBetweenRounds, CutsByRequest, CutsNone, IsBetween, OnlyHaltsCut, RefusedKeepMotion, SumsUp}
 use Rattle.hid_stack.proofs.Isolation.{isolated, same_or_not, states as states_of, with_other, with_same}
-use Rattle.hid_stack.proofs.MemberLemmas.{IsEffect, between_append, between_one, brings_effect, layout_stays, layouts_stay, station_is, stations, unconcluded_layout, unconcluded_station}
+use Rattle.hid_stack.proofs.MemberLemmas.{IsEffect, between_append, between_one, brings_effect, layout_stays, layouts_stay, station_is, stations, unconcluded_deed, unconcluded_layout, unconcluded_station}
 use Rattle.hid_lives.proofs.ItemMotionLemmas.{given_append}
 use Rattle.hid_lives.proofs.MotionLemmas.{lived_has, lives_keep}
 
@@ -64,7 +63,7 @@ pub after_member : (m : Member) (x : MemberStep) → HasItsMotions m → HasItsM
 after_member m x has = has_with m (member_after m x) (deed_at m x) (layout_stays m x) (station_is m x) has
 
 pub after_unconcluded : (fate : Fate) (m : Member) (o : Option Transfer) → HasItsMotions m → HasItsMotions (unconcluded_of fate m o)
-after_unconcluded fate m o has = has_with m (unconcluded_of fate m o) (tried_deed fate m o) (unconcluded_layout fate m o) (unconcluded_station fate m o) has
+after_unconcluded fate m o has = has_with m (unconcluded_of fate m o) (unconcluded_deed fate m o) (unconcluded_layout fate m o) (unconcluded_station fate m o) has
 
 one_has : (members : List Member) (device : ℕ) (x : MemberStep) → AllHaveMotions members → AllHaveMotions (one_after members device x)
 one_has members device x all = by_member (member_at members device) refl
@@ -82,6 +81,7 @@ bus_has members Frame all =
 bus_has members (Poll device fate) all = one_has members device (Scheduled (Polls fate)) all
 bus_has members (Begin device request) all = one_has members device (Begins request) all
 bus_has members (Control device fate) all = one_has members device (Controls fate) all
+bus_has members (Halt device) all = one_has members device Halts all
 bus_has members (Reset device) all = one_has members device Resets all
 
 pub all_has : (members : List Member) (steps : List Step) → AllHaveMotions members → AllHaveMotions (bus_after_all members steps)
@@ -121,11 +121,13 @@ between_of : (m : Member) (o : Option MemberStep) → StepIsBetween m o → AreB
 between_of m None h = tt
 between_of m (Some x) h = between_one m x h
 
-polled_between : (m : Member) (host : HostState) (fate : Fate) → IsBetween m.station (scheduled_deed host (Polls fate))
-polled_between m states.Cold fate = tt
-polled_between m states.Described fate = tt
-polled_between m states.Parsed fate = tt
-polled_between m states.Ready fate = tt
+polled_between : (m : Member) (polls : Bool) (fate : Fate) → IsBetween m.station (scheduled_deed polls (Polls fate))
+polled_between m true fate = tt
+polled_between m false fate = tt
+
+halted_between : (m : Member) (is_configured : Bool) → IsBetween m.station (halted_deed is_configured)
+halted_between m true = tt
+halted_between m false = tt
 
 if_between : (m : Member) (b : Bool) (x : MemberStep) → (b ≡ true → IsBetween m.station (deed_at m x)) → StepIsBetween m (cond b (Some x) None)
 if_between m true x h = h refl
@@ -139,9 +141,10 @@ IsNoTry _ = Unit {0}
 step_between : (device : ℕ) (m : Member) (x : Step) → IsNoTry x → StepIsBetween m (member_step device x)
 step_between device m (Change d change) no_try = if_between m (eqb d device) (Scheduled (Changes change)) (λ h. tt)
 step_between device m Frame no_try = tt
-step_between device m (Poll d fate) no_try = if_between m (eqb d device) (Scheduled (Polls fate)) (λ h. polled_between m m.host fate)
+step_between device m (Poll d fate) no_try = if_between m (eqb d device) (Scheduled (Polls fate)) (λ h. polled_between m (polls_it m) fate)
 step_between device m (Begin d request) no_try = if_between m (eqb d device) (Begins request) (λ h. tt)
 step_between device m (Control d fate) no_try = absurd no_try
+step_between device m (Halt d) no_try = if_between m (eqb d device) Halts (λ h. halted_between m m.endpoint.is_configured)
 step_between device m (Reset d) no_try = if_between m (eqb d device) Resets (λ h. tt)
 
 pub others_between : (members : List Member) (x : Step) → IsNoTry x → ConfiguresBetweenRounds members (x ∷ [])
@@ -182,28 +185,36 @@ between_more members mid steps i d lt before first one device m h =
 abbrev motion_at : Member → ControlId → ℤ
 motion_at m c = station_motion (items_of m.layout) m.station c
 
-effect_keeps : (items : List Item) (s : Station) (o : Option Deed) (c : ControlId) → HasMotions items s → IsEffect o → IsBetween s o → station_motion items (befallen_by items s o) c ≡ station_motion items s c
-effect_keeps items s None c has is between = refl
-effect_keeps items s (Some (Own x)) c has is between = absurd is
-effect_keeps items s (Some lives.Resets) c has is between = absurd is
-effect_keeps items s (Some (Idles idle)) c has is between =
+effect_keeps : (items : List Item) (s : Station) (o : Option Deed) (c : ControlId) → HasMotions items s → IsEffect o → IsBetween s o → CutsNone o → station_motion items (befallen_by items s o) c ≡ station_motion items s c
+effect_keeps items s None c has is between none = refl
+effect_keeps items s (Some (Own x)) c has is between none = absurd is
+effect_keeps items s (Some lives.Halts) c has is between none = absurd none
+effect_keeps items s (Some lives.Clears) c has is between none = absurd none
+effect_keeps items s (Some lives.Resets) c has is between none = absurd is
+effect_keeps items s (Some (Idles idle)) c has is between none =
     let sum : Conserves c [] (station_motion items s c) [] (station_motion items (befallen items s (Idles idle)) c) = lives_keep items s has (Idles idle ∷ []) (between, tt) c in
     omega (arith, ints, sum)
-effect_keeps items s (Some Configures) c has is between =
+effect_keeps items s (Some Configures) c has is between none =
     let sum : Conserves c [] (station_motion items s c) [] (station_motion items (befallen items s Configures) c) = lives_keep items s has (Configures ∷ []) (between, tt) c in
     omega (arith, ints, sum)
 
-tried_keeps : (fate : Fate) (m : Member) (o : Option Transfer) (c : ControlId) → HasItsMotions m → IsBetween m.station (tried_deed fate m o)
-    → station_motion (items_of m.layout) (befallen_by (items_of m.layout) m.station (tried_deed fate m o)) c ≡ motion_at m c
-tried_keeps fate m None c has between = refl
-tried_keeps fate m (Some t) c has between = effect_keeps (items_of m.layout) m.station (brought_deed fate t.ends (control_at m)) c has (brings_effect fate t.ends (control_at m)) between
+tried_keeps : (fate : Fate) (m : Member) (o : Option Transfer) (c : ControlId) → HasItsMotions m → IsBetween m.station (tried_deed fate m o) → CutsByRequest fate m o
+    → station_motion (items_of m.layout) (befallen_by (items_of m.layout) m.station (unconcluded_deed fate m o)) c ≡ motion_at m c
+tried_keeps fate m None c has between cuts = refl
+tried_keeps fate m (Some t) c has between cuts = by_request (cuts_round t.request) cuts
+  where
+    by_request : (b : Bool) → (b ≡ false → CutsNone (tried_deed fate m (Some t)))
+        → station_motion (items_of m.layout) (befallen_by (items_of m.layout) m.station (cond b None (tried_deed fate m (Some t)))) c ≡ motion_at m c
+    by_request true none = refl
+    by_request false none = effect_keeps (items_of m.layout) m.station (brought_deed fate t.ends (control_at m)) c has (brings_effect fate t.ends (control_at m)) between (none refl)
 
-unconcluded_keeps : (fate : Fate) (m : Member) (c : ControlId) → HasItsMotions m → IsBetween m.station (deed_at m (Controls fate)) → motion_at (unconcluded_of fate m (running m.transfer)) c ≡ motion_at m c
-unconcluded_keeps fate m c has between =
+unconcluded_keeps : (fate : Fate) (m : Member) (c : ControlId) → HasItsMotions m → IsBetween m.station (deed_at m (Controls fate)) → CutsByRequest fate m (running m.transfer)
+    → motion_at (unconcluded_of fate m (running m.transfer)) c ≡ motion_at m c
+unconcluded_keeps fate m c has between cuts =
     let u = unconcluded_of fate m (running m.transfer) in
     ap (λ (l : Contents). station_motion (items_of l) u.station c) (unconcluded_layout fate m (running m.transfer))
     ∙ ap (λ (s : Station). station_motion (items_of m.layout) s c) (unconcluded_station fate m (running m.transfer))
-    ∙ tried_keeps fate m (running m.transfer) c has between
+    ∙ tried_keeps fate m (running m.transfer) c has between cuts
 
 same_keeps : (n k : Member) (c : ControlId) → (let o = Some n in o) ≡ Some k → motion_at n c ≡ motion_at k c
 same_keeps n k c same = let is : n ≡ k = cc in ap (λ (m : Member). motion_at m c) is
@@ -220,9 +231,9 @@ between_at members dev fate m between h =
     let here = subst (λ (b : Bool). AreBetweenRounds (items_of m.layout) m.station (deeds_in m (cons_option (cond b (Some (Controls fate)) None) []))) (names_itself dev) (between dev m h) in
     between_back m.station (items_of m.layout) (deed_at m (Controls fate)) here
 
-one_keeps : (members : List Member) (dev device : ℕ) (fate : Fate) (k n : Member) (c : ControlId) → AllHaveMotions members → ConfiguresBetweenRounds members (Control dev fate ∷ [])
+one_keeps : (members : List Member) (dev device : ℕ) (fate : Fate) (k n : Member) (c : ControlId) → AllHaveMotions members → ConfiguresBetweenRounds members (Control dev fate ∷ []) → OnlyHaltsCut members (Control dev fate)
     → member_at members device ≡ Some k → member_at (one_unconcluded members dev fate) device ≡ Some n → motion_at n c ≡ motion_at k c
-one_keeps members dev device fate k n c all between h stands = by_found (member_at members dev) refl stands
+one_keeps members dev device fate k n c all between cuts h stands = by_found (member_at members dev) refl stands
   where
     by_found : (found : Option Member) → member_at members dev ≡ found
         → member_at (elim found as (λ _. List Member) [ None ↦ members | Some m ↦ with_member members dev (unconcluded_of fate m (running m.transfer)) ]) device ≡ Some n → motion_at n c ≡ motion_at k c
@@ -233,35 +244,36 @@ one_keeps members dev device fate k n c all between h stands = by_found (member_
           | inl same ↦
               let is_u : member_at (with_member members dev u) device ≡ Some u = ap (member_at (with_member members dev u)) (sym same.0) ∙ with_same members dev m u e in
               let is_m : Some m ≡ Some k = sym e ∙ ap (member_at members) same.0 ∙ h in
-              same_keeps n u c (sym there ∙ is_u) ∙ unconcluded_keeps fate m c (member_has members dev m all e) (between_at members dev fate m between e) ∙ same_keeps m k c is_m
+              same_keeps n u c (sym there ∙ is_u) ∙ unconcluded_keeps fate m c (member_has members dev m all e) (between_at members dev fate m between e) (cuts m e) ∙ same_keeps m k c is_m
           | inr other ↦ same_keeps n k c (sym there ∙ with_other members dev device k m u other.0 e h)
         ]
 
 pub refused_keep : RefusedKeepMotion
-refused_keep members (Control dev fate) Memory device k n c all between h there = one_keeps members dev device fate k n c all between h there
-refused_keep members (Control dev fate) NoDevice device k n c all between h there = same_keeps n k c (sym there ∙ h)
-refused_keep members (Control dev fate) NotReady device k n c all between h there = same_keeps n k c (sym there ∙ h)
-refused_keep members (Control dev fate) (Refused f) device k n c all between h there = same_keeps n k c (sym there ∙ h)
-refused_keep members (Control dev fate) (faults.Control f) device k n c all between h there = same_keeps n k c (sym there ∙ h)
-refused_keep members (Control dev fate) (BadDescriptor f) device k n c all between h there = same_keeps n k c (sym there ∙ h)
-refused_keep members (Control dev fate) (Report f) device k n c all between h there = same_keeps n k c (sym there ∙ h)
-refused_keep members (Control dev fate) TooManyDevices device k n c all between h there = same_keeps n k c (sym there ∙ h)
-refused_keep members (Change dev change) e device k n c all between h there = same_keeps n k c (sym there ∙ h)
-refused_keep members Frame e device k n c all between h there = same_keeps n k c (sym there ∙ h)
-refused_keep members (Poll dev fate) e device k n c all between h there = same_keeps n k c (sym there ∙ h)
-refused_keep members (Begin dev request) e device k n c all between h there = same_keeps n k c (sym there ∙ h)
-refused_keep members (Reset dev) e device k n c all between h there = same_keeps n k c (sym there ∙ h)
+refused_keep members (Control dev fate) Memory device k n c all between cuts h there = one_keeps members dev device fate k n c all between cuts h there
+refused_keep members (Control dev fate) NoDevice device k n c all between cuts h there = same_keeps n k c (sym there ∙ h)
+refused_keep members (Control dev fate) NotReady device k n c all between cuts h there = same_keeps n k c (sym there ∙ h)
+refused_keep members (Control dev fate) (Refused f) device k n c all between cuts h there = same_keeps n k c (sym there ∙ h)
+refused_keep members (Control dev fate) (faults.Control f) device k n c all between cuts h there = same_keeps n k c (sym there ∙ h)
+refused_keep members (Control dev fate) (BadDescriptor f) device k n c all between cuts h there = same_keeps n k c (sym there ∙ h)
+refused_keep members (Control dev fate) (Report f) device k n c all between cuts h there = same_keeps n k c (sym there ∙ h)
+refused_keep members (Control dev fate) TooManyDevices device k n c all between cuts h there = same_keeps n k c (sym there ∙ h)
+refused_keep members (Change dev change) e device k n c all between cuts h there = same_keeps n k c (sym there ∙ h)
+refused_keep members Frame e device k n c all between cuts h there = same_keeps n k c (sym there ∙ h)
+refused_keep members (Poll dev fate) e device k n c all between cuts h there = same_keeps n k c (sym there ∙ h)
+refused_keep members (Begin dev request) e device k n c all between cuts h there = same_keeps n k c (sym there ∙ h)
+refused_keep members (Halt dev) e device k n c all between cuts h there = same_keeps n k c (sym there ∙ h)
+refused_keep members (Reset dev) e device k n c all between cuts h there = same_keeps n k c (sym there ∙ h)
 
 -- the sum where a run stops
-pub sums_stop : (before mid new : List Member) (steps : List Step) (x : Step) (e : StackFault) (old out : List Delivered) → AllHaveMotions before → ConfiguresBetweenRounds before steps → ConfiguresBetweenRounds mid (x ∷ [])
+pub sums_stop : (before mid new : List Member) (steps : List Step) (x : Step) (e : StackFault) (old out : List Delivered) → AllHaveMotions before → ConfiguresBetweenRounds before steps → ConfiguresBetweenRounds mid (x ∷ []) → OnlyHaltsCut mid x
     → mid ≡ bus_after_all before steps → out ≡ old ++ delivered_in before steps → new ≡ refused_after mid x e → SumsUp before new steps old out
-sums_stop before mid new steps x e old out all between between_here mid_is told_is new_is device m n h there c =
+sums_stop before mid new steps x e old out all between between_here cuts mid_is told_is new_is device m n h there c =
     let k = member_after_all m (member_steps device steps) in
     let at_mid : member_at mid device ≡ Some k = ap (λ (ms : List Member). member_at ms device) mid_is ∙ states_of steps before device m h in
     let at_new : member_at (refused_after mid x e) device ≡ Some n = sym (ap (λ (ms : List Member). member_at ms device) new_is) ∙ there in
     let all_mid : AllHaveMotions mid = subst AllHaveMotions (sym mid_is) (all_has before steps all) in
     subst (Conserves c (accepted_in (items_of m.layout) m.station (deeds_in m (member_steps device steps))) (given_motion c (from_device device old) +ℤ motion_at m c) (from_device device out))
-    (sym (refused_keep mid x e device k n c all_mid between_here at_mid at_new))
+    (sym (refused_keep mid x e device k n c all_mid between_here cuts at_mid at_new))
     (sums_up before mid steps old out all between mid_is told_is device m k h at_mid c)
 
 pub ruleset sums = (sums_up, all_has)

@@ -1,5 +1,5 @@
 -- Both ends of a request stand where its tries lead, whatever befalls the device between them.
-use Rattle.std.proofs.Common.{◌≡◌, ◌++◌, ◌∙◌, ◌+◌, ℕ, arith, Bool, true, false, List, [], ◌∷◌, length, Option, Some, None, refl, ap, sym, subst}
+use Rattle.std.proofs.Common.{◌≡◌, ◌++◌, ◌∙◌, ◌+◌, ◌<◌, ◌^◌, ℕ, arith, Bool, true, false, List, [], ◌∷◌, Option, Some, None, refl, ap, sym, subst}
 use Rattle.std.specs.Prelude.{if◌then◌else◌}
 use Rattle.usb_transact.specs.declared.transaction.Fate.{Fate}
 use Rattle.usb_control.specs.declared.device.Heard.TheVariants as hears
@@ -21,11 +21,15 @@ use Rattle.hid_requests.specs.declared.request.Request.{Request}
 use Rattle.hid_device.specs.Core.{CoreState}
 use Rattle.hid_device.specs.Deciding.{core_table}
 use Rattle.hid_host.specs.declared.host.Transfer.{Transfer}
-use Rattle.hid_host.specs.Bringing.{answering, is_configure}
-use Rattle.hid_host.specs.Host.{running, transfer_of}
-use Rattle.hid_stack.specs.Members.{Member, MemberStep, Scheduled, Begins, Controls, Resets, begin_refusal_at, begun_unless, control_at, core_at, ends_tried_at, member_after, member_after_all, tried_of, unconcluded_of}
+use Rattle.hid_host.specs.Bringing.{answering, cuts_round, is_configure, may_cut}
+use Rattle.usb_control.specs.declared.host.HostStage.{HostStage}
+use Rattle.usb_control.specs.declared.host.HostStage.TheVariants as stages
+use Rattle.hid_requests.specs.declared.request.Request.TheVariants.{Configure}
+use Rattle.hid_host.specs.Host.{running, running_at, transfer_of}
+use Rattle.hid_host.specs.Knowing.{asking_of}
+use Rattle.hid_stack.specs.Members.{Member, MemberStep, Scheduled, Begins, Controls, Halts, Resets, begin_refusal_at, begun_unless, control_at, core_at, ends_tried_at, halted_if, member_after, member_after_all, tried_of, tried_to, unconcluded_of}
 use Rattle.hid_stack.specs.Transfers.{BeginsNone, IsEndedByReset, IsUnconcludedOnce, IsWhole, IsWholeFrom, effects_in, ends_at, more_if, takes_effect_at, setup_at, tries_of, try_at}
-use Rattle.hid_stack.proofs.CountLemmas.{Stood, counted, runs_as}
+use Rattle.hid_stack.proofs.CountLemmas.{Stood, counted, halted_transfer, runs_as}
 
 -- ---- the steps of a member as turns of a transfer
 
@@ -38,6 +42,7 @@ turns_by m [] = []
 turns_by m (Controls fate ∷ steps) = Tries fate ∷ standing_as (member_after m (Controls fate)) ∷ turns_by (member_after m (Controls fate)) steps
 turns_by m (Scheduled x ∷ steps) = standing_as (member_after m (Scheduled x)) ∷ turns_by (member_after m (Scheduled x)) steps
 turns_by m (Begins request ∷ steps) = turns_by m steps
+turns_by m (Halts ∷ steps) = standing_as (member_after m Halts) ∷ turns_by (member_after m Halts) steps
 turns_by m (Resets ∷ steps) = turns_by m steps
 
 leave_answers : (steps : List MemberStep) (m : Member) → LeaveAnswers core_table (turns_by m steps)
@@ -45,6 +50,7 @@ leave_answers [] m = tt
 leave_answers (Controls fate ∷ steps) m = (λ core. refl, leave_answers steps (member_after m (Controls fate)))
 leave_answers (Scheduled x ∷ steps) m = (λ core. refl, leave_answers steps (member_after m (Scheduled x)))
 leave_answers (Begins request ∷ steps) m = leave_answers steps m
+leave_answers (Halts ∷ steps) m = (λ core. refl, leave_answers steps (member_after m Halts))
 leave_answers (Resets ∷ steps) m = leave_answers steps m
 
 -- the two ends behind turns
@@ -75,6 +81,11 @@ try_behind fate m t false is has runs =
       ends_are = ap (tried_if fate m t m) is;
     })
 
+-- a halt of the device leaves them
+halt_behind : (b : Bool) (m : Member) (t : Transfer) → m.transfer ≡ Some t → Behind (halted_if b m) t (turned core_table (ends_at m t) (standing_as (halted_if b m)))
+halt_behind true m t has = record { transfer = t; is = has; of = refl; ends_are = refl }
+halt_behind false m t has = record { transfer = t; is = has; of = refl; ends_are = refl }
+
 -- both ends, and the tries, behind a list of steps
 record Follows (m : Member) (t : Transfer) (steps : List MemberStep) : Type 0 where
   behind : Behind (member_after_all m steps) t (turned_all core_table (ends_at m t) (turns_by m steps))
@@ -86,6 +97,20 @@ follows (Scheduled x ∷ steps) m t has none =
     let later = follows steps (member_after m (Scheduled x)) t has none in
     record { behind = later.behind; tries = later.tries }
 follows (Begins request ∷ steps) m t has none = absurd none
+follows (Halts ∷ steps) m t has none =
+    let n = member_after m Halts in
+    let here = halt_behind m.endpoint.is_configured m t has in
+    let later = follows steps n here.transfer here.is none in
+    let b = later.behind in
+    record {
+      behind = record {
+        transfer = b.transfer;
+        is = b.is;
+        of = b.of ∙ here.of;
+        ends_are = ap (λ (e : Ends CoreState). turned_all core_table e (turns_by n steps)) here.ends_are ∙ b.ends_are;
+      };
+      tries = ap (λ (e : Ends CoreState). tries_in core_table e (turns_by n steps)) here.ends_are ∙ later.tries;
+    }
 follows (Resets ∷ steps) m t has none = absurd none
 follows (Controls fate ∷ steps) m t has none =
     let n = member_after m (Controls fate) in
@@ -108,27 +133,28 @@ follows (Controls fate ∷ steps) m t has none =
 -- ---- a request from its begin on
 
 abbrev first_of : Member → Request → Transfer
-first_of m request = transfer_of m.addr (record { report_length = length m.descriptor }) request
+first_of m request = transfer_of m.addr (asking_of (core_at m)) request
 
 pub whole : (m : Member) (request : Request) (steps : List MemberStep) → Lays m.descriptor m.layout → FitsRequest request → begin_refusal_at m request ≡ None → BeginsNone steps
     → IsWhole m request steps
 whole m request steps lays fits allowed none =
-    let asking : Asking = record { report_length = length m.descriptor } in
+    let asking : Asking = asking_of (core_at m) in
+    let of_one : asking.endpoint < 2 ^ 8 = omega arith in
     let t = first_of m request in
-    let begun : Member = record m { transfer = Some t } in
+    let begun : Member = begun_unless None m request in
     let is_begun : member_after m (Begins request) ≡ begun = ap (λ (o : Option StackFault). begun_unless o m request) allowed in
     let f = follows steps begun t refl none in
     let b = f.behind in
     let shape = shape_of (setup_at m request) in
     let turns = turns_by begun steps in
     let first : StandAt core_table (sends_of request) start (ends_at begun t) = begins core_table.answer_of m.addr (setup_at m request) (sends_of request) (control_at begun) (sends_so request asking) in
-    let stands = places_are_run core_table (sends_of request) start (ends_at begun t) turns (spelled_so request asking fits (short_so m.descriptor m.layout lays)) (leave_answers steps begun) first in
+    let stands = places_are_run core_table (sends_of request) start (ends_at begun t) turns (spelled_so request asking fits (short_so m.descriptor m.layout lays) of_one) (leave_answers steps begun) first in
     let asked : b.transfer.ends.setup ≡ setup_at m request = sym (ap (λ (e : Ends CoreState). e.host.setup) b.ends_are) ∙ setup_stays core_table (ends_at begun t) turns in
     let there : StandAt core_table (sends_of request) (run shape (tries_of begun steps) start) (ends_at (member_after_all begun steps) b.transfer)
     = subst (λ (xs : List (Fate × Decision)). StandAt core_table (sends_of request) (run shape xs start) (ends_at (member_after_all begun steps) b.transfer)) f.tries
     (subst (λ (e : Ends CoreState). StandAt core_table (sends_of request) (run shape (tries_in core_table (ends_at begun t) turns) start) e) b.ends_are stands) in
     let once = is_once shape (tries_of begun steps) in
-    let none_yet : Stood begun t start = record { asked = refl; spelled = spelled_so request asking fits (short_so m.descriptor m.layout lays); fits = fits; stands = first; decided = λ behind. absurd behind } in
+    let none_yet : Stood begun t start = record { asked = refl; spelled = spelled_so request asking fits (short_so m.descriptor m.layout lays) of_one; fits = fits; stands = first; decided = λ behind. absurd behind } in
     let count = counted steps begun t start 0 refl none none_yet in
     let all = acts shape (tries_of begun steps) start in
     let took : effects_in begun steps ≡ effects 0 all
@@ -164,16 +190,32 @@ begins_none : (fate : Fate) (steps : List MemberStep) → BeginsNone steps → B
 begins_none fate [] none = tt
 begins_none fate (Scheduled x ∷ steps) none = begins_none fate steps none
 begins_none fate (Begins request ∷ steps) none = absurd none
+begins_none fate (Halts ∷ steps) none = begins_none fate steps none
 begins_none fate (Resets ∷ steps) none = absurd none
 begins_none fate (Controls other ∷ steps) none = begins_none fate steps none
 
--- the transfer ends all the same
-same_transfer : (fate : Fate) (n : Member) (runs : Option Transfer) → (tried_of fate n runs).transfer ≡ (unconcluded_of fate n runs).transfer
-same_transfer fate n None = refl
-same_transfer fate n (Some t) = refl
+-- the transfer ends all the same, but for a request that may cut a round
+same_transfer : (fate : Fate) (n : Member) (runs : Option Transfer) → may_cut runs ≡ false → (tried_of fate n runs).transfer ≡ (unconcluded_of fate n runs).transfer
+same_transfer fate n None apart = refl
+same_transfer fate n (Some t) apart = sym (ap (λ (b : Bool). (if b then n else tried_to fate n t n.host).transfer) apart)
 
 one_transfer : (a b : Transfer) → Some a ≡ Some b → a ≡ b
 one_transfer a b e = cc
+
+no_cut : (o : Option Transfer) (t : Transfer) → o ≡ Some t → t.request ≡ Configure → may_cut (running o) ≡ false
+no_cut o t is asks = ap (λ (x : Option Transfer). may_cut (running x)) is ∙ by_stage t.ends.stage
+  where
+    none : cuts_round t.request ≡ false
+    none = ap cuts_round asks
+
+    by_stage : (stage : HostStage) → may_cut (running_at t stage) ≡ false
+    by_stage stages.Done = refl
+    by_stage (stages.Failed fault) = refl
+    by_stage stages.Setup = none
+    by_stage (stages.DataIn one) = none
+    by_stage (stages.DataOut sent one) = none
+    by_stage stages.StatusIn = none
+    by_stage stages.StatusOut = none
 
 pub unconcluded_once : (m : Member) (request : Request) (steps : List MemberStep) → Lays m.descriptor m.layout → FitsRequest request → begin_refusal_at m request ≡ None → BeginsNone steps
     → IsUnconcludedOnce m request steps
@@ -181,8 +223,10 @@ unconcluded_once m request steps lays fits allowed none fate ended is_configure 
     let begun = member_after m (Begins request) in
     let n = member_after_all begun steps in
     let w = whole m request (steps ++ Controls fate ∷ []) lays fits allowed (begins_none fate steps none) in
+    let before = whole m request steps lays fits allowed none in
+    let apart = no_cut n.transfer before.transfer before.is (before.of ∙ is_configure) in
     let there : Some w.transfer ≡ Some ended
-    = sym w.is ∙ ap (λ (k : Member). k.transfer) (behind_one steps begun (Controls fate)) ∙ same_transfer fate n (running n.transfer) ∙ is in
+    = sym w.is ∙ ap (λ (k : Member). k.transfer) (behind_one steps begun (Controls fate)) ∙ same_transfer fate n (running n.transfer) apart ∙ is in
     w.configured is_configure (ap (λ (t : Transfer). t.ends.stage) (one_transfer w.transfer ended there) ∙ done)
 
 -- ---- a reset ends a transfer
@@ -195,6 +239,7 @@ effects_append : (xs ys : List MemberStep) (m : Member) → effects_in m (xs ++ 
 effects_append [] ys m = omega arith
 effects_append (Scheduled x ∷ xs) ys m = effects_append xs ys (member_after m (Scheduled x))
 effects_append (Begins request ∷ xs) ys m = effects_append xs ys (member_after m (Begins request))
+effects_append (Halts ∷ xs) ys m = effects_append xs ys (member_after m Halts)
 effects_append (Resets ∷ xs) ys m = effects_append xs ys (member_after m Resets)
 effects_append (Controls fate ∷ xs) ys m =
     let n = member_after m (Controls fate) in
@@ -208,6 +253,7 @@ none_take : (xs : List MemberStep) (m : Member) → m.transfer ≡ None → Begi
 none_take [] m none begins = refl
 none_take (Scheduled x ∷ xs) m none begins = none_take xs (member_after m (Scheduled x)) none begins
 none_take (Begins request ∷ xs) m none begins = absurd begins
+none_take (Halts ∷ xs) m none begins = none_take xs (member_after m Halts) (halted_transfer m.endpoint.is_configured m ∙ none) begins
 none_take (Resets ∷ xs) m none begins = absurd begins
 none_take (Controls fate ∷ xs) m none begins =
     let idle = idle_try fate m none in

@@ -1,5 +1,5 @@
 -- What is promised of a device over its own steps, by the rounds of those steps (USB 2.0, 8.5.4, 8.6 and 9.4.7).
-use Rattle.std.specs.Prelude.{◌≡◌, ℕ, List, ◌++◌, Some, None}
+use Rattle.std.specs.Prelude.{◌≡◌, ℕ, true, false, List, ◌++◌, Some, None}
 use Rattle.hid_layout.specs.Controls.{items_of}
 use Rattle.hid_cells.specs.declared.cell.Cell.{Cell}
 use Rattle.hid_cells.specs.declared.event.Event.{Event}
@@ -10,17 +10,18 @@ use Rattle.hid_stack.specs.declared.step.Step.{Step}
 use Rattle.hid_stack.specs.declared.step.Delivered.{Delivered}
 use Rattle.hid_lives.specs.Stations.{Station, fresh}
 use Rattle.hid_host.specs.declared.phase.HostState.TheVariants.{Ready}
-use Rattle.hid_stack.specs.Members.{Member, deeds_in}
+use Rattle.hid_stack.specs.Members.{Member, deeds_in, polls_it}
 use Rattle.hid_stack.specs.Rig.{HasOnlySchedule, member_at, member_steps, own, from_device}
 
 -- both ends were just configured: the host is ready with its initial view, and no round was opened
 pub record AreFresh (m : Member) (snapshot : List Cell) (idle : List ℕ) : Type 0 where
   pub host : m.host ≡ Ready
+  pub clear : m.clearing ≡ false
   pub station : m.station ≡ fresh (items_of m.layout) snapshot idle
 
 -- The headline: of each device that was just configured the events delivered are exactly the changes
 -- between the successive parts that crossed, in order, none twice. (No request of it is begun or tried meanwhile, and it
--- isn't reset: both begin anew.)
+-- is neither halted nor reset: these end rounds.)
 abbrev pub DeliversChanges : List Member → List Step → List Delivered → List Delivered → Type 0
 DeliversChanges before steps old new =
     (device : ℕ) (m : Member) (snapshot : List Cell) (idle : List ℕ)
@@ -29,18 +30,18 @@ DeliversChanges before steps old new =
     → from_device device new
     ≡ from_device device old ++ events_of_epoch (items_of m.layout) snapshot idle (own device steps)
 
--- Each device whose host is ready, without an open round, stands behind its own steps as the rounds of those steps
+-- Each device whose host polls it, without an open round, stands behind its own steps as the rounds of those steps
 -- say; nothing else of it changes.
 abbrev pub KeepsToRounds : List Member → List Step → List Member → Type 0
 KeepsToRounds before steps after =
-    (device : ℕ) (m : Member) → member_at before device ≡ Some m → m.host ≡ Ready → m.station.current ≡ None
+    (device : ℕ) (m : Member) → member_at before device ≡ Some m → polls_it m ≡ true → m.station.current ≡ None
     → HasOnlySchedule device steps
     → (s : Station) × (member_at after device ≡ Some (record m { station = s }))
     × StandsByRounds (items_of m.layout) m.station (own device steps) s
 
 -- What a device lives through, whatever befalls it: from any state without an open round on, the events delivered of it
--- are those of its rounds that crossed and of its resets, and its station stands as they say; toggles and views are
--- counted since a configuration took effect last, or the bus was reset.
+-- are those of its rounds that crossed, of its halts and clears, and of its resets, and its station stands as they say;
+-- toggles and views are counted since a configuration took effect last, or the bus was reset, and toggles since a clear.
 abbrev pub LivesThrough : Member → List Deed → Member → List Event → Type 0
 LivesThrough m deeds n told =
     FollowsLife (items_of m.layout) m.station.view m.station.odd

@@ -1,5 +1,5 @@
 -- Laws of what a bus answers, which hold whatever runs it (our choice).
-use Rattle.std.specs.Prelude.{◌≡◌, ◌≢◌, ℕ, List, [], Result, Ok, Err}
+use Rattle.std.specs.Prelude.{◌≡◌, ◌≢◌, ℕ, false, List, [], Result, Ok, Err}
 use Rattle.hid_layout.specs.declared.control.ControlId.{ControlId}
 use Rattle.hid_descriptor.specs.declared.usage.Usage.{Usage}
 use Rattle.hid_cells.specs.declared.event.Event.{Event}
@@ -59,13 +59,13 @@ pub record IsPollOfPair (fate : Fate) (device : DeviceState) (host : HostEnd)
       × TellsPoll (core_of device).layout (station_of (core_of device) host.phase) fate told
   pub after : joint device_then host_then ≡ member_after (joint device host) (Scheduled (Polls fate))
   pub delivers : events ≡ events_at (items_of (core_of device).layout) (station_of (core_of device) host.phase) (Polls fate)
-  pub pair : IsPair device_then host_then.phase
+  pub pair : IsPair device_then host_then.clearing host_then.phase
 
 -- the packets that a fate lets arrive come to that
 abbrev pub PacketsMakePolls : Type 0
 PacketsMakePolls =
     (fate : Fate) (device : DeviceState) (host : HostEnd) (result : Result Told StackFault)
     (device_then : DeviceState) (host_then : HostEnd) (events : List Event)
-    → IsPair device host.phase
-    → GoesByPackets (arrives_under fate) device host host.phase result device_then host_then [] events
+    → IsPair device false host.phase → host.clearing ≡ false
+    → GoesByPackets (arrives_under fate) device host host.clearing host.phase result device_then host_then [] events
     → IsPollOfPair fate device host result device_then host_then events

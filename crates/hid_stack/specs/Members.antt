@@ -1,6 +1,6 @@
--- A device of a bus with its host, and what each step of the bus makes of the two (USB 2.0, 8.5, 9.1.1 and 9.4.7; our
--- choice).
-use Rattle.std.specs.Prelude.{ℕ, Bool, true, false, List, [], ◌∷◌, length, replicate, Option, Some, None}
+-- A device of a bus with its host, and what each step of the bus makes of the two (USB 2.0, 8.5, 9.1.1, 9.4.5 and 9.4.7;
+-- our choice).
+use Rattle.std.specs.Prelude.{ℕ, Bool, true, false, ◌||◌, if◌then◌else◌, List, [], ◌∷◌, replicate, Option, Some, None}
 use Rattle.std.specs.List.{cons_option}
 use Rattle.std.specs.Option.{option_map}
 use Rattle.hid_layout.specs.Layout.{Contents}
@@ -23,7 +23,7 @@ use Rattle.hid_requests.specs.declared.class.Protocol.{Protocol}
 use Rattle.hid_lives.specs.Lives.{Deed, Own, Idles, Configures, befallen, events_on}
 use Rattle.hid_lives.specs.Lives as deeds
 use Rattle.hid_lives.specs.Rounds.{OwnStep, Changes, Frame, Polls}
-use Rattle.hid_lives.specs.Stations.{Station, fresh}
+use Rattle.hid_lives.specs.Stations.{Station, expected, fresh}
 use Rattle.hid_device.specs.declared.config.Config.{Config}
 use Rattle.hid_device.specs.declared.decisions.Pending.{Pending}
 use Rattle.hid_device.specs.declared.decisions.Pending.TheVariants as pendings
@@ -35,8 +35,10 @@ use Rattle.hid_host.specs.declared.fault.StackFault.{StackFault}
 use Rattle.hid_host.specs.declared.host.Transfer.{Transfer}
 use Rattle.hid_host.specs.declared.phase.HostState.{HostState}
 use Rattle.hid_host.specs.declared.phase.HostState.TheVariants as states
-use Rattle.hid_host.specs.Bringing.{ends_after}
-use Rattle.hid_host.specs.Host.{begin_refusal_in, running, transfer_of}
+use Rattle.hid_host.specs.Bringing.{cuts_round, ends_after}
+use Rattle.hid_host.specs.Host.{begin_refusal_in, clearing_behind, clearing_with, running, transfer_of}
+use Rattle.hid_host.specs.Knowing.{asking_of}
+use Rattle.hid_host.specs.Phase.{may_poll}
 
 -- What endpoint 0 of a device keeps: whether SET_CONFIGURATION took effect; its protocol, and the Output and Feature
 -- reports that were set last; of the last request the answer, where it has one, and what is carried out when its status
@@ -50,7 +52,9 @@ pub record Endpoint : Type 0 where
   pub stage : Stage
 
 -- A device with its host: its address, the configuration and the descriptor that it was made with, its layout, how the
--- two stand, the device's endpoint 0, how far the host has come with it, and the transfer that the host began last.
+-- two stand, the device's endpoint 0, how far the host has come with it, the transfer that the host began last, whether a
+-- clear is pending, and the toggle that is held then or while the endpoint is halted: the one that its ready host expects,
+-- of which a round that was ended so tells no more.
 pub record Member : Type 0 where
   pub addr : ℕ
   pub config : Config
@@ -60,13 +64,16 @@ pub record Member : Type 0 where
   pub endpoint : Endpoint
   pub host : HostState
   pub transfer : Option Transfer
+  pub clearing : Bool
+  pub held : Option Bool
 
 -- What a step of the bus is for one device: a step of its schedule, a request of its host, a try of the transfer that
--- runs, or a reset.
+-- runs, a halt by the device itself, or a reset.
 pub data MemberStep : Type 0 where
   Scheduled : OwnStep → MemberStep
   Begins : Request → MemberStep
   Controls : Fate → MemberStep
+  Halts : MemberStep
   Resets : MemberStep
 
 -- ---- devices that were just attached
@@ -93,6 +100,8 @@ fresh_member addr config descriptor layout = record {
   endpoint = new_endpoint true (new_core config descriptor layout);
   host = states.Ready;
   transfer = None;
+  clearing = false;
+  held = None;
 }
 
 -- the device is as it was made, and its host knows nothing of it
@@ -107,10 +116,13 @@ cold_member addr config descriptor layout = record {
     current = None;
     odd = false;
     view = blank (items_of layout);
+    halted = false;
   };
   endpoint = new_endpoint false (new_core config descriptor layout);
   host = states.Cold;
   transfer = None;
+  clearing = false;
+  held = None;
 }
 
 -- ---- the device's side of a transfer
@@ -129,6 +141,7 @@ core_at m = record {
   outputs = m.endpoint.outputs;
   answer = m.endpoint.answer;
   pending = m.endpoint.pending;
+  halted = m.station.halted;
 }
 
 -- and its endpoint 0, between transactions: a try begins with a token, so what was heard before it doesn't count
@@ -148,20 +161,31 @@ endpoint_of control = record {
 
 -- ---- what befalls the device by a step
 
--- a poll befalls it where its host is ready
-abbrev pub polled_deed : HostState → Fate → Option Deed
-polled_deed states.Ready fate = Some (Own (Polls fate))
-polled_deed _ fate = None
+-- the host of a member polls: it is ready, and no clear is pending
+abbrev pub polls_it : Member → Bool
+polls_it m = may_poll m.host m.clearing
+
+-- a poll befalls it where its host polls
+abbrev pub polled_deed : Bool → Fate → Option Deed
+polled_deed true fate = Some (Own (Polls fate))
+polled_deed false fate = None
 
 -- a step of its schedule
-abbrev pub scheduled_deed : HostState → OwnStep → Option Deed
-scheduled_deed host (Changes change) = Some (Own (Changes change))
-scheduled_deed host Frame = Some (Own Frame)
-scheduled_deed host (Polls fate) = polled_deed host fate
+abbrev pub scheduled_deed : Bool → OwnStep → Option Deed
+scheduled_deed polls (Changes change) = Some (Own (Changes change))
+scheduled_deed polls Frame = Some (Own Frame)
+scheduled_deed polls (Polls fate) = polled_deed polls fate
 
--- a write that is carried out: a configuration, or idle times that are set
+-- a device that isn't configured has no endpoint to halt
+abbrev pub halted_deed : Bool → Option Deed
+halted_deed true = Some deeds.Halts
+halted_deed false = None
+
+-- a write that is carried out: a configuration, idle times that are set, a halt, or the end of one
 abbrev pub written_deed : CoreState → Pending → Option Deed
 written_deed core pendings.Configure = Some Configures
+written_deed core pendings.Halt = Some deeds.Halts
+written_deed core pendings.Clear = Some deeds.Clears
 written_deed core (pendings.Idle report time) = Some (Idles (idle_set core.standing.idle report time))
 written_deed core _ = None
 
@@ -182,9 +206,10 @@ tried_deed fate m (Some t) = brought_deed fate t.ends (control_at m)
 
 -- What befalls a device by a step, where something does.
 abbrev pub deed_at : Member → MemberStep → Option Deed
-deed_at m (Scheduled x) = scheduled_deed m.host x
+deed_at m (Scheduled x) = scheduled_deed (polls_it m) x
 deed_at m (Begins request) = None
 deed_at m (Controls fate) = tried_deed fate m (running m.transfer)
+deed_at m Halts = halted_deed m.endpoint.is_configured
 deed_at m Resets = Some deeds.Resets
 
 -- the station behind it
@@ -197,17 +222,46 @@ abbrev pub events_by : List Item → Station → Option Deed → List Event
 events_by items s None = []
 events_by items s (Some deed) = events_on items s deed
 
+-- ---- the toggle of its host
+
+-- the toggle that the host of a member expects where it is ready: the one that is held, or that of the station
+abbrev pub expects_of : Member → Bool
+expects_of m = elim m.held [ Some expects ↦ expects | None ↦ expected m.station ]
+
+-- a toggle is held or not
+abbrev pub held_if : Bool → Bool → Option Bool
+held_if true expects = Some expects
+held_if false expects = None
+
+-- a ready host's is held while the endpoint is halted or a clear is pending
+abbrev pub held_at : HostState → Bool → Bool → Option Bool
+held_at states.Ready holds expects = held_if holds expects
+held_at _ holds expects = None
+
+-- the member where its host expects this
+abbrev pub holding : Bool → Member → Member
+holding expects m = record m { held = held_at m.host (m.station.halted || m.clearing) expects }
+
+-- where a configuration or a clear is done it expects DATA0
+abbrev pub expects_behind : HostStage → Request → Bool → Bool
+expects_behind Done requests.Configure expects = false
+expects_behind Done requests.Clear expects = false
+expects_behind stage request expects = expects
+
 -- ---- the member behind a step
 
 -- why a request can't begin, memory aside
 abbrev pub begin_refusal_at : Member → Request → Option StackFault
 begin_refusal_at m request = begin_refusal_in m.transfer m.host request
 
--- a request begins unless it is refused: its transfer has yet to make its first try
+-- a request begins unless it is refused: its transfer has yet to make its first try, and a clear is pending from then on
 abbrev pub begun_unless : Option StackFault → Member → Request → Member
 begun_unless (Some fault) m request = m
 begun_unless None m request =
-    record m { transfer = Some (transfer_of m.addr (record { report_length = length m.descriptor }) request) }
+    holding (expects_of m) (record m {
+      transfer = Some (transfer_of m.addr (asking_of (core_at m)) request);
+      clearing = clearing_with request m.clearing;
+    })
 
 -- the state to which a request that is done leads
 abbrev pub state_behind : Request → HostState → HostState
@@ -227,7 +281,7 @@ ends_tried_at fate m t = ends_after fate t (control_at m)
 
 -- a try of a transfer, with the host in this state behind it
 abbrev pub tried_to : Fate → Member → Transfer → HostState → Member
-tried_to fate m t host = record {
+tried_to fate m t host = holding (expects_behind (ends_tried_at fate m t).stage t.request (expects_of m)) (record {
   addr = m.addr;
   config = m.config;
   descriptor = m.descriptor;
@@ -236,14 +290,21 @@ tried_to fate m t host = record {
   endpoint = endpoint_of (control_tried core_table fate t.ends (control_at m));
   host = host;
   transfer = Some (record t { ends = ends_tried_at fate m t });
-}
+  clearing = clearing_behind (ends_tried_at fate m t).stage t.request m.clearing;
+  held = None;
+})
 
 -- a try of the transfer that runs: where its request is done the host goes on
 abbrev pub tried_of : Fate → Member → Option Transfer → Member
 tried_of fate m None = m
 tried_of fate m (Some t) = tried_to fate m t (state_at (ends_tried_at fate m t).stage t.request m.host)
 
--- a reset: the device isn't configured, its host knows nothing of it, and the transfer is forgotten
+-- a halt by the device itself: it ends the round that is open
+abbrev pub halted_if : Bool → Member → Member
+halted_if true m = holding (expects_of m) (record m { station = befallen (items_of m.layout) m.station deeds.Halts })
+halted_if false m = m
+
+-- a reset: the device isn't configured, its host knows nothing of it, and the transfer and what is pending are forgotten
 abbrev pub reset_of : Member → Member
 reset_of m = record {
   addr = m.addr;
@@ -254,19 +315,24 @@ reset_of m = record {
   endpoint = endpoint_of (idle (reset_core (core_at m)));
   host = states.Cold;
   transfer = None;
+  clearing = false;
+  held = None;
 }
 
 -- Its member after a step: what is refused changes nothing.
 abbrev pub member_after : Member → MemberStep → Member
-member_after m (Scheduled x) = record m { station = befallen_by (items_of m.layout) m.station (scheduled_deed m.host x) }
+member_after m (Scheduled x) =
+    record m { station = befallen_by (items_of m.layout) m.station (scheduled_deed (polls_it m) x) }
 member_after m (Begins request) = begun_unless (begin_refusal_at m request) m request
 member_after m (Controls fate) = tried_of fate m (running m.transfer)
+member_after m Halts = halted_if m.endpoint.is_configured m
 member_after m Resets = reset_of m
 
--- the same where memory is wanting for what a request that is done gives: the host stays where it is
+-- The same where memory is wanting: for what may be dropped, and then nothing is tried, or for what a request that is done
+-- gives, and then the host stays where it is.
 abbrev pub unconcluded_of : Fate → Member → Option Transfer → Member
 unconcluded_of fate m None = m
-unconcluded_of fate m (Some t) = tried_to fate m t m.host
+unconcluded_of fate m (Some t) = if cuts_round t.request then m else tried_to fate m t m.host
 
 -- and after a list of steps
 abbrev pub member_after_all : Member → List MemberStep → Member

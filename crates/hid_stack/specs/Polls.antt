@@ -1,6 +1,6 @@
 -- One poll over any bus, packet by packet (USB 2.0, 8.5.4 and 8.6): each end acts on what it reads of the bytes
 -- that arrive, and on nothing else.
-use Rattle.std.specs.Prelude.{◌≡◌, ℕ, List, ◌++◌, Option, Some, None, Result, Ok, Err, IfSome}
+use Rattle.std.specs.Prelude.{◌≡◌, ℕ, Bool, true, false, List, ◌++◌, Option, Some, None, Result, Ok, Err, IfSome}
 use Rattle.arrayvec.specs.declared.array_vec.ArrayVec.{ArrayVec}
 use Rattle.hid_cells.specs.declared.event.Event.{Event}
 use Rattle.hid_usages.specs.Encoding.{AreBytes}
@@ -84,7 +84,7 @@ pub record PollsOver (arrivals : Arrivals) (device : DeviceState) (host : HostEn
   pub delivers : events ≡ before ++ events_behind known (taken known.pipe.expects reply)
   pub ended : Ends arrivals (told_of known.layout (taken known.pipe.expects reply)) between device_then
 
--- a host that isn't ready sends nothing, and nothing changes
+-- a host that isn't ready, or whose clear is pending, sends nothing, and nothing changes
 pub record SendsNothing (device : DeviceState) (host : HostEnd)
     (result : Result Told StackFault) (device_then : DeviceState) (host_then : HostEnd)
     (before events : List Event) : Type 0 where
@@ -93,10 +93,12 @@ pub record SendsNothing (device : DeviceState) (host : HostEnd)
   pub host_stays : host_then ≡ host
   pub delivers : events ≡ before
 
--- A poll over a bus, by how far the host has come with its device.
-abbrev pub GoesByPackets : Arrivals → DeviceState → HostEnd → HostPhase → Result Told StackFault → DeviceState
-    → HostEnd → List Event → List Event → Type 0
-GoesByPackets arrivals device host (Ready known) result device_then host_then before events =
+-- A poll over a bus, by whether a clear is pending, and how far the host has come with its device.
+abbrev pub GoesByPackets : Arrivals → DeviceState → HostEnd → Bool → HostPhase → Result Told StackFault
+    → DeviceState → HostEnd → List Event → List Event → Type 0
+GoesByPackets arrivals device host false (Ready known) result device_then host_then before events =
     PollsOver arrivals device host known result device_then host_then before events
-GoesByPackets arrivals device host _ result device_then host_then before events =
+GoesByPackets arrivals device host true (Ready known) result device_then host_then before events =
+    SendsNothing device host result device_then host_then before events
+GoesByPackets arrivals device host clearing _ result device_then host_then before events =
     SendsNothing device host result device_then host_then before events

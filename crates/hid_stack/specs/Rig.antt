@@ -1,7 +1,8 @@
 -- The devices of a bus, and what each of its steps makes of them (our choice).
-use Rattle.std.specs.Prelude.{◌≡◌, ◌⊎◌, ◌<◌, ◌≤◌, ◌+◌, ◌-◌, ℕ, ◌==◌, Bool, true, not, if◌then◌else◌, List, [], ◌∷◌, ◌++◌, length, map, take, slice_get, slice_set, Option, Some, None, Result, Ok, Err, IfSome}
+use Rattle.std.specs.Prelude.{◌≡◌, ◌⊎◌, ◌<◌, ◌≤◌, ◌+◌, ◌-◌, ℕ, ◌==◌, Bool, true, false, not, if◌then◌else◌, List, [], ◌∷◌, ◌++◌, length, map, take, slice_get, slice_set, Option, Some, None, Result, Ok, Err, IfSome}
 use Rattle.std.specs.List.{All, filter_map}
 use Rattle.hid_layout.specs.Controls.{items_of, max_events}
+use Rattle.hid_layout.specs.Layout.{Contents}
 use Rattle.hid_cells.specs.declared.cell.Cell.{Cell}
 use Rattle.hid_cells.specs.declared.change.ChangeFault.{ChangeFault}
 use Rattle.hid_cells.specs.declared.event.Event.{Event}
@@ -17,14 +18,12 @@ use Rattle.hid_host.specs.declared.fault.StackFault.{StackFault}
 use Rattle.hid_host.specs.declared.fault.StackFault.TheVariants.{NoDevice, NotReady, Refused, Memory}
 use Rattle.hid_host.specs.declared.fault.StackFault.TheVariants as faults
 use Rattle.hid_host.specs.declared.host.Transfer.{Transfer}
-use Rattle.hid_host.specs.declared.phase.HostState.{HostState}
-use Rattle.hid_host.specs.declared.phase.HostState.TheVariants as states
-use Rattle.hid_host.specs.Bringing.{TakesMemory as TakesMemoryFor}
+use Rattle.hid_host.specs.Bringing.{TakesMemory as TakesMemoryFor, may_cut}
 use Rattle.hid_host.specs.Host.{running}
 use Rattle.hid_stack.specs.declared.step.Step.{Step}
-use Rattle.hid_stack.specs.declared.step.Step.TheVariants.{Change, Frame, Poll, Begin, Control, Reset}
+use Rattle.hid_stack.specs.declared.step.Step.TheVariants.{Change, Frame, Poll, Begin, Control, Halt, Reset}
 use Rattle.hid_stack.specs.declared.step.Delivered.{Delivered}
-use Rattle.hid_stack.specs.Members.{Member, MemberStep, Scheduled, Begins, Controls, Resets, begin_refusal_at, deed_at, deeds_in, ends_tried_at, events_by, member_after, member_after_all, unconcluded_of}
+use Rattle.hid_stack.specs.Members.{Member, MemberStep, Scheduled, Begins, Controls, Halts, Resets, begin_refusal_at, deed_at, deeds_in, ends_tried_at, events_by, member_after, member_after_all, polls_it, unconcluded_of}
 
 -- devices are numbered from 1
 abbrev pub member_at : List Member → ℕ → Option Member
@@ -46,6 +45,7 @@ bus_after members Frame = map (λ m. member_after m (Scheduled own_steps.Frame))
 bus_after members (Poll dev fate) = one_after members dev (Scheduled (Polls fate))
 bus_after members (Begin dev request) = one_after members dev (Begins request)
 bus_after members (Control dev fate) = one_after members dev (Controls fate)
+bus_after members (Halt dev) = one_after members dev Halts
 bus_after members (Reset dev) = one_after members dev Resets
 
 -- an event, with the number of the device that it came from
@@ -59,13 +59,14 @@ one_delivers members dev x = elim (member_at members dev) [
   | Some m ↦ map (tagged dev) (events_by (items_of m.layout) m.station (deed_at m x))
 ]
 
--- What a step delivers: polls and resets alone deliver events.
+-- What a step delivers: polls, tries, halts and resets alone deliver events.
 abbrev pub delivered_at : List Member → Step → List Delivered
 delivered_at members (Change dev change) = []
 delivered_at members Frame = []
 delivered_at members (Poll dev fate) = one_delivers members dev (Scheduled (Polls fate))
 delivered_at members (Begin dev request) = []
-delivered_at members (Control dev fate) = []
+delivered_at members (Control dev fate) = one_delivers members dev (Controls fate)
+delivered_at members (Halt dev) = one_delivers members dev Halts
 delivered_at members (Reset dev) = one_delivers members dev Resets
 
 -- whole lists of steps
@@ -83,10 +84,10 @@ abbrev pub change_refusal : Result (List Cell) ChangeFault → Option StackFault
 change_refusal (Ok cells) = None
 change_refusal (Err fault) = Some (Refused fault)
 
--- a host polls where it is ready
-abbrev pub poll_refusal : HostState → Option StackFault
-poll_refusal states.Ready = None
-poll_refusal _ = Some NotReady
+-- a host polls where it is ready, and no clear is pending
+abbrev pub poll_refusal : Bool → Option StackFault
+poll_refusal true = None
+poll_refusal false = Some NotReady
 
 -- there is something to try where a transfer runs
 abbrev pub control_refusal : Option Transfer → Option StackFault
@@ -100,11 +101,13 @@ refusal members (Change dev change) = elim (member_at members dev) [
   | Some m ↦ change_refusal (changed (items_of m.layout) m.station.standing.snapshot change)
 ]
 refusal members Frame = None
-refusal members (Poll dev fate) = elim (member_at members dev) [ None ↦ Some NoDevice | Some m ↦ poll_refusal m.host ]
+refusal members (Poll dev fate) =
+    elim (member_at members dev) [ None ↦ Some NoDevice | Some m ↦ poll_refusal (polls_it m) ]
 refusal members (Begin dev request) =
     elim (member_at members dev) [ None ↦ Some NoDevice | Some m ↦ begin_refusal_at m request ]
 refusal members (Control dev fate) =
     elim (member_at members dev) [ None ↦ Some NoDevice | Some m ↦ control_refusal (running m.transfer) ]
+refusal members (Halt dev) = elim (member_at members dev) [ None ↦ Some NoDevice | Some m ↦ None ]
 refusal members (Reset dev) = elim (member_at members dev) [ None ↦ Some NoDevice | Some m ↦ None ]
 
 -- the ID, the time and the report of a request that begins fit its setup
@@ -114,6 +117,7 @@ FitsStep (Change dev change) = Unit {0}
 FitsStep Frame = Unit {0}
 FitsStep (Poll dev fate) = Unit {0}
 FitsStep (Control dev fate) = Unit {0}
+FitsStep (Halt dev) = Unit {0}
 FitsStep (Reset dev) = Unit {0}
 
 -- a try in which a request is done that gives a layout or a view
@@ -121,15 +125,21 @@ abbrev pub GivesMore : Fate → Member → Option Transfer → Type 0
 GivesMore fate m None = ⊥
 GivesMore fate m (Some t) = ((ends_tried_at fate m t).stage ≡ Done) × TakesMemoryFor t.request
 
--- What takes memory: the room for what a poll or a reset delivers, and for the bytes of a request, a layout and a view.
+-- a try that takes memory: it gives more, or it may end a round, for whose motion room is made
+abbrev pub TriesWithMemory : Fate → Member → Option Transfer → Type 0
+TriesWithMemory fate m o = GivesMore fate m o ⊎ (may_cut o ≡ true)
+
+-- What takes memory: the room for what a poll, a halt, its end or a reset delivers, and for the bytes of a request, a layout
+-- and a view.
 abbrev pub TakesMemory : List Member → Step → Type 0
 TakesMemory members (Change dev change) = ⊥
 TakesMemory members Frame = ⊥
 TakesMemory members (Poll dev fate) = Unit {0}
 TakesMemory members (Begin dev request) = Unit {0}
+TakesMemory members (Halt dev) = Unit {0}
 TakesMemory members (Reset dev) = Unit {0}
 TakesMemory members (Control dev fate) =
-    (m : Member) × (member_at members dev ≡ Some m) × GivesMore fate m (running m.transfer)
+    (m : Member) × (member_at members dev ≡ Some m) × TriesWithMemory fate m (running m.transfer)
 
 -- Why a step may be refused: its cause stands, or none does and memory was wanting where it is taken.
 abbrev pub IsRefusal : List Member → Step → StackFault → Type 0
@@ -144,10 +154,15 @@ one_unconcluded members dev fate = elim (member_at members dev) [
 ]
 
 -- What a step that is refused leaves: nothing has changed, but that a try was made where memory is wanting for what its
--- request gives.
+-- request gives. (One of a halt or a clear is made once there is room for what it drops.)
 abbrev pub refused_after : List Member → Step → StackFault → List Member
 refused_after members (Control dev fate) Memory = one_unconcluded members dev fate
 refused_after members x e = members
+
+-- there is room for what a try drops, or it takes no memory
+abbrev pub HasRoomToTry : Fate → Member → Option Transfer → ℕ → ℕ → Type 0
+HasRoomToTry fate m o used capacity =
+    (may_cut o ≡ true → used + max_events (items_of m.layout) ≤ capacity) × (GivesMore fate m o → ⊥)
 
 -- there is room for what a step delivers, and it takes no other memory
 abbrev pub HasRoomFor : List Member → Step → ℕ → ℕ → Type 0
@@ -155,10 +170,18 @@ HasRoomFor members (Change dev change) used capacity = Unit {0}
 HasRoomFor members Frame used capacity = Unit {0}
 HasRoomFor members (Poll dev fate) used capacity =
     IfSome (member_at members dev) (λ m. used + max_events (items_of m.layout) ≤ capacity)
+HasRoomFor members (Halt dev) used capacity =
+    IfSome (member_at members dev) (λ m. used + max_events (items_of m.layout) ≤ capacity)
 HasRoomFor members (Reset dev) used capacity =
     IfSome (member_at members dev) (λ m. used + max_events (items_of m.layout) ≤ capacity)
 HasRoomFor members (Begin dev request) used capacity = ⊥
-HasRoomFor members (Control dev fate) used capacity = TakesMemory members (Control dev fate) → ⊥
+HasRoomFor members (Control dev fate) used capacity =
+    IfSome (member_at members dev) (λ m. HasRoomToTry fate m (running m.transfer) used capacity)
+
+-- how many events a try delivers at most: it drops those of a round that it may end
+abbrev pub most_tried : Contents → Bool → ℕ
+most_tried layout true = max_events (items_of layout)
+most_tried layout false = 0
 
 -- how many events a step delivers at most
 abbrev pub most_events : List Member → Step → ℕ
@@ -168,13 +191,16 @@ most_events members (Poll dev fate) =
     elim (member_at members dev) [ None ↦ 0 | Some m ↦ max_events (items_of m.layout) ]
 most_events members (Reset dev) =
     elim (member_at members dev) [ None ↦ 0 | Some m ↦ max_events (items_of m.layout) ]
+most_events members (Halt dev) =
+    elim (member_at members dev) [ None ↦ 0 | Some m ↦ max_events (items_of m.layout) ]
 most_events members (Begin dev request) = 0
-most_events members (Control dev fate) = 0
+most_events members (Control dev fate) =
+    elim (member_at members dev) [ None ↦ 0 | Some m ↦ most_tried m.layout (may_cut (running m.transfer)) ]
 
--- and steps, one after another: none of them changes a layout
+-- and steps, one after another
 abbrev pub most_in : List Member → List Step → ℕ
 most_in members [] = 0
-most_in members (x ∷ steps) = most_events members x + most_in members steps
+most_in members (x ∷ steps) = most_events members x + most_in (bus_after members x) steps
 
 -- no step of a list is refused where it comes, memory aside
 abbrev pub NoneIsRefused : List Member → List Step → Type 0
@@ -201,6 +227,7 @@ own_step device Frame = Some own_steps.Frame
 own_step device (Poll dev fate) = if dev == device then Some (Polls fate) else None
 own_step device (Begin dev request) = None
 own_step device (Control dev fate) = None
+own_step device (Halt dev) = None
 own_step device (Reset dev) = None
 
 -- and that of a list of steps, in their order
@@ -214,26 +241,28 @@ member_step device Frame = Some (Scheduled own_steps.Frame)
 member_step device (Poll dev fate) = if dev == device then Some (Scheduled (Polls fate)) else None
 member_step device (Begin dev request) = if dev == device then Some (Begins request) else None
 member_step device (Control dev fate) = if dev == device then Some (Controls fate) else None
+member_step device (Halt dev) = if dev == device then Some Halts else None
 member_step device (Reset dev) = if dev == device then Some Resets else None
 
 -- and those of a list of steps, in their order
 abbrev pub member_steps : ℕ → List Step → List MemberStep
 member_steps device steps = filter_map (member_step device) steps
 
--- a step that is of no transfer of a device, and doesn't reset it
+-- a step that is of no transfer of a device, and neither halts nor resets it
 abbrev pub is_scheduled : ℕ → Step → Bool
 is_scheduled device (Begin dev request) = not (dev == device)
 is_scheduled device (Control dev fate) = not (dev == device)
+is_scheduled device (Halt dev) = not (dev == device)
 is_scheduled device (Reset dev) = not (dev == device)
 is_scheduled device (Change dev change) = true
 is_scheduled device Frame = true
 is_scheduled device (Poll dev fate) = true
 
--- no request of a device is begun or tried, and it isn't reset
+-- no request of a device is begun or tried, and it is neither halted nor reset
 abbrev pub HasOnlySchedule : ℕ → List Step → Type 0
 HasOnlySchedule device steps = All (λ x. is_scheduled device x ≡ true) steps
 
--- no step is of a transfer, and none a reset
+-- no step is of a transfer, and none a halt or a reset
 abbrev pub AreScheduled : List Step → Type 0
 AreScheduled steps = (device : ℕ) → HasOnlySchedule device steps
 

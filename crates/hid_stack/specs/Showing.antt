@@ -11,13 +11,13 @@ use Rattle.hid_host.specs.declared.phase.HostPhase.{HostPhase}
 use Rattle.hid_host.specs.declared.phase.HostPhase.TheVariants.{Cold, Described, Parsed, Ready}
 use Rattle.hid_host.specs.Phase.{IsReady, state_of}
 use Rattle.hid_host.specs.Ready.{Known}
-use Rattle.hid_lives.specs.Stations.{expected}
 use Rattle.hid_device.specs.Deciding.{config_info}
-use Rattle.hid_stack.specs.Members.{Member, endpoint_of}
+use Rattle.hid_stack.specs.Members.{Member, endpoint_of, expects_of}
 use Rattle.hid_stack.specs.Rig.{member_at}
 
 -- The device of a member: it was made as the member says and stands as its station does, the round that is open there is
--- open here, its toggle is set where the rounds closed are odd in number, and its endpoint 0 is the member's.
+-- open here, its toggle is set where the rounds closed are odd in number, it is halted where the station is, and its
+-- endpoint 0 is the member's.
 pub record ShowsDevice (m : Member) (d : DeviceState) : Type 0 where
   pub home : d.addr ≡ m.addr
   pub config : (core_of d).config ≡ m.config
@@ -26,12 +26,14 @@ pub record ShowsDevice (m : Member) (d : DeviceState) : Type 0 where
   pub standing : (core_of d).standing ≡ m.station.standing
   pub open_report : (core_of d).current ≡ option_map (λ round. round.report) m.station.current
   pub toggle : (core_of d).toggle ≡ m.station.odd
+  pub halted : (core_of d).halted ≡ m.station.halted
   pub endpoint : endpoint_of d.control ≡ m.endpoint
 
--- what its ready host keeps: the toggle that it expects is the other one exactly while an open round has crossed
+-- what its ready host keeps: the toggle that it expects is the other one exactly while an open round has crossed, or the
+-- one that is held
 pub record ShowsKnown (m : Member) (known : Known) : Type 0 where
   pub layout : known.layout ≡ m.layout
-  pub polls : known.pipe ≡ record { addr = m.addr; endp = ENDPOINT; expects = expected m.station }
+  pub polls : known.pipe ≡ record { addr = m.addr; endp = ENDPOINT; expects = expects_of m }
   pub view : known.view ≡ m.station.view
 
 -- what a host knows that isn't ready yet: what the configuration says of the device, and then its layout
@@ -49,6 +51,7 @@ pub record ShowsHost (m : Member) (h : HostEnd) : Type 0 where
   pub knows : ShowsPhase m h.phase
   pub configured : IsReady h.phase → m.endpoint.is_configured ≡ true
   pub transfer : h.transfer ≡ m.transfer
+  pub clearing : h.clearing ≡ m.clearing
 
 -- what a member gives, where there is one
 abbrev pub GivesOf : {A : Type 0} → (Member → A → Type 0) → List Member → ℕ → A → Type 0

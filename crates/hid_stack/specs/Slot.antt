@@ -1,5 +1,5 @@
--- A device and its host as one member of the bus (USB 2.0, 8.6; our choice).
-use Rattle.std.specs.Prelude.{◌≡◌, ℕ, Bool, true, false, not, Option, Some, None, Result, Ok, Err}
+-- A device and its host as one member of the bus (USB 2.0, 8.6 and 9.4.5; our choice).
+use Rattle.std.specs.Prelude.{◌≡◌, ℕ, Bool, true, false, not, ◌||◌, Option, Some, None, Result, Ok, Err}
 use Rattle.std.specs.Bool.{beq}
 use Rattle.hid_layout.specs.Reports.{IsLayout}
 use Rattle.hid_layout.specs.Controls.{items_of}
@@ -20,8 +20,8 @@ use Rattle.usb_control.specs.Host.{progress_of}
 use Rattle.hid_host.specs.declared.fault.StackFault.{StackFault}
 use Rattle.hid_host.specs.declared.fault.StackFault.TheVariants.{Control, Memory}
 use Rattle.hid_host.specs.declared.host.Transfer.{Transfer}
-use Rattle.hid_stack.specs.Members.{Member, endpoint_of, ends_tried_at, tried_of, unconcluded_of}
-use Rattle.hid_stack.specs.Rig.{GivesMore}
+use Rattle.hid_stack.specs.Members.{Member, endpoint_of, ends_tried_at, held_if, tried_of, tried_to, unconcluded_of}
+use Rattle.hid_stack.specs.Rig.{GivesMore, TriesWithMemory}
 
 -- an open round has crossed exactly where the two toggles differ
 abbrev pub round_between : Bool → Bool → Option ℕ → Option Open
@@ -35,6 +35,7 @@ joined core known = record {
   current = round_between core.toggle known.pipe.expects core.current;
   odd = core.toggle;
   view = known.view;
+  halted = core.halted;
 }
 
 -- a host that isn't ready has the initial view
@@ -45,7 +46,13 @@ station_of core _ = record {
   current = round_between core.toggle core.toggle core.current;
   odd = core.toggle;
   view = blank (items_of core.layout);
+  halted = core.halted;
 }
+
+-- the toggle that is held: that of a ready host, while the endpoint is halted or a clear is pending
+abbrev pub held_of : CoreState → Bool → HostPhase → Option Bool
+held_of core clearing (Ready known) = held_if (core.halted || clearing) known.pipe.expects
+held_of core clearing _ = None
 
 -- The member that a device and its host are.
 abbrev pub joint : DeviceState → HostEnd → Member
@@ -58,6 +65,8 @@ joint device host = record {
   endpoint = endpoint_of device.control;
   host = state_of host.phase;
   transfer = host.transfer;
+  clearing = host.clearing;
+  held = held_of (core_of device) host.clearing host.phase;
 }
 
 -- where no round is open the toggles are the same
@@ -65,22 +74,28 @@ abbrev pub IsEven : Bool → Bool → Option ℕ → Type 0
 IsEven toggle expects None = toggle ≡ expects
 IsEven toggle expects (Some r) = Unit {0}
 
--- A device that is configured, and what its ready host keeps: the host polls the device, has its layout, and
--- expects the device's toggle where no round is open.
-pub record ArePaired (device : DeviceState) (known : Known) : Type 0 where
+-- but for an endpoint that is halted, or whose clear is pending
+abbrev pub IsEvenUnless : Bool → Bool → Bool → Option ℕ → Type 0
+IsEvenUnless true toggle expects current = Unit {0}
+IsEvenUnless false toggle expects current = IsEven toggle expects current
+
+-- A device that is configured, and what its ready host keeps, with a clear that is pending or not: the host polls the
+-- device, has its layout, and expects the device's toggle where no round is open.
+pub record ArePaired (device : DeviceState) (known : Known) (clearing : Bool) : Type 0 where
   pub configured : (core_of device).is_configured ≡ true
   pub layout : known.layout ≡ (core_of device).layout
   pub addr : known.pipe.addr ≡ device.addr
   pub endp : known.pipe.endp ≡ ENDPOINT
-  pub even : IsEven (core_of device).toggle known.pipe.expects (core_of device).current
+  pub even : IsEvenUnless ((core_of device).halted || clearing)
+      (core_of device).toggle known.pipe.expects (core_of device).current
   pub sound : IsSound (core_of device)
   pub laid : IsLayout known.layout
   pub fits : FitsView (items_of known.layout) known.view
 
 -- a device and its host are such a pair where the host is ready
-abbrev pub IsPair : DeviceState → HostPhase → Type 0
-IsPair device (Ready known) = ArePaired device known
-IsPair device _ = ⊥
+abbrev pub IsPair : DeviceState → Bool → HostPhase → Type 0
+IsPair device clearing (Ready known) = ArePaired device known clearing
+IsPair device clearing _ = ⊥
 
 -- a device of which no round has opened, as before it is configured
 pub record IsUntouched (core : CoreState) : Type 0 where
@@ -89,16 +104,25 @@ pub record IsUntouched (core : CoreState) : Type 0 where
   pub even : core.toggle ≡ false
 
 -- a device and its host stand together: they are such a pair where the host is ready, and before that no round opens
-abbrev pub StandTogether : DeviceState → HostPhase → Type 0
-StandTogether device (Ready known) = ArePaired device known
-StandTogether device _ = IsUntouched (core_of device)
+abbrev pub StandTogether : DeviceState → Bool → HostPhase → Type 0
+StandTogether device clearing (Ready known) = ArePaired device known clearing
+StandTogether device clearing _ = IsUntouched (core_of device)
+
+-- A try of the transfer that runs, at the two ends: both go on, but that the host stays where memory is wanting for what
+-- its request gives.
+abbrev pub TriesOnPair : Fate → Member → Option Transfer → Result Progress StackFault → Member → Type 0
+TriesOnPair fate m None result new = (result ≡ Err (Control NoTransfer)) × (new ≡ m)
+TriesOnPair fate m (Some t) (Ok progress) new =
+    (progress ≡ progress_of (ends_tried_at fate m t).stage) × (new ≡ tried_of fate m (Some t))
+TriesOnPair fate m (Some t) (Err fault) new =
+    (fault ≡ Memory) × GivesMore fate m (Some t) × (new ≡ tried_to fate m t m.host)
 
 -- A try of the transfer that runs, where one does: both ends go on, but that the host stays where memory is wanting for
--- what its request gives.
+-- what its request gives, and that nothing is tried where it is wanting for what may be dropped.
 abbrev pub TriesTransfer :
     Fate → Member → Option Transfer → Result Progress StackFault → Member → Type 0
 TriesTransfer fate m None result new = (result ≡ Err (Control NoTransfer)) × (new ≡ m)
 TriesTransfer fate m (Some t) (Ok progress) new =
     (progress ≡ progress_of (ends_tried_at fate m t).stage) × (new ≡ tried_of fate m (Some t))
 TriesTransfer fate m (Some t) (Err fault) new =
-    (fault ≡ Memory) × GivesMore fate m (Some t) × (new ≡ unconcluded_of fate m (Some t))
+    (fault ≡ Memory) × TriesWithMemory fate m (Some t) × (new ≡ unconcluded_of fate m (Some t))

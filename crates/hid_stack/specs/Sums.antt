@@ -1,15 +1,21 @@
 -- The sum of motion over steps of a bus: what moves add to a relative control is delivered once, or the
 -- device still has it (our choice).
-use Rattle.std.specs.Prelude.{◌≡◌, ℕ, List, [], ◌∷◌, Option, Some, None, ◌+ℤ◌}
+use Rattle.std.specs.Prelude.{◌≡◌, ℕ, false, List, [], ◌∷◌, Option, Some, None, ◌+ℤ◌}
 use Rattle.std.specs.List.{All}
 use Rattle.hid_layout.specs.declared.control.ControlId.{ControlId}
 use Rattle.hid_layout.specs.Controls.{items_of}
 use Rattle.hid_lives.specs.Motion.{AreBetweenRounds, IsBetweenRounds, given_motion, Conserves, station_motion, accepted_in, HasMotions}
 use Rattle.hid_lives.specs.Lives.{Deed}
+use Rattle.hid_lives.specs.Lives as lives
+use Rattle.hid_host.specs.declared.host.Transfer.{Transfer}
+use Rattle.hid_host.specs.Bringing.{cuts_round}
+use Rattle.hid_host.specs.Host.{running}
+use Rattle.usb_transact.specs.declared.transaction.Fate.{Fate}
 use Rattle.hid_lives.specs.Stations.{Station}
 use Rattle.hid_stack.specs.declared.step.Step.{Step}
+use Rattle.hid_stack.specs.declared.step.Step.TheVariants.{Control}
 use Rattle.hid_stack.specs.declared.step.Delivered.{Delivered}
-use Rattle.hid_stack.specs.Members.{Member, deeds_in}
+use Rattle.hid_stack.specs.Members.{Member, deeds_in, tried_deed}
 use Rattle.hid_stack.specs.Rig.{member_at, member_steps, from_device, refused_after}
 use Rattle.hid_host.specs.declared.fault.StackFault.{StackFault}
 
@@ -28,6 +34,23 @@ ConfiguresBetweenRounds members steps =
     (device : ℕ) (m : Member) → member_at members device ≡ Some m
     → AreBetweenRounds (items_of m.layout) m.station (deeds_in m (member_steps device steps))
 
+-- what befalls a device ends no round that is open, but for a configuration
+abbrev pub CutsNone : Option Deed → Type 0
+CutsNone (Some lives.Halts) = ⊥
+CutsNone (Some lives.Clears) = ⊥
+CutsNone _ = Unit {0}
+
+-- a try of a request that neither halts nor clears does so
+abbrev pub CutsByRequest : Fate → Member → Option Transfer → Type 0
+CutsByRequest fate m None = Unit {0}
+CutsByRequest fate m (Some t) = cuts_round t.request ≡ false → CutsNone (tried_deed fate m (Some t))
+
+-- Only a request to halt or to clear ends a round by a try.
+abbrev pub OnlyHaltsCut : List Member → Step → Type 0
+OnlyHaltsCut members (Control dev fate) =
+    (m : Member) → member_at members dev ≡ Some m → CutsByRequest fate m (running m.transfer)
+OnlyHaltsCut members _ = Unit {0}
+
 -- Of each device and control: what was delivered before, what the device had and what accepted moves
 -- added is what is delivered now and what the device still has.
 abbrev pub SumsUp : List Member → List Member → List Step → List Delivered → List Delivered → Type 0
@@ -43,6 +66,6 @@ SumsUp before after steps old new =
 abbrev pub RefusedKeepMotion : Type 0
 RefusedKeepMotion =
     (members : List Member) (x : Step) (e : StackFault) (device : ℕ) (m n : Member) (c : ControlId)
-    → AllHaveMotions members → ConfiguresBetweenRounds members (x ∷ [])
+    → AllHaveMotions members → ConfiguresBetweenRounds members (x ∷ []) → OnlyHaltsCut members x
     → member_at members device ≡ Some m → member_at (refused_after members x e) device ≡ Some n
     → station_motion (items_of n.layout) n.station c ≡ station_motion (items_of m.layout) m.station c

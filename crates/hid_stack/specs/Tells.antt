@@ -1,4 +1,4 @@
--- What a step tells, by its fate (USB 2.0, 8.5.3, 8.5.4 and 8.6).
+-- What a step tells, by its fate (USB 2.0, 8.4.5, 8.5.3, 8.5.4 and 8.6).
 use Rattle.std.specs.Prelude.{◌≡◌, ℕ, if◌then◌else◌, List, [], Option, Some, None}
 use Rattle.hid_layout.specs.Controls.{items_of}
 use Rattle.hid_layout.specs.Layout.{Contents}
@@ -6,12 +6,12 @@ use Rattle.usb_packet.specs.declared.packet.Packet.{Packet}
 use Rattle.usb_packet.specs.declared.packet.Packet.TheVariants as packets
 use Rattle.usb_packet.specs.Spelling.{spelling}
 use Rattle.usb_transact.specs.declared.host.Took.{Took}
-use Rattle.usb_transact.specs.declared.host.Took.TheVariants.{Fresh, Again, Nak, Silent}
+use Rattle.usb_transact.specs.declared.host.Took.TheVariants.{Fresh, Again, Nak, Stall, Silent}
 use Rattle.usb_transact.specs.declared.transaction.Fate.{Fate}
 use Rattle.usb_transact.specs.declared.transaction.Fate.TheVariants.{Clean, TokenLost, ReplyLost, AckLost}
 use Rattle.hid_device.specs.Core.{AreBytesOf}
 use Rattle.hid_stack.specs.declared.step.Step.{Step}
-use Rattle.hid_stack.specs.declared.step.Step.TheVariants.{Change, Frame, Poll, Begin, Control, Reset}
+use Rattle.hid_stack.specs.declared.step.Step.TheVariants.{Change, Frame, Poll, Begin, Control, Halt, Reset}
 use Rattle.hid_stack.specs.declared.step.Told.{Told}
 use Rattle.hid_stack.specs.declared.step.Told.TheVariants.{Quiet, Polled}
 use Rattle.hid_stack.specs.declared.step.Told.TheVariants as tellings
@@ -29,19 +29,24 @@ ShowsRound layout s report = elim s.current [
   | Some round ↦ AreBytesOf layout s.standing.fixed round.report report
 ]
 
--- the device sends the data of the open round, DATA1 where the rounds closed are odd in number, else NAK
+-- The device sends STALL where its endpoint is halted; else the data of the open round, DATA1 where the rounds closed are
+-- odd in number; else NAK.
 abbrev pub sent : Station → List ℕ → Packet
-sent s report = elim s.current [
-  | None ↦ packets.Nak
-  | Some round ↦ packets.Data s.odd (record { items = report })
-]
+sent s report =
+    if s.halted then packets.Stall
+    else elim s.current [
+      | None ↦ packets.Nak
+      | Some round ↦ packets.Data s.odd (record { items = report })
+    ]
 
--- the host takes them as fresh at the poll at which the round crosses
+-- The host takes each as it is, and data as fresh at the poll at which the round crosses.
 abbrev pub took_from : Station → List ℕ → Took
-took_from s report = elim s.current [
-  | None ↦ Nak
-  | Some round ↦ (if round.crossed then Again else Fresh (record { items = report }))
-]
+took_from s report =
+    if s.halted then Stall
+    else elim s.current [
+      | None ↦ Nak
+      | Some round ↦ (if round.crossed then Again else Fresh (record { items = report }))
+    ]
 
 -- What a poll tells whose token arrives, once a round was opened for it.
 abbrev pub told_by : Station → Fate → List ℕ → Told
@@ -79,6 +84,7 @@ Tells members (Poll dev fate) told = elim (member_at members dev) [
   | Some m ↦ TellsPoll m.layout m.station fate told
 ]
 Tells members (Begin dev request) told = told ≡ Quiet
+Tells members (Halt dev) told = told ≡ Quiet
 Tells members (Reset dev) told = told ≡ Quiet
 Tells members (Control dev fate) told = elim (member_at members dev) [
   | None ↦ ⊥

@@ -1,5 +1,5 @@
 -- A request of a device's host, with anything between its tries: what both ends make of it (USB 2.0, 8.5.3 and 9.2.6).
-use Rattle.std.specs.Prelude.{◌≡◌, ◌≤◌, ℕ, suc, Bool, true, false, if◌then◌else◌, List, [], ◌∷◌, ◌++◌, length, Option, Some, None}
+use Rattle.std.specs.Prelude.{◌≡◌, ◌≤◌, ℕ, suc, Bool, true, false, if◌then◌else◌, List, [], ◌∷◌, ◌++◌, Option, Some, None}
 use Rattle.usb_transact.specs.declared.transaction.Fate.{Fate}
 use Rattle.usb_control.specs.declared.host.HostStage.TheVariants.{Done}
 use Rattle.usb_control.specs.declared.setup.Setup.{Setup}
@@ -17,11 +17,12 @@ use Rattle.hid_device.specs.Deciding.{core_table}
 use Rattle.hid_host.specs.declared.host.Transfer.{Transfer}
 use Rattle.hid_host.specs.Bringing.{is_configure}
 use Rattle.hid_host.specs.Host.{running}
-use Rattle.hid_stack.specs.Members.{Member, MemberStep, Scheduled, Begins, Controls, Resets, control_at, deeds_in, member_after, member_after_all, unconcluded_of}
+use Rattle.hid_host.specs.Knowing.{asking_of}
+use Rattle.hid_stack.specs.Members.{Member, MemberStep, Scheduled, Begins, Controls, Halts, Resets, control_at, core_at, deeds_in, member_after, member_after_all, unconcluded_of}
 
 -- the setup of a request of a member
 abbrev pub setup_at : Member → Request → Setup
-setup_at m request = setup_for request (record { report_length = length m.descriptor })
+setup_at m request = setup_for request (asking_of (core_at m))
 
 -- both ends of a transfer of a member
 abbrev pub ends_at : Member → Transfer → Ends CoreState
@@ -38,6 +39,7 @@ tries_of m [] = []
 tries_of m (Controls fate ∷ steps) = try_at fate m m.transfer ++ tries_of (member_after m (Controls fate)) steps
 tries_of m (Scheduled x ∷ steps) = tries_of (member_after m (Scheduled x)) steps
 tries_of m (Begins request ∷ steps) = tries_of (member_after m (Begins request)) steps
+tries_of m (Halts ∷ steps) = tries_of (member_after m Halts) steps
 tries_of m (Resets ∷ steps) = tries_of (member_after m Resets) steps
 
 -- no request begins, and no reset ends one
@@ -46,6 +48,7 @@ BeginsNone [] = Unit {0}
 BeginsNone (Begins request ∷ steps) = ⊥
 BeginsNone (Scheduled x ∷ steps) = BeginsNone steps
 BeginsNone (Controls fate ∷ steps) = BeginsNone steps
+BeginsNone (Halts ∷ steps) = BeginsNone steps
 BeginsNone (Resets ∷ steps) = ⊥
 
 -- how often a configuration takes effect among what befalls a device
@@ -54,6 +57,8 @@ configurations [] = 0
 configurations (Own x ∷ deeds) = configurations deeds
 configurations (Idles idle ∷ deeds) = configurations deeds
 configurations (Configures ∷ deeds) = suc (configurations deeds)
+configurations (lives.Halts ∷ deeds) = configurations deeds
+configurations (lives.Clears ∷ deeds) = configurations deeds
 configurations (lives.Resets ∷ deeds) = configurations deeds
 
 -- one more, where this holds
@@ -73,6 +78,7 @@ effects_in m (Controls fate ∷ steps) =
     more_if (takes_effect_at fate m (running m.transfer)) (effects_in (member_after m (Controls fate)) steps)
 effects_in m (Scheduled x ∷ steps) = effects_in (member_after m (Scheduled x)) steps
 effects_in m (Begins request ∷ steps) = effects_in (member_after m (Begins request)) steps
+effects_in m (Halts ∷ steps) = effects_in (member_after m Halts) steps
 effects_in m (Resets ∷ steps) = effects_in (member_after m Resets) steps
 
 -- Behind its tries both ends of a request that began at this member stand where these lead, whatever came between them.

@@ -11,23 +11,26 @@
 //!                           <---- DATA0 C3 00 00 04 .. ---   armed until it is acknowledged
 //!                           ------------------------------------------------------->   reply
 //!                           ---- ACK 0xD2 --------------->   on_packet                 Down 07:04
+//!   Step::Halt   ---------------------------------------->   halt: STALL from then on  tell_cut: Dropped 01:30 5
 //!   Step::Reset  ---------------------------------------->   reset                     reset: Up 07:04
 //! ```
 //! Each packet goes as its bytes, and is read from the bytes that arrive: [`poll`] says so packet by packet, over any bus.
 //! A rig's step is such a poll, and a [`Fate`](usb_transact::Fate) says what is lost of it.
 //!
-//! The rule to know: a device's events come from its polls, and from its resets, which lead the host's view back to the
-//! initial one; and a round's part is the one that was fixed when it opened.
+//! The rule to know: a device's events come from its polls, from halts and clears, which drop the motion of the round that
+//! they end, and from its resets, which lead the host's view back to the initial one; and a round's part is the one that
+//! was fixed when it opened.
 //!
 //! The promise, for every report descriptor that both ends accept and every list of changes, frames and polls: the events
 //! delivered are exactly the changes between the successive parts that crossed, in order, none twice: `headline` on
-//! [`Rig::run`]. With transfers and resets between the polls the same holds from each configuration on: `lives`. Each step
+//! [`Rig::run`]. With transfers, halts and resets between the polls the same holds from each configuration on: `lives`. Each step
 //! is told by its definition: `told`, `after` and `events` on [`Rig::step`]. Each device goes its own way: `isolated`, and
 //! over lists of attaches and steps [`laws::devices_are_their_own`]. Its motion is neither lost nor doubled: `conserves`. A
 //! host is ready only while its device is configured, and only with its layout: `shows` on [`Rig::host`].
 #![tactic(auto)]
 
 mod fault;
+mod halts;
 pub mod laws;
 mod polls;
 mod resets;

@@ -1,6 +1,6 @@
 //! One poll: the host's token, the device's answer, and ACK for data, each packet as its bytes (USB 2.0, 8.5.4).
 ghost use Rattle.hid_device.specs.Device.{core_of};
-ghost use Rattle.std.specs.Prelude.{◌≡◌, ◌≤◌, ◌+◌, [], length, IfSome, vec_len, vec_capacity};
+ghost use Rattle.std.specs.Prelude.{◌≡◌, ◌≤◌, ◌+◌, false, [], length, IfSome, vec_len, vec_capacity};
 ghost use Rattle.std.specs.Option.{option_copied};
 ghost use Rattle.hid_layout.specs.Controls.{items_of, max_events};
 ghost use Rattle.hid_usages.specs.Encoding.{AreBytes};
@@ -72,7 +72,7 @@ fn acknowledge<B: Bus>(bus: &B, took: &Took, device: &mut Device)
 /// for `max_events` more, and no memory is taken.
 ///
 /// # Errors
-/// [`StackFault::NotReady`] where the host isn't ready: it sends nothing. [`StackFault::Report`] where fresh data are
+/// [`StackFault::NotReady`] where the host isn't ready, or has a clear pending: it sends nothing. [`StackFault::Report`] where fresh data are
 /// no Input report: no ACK is sent for them.
 pub fn poll<B: Bus>(
     bus: &B,
@@ -83,8 +83,8 @@ pub fn poll<B: Bus>(
     requires room { IfReady host.old.phase (λ known. vec_len out.old
         + max_events (items_of known.layout) ≤ vec_capacity out.old) }
     // Packet by packet.
-    ensures packets { GoesByPackets (B.arrives bus.now) device.old host.old host.old.phase
-        result device.new host.new out.old.items out.new.items }
+    ensures packets { GoesByPackets (B.arrives bus.now) device.old host.old host.old.clearing
+        host.old.phase result device.new host.new out.old.items out.new.items }
 
     ensures few { IfReady host.old.phase (λ known. length out.new.items
         ≤ length out.old.items + max_events (items_of known.layout)) }
@@ -109,13 +109,14 @@ pub(crate) fn poll_pair(
     host: &mut HostDevice,
     events: &mut Vec<Event>,
 ) -> Told
-    requires pair { IsPair device.old host.old.phase }
+    requires pair { IsPair device.old false host.old.phase }
+    requires free { host.old.clearing ≡ false }
     requires room { max_events (items_of (core_of device.old).layout) ≤ vec_capacity events.old }
     ensures told { TellsPoll (core_of device.old).layout
         (station_of (core_of device.old) host.old.phase) fate result }
     ensures after { joint device.new host.new
         ≡ member_after (joint device.old host.old) (Scheduled (Polls fate)) }
-    ensures pair { IsPair device.new host.new.phase }
+    ensures pair { IsPair device.new host.new.clearing host.new.phase }
     ensures knows { Knows host.old device.old.control → Knows host.new device.new.control }
     ensures home { host.new.addr ≡ host.old.addr }
     ensures events { events.new.items

@@ -16,11 +16,11 @@ use hid_usages::Event;
 /// Resets a device and its own host. What changes for the host is told, until its view is the initial one again, and the
 /// motion of an open round that hasn't crossed, which is dropped.
 pub(crate) fn reset_pair(device: &mut Device, host: &mut HostDevice, events: &mut Vec<Event>)
-    requires together { StandTogether device.old host.old.phase }
+    requires together { StandTogether device.old host.old.clearing host.old.phase }
     requires knows { Knows host.old device.old.control }
     requires room { max_events (items_of (core_of device.old).layout) ≤ vec_capacity events.old }
     ensures after { joint device.new host.new ≡ member_after (joint device.old host.old) Resets }
-    ensures together { StandTogether device.new host.new.phase }
+    ensures together { StandTogether device.new host.new.clearing host.new.phase }
     ensures knows { Knows host.new device.new.control }
     ensures home { (host.new.addr ≡ host.old.addr) × (device.new.addr ≡ device.old.addr) }
     ensures layout { (core_of device.new).layout ≡ (core_of device.old).layout }

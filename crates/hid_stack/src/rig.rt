@@ -9,7 +9,7 @@ ghost use Rattle.hid_stack.specs.Headline.{DeliversChanges, DevicesLive, KeepsTo
 ghost use Rattle.hid_stack.specs.Members.{Scheduled, member_after};
 ghost use Rattle.hid_stack.specs.Rig.{AreScheduled, FitsStep, NoneIsRefused, member_at, bus_after, delivered_at, bus_after_all, delivered_in, refusal, refused_after, stopped_after, IsRefusal, StopsAt, HasRoomFor, most_events, most_in, IsIsolated};
 ghost use Rattle.hid_stack.specs.Showing.{GivesOf, ShowsDevice, ShowsHost, ShowsTransfer};
-ghost use Rattle.hid_stack.specs.Sums.{ConfiguresBetweenRounds, SumsUp};
+ghost use Rattle.hid_stack.specs.Sums.{ConfiguresBetweenRounds, OnlyHaltsCut, SumsUp};
 ghost use Rattle.hid_stack.specs.Tells.{Tells};
 
 use crate::fault::RunFault;
@@ -155,14 +155,16 @@ impl Rig {
     }
 
     /// One step of the bus. A step that is refused sends nothing and changes nothing. Only a [`Step::Control`] that finds no
-    /// memory has made its try: the transfer is over, and the host stays in its state.
+    /// memory for a layout or a view has made its try: the transfer is over, and the host stays in its state.
     ///
     /// # Errors
     /// [`StackFault::NoDevice`] where no device has this number. Of a change [`StackFault::Refused`]. Of a poll
-    /// [`StackFault::NotReady`] where the host isn't ready; then [`StackFault::Memory`], but never with room for what it
-    /// delivers; of a reset that alone. Of a request that begins [`StackFault::Control`] where another transfer runs; then
+    /// [`StackFault::NotReady`] where the host isn't ready, or has a clear pending; then [`StackFault::Memory`], but never
+    /// with room for what it delivers; of a halt and a reset that alone. Of a request that begins [`StackFault::Control`] where another transfer runs; then
     /// [`StackFault::NotReady`] where the host is in another state; then [`StackFault::Memory`]. Of a try
-    /// [`StackFault::Control`] where no transfer runs, and [`StackFault::Memory`] where a layout or a view finds none.
+    /// [`StackFault::Control`] where no transfer runs; then [`StackFault::Memory`], where a request to halt or to clear runs
+    /// and there is no room for what it may drop: nothing is sent, and the transfer goes on; else where a layout or a view
+    /// finds none.
     pub fn step(&mut self, step: &Step, out: &mut Vec<Delivered>) -> Result<Told, StackFault>
         // What it tells, where the bus stands after it, and what it delivers.
         ensures told { IfOk result (λ told. Tells self.old step.now told) }
@@ -179,10 +181,11 @@ impl Rig {
         ensures err { IfErr result (λ e. self.new ≡ refused_after self.old step.now e) }
         ensures err_events { OnErr result (out.new.items ≡ out.old.items) }
 
-        // A configuration takes effect between the rounds of its device.
+        // A configuration takes effect between the rounds of its device, and only a request to halt or to clear ends one.
         ensures between { ConfiguresBetweenRounds self.old (step.now ∷ []) }
+        ensures cuts { OnlyHaltsCut self.old step.now }
 
-        // With room for what a poll or a reset delivers, memory is never wanting. A step fills no more than that, and
+        // With room for what a poll, a halt, its end or a reset delivers, memory is never wanting. A step fills no more than that, and
         // gives none back.
         ensures room { HasRoomFor self.old step.now (vec_len out.old) (vec_capacity out.old)
             → result ≢ Err StackFault.Memory }
@@ -214,10 +217,14 @@ impl Rig {
             }
             Step::Control { dev, fate } => {
                 let i = self.place(dev)?;
-                match self.slots[i].control(fate) {
+                match self.slots[i].control(dev, fate, out) {
                     Ok(progress) => Ok(Told::Transfer(progress)),
                     Err(fault) => Err(fault),
                 }
+            }
+            Step::Halt { dev } => {
+                let i = self.place(dev)?;
+                self.slots[i].halt(dev, out)
             }
             Step::Reset { dev } => {
                 let i = self.place(dev)?;
@@ -232,16 +239,18 @@ impl Rig {
     /// Where and why a step was refused. The steps before it are done, and what they delivered stands.
     pub fn run(&mut self, steps: &[Step], out: &mut Vec<Delivered>) -> Result<(), RunFault>
         // Of a device that was just configured the events delivered are exactly the changes between the successive
-        // parts that crossed, in order, none twice. No request of it is begun or tried meanwhile, and it isn't reset.
+        // parts that crossed, in order, none twice. No request of it is begun or tried meanwhile, and it is neither
+        // halted nor reset.
         ensures headline { OnOk result
             (DeliversChanges self.old steps.now out.old.items out.new.items) }
 
-        // A ready device without an open round stands as the rounds of its own steps say: with the open round, the view
+        // A device that is polled, without an open round, stands as the rounds of its own steps say: with the open round, the view
         // of the parts that crossed, and toggles by the numbers of rounds closed and crossed.
         ensures rounds { OnOk result (KeepsToRounds self.old steps.now self.new) }
 
         // The same of any device without an open round, whatever befalls it: a configuration that takes effect begins
-        // its rounds, its toggles and its view anew, and so does a reset, which tells what changes with it.
+        // its rounds, its toggles and its view anew, and so does a reset, which tells what changes with it; a halt and a
+        // clear end the open round, whose report is due then, and a clear begins the toggles anew.
         ensures lives { OnOk result
             (DevicesLive self.old steps.now self.new out.old.items out.new.items) }
 
@@ -281,7 +290,7 @@ impl Rig {
             (bus_after_all self.old (take e.at steps.now)) (take e.at steps.now) out.old.items out.new.items) }
 
         // With room for all that its polls can deliver, memory is never wanting where no request is begun or tried, and
-        // nothing is reset.
+        // nothing is halted or reset.
         ensures room { AreScheduled steps.now
             → vec_len out.old + most_in self.old steps.now ≤ vec_capacity out.old
             → IfErr result (λ e. e.fault ≢ StackFault.Memory) }

@@ -13,23 +13,23 @@ ghost use Rattle.usb_packet.specs.declared.packet.TheConstants.{MAX_ADDRESS as G
 ghost use Rattle.hid_requests.specs.Asking.{FitsRequest};
 ghost use Rattle.hid_stack.specs.Attaching.{Suits, IsNoPair, member_at_start};
 ghost use Rattle.hid_host.specs.declared.fault.StackFault.{StackFault as Refusal};
+ghost use Rattle.hid_host.specs.Bringing.{may_cut};
 ghost use Rattle.hid_host.specs.Host.{running};
-ghost use Rattle.hid_stack.specs.Members.{Scheduled, Begins, Controls, Resets, begin_refusal_at, cold_member, deed_at, events_by, fresh_member, member_after};
+ghost use Rattle.hid_stack.specs.Members.{Scheduled, Begins, Controls, Halts, Resets, begin_refusal_at, cold_member, deed_at, events_by, fresh_member, member_after, polls_it};
 ghost use Rattle.hid_stack.specs.Slot.{TriesTransfer};
 ghost use Rattle.hid_stack.specs.declared.step.Told.TheVariants as Tellings;
-ghost use Rattle.hid_stack.specs.Rig.{poll_refusal, tagged};
-ghost use Rattle.hid_stack.specs.Sums.{IsBetween};
+ghost use Rattle.hid_stack.specs.Rig.{HasRoomToTry, most_tried, poll_refusal, tagged};
+ghost use Rattle.hid_stack.specs.Sums.{CutsByRequest, IsBetween};
 ghost use Rattle.hid_stack.specs.Showing.{ShowsDevice, ShowsHost};
 ghost use Rattle.hid_stack.specs.Tells.{TellsPoll};
 
+use crate::halts::{control_pair, halt_pair};
 use crate::polls::poll_pair;
 use crate::resets::reset_pair;
 use crate::step::{Delivered, Told};
 use hid_device::{Config, Device, DeviceCause, DeviceFault};
-use hid_host::laws::{
-    control_steps_are_computed, devices_leave_transfers, hosts_know_their_devices,
-};
-use hid_host::{DescriptorFault, HostDevice, HostState, StackFault, Start};
+use hid_host::laws::{devices_leave_transfers, hosts_know_their_devices};
+use hid_host::{DescriptorFault, HostDevice, StackFault, Start};
 use hid_layout::laws::{accepted_or_refused, one_reading};
 use hid_layout::{Cause, Layout};
 use hid_requests::Request;
@@ -59,7 +59,7 @@ impl Model for Slot {
 
     ghost view = { λ s. joint s.device s.host };
 
-    ghost invariant = { λ s. StandTogether s.device s.host.phase × Knows s.host s.device.control
+    ghost invariant = { λ s. StandTogether s.device s.host.clearing s.host.phase × Knows s.host s.device.control
         × (s.host.addr ≡ s.device.addr)
         × (max_events (items_of s.device.control.requests.layout) ≤ vec_capacity s.events) };
 }
@@ -242,20 +242,17 @@ impl Slot {
         ensures events { OnOk result (out.new.items
             ≡ out.old.items ++ map (tagged dev) (events_by (items_of self.old.layout) self.old.station
             (deed_at self.old (Scheduled (Polls fate))))) }
-        ensures refused { (e : Refusal) → poll_refusal self.old.host ≡ Some e → result ≡ Err e }
-        ensures only { IfErr result (λ fault. (poll_refusal self.old.host ≡ Some fault)
-            ⊎ ((poll_refusal self.old.host ≡ None) × (fault ≡ Refusal.Memory))) }
+        ensures refused { (e : Refusal) → poll_refusal (polls_it self.old) ≡ Some e → result ≡ Err e }
+        ensures only { IfErr result (λ fault. (poll_refusal (polls_it self.old) ≡ Some fault)
+            ⊎ ((poll_refusal (polls_it self.old) ≡ None) × (fault ≡ Refusal.Memory))) }
         ensures err { OnErr result ((self.new ≡ self.old) × (out.new.items ≡ out.old.items)) }
         ensures room { vec_len out.old + max_events (items_of self.old.layout)
             ≤ vec_capacity out.old → result ≢ Err Refusal.Memory }
         ensures few { vec_len out.new ≤ vec_len out.old + max_events (items_of self.old.layout) }
         ensures capacity { vec_capacity out.old ≤ vec_capacity out.new }
     {
-        match self.host.state() {
-            HostState::Ready => {}
-            HostState::Cold | HostState::Described | HostState::Parsed => {
-                return Err(StackFault::NotReady);
-            }
+        if !self.host.may_poll() {
+            return Err(StackFault::NotReady);
         }
         let room = self.device.layout().max_events();
         if out.reserve(room).is_err() {
@@ -289,6 +286,29 @@ impl Slot {
         Ok(Told::Quiet)
     }
 
+    /// The device halts its endpoint by itself. The room for what this drops is reserved first.
+    pub(crate) fn halt(&mut self, dev: u8, out: &mut Vec<Delivered>) -> Result<Told, StackFault>
+        ensures told { IfOk result (λ told. told ≡ Tellings.Quiet) }
+        ensures after { OnOk result (self.new ≡ member_after self.old Halts) }
+        ensures events { OnOk result (out.new.items
+            ≡ out.old.items ++ map (tagged dev) (events_by (items_of self.old.layout) self.old.station
+            (deed_at self.old Halts))) }
+        ensures only { IfErr result (λ fault. fault ≡ Refusal.Memory) }
+        ensures err { OnErr result ((self.new ≡ self.old) × (out.new.items ≡ out.old.items)) }
+        ensures room { vec_len out.old + max_events (items_of self.old.layout)
+            ≤ vec_capacity out.old → result ≢ Err Refusal.Memory }
+        ensures few { vec_len out.new ≤ vec_len out.old + max_events (items_of self.old.layout) }
+        ensures capacity { vec_capacity out.old ≤ vec_capacity out.new }
+    {
+        let room = self.device.layout().max_events();
+        if out.reserve(room).is_err() {
+            return Err(StackFault::Memory);
+        }
+        halt_pair(&mut self.device, &self.host, &mut self.events);
+        hand_over(dev, &self.events, out);
+        Ok(Told::Quiet)
+    }
+
     /// The host begins a request.
     pub(crate) fn begin(&mut self, request: &Request) -> Result<(), StackFault>
         ensures after { OnOk result (self.new ≡ member_after self.old (Begins request.now)) }
@@ -302,15 +322,33 @@ impl Slot {
         self.host.begin(request)
     }
 
-    /// The host makes a try of the transfer that runs, and this fate befalls it.
-    pub(crate) fn control(&mut self, fate: Fate) -> Result<Progress, StackFault>
+    /// The host makes a try of the transfer that runs, and this fate befalls it. Where a round may be ended by it, the room
+    /// for what is dropped then is reserved first.
+    pub(crate) fn control(
+        &mut self,
+        dev: u8,
+        fate: Fate,
+        out: &mut Vec<Delivered>,
+    ) -> Result<Progress, StackFault>
         ensures tries { TriesTransfer fate self.old (running self.old.transfer) result self.new }
         ensures between { IsBetween self.old.station (deed_at self.old (Controls fate)) }
+        ensures cuts { CutsByRequest fate self.old (running self.old.transfer) }
+        ensures events { OnOk result (out.new.items
+            ≡ out.old.items ++ map (tagged dev) (events_by (items_of self.old.layout) self.old.station
+            (deed_at self.old (Controls fate)))) }
+        ensures err_events { OnErr result (out.new.items ≡ out.old.items) }
+        ensures room { HasRoomToTry fate self.old (running self.old.transfer) (vec_len out.old)
+            (vec_capacity out.old) → result ≢ Err Refusal.Memory }
+        ensures few { vec_len out.new
+            ≤ vec_len out.old + most_tried self.old.layout (may_cut (running self.old.transfer)) }
+        ensures capacity { vec_capacity out.old ≤ vec_capacity out.new }
     {
-        hosts_know_their_devices();
-        control_steps_are_computed();
-        let result = self.host.control_step(self.device.control(), fate);
-        is_sound(&self.device);
+        let room = self.device.layout().max_events();
+        if self.host.may_cut() && out.reserve(room).is_err() {
+            return Err(StackFault::Memory);
+        }
+        let result = control_pair(fate, &mut self.device, &mut self.host, &mut self.events);
+        hand_over(dev, &self.events, out);
         result
     }
 }

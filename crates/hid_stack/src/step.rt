@@ -6,7 +6,7 @@ use usb_control::Progress;
 use usb_transact::{Fate, Took};
 
 /// A step of the bus: one control change, one frame, a request that begins, one whole transaction with what is lost of
-/// it, or a reset.
+/// it, a halt, or a reset.
 #[derive(Debug, Drop, PartialEq, Eq)]
 pub enum Step {
     /// A control of a device changes.
@@ -36,6 +36,12 @@ pub enum Step {
         dev: u8,
         /// What is lost of the try.
         fate: Fate,
+    },
+    /// A device halts the endpoint of its Input reports by itself (USB 2.0, 9.4.5): polls get STALL until its host clears the
+    /// halt, or configures or resets the device. On a device that isn't configured it changes nothing.
+    Halt {
+        /// The device, from 1.
+        dev: u8,
     },
     /// The bus of a device is reset (USB 2.0, 7.1.7.5): the device isn't configured, and its host knows nothing of it.
     Reset {

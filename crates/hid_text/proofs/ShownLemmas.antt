@@ -32,7 +32,7 @@ use Rattle.usb_packet.specs.Spelling.{data_pid, pid_of}
 use Rattle.usb_transact.specs.declared.host.Took.{Took}
 use Rattle.usb_transact.specs.declared.host.Took.TheVariants as host
 use Rattle.hid_stack.specs.declared.step.Step.{Step}
-use Rattle.hid_stack.specs.declared.step.Step.TheVariants.{Change, Frame, Poll, Begin, Control, Reset}
+use Rattle.hid_stack.specs.declared.step.Step.TheVariants.{Change, Frame, Poll, Begin, Control, Halt, Reset}
 use Rattle.hid_stack.specs.declared.step.Told.{Told}
 use Rattle.hid_stack.specs.declared.step.Told.TheVariants.{Quiet, Polled, Transfer}
 use Rattle.hid_stack.specs.declared.step.Delivered.{Delivered}
@@ -324,6 +324,7 @@ shows_told trace (Change dev change) told got = shows_nothing
 shows_told trace Frame told got = shows_nothing
 shows_told trace (Begin dev request) told got = shows_nothing
 shows_told trace (Reset dev) told got = shows_nothing
+shows_told trace (Halt dev) told got = shows_nothing
 
 pub shows_step : (trace : Bool) (step : Step) (told : Told) (got : List ℕ) (delivered : List Delivered) → AreFew delivered → ShowsEvents (step_text trace step told got delivered) delivered
 unfolding step_text

@@ -59,10 +59,11 @@ whole_reply arrivals host device token reply token_whole reply_whole polled repl
 
 -- the host takes the device's answer by its row
 pub took_answer :
-    (expects toggle : Bool) (armed : Option (List ℕ))
-    → taken expects (Some (answer_with toggle armed)) ≡ took_where expects toggle armed
-took_answer expects toggle None = refl
-took_answer expects toggle (Some bytes) = refl
+    (expects halted toggle : Bool) (armed : Option (List ℕ))
+    → taken expects (Some (answer_with halted toggle armed)) ≡ took_where expects halted toggle armed
+took_answer expects true toggle armed = refl
+took_answer expects false toggle None = refl
+took_answer expects false toggle (Some bytes) = refl
 
 -- what the host takes, for each fate
 pub Transacts-took :
@@ -81,10 +82,10 @@ Transacts-took ReplyLost host device took host_then device_then t =
     t.took_reply ∙ ap (taken host.expects) reply
 Transacts-took Clean host device took host_then device_then t =
     let reply = whole_reply (arrives_under Clean) host device t.token t.reply refl refl t.polled t.replied in
-    t.took_reply ∙ ap (taken host.expects) reply ∙ took_answer host.expects device.toggle device.armed
+    t.took_reply ∙ ap (taken host.expects) reply ∙ took_answer host.expects device.halted device.toggle device.armed
 Transacts-took AckLost host device took host_then device_then t =
     let reply = whole_reply (arrives_under AckLost) host device t.token t.reply refl refl t.polled t.replied in
-    t.took_reply ∙ ap (taken host.expects) reply ∙ took_answer host.expects device.toggle device.armed
+    t.took_reply ∙ ap (taken host.expects) reply ∙ took_answer host.expects device.halted device.toggle device.armed
 
 -- data are acknowledged under either toggle
 pub hears_either :
@@ -110,26 +111,31 @@ pub ack_lost :
 ack_lost arrivals device after lost (came, carries, moved) =
     moved ∙ ap (λ heard. device_behind heard device) (read_lost arrivals Acknowledgement packets.Ack came lost carries)
 
+abbrev pipe_with : Bool → Option (List ℕ) → Bool → DevPipeState
+pipe_with toggle armed halted = record { toggle = toggle; armed = armed; halted = halted }
+
 -- the device after the host took its answer, where the ACK arrives
 pub closes :
-    (arrivals : Arrivals) (expects toggle : Bool) (armed : Option (List ℕ)) (after : DevPipeState)
+    (arrivals : Arrivals) (expects halted toggle : Bool) (armed : Option (List ℕ)) (after : DevPipeState)
     → arrivals Acknowledgement (spelling packets.Ack) ≡ Some (spelling packets.Ack)
-    → Acknowledges arrivals (took_where expects toggle armed) (record { toggle = toggle; armed = armed }) after
-    → after ≡ closed (record { toggle = toggle; armed = armed })
-closes arrivals expects toggle None after whole h = h
-closes arrivals expects toggle (Some bytes) after whole h =
-    let device : DevPipeState = record { toggle = toggle; armed = Some bytes } in
+    → Acknowledges arrivals (took_where expects halted toggle armed) (pipe_with toggle armed halted) after
+    → after ≡ device_after Clean (pipe_with toggle armed halted)
+closes arrivals expects true toggle armed after whole h = h
+closes arrivals expects false toggle None after whole h = h
+closes arrivals expects false toggle (Some bytes) after whole h =
+    let device : DevPipeState = pipe_with toggle (Some bytes) false in
     ack_closes arrivals device after whole (hears_either arrivals (beq toggle expects) bytes device after h)
 
 -- and where it is lost
 pub stays :
-    (arrivals : Arrivals) (expects toggle : Bool) (armed : Option (List ℕ)) (after : DevPipeState)
+    (arrivals : Arrivals) (expects halted toggle : Bool) (armed : Option (List ℕ)) (after : DevPipeState)
     → arrivals Acknowledgement (spelling packets.Ack) ≡ None
-    → Acknowledges arrivals (took_where expects toggle armed) (record { toggle = toggle; armed = armed }) after
-    → after ≡ record { toggle = toggle; armed = armed }
-stays arrivals expects toggle None after lost h = h
-stays arrivals expects toggle (Some bytes) after lost h =
-    let device : DevPipeState = record { toggle = toggle; armed = Some bytes } in
+    → Acknowledges arrivals (took_where expects halted toggle armed) (pipe_with toggle armed halted) after
+    → after ≡ pipe_with toggle armed halted
+stays arrivals expects true toggle armed after lost h = h
+stays arrivals expects false toggle None after lost h = h
+stays arrivals expects false toggle (Some bytes) after lost h =
+    let device : DevPipeState = pipe_with toggle (Some bytes) false in
     ack_lost arrivals device after lost (hears_either arrivals (beq toggle expects) bytes device after h)
 
 -- the device after a transaction, for each fate
@@ -144,7 +150,7 @@ Transacts-device ReplyLost host device took host_then device_then t =
     rw (Transacts-took ReplyLost host device took host_then device_then t) at t.acknowledged
 Transacts-device Clean host device took host_then device_then t =
     let acknowledged = rw (Transacts-took Clean host device took host_then device_then t) at t.acknowledged in
-    closes (arrives_under Clean) host.expects device.toggle device.armed device_then refl acknowledged
+    closes (arrives_under Clean) host.expects device.halted device.toggle device.armed device_then refl acknowledged
 Transacts-device AckLost host device took host_then device_then t =
     let acknowledged = rw (Transacts-took AckLost host device took host_then device_then t) at t.acknowledged in
-    stays (arrives_under AckLost) host.expects device.toggle device.armed device_then refl acknowledged
+    stays (arrives_under AckLost) host.expects device.halted device.toggle device.armed device_then refl acknowledged

@@ -1,10 +1,10 @@
 -- Worked transactions (USB 2.0, 8.5.4 and 8.6): each is computed by hand, and a wrong one fails the check.
 use Rattle.std.proofs.Common.{◌≡◌, true, false, [], ◌∷◌, Some, None, refl}
 use Rattle.usb_packet.specs.Spelling.{spelling}
-use Rattle.usb_transact.specs.declared.host.Took.TheVariants.{Fresh, Again, Nak, Silent}
+use Rattle.usb_transact.specs.declared.host.Took.TheVariants.{Fresh, Again, Nak, Stall, Silent}
 use Rattle.usb_transact.specs.declared.transaction.Fate.TheVariants.{Clean, TokenLost, ReplyLost, AckLost}
 use Rattle.usb_transact.specs.Host.{HostPipeState, host_at_start, token_to}
-use Rattle.usb_transact.specs.Device.{DevPipeState, device_at_start, answer_of}
+use Rattle.usb_transact.specs.Device.{DevPipeState, device_at_start, answer_of, halted_pipe}
 use Rattle.usb_transact.specs.Taken.{host_after}
 use Rattle.usb_transact.specs.Exchange.{took_of, device_after}
 
@@ -14,7 +14,7 @@ taken_once = record { addr = 1; endp = 1; expects = true }
 
 -- a device that sends AA under DATA0
 abbrev armed_once : DevPipeState
-armed_once = record { toggle = false; armed = Some (0xAA ∷ []) }
+armed_once = record { toggle = false; armed = Some (0xAA ∷ []); halted = false }
 
 -- IN to address 1, endpoint 1
 poll_bytes : spelling (token_to (host_at_start 1 1)) ≡ 0x69 ∷ 0x81 ∷ 0x00 ∷ []
@@ -42,7 +42,7 @@ first_device = refl
 repeat_taken : took_of Clean taken_once armed_once ≡ Again
 repeat_taken = refl
 
-repeat_device : device_after Clean armed_once ≡ record { toggle = true; armed = None }
+repeat_device : device_after Clean armed_once ≡ record { toggle = true; armed = None; halted = false }
 repeat_device = refl
 
 -- a lost token or answer tells nothing, and a device with nothing armed tells NAK
@@ -54,3 +54,16 @@ lost_token = refl
 
 nothing_armed : took_of Clean taken_once device_at_start ≡ Nak
 nothing_armed = refl
+
+-- a halted endpoint answers STALL, 1E, has nothing armed, and stays as it is
+halted_bytes : spelling (answer_of (halted_pipe armed_once)) ≡ 0x1E ∷ []
+halted_bytes = refl
+
+halted_taken : took_of Clean (host_at_start 1 1) (halted_pipe armed_once) ≡ Stall
+halted_taken = refl
+
+halted_silent : took_of TokenLost (host_at_start 1 1) (halted_pipe armed_once) ≡ Silent
+halted_silent = refl
+
+halted_device : device_after Clean (halted_pipe armed_once) ≡ record { toggle = false; armed = None; halted = true }
+halted_device = refl

@@ -1,25 +1,27 @@
--- What a contract sees of the device's end of a pipe, and what it answers (USB 2.0, 8.4.6.1 and 8.6).
-use Rattle.std.specs.Prelude.{ℕ, Bool, false, not, List, Option, Some, None}
+-- What a contract sees of the device's end of a pipe, and what it answers (USB 2.0, 8.4.6.1, 8.6 and 9.4.5).
+use Rattle.std.specs.Prelude.{ℕ, Bool, true, false, not, List, Option, Some, None}
 use Rattle.usb_packet.specs.declared.packet.Packet.{Packet}
-use Rattle.usb_packet.specs.declared.packet.Packet.TheVariants.{Data, Nak}
+use Rattle.usb_packet.specs.declared.packet.Packet.TheVariants.{Data, Nak, Stall}
 
--- whether data go out as DATA1, and the data that wait for an acknowledgement
+-- whether data go out as DATA1, the data that wait for an acknowledgement, and whether the endpoint is halted (9.4.5)
 pub record DevPipeState : Type 0 where
   pub toggle : Bool
   pub armed : Option (List ℕ)
+  pub halted : Bool
 
--- a pipe at DATA0 with nothing armed
+-- a pipe at DATA0 with nothing armed, which isn't halted
 abbrev pub device_at_start : DevPipeState
-device_at_start = record { toggle = false; armed = None }
+device_at_start = record { toggle = false; armed = None; halted = false }
 
--- the answer to a token under this toggle: what is armed, else NAK
-abbrev pub answer_with : Bool → Option (List ℕ) → Packet
-answer_with toggle (Some bytes) = Data toggle (record { items = bytes })
-answer_with toggle None = Nak
+-- the answer to a token: STALL while it is halted, else what is armed under this toggle, else NAK
+abbrev pub answer_with : Bool → Bool → Option (List ℕ) → Packet
+answer_with true toggle armed = Stall
+answer_with false toggle (Some bytes) = Data toggle (record { items = bytes })
+answer_with false toggle None = Nak
 
 -- the answer of a pipe to a token
 abbrev pub answer_of : DevPipeState → Packet
-answer_of device = answer_with device.toggle device.armed
+answer_of device = answer_with device.halted device.toggle device.armed
 
 -- the toggle after an acknowledgement: it changes where something was armed
 abbrev pub toggle_behind : Bool → Option (List ℕ) → Bool
@@ -29,3 +31,7 @@ toggle_behind toggle None = toggle
 -- the device after an acknowledgement: nothing is armed any more
 abbrev pub closed : DevPipeState → DevPipeState
 closed device = record device { toggle = toggle_behind device.toggle device.armed; armed = None }
+
+-- the device once it is halted: nothing is armed, and the toggle stays
+abbrev pub halted_pipe : DevPipeState → DevPipeState
+halted_pipe device = record device { armed = None; halted = true }

@@ -1,27 +1,29 @@
 -- One transaction over a bus that may lose a packet (USB 2.0, 8.5.4 and 8.6), row for row.
-use Rattle.std.specs.Prelude.{ℕ, Bool, List, if◌then◌else◌, Option, Some, None}
+use Rattle.std.specs.Prelude.{ℕ, Bool, true, false, List, if◌then◌else◌, Option, Some, None}
 use Rattle.std.specs.Bool.{beq}
 use Rattle.usb_transact.specs.declared.host.Took.{Took}
-use Rattle.usb_transact.specs.declared.host.Took.TheVariants.{Fresh, Again, Nak, Silent}
+use Rattle.usb_transact.specs.declared.host.Took.TheVariants.{Fresh, Again, Nak, Stall, Silent}
 use Rattle.usb_transact.specs.declared.transaction.Fate.{Fate}
 use Rattle.usb_transact.specs.declared.transaction.Fate.TheVariants.{Clean, TokenLost, ReplyLost, AckLost}
 use Rattle.usb_transact.specs.Host.{HostPipeState}
 use Rattle.usb_transact.specs.Device.{DevPipeState, closed}
 
--- what the host takes where the reply reaches it: by what it expects, the device's toggle and what is armed
-abbrev pub took_where : Bool → Bool → Option (List ℕ) → Took
-took_where expects toggle None = Nak
-took_where expects toggle (Some bytes) =
+-- what the host takes where the reply reaches it: by what it expects, and by whether the device is halted, its toggle and
+-- what is armed
+abbrev pub took_where : Bool → Bool → Bool → Option (List ℕ) → Took
+took_where expects true toggle armed = Stall
+took_where expects false toggle None = Nak
+took_where expects false toggle (Some bytes) =
     if beq toggle expects then Fresh (record { items = bytes }) else Again
 
 -- what the host takes, by the fate: only a clean transaction, and one that loses the ACK alone, bring it the reply
 abbrev pub took_of : Fate → HostPipeState → DevPipeState → Took
 took_of TokenLost host device = Silent
 took_of ReplyLost host device = Silent
-took_of Clean host device = took_where host.expects device.toggle device.armed
-took_of AckLost host device = took_where host.expects device.toggle device.armed
+took_of Clean host device = took_where host.expects device.halted device.toggle device.armed
+took_of AckLost host device = took_where host.expects device.halted device.toggle device.armed
 
--- the acknowledgement arrives in a clean transaction alone
+-- the acknowledgement arrives in a clean transaction alone, and STALL has none
 abbrev pub device_after : Fate → DevPipeState → DevPipeState
-device_after Clean device = closed device
+device_after Clean device = if device.halted then device else closed device
 device_after _ device = device

@@ -1,19 +1,20 @@
-//! The device's end of the pipe (USB 2.0, 8.5.4 and 8.6).
-ghost use Rattle.std.specs.Prelude.{◌≡◌, ◌≤◌, Some, IsNone, length};
+//! The device's end of the pipe (USB 2.0, 8.5.4, 8.6 and 9.4.5).
+ghost use Rattle.std.specs.Prelude.{◌≡◌, ◌≤◌, false, Some, IsNone, length};
 ghost use Rattle.std.specs.Option.{option_copied};
 ghost use Rattle.usb_packet.specs.Spelling.{Fits};
-ghost use Rattle.usb_transact.specs.Device.{device_at_start, answer_of, closed};
+ghost use Rattle.usb_transact.specs.Device.{device_at_start, answer_of, closed, halted_pipe};
 
 use arrayvec::ArrayVec;
 use std::marker::Model;
 use usb_packet::{MAX_PAYLOAD, Packet};
 
-/// The device's end: its toggle, and the data that it sends until they are acknowledged. A contract sees it as
-/// `toggle` and `armed`.
+/// The device's end: its toggle, the data that it sends until they are acknowledged, and whether the endpoint is halted. A
+/// contract sees it as `toggle`, `armed` and `halted`.
 #[derive(Debug, Drop)]
 pub struct DevPipe {
     toggle: bool,
     armed: Option<ArrayVec<u8, 64>>,
+    halted: bool,
 }
 
 impl Model for DevPipe {
@@ -22,7 +23,11 @@ impl Model for DevPipe {
 
     ghost Value = { DevPipeState };
 
-    ghost view = { λ p. record { toggle = p.toggle; armed = option_map (λ bytes. bytes.items) p.armed } };
+    ghost view = { λ p. record {
+      toggle = p.toggle;
+      armed = option_map (λ bytes. bytes.items) p.armed;
+      halted = p.halted;
+    } };
 }
 
 impl Default for DevPipe {
@@ -34,17 +39,19 @@ impl Default for DevPipe {
 }
 
 impl DevPipe {
-    /// A pipe at DATA0 with nothing armed.
+    /// A pipe at DATA0 with nothing armed, which isn't halted.
     pub fn new() -> DevPipe
         ensures { result ≡ device_at_start }
     {
         DevPipe {
             toggle: false,
             armed: None,
+            halted: false,
         }
     }
 
-    /// Goes back to DATA0 with nothing armed, as a configuration does (USB 2.0, 9.1.1.5).
+    /// Goes back to DATA0 with nothing armed, as a configuration does (USB 2.0, 9.1.1.5), and as the end of a halt does
+    /// (9.4.5). Where it was halted, it is no more.
     pub fn restart(&mut self)
         ensures { self.new ≡ device_at_start }
     {
@@ -58,9 +65,26 @@ impl DevPipe {
         self.toggle
     }
 
+    /// Halts: what was armed is done with, and the answer is STALL until [`DevPipe::restart`] (USB 2.0, 9.4.5 and 9.4.9). The
+    /// toggle stays.
+    pub fn halt(&mut self)
+        ensures { self.new ≡ halted_pipe self.old }
+    {
+        self.armed = None;
+        self.halted = true;
+    }
+
+    /// Whether the endpoint is halted.
+    pub fn halted(&self) -> bool
+        ensures { result ≡ self.now.halted }
+    {
+        self.halted
+    }
+
     /// Puts in the bytes that go out until they are acknowledged, 0 to [`MAX_PAYLOAD`].
     pub fn arm(&mut self, bytes: &[u8])
         requires idle { IsNone self.old.armed }
+        requires going { self.old.halted ≡ false }
         requires fits { length bytes.now ≤ MAX_PAYLOAD }
         ensures { self.new ≡ record self.old { armed = Some bytes.now } }
     {
@@ -77,11 +101,14 @@ impl DevPipe {
         }
     }
 
-    /// The answer to an IN token: what is armed under the toggle, else NAK (USB 2.0, 8.4.6.1).
+    /// The answer to an IN token: STALL while it is halted, else what is armed under the toggle, else NAK (USB 2.0, 8.4.6.1).
     pub fn answer(&self) -> Packet
         ensures answer { result ≡ answer_of self.now }
         ensures fits { Fits result }
     {
+        if self.halted {
+            return Packet::Stall;
+        }
         match &self.armed {
             Some(bytes) => Packet::Data {
                 one: self.toggle,

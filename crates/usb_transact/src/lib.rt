@@ -1,4 +1,4 @@
-//! Transactions of an interrupt-IN pipe, and the data toggles at its two ends (USB 2.0, 8.5.4 and 8.6).
+//! Transactions of an interrupt-IN pipe, the data toggles at its two ends, and halts (USB 2.0, 8.5.4, 8.6 and 9.4.5).
 //! ```text
 //!   HostPipe                          bus                          DevPipe
 //!   token          ---- IN 69 81 00 ------------------------->     lost: TokenLost
@@ -7,9 +7,11 @@
 //! ```
 //! The device sends what is armed under its toggle, again and again, until an acknowledgement arrives. Data under
 //! the toggle that the host expects are fresh. Data under the other one are a repeat: the host acknowledges them
-//! once more and throws them away.
+//! once more and throws them away. A halted endpoint ([`DevPipe::halt`]) has nothing armed and answers STALL, until
+//! [`DevPipe::restart`].
 //!
-//! The rule to know: [`DevPipe::arm`] asks that nothing is armed, so a retry never carries other bytes.
+//! The rule to know: [`DevPipe::arm`] asks that nothing is armed and that the pipe isn't halted, so a retry never carries
+//! other bytes.
 //!
 //! The promise: one transaction is its row of the table on [`exchange`]: `took`, `host` and `device`, and packet by
 //! packet over the bytes `packets`. By single packets: `took` and `pipe` on [`HostPipe::take`], `answer` on

@@ -1,5 +1,5 @@
 //! Expected values are worked out by hand from USB 2.0: 8.4.6 for what each end answers, 8.5.4 for an interrupt-IN
-//! transaction, 8.6 for the toggles, with 8.6.4 for a lost ACK.
+//! transaction, 8.6 for the toggles, with 8.6.4 for a lost ACK, and 9.4.5 for a halted endpoint.
 use super::*;
 use arrayvec::ArrayVec;
 use std::process::Abort;
@@ -58,6 +58,8 @@ enum Before {
     Level,
     /// Armed, and taken by the host, but not acknowledged.
     Ahead,
+    /// The same, and halted then.
+    Halted,
 }
 
 /// Two new ends that stand so.
@@ -67,10 +69,13 @@ fn ends(before: Before) -> (HostPipe, DevPipe) {
     match before {
         Before::Idle => {}
         Before::Level => device.arm(&[0x07]),
-        Before::Ahead => {
+        Before::Ahead | Before::Halted => {
             device.arm(&[0x07]);
             let _ = exchange(&mut host, &mut device, Fate::AckLost);
         }
+    }
+    if matches!(before, Before::Halted) {
+        device.halt();
     }
     (host, device)
 }
@@ -81,12 +86,13 @@ enum Verdict {
     Fresh,
     Again,
     Nak,
+    Stall,
     Silent,
 }
 
 /// Each state before under each fate: what the host takes, both toggles afterwards, and whether data are still armed.
 #[rattlefmt::skip]
-const TABLE: [(&str, Before, Fate, Verdict, (bool, bool), bool); 12] = [
+const TABLE: [(&str, Before, Fate, Verdict, (bool, bool), bool); 16] = [
     ("nothing armed",                    Before::Idle,  Fate::Clean,     Verdict::Nak,    (false, false), false),
     ("nothing armed, no acknowledgement", Before::Idle, Fate::AckLost,   Verdict::Nak,    (false, false), false),
     ("nothing armed, NAK lost",          Before::Idle,  Fate::ReplyLost, Verdict::Silent, (false, false), false),
@@ -99,6 +105,10 @@ const TABLE: [(&str, Before, Fate, Verdict, (bool, bool), bool); 12] = [
     ("a repeat, acknowledgement lost",   Before::Ahead, Fate::AckLost,   Verdict::Again,  (true, false),  true),
     ("a repeat lost",                    Before::Ahead, Fate::ReplyLost, Verdict::Silent, (true, false),  true),
     ("a repeat, token lost",             Before::Ahead, Fate::TokenLost, Verdict::Silent, (true, false),  true),
+    ("halted",                           Before::Halted, Fate::Clean,     Verdict::Stall,  (true, false), false),
+    ("halted, no acknowledgement",       Before::Halted, Fate::AckLost,   Verdict::Stall,  (true, false), false),
+    ("halted, STALL lost",               Before::Halted, Fate::ReplyLost, Verdict::Silent, (true, false), false),
+    ("halted, token lost",               Before::Halted, Fate::TokenLost, Verdict::Silent, (true, false), false),
 ];
 
 fn verdict_of(rt: &impl Abort, took: &Took) -> Verdict {
@@ -110,7 +120,7 @@ fn verdict_of(rt: &impl Abort, took: &Took) -> Verdict {
         Took::Again => Verdict::Again,
         Took::Nak => Verdict::Nak,
         Took::Silent => Verdict::Silent,
-        Took::Stall => panic!(rt; "no end stalls"),
+        Took::Stall => Verdict::Stall,
     }
 }
 
@@ -122,6 +132,7 @@ fn each_fate_meets_each_state(rt: HostRuntime) {
         assert_eq!(rt; verdict_of(&rt, &took), wanted, "{name}");
         assert_eq!(rt; toggles(&host, &device), after, "{name}");
         assert_eq!(rt; device.armed().is_some(), still_armed, "{name}");
+        assert_eq!(rt; device.halted(), matches!(before, Before::Halted), "{name}");
     }
 }
 
@@ -201,6 +212,25 @@ fn both_ends_start_again_at_data0(rt: HostRuntime) {
     device.restart();
     assert_eq!(rt; toggles(&host, &device), (false, false));
     assert_eq!(rt; device.answer(), Packet::Nak);
+}
+
+#[test]
+fn a_halt_ends_with_a_restart(rt: HostRuntime) {
+    let (mut host, mut device) = ends(Before::Ahead);
+    assert_eq!(rt; exchange(&mut host, &mut device, Fate::Clean), Took::Again);
+    assert_eq!(rt; toggles(&host, &device), (true, true));
+    device.halt();
+    assert!(rt; device.halted());
+    assert_eq!(rt; device.answer(), Packet::Stall);
+    device.acknowledged();
+    assert!(rt; device.toggle(), "nothing was armed");
+    assert!(rt; device.halted(), "no acknowledgement ends a halt");
+    device.restart();
+    assert!(rt; !device.halted());
+    assert!(rt; !device.toggle());
+    assert_eq!(rt; device.answer(), Packet::Nak);
+    device.arm(&[0x09]);
+    assert_eq!(rt; device.armed(), Some([0x09].as_slice()));
 }
 
 /// Whether a packet arrives, by its fate and its phase (USB 2.0, 8.5.3 and 8.5.4).

@@ -86,10 +86,11 @@ fn transact<B: Bus>(bus: &B, host: &mut HostPipe, device: &mut DevPipe) -> Took
 /// | fate | armed | host takes | then |
 /// |---|---|---|---|
 /// | `TokenLost`, `ReplyLost` | any | `Silent` | nothing changes |
+/// | `Clean`, `AckLost` | the endpoint is halted | `Stall` | nothing changes |
 /// | `Clean`, `AckLost` | nothing | `Nak` | nothing changes |
 /// | `Clean`, `AckLost` | under the expected toggle | `Fresh` with the bytes | the host's toggle changes |
 /// | `Clean`, `AckLost` | under the other toggle | `Again` | the host's toggle stays |
-/// | `Clean` | anything | as above | the device's toggle changes, and nothing is armed |
+/// | `Clean` | anything, and not halted | as above | the device's toggle changes, and nothing is armed |
 pub fn exchange(host: &mut HostPipe, device: &mut DevPipe, fate: Fate) -> Took
     // Packet by packet: each is sent as its bytes, and its end acts on what it reads of those that arrive.
     ensures packets { Transacts

@@ -3,7 +3,7 @@
 //!   press 4 4, release 4 4        a control by its item and index: nothing, or why it can't be
 //!   move 2 0 -200, set 2 0 1
 //!   configure, frame, frames 4    nothing
-//!   bus reset                     nothing
+//!   bus reset, halt               nothing
 //!   fixed 2 0                     the motion that is fixed of a control
 //!   kept output 1                 the report that was set last: output, feature or input, and its ID
 //!   reset, apply, answer          endpoint 0 is reset, carries out what is pending, or shows the answer that is fixed
@@ -11,7 +11,8 @@
 //!                                 it writes stands behind them
 //!   69 81 00                      a packet: its answer
 //! ```
-//! Behind it, where a round is open, `round 0.1`: its report, and 1 where its data go out as DATA1.
+//! Behind it, where a round is open, `round 0.1`: its report, and 1 where its data go out as DATA1; and `halted` while the
+//! endpoint is halted.
 
 use crate::{Boot, Config, Device, DeviceFault, KEYBOARD, MOUSE};
 use arrayvec::ArrayVec;
@@ -211,6 +212,7 @@ fn done(alloc: Global, device: &mut Device, act: &str) -> Result<String, Fail> {
         "configure" => device.configure(),
         "frame" => device.frame(),
         "bus reset" => device.reset(),
+        "halt" => device.halt(),
         "reset" => device.control().reset(),
         "apply" => device.control().requests_mut().apply(&[]),
         "answer" => match device.control().requests().answer() {
@@ -222,9 +224,10 @@ fn done(alloc: Global, device: &mut Device, act: &str) -> Result<String, Fail> {
     Ok(String::new(alloc))
 }
 
-/// The open round, if one is: its report and its toggle. Something is armed for it.
+/// The open round, if one is: its report and its toggle. Something is armed for it. Or that the endpoint is halted.
 pub fn round(alloc: Global, device: &Device) -> Result<String, Fail> {
     match (device.open_round(), device.pipe().armed()) {
+        (None, None) if device.pipe().halted() => Ok(format!(in alloc; "halted")?),
         (None, None) => Ok(String::new(alloc)),
         (Some((report, one)), Some(_)) => Ok(format!(in alloc;
             "round {report}.{}",

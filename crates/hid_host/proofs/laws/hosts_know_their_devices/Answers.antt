@@ -3,7 +3,7 @@ use Rattle.hid_host.proofs.LawLemmas.{begins_know, leaves_know, replies_know, sh
 use Rattle.hid_host.proofs.laws.hosts_know_their_devices.Goals as goal
 
 pub returns-clause-ready : goal.returns-clause-ready
-returns-clause-ready c = λ addr control configured. record { phase = (refl, configured, refl, refl); transfer = tt }
+returns-clause-ready c = λ addr control configured. record { phase = (refl, configured, refl, refl); transfer = tt; clears = tt }
 
 pub returns-clause-begins : goal.returns-clause-begins
 returns-clause-begins c = begins_know

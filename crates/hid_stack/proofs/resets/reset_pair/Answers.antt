@@ -13,4 +13,4 @@ returns-clause-events c =
     ∙ ap (λ (es : List Event). es ++ reset_told phase c.open_round.result c.fixed.result.now) c.clear.ensures.items
     ∙ ap (λ o. reset_told phase o c.fixed.result.now) c.open_round.ensures
     ∙ ap (reset_told phase (round_of (core_of c.args.device.now))) c.fixed.ensures
-    ∙ told_at_reset c.args.device.now phase c.requires.together
+    ∙ told_at_reset c.args.device.now c.args.host.now.clearing phase c.requires.together

@@ -23,7 +23,9 @@ invariant_of-result c =
         fixed = c.in_ok-fixed.ensures.fits;
         each_frames = grind (arith, common_steps);
         each_idle = grind (arith, common_steps);
+        each_cut = grind (arith, common_steps);
         of_input = tt;
+        quiet = tt;
         outputs = subst (λ (outputs : List (List ℕ)). AreOutputs c.args.layout outputs) (sym outputs) (bare_are c.args.layout);
       };
       room = c.in_ok-still.ensures.fits;

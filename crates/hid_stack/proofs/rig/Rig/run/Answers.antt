@@ -100,7 +100,7 @@ returns-in-Err-clause-err_isolated c =
 pub returns-in-Err-clause-err_conserves : goal.returns-in-Err-clause-err_conserves
 returns-in-Err-clause-err_conserves c =
     sums_stop c.args.self.now c.loop-at.self c.step.new.self (take c.loop-at.at c.args.steps.now) _ _ c.args.out.now.items c.step.new.out.items
-    (subst AllHaveMotions c.self.view_is c.self.invariant.2) c.loop-at.invariant.between c.step.ensures.between c.loop-at.invariant.now (c.in-Err.ensures.err_events ∙ c.loop-at.invariant.told) c.in-Err.ensures.err
+    (subst AllHaveMotions c.self.view_is c.self.invariant.2) c.loop-at.invariant.between c.step.ensures.between c.step.ensures.cuts c.loop-at.invariant.now (c.in-Err.ensures.err_events ∙ c.loop-at.invariant.told) c.in-Err.ensures.err
 
 pub returns-in-Err-clause-room : goal.returns-in-Err-clause-room
 returns-in-Err-clause-room c scheduled room memory =

@@ -6,12 +6,12 @@ use Rattle.std.proofs.lemmas.Result.{on_ok_weaker}
 use Rattle.hid_lives.specs.Rounds.{Changes, Frame, Polls}
 use Rattle.hid_stack.specs.declared.rig.TheConstants.{MAX_DEVICES}
 use Rattle.hid_stack.specs.declared.step.Step.{Step}
-use Rattle.hid_stack.specs.declared.step.Step.TheVariants.{Change, Poll, Begin, Reset}
-use Rattle.hid_stack.specs.Members.{Member, Scheduled, Begins, Resets, member_after}
+use Rattle.hid_stack.specs.declared.step.Step.TheVariants.{Change, Poll, Begin, Control, Halt, Reset}
+use Rattle.hid_stack.specs.Members.{Member, Scheduled, Begins, Controls, Halts, Resets, member_after}
 use Rattle.hid_stack.specs.Rig.{bus_after, delivered_at, refusal, refused_after, IsRefusal, HasRoomFor, most_events}
-use Rattle.hid_stack.specs.Sums.{ConfiguresBetweenRounds}
+use Rattle.hid_stack.specs.Sums.{ConfiguresBetweenRounds, OnlyHaltsCut}
 use Rattle.hid_stack.specs.Tells.{Tells}
-use Rattle.hid_stack.proofs.NamedLemmas.{named, where_done, leaves, change_err, change_told, change_refused, change_only, poll_tells, poll_refused, poll_only, one_delivered, enough_room, few_of_it, stays_refused, reset_only, reset_refused, begin_done, begin_err, begin_only, begin_refused, begin_tells, begin_told, control_between, control_told, tries_named}
+use Rattle.hid_stack.proofs.NamedLemmas.{named, where_done, leaves, change_err, change_told, change_refused, change_only, poll_tells, poll_refused, poll_only, one_delivered, enough_room, few_of_it, stays_refused, memory_only, never_refused, never_stands, begin_done, begin_err, begin_only, begin_refused, begin_tells, begin_told, control_between, control_cuts, control_done, control_few, control_room, control_told, control_undone, tries_named}
 use Rattle.hid_stack.proofs.RigLemmas.{called, framed_hold, polled, stepped, stepped_have, tried}
 use Rattle.hid_stack.proofs.SumLemmas.{others_between}
 use Rattle.hid_stack.proofs.rig.Rig.step.Goals as goal
@@ -31,6 +31,14 @@ invariant_of-self-in-Poll c = (
   search rules,
   stepped_have c.self.inside.slots.items c.in_ok-i-in-Poll.i c.index_mut-in-Poll.result.now c.poll.new.self c.self.invariant.2 (search rules) c.index_mut-in-Poll.ensures.value
       (polled c.index_mut-in-Poll.result.now c.poll.new.self (Scheduled (Polls c.in-Poll.fate)) c.poll.result _ c.poll.ensures.after c.poll.ensures.err),
+)
+
+pub invariant_of-self-in-Halt : goal.invariant_of-self-in-Halt
+invariant_of-self-in-Halt c = (
+  search rules,
+  search rules,
+  stepped_have c.self.inside.slots.items c.in_ok-i-in-Halt.i c.index_mut-in-Halt.result.now c.halt.new.self c.self.invariant.2 (search rules) c.index_mut-in-Halt.ensures.value
+      (polled c.index_mut-in-Halt.result.now c.halt.new.self Halts c.halt.result _ c.halt.ensures.after c.halt.ensures.err),
 )
 
 pub invariant_of-self-in-Reset : goal.invariant_of-self-in-Reset
@@ -211,7 +219,7 @@ returns-after-control-clause-told c =
       | in-Ok-control w ↦ w.result-is ∙ sym (ap control_told w.in-Ok-control.is)
       | in-Err-control w ↦ w.result-is ∙ sym (ap control_told w.in-Err-control.is)
     ] in
-    let named_tries = tries_named c.self.inside.slots.items c.args.self.now c.in-Control.dev c.in_ok-i-in-Control.i c.index_mut-in-Control.result.now c.control.new.self c.in-Control.fate (vec_len c.args.out.now) (vec_capacity c.args.out.now) c.control.result c.match-control.result c.self.view_is
+    let named_tries = tries_named c.self.inside.slots.items c.args.self.now c.in-Control.dev c.in_ok-i-in-Control.i c.index_mut-in-Control.result.now c.control.new.self c.in-Control.fate c.control.result c.match-control.result c.self.view_is
     (named c.self.inside.slots.items c.args.self.now c.in-Control.dev c.in_ok-i-in-Control.i c.index_mut-in-Control.result.now c.self.view_is c.in_ok-i-in-Control.ensures.place.0 (search rules) c.index_mut-in-Control.ensures.value) c.control.ensures.tries told in
     subst (λ (x : Step). IfOk c.match-control.result (λ told. Tells c.args.self.now x told)) (sym c.in-Control.is) named_tries.told
 
@@ -221,7 +229,7 @@ returns-after-control-clause-after c =
       | in-Ok-control w ↦ w.result-is ∙ sym (ap control_told w.in-Ok-control.is)
       | in-Err-control w ↦ w.result-is ∙ sym (ap control_told w.in-Err-control.is)
     ] in
-    let named_tries = tries_named c.self.inside.slots.items c.args.self.now c.in-Control.dev c.in_ok-i-in-Control.i c.index_mut-in-Control.result.now c.control.new.self c.in-Control.fate (vec_len c.args.out.now) (vec_capacity c.args.out.now) c.control.result c.match-control.result c.self.view_is
+    let named_tries = tries_named c.self.inside.slots.items c.args.self.now c.in-Control.dev c.in_ok-i-in-Control.i c.index_mut-in-Control.result.now c.control.new.self c.in-Control.fate c.control.result c.match-control.result c.self.view_is
     (named c.self.inside.slots.items c.args.self.now c.in-Control.dev c.in_ok-i-in-Control.i c.index_mut-in-Control.result.now c.self.view_is c.in_ok-i-in-Control.ensures.place.0 (search rules) c.index_mut-in-Control.ensures.value) c.control.ensures.tries told in
     subst (λ (x : Step). OnOk c.match-control.result (slice_set c.self.inside.slots.items c.in_ok-i-in-Control.i c.control.new.self ≡ bus_after c.args.self.now x)) (sym c.in-Control.is) named_tries.after
 
@@ -231,7 +239,7 @@ returns-after-control-clause-refused c =
       | in-Ok-control w ↦ w.result-is ∙ sym (ap control_told w.in-Ok-control.is)
       | in-Err-control w ↦ w.result-is ∙ sym (ap control_told w.in-Err-control.is)
     ] in
-    let named_tries = tries_named c.self.inside.slots.items c.args.self.now c.in-Control.dev c.in_ok-i-in-Control.i c.index_mut-in-Control.result.now c.control.new.self c.in-Control.fate (vec_len c.args.out.now) (vec_capacity c.args.out.now) c.control.result c.match-control.result c.self.view_is
+    let named_tries = tries_named c.self.inside.slots.items c.args.self.now c.in-Control.dev c.in_ok-i-in-Control.i c.index_mut-in-Control.result.now c.control.new.self c.in-Control.fate c.control.result c.match-control.result c.self.view_is
     (named c.self.inside.slots.items c.args.self.now c.in-Control.dev c.in_ok-i-in-Control.i c.index_mut-in-Control.result.now c.self.view_is c.in_ok-i-in-Control.ensures.place.0 (search rules) c.index_mut-in-Control.ensures.value) c.control.ensures.tries told in
     subst (λ (x : Step). (e : StackFault) → refusal c.args.self.now x ≡ Some e → c.match-control.result ≡ Err e) (sym c.in-Control.is) named_tries.refused
 
@@ -241,7 +249,7 @@ returns-after-control-clause-only c =
       | in-Ok-control w ↦ w.result-is ∙ sym (ap control_told w.in-Ok-control.is)
       | in-Err-control w ↦ w.result-is ∙ sym (ap control_told w.in-Err-control.is)
     ] in
-    let named_tries = tries_named c.self.inside.slots.items c.args.self.now c.in-Control.dev c.in_ok-i-in-Control.i c.index_mut-in-Control.result.now c.control.new.self c.in-Control.fate (vec_len c.args.out.now) (vec_capacity c.args.out.now) c.control.result c.match-control.result c.self.view_is
+    let named_tries = tries_named c.self.inside.slots.items c.args.self.now c.in-Control.dev c.in_ok-i-in-Control.i c.index_mut-in-Control.result.now c.control.new.self c.in-Control.fate c.control.result c.match-control.result c.self.view_is
     (named c.self.inside.slots.items c.args.self.now c.in-Control.dev c.in_ok-i-in-Control.i c.index_mut-in-Control.result.now c.self.view_is c.in_ok-i-in-Control.ensures.place.0 (search rules) c.index_mut-in-Control.ensures.value) c.control.ensures.tries told in
     subst (λ (x : Step). IfErr c.match-control.result (λ e. IsRefusal c.args.self.now x e)) (sym c.in-Control.is) named_tries.only
 
@@ -251,9 +259,28 @@ returns-after-control-clause-err c =
       | in-Ok-control w ↦ w.result-is ∙ sym (ap control_told w.in-Ok-control.is)
       | in-Err-control w ↦ w.result-is ∙ sym (ap control_told w.in-Err-control.is)
     ] in
-    let named_tries = tries_named c.self.inside.slots.items c.args.self.now c.in-Control.dev c.in_ok-i-in-Control.i c.index_mut-in-Control.result.now c.control.new.self c.in-Control.fate (vec_len c.args.out.now) (vec_capacity c.args.out.now) c.control.result c.match-control.result c.self.view_is
+    let named_tries = tries_named c.self.inside.slots.items c.args.self.now c.in-Control.dev c.in_ok-i-in-Control.i c.index_mut-in-Control.result.now c.control.new.self c.in-Control.fate c.control.result c.match-control.result c.self.view_is
     (named c.self.inside.slots.items c.args.self.now c.in-Control.dev c.in_ok-i-in-Control.i c.index_mut-in-Control.result.now c.self.view_is c.in_ok-i-in-Control.ensures.place.0 (search rules) c.index_mut-in-Control.ensures.value) c.control.ensures.tries told in
     subst (λ (x : Step). IfErr c.match-control.result (λ e. slice_set c.self.inside.slots.items c.in_ok-i-in-Control.i c.control.new.self ≡ refused_after c.args.self.now x e)) (sym c.in-Control.is) named_tries.err
+
+pub returns-after-control-clause-events : goal.returns-after-control-clause-events
+returns-after-control-clause-events c =
+    let told : c.match-control.result ≡ control_told c.control.result = elim c.match-control.branch [
+      | in-Ok-control w ↦ w.result-is ∙ sym (ap control_told w.in-Ok-control.is)
+      | in-Err-control w ↦ w.result-is ∙ sym (ap control_told w.in-Err-control.is)
+    ] in
+    subst (λ (x : Step). OnOk c.match-control.result (c.control.new.out.items ≡ c.args.out.now.items ++ delivered_at c.args.self.now x)) (sym c.in-Control.is)
+    (control_done c.control.result c.match-control.result _ told
+    (one_delivered c.args.self.now c.in-Control.dev c.in_ok-i-in-Control.i c.index_mut-in-Control.result.now (Controls c.in-Control.fate) c.control.result c.args.out.now.items c.control.new.out.items
+    (named c.self.inside.slots.items c.args.self.now c.in-Control.dev c.in_ok-i-in-Control.i c.index_mut-in-Control.result.now c.self.view_is c.in_ok-i-in-Control.ensures.place.0 (search rules) c.index_mut-in-Control.ensures.value) c.control.ensures.events))
+
+pub returns-after-control-clause-err_events : goal.returns-after-control-clause-err_events
+returns-after-control-clause-err_events c =
+    let told : c.match-control.result ≡ control_told c.control.result = elim c.match-control.branch [
+      | in-Ok-control w ↦ w.result-is ∙ sym (ap control_told w.in-Ok-control.is)
+      | in-Err-control w ↦ w.result-is ∙ sym (ap control_told w.in-Err-control.is)
+    ] in
+    control_undone c.control.result c.match-control.result _ told c.control.ensures.err_events
 
 pub returns-after-control-clause-room : goal.returns-after-control-clause-room
 returns-after-control-clause-room c =
@@ -261,14 +288,75 @@ returns-after-control-clause-room c =
       | in-Ok-control w ↦ w.result-is ∙ sym (ap control_told w.in-Ok-control.is)
       | in-Err-control w ↦ w.result-is ∙ sym (ap control_told w.in-Err-control.is)
     ] in
-    let named_tries = tries_named c.self.inside.slots.items c.args.self.now c.in-Control.dev c.in_ok-i-in-Control.i c.index_mut-in-Control.result.now c.control.new.self c.in-Control.fate (vec_len c.args.out.now) (vec_capacity c.args.out.now) c.control.result c.match-control.result c.self.view_is
-    (named c.self.inside.slots.items c.args.self.now c.in-Control.dev c.in_ok-i-in-Control.i c.index_mut-in-Control.result.now c.self.view_is c.in_ok-i-in-Control.ensures.place.0 (search rules) c.index_mut-in-Control.ensures.value) c.control.ensures.tries told in
-    subst (λ (x : Step). HasRoomFor c.args.self.now x (vec_len c.args.out.now) (vec_capacity c.args.out.now) → c.match-control.result ≢ Err Memory) (sym c.in-Control.is) named_tries.room
+    subst (λ (x : Step). HasRoomFor c.args.self.now x (vec_len c.args.out.now) (vec_capacity c.args.out.now) → c.match-control.result ≢ Err Memory) (sym c.in-Control.is)
+    (control_room c.args.self.now c.in-Control.dev c.in_ok-i-in-Control.i c.index_mut-in-Control.result.now c.in-Control.fate c.control.result c.match-control.result (vec_len c.args.out.now) (vec_capacity c.args.out.now)
+    (named c.self.inside.slots.items c.args.self.now c.in-Control.dev c.in_ok-i-in-Control.i c.index_mut-in-Control.result.now c.self.view_is c.in_ok-i-in-Control.ensures.place.0 (search rules) c.index_mut-in-Control.ensures.value) told c.control.ensures.room)
+
+pub returns-after-control-clause-few : goal.returns-after-control-clause-few
+returns-after-control-clause-few c =
+    subst (λ (x : Step). vec_len c.control.new.out ≤ vec_len c.args.out.now + most_events c.args.self.now x) (sym c.in-Control.is)
+    (control_few c.args.self.now c.in-Control.dev c.in_ok-i-in-Control.i c.index_mut-in-Control.result.now c.in-Control.fate (vec_len c.args.out.now) (vec_len c.control.new.out)
+    (named c.self.inside.slots.items c.args.self.now c.in-Control.dev c.in_ok-i-in-Control.i c.index_mut-in-Control.result.now c.self.view_is c.in_ok-i-in-Control.ensures.place.0 (search rules) c.index_mut-in-Control.ensures.value) c.control.ensures.few)
 
 pub returns-after-control-clause-between : goal.returns-after-control-clause-between
 returns-after-control-clause-between c = subst (λ (x : Step). ConfiguresBetweenRounds c.args.self.now (x ∷ [])) (sym c.in-Control.is)
     (control_between c.args.self.now c.in-Control.dev c.in_ok-i-in-Control.i c.index_mut-in-Control.result.now c.in-Control.fate
     (named c.self.inside.slots.items c.args.self.now c.in-Control.dev c.in_ok-i-in-Control.i c.index_mut-in-Control.result.now c.self.view_is c.in_ok-i-in-Control.ensures.place.0 (search rules) c.index_mut-in-Control.ensures.value) c.control.ensures.between)
+
+pub returns-after-control-clause-cuts : goal.returns-after-control-clause-cuts
+returns-after-control-clause-cuts c = subst (λ (x : Step). OnlyHaltsCut c.args.self.now x) (sym c.in-Control.is)
+    (control_cuts c.args.self.now c.in-Control.dev c.in_ok-i-in-Control.i c.index_mut-in-Control.result.now c.in-Control.fate
+    (named c.self.inside.slots.items c.args.self.now c.in-Control.dev c.in_ok-i-in-Control.i c.index_mut-in-Control.result.now c.self.view_is c.in_ok-i-in-Control.ensures.place.0 (search rules) c.index_mut-in-Control.ensures.value) c.control.ensures.cuts)
+
+-- a halt of the device
+
+pub returns-in_ok-i-in-Halt-clause-told : goal.returns-in_ok-i-in-Halt-clause-told
+returns-in_ok-i-in-Halt-clause-told c = subst (λ (x : Step). IfOk c.halt.result (λ told. Tells c.args.self.now x told)) (sym c.in-Halt.is) c.halt.ensures.told
+
+pub returns-in_ok-i-in-Halt-clause-after : goal.returns-in_ok-i-in-Halt-clause-after
+returns-in_ok-i-in-Halt-clause-after c =
+    subst (λ (x : Step). OnOk c.halt.result (slice_set c.self.inside.slots.items c.in_ok-i-in-Halt.i c.halt.new.self ≡ bus_after c.args.self.now x)) (sym c.in-Halt.is)
+    (on_ok_weaker c.halt.result (leaves c.self.inside.slots.items c.args.self.now c.in-Halt.dev c.in_ok-i-in-Halt.i c.index_mut-in-Halt.result.now c.halt.new.self Halts c.self.view_is
+    (named c.self.inside.slots.items c.args.self.now c.in-Halt.dev c.in_ok-i-in-Halt.i c.index_mut-in-Halt.result.now c.self.view_is c.in_ok-i-in-Halt.ensures.place.0 (search rules) c.index_mut-in-Halt.ensures.value)) c.halt.ensures.after)
+
+pub returns-in_ok-i-in-Halt-clause-events : goal.returns-in_ok-i-in-Halt-clause-events
+returns-in_ok-i-in-Halt-clause-events c =
+    subst (λ (x : Step). OnOk c.halt.result (c.halt.new.out.items ≡ c.args.out.now.items ++ delivered_at c.args.self.now x)) (sym c.in-Halt.is)
+    (one_delivered c.args.self.now c.in-Halt.dev c.in_ok-i-in-Halt.i c.index_mut-in-Halt.result.now Halts c.halt.result c.args.out.now.items c.halt.new.out.items
+    (named c.self.inside.slots.items c.args.self.now c.in-Halt.dev c.in_ok-i-in-Halt.i c.index_mut-in-Halt.result.now c.self.view_is c.in_ok-i-in-Halt.ensures.place.0 (search rules) c.index_mut-in-Halt.ensures.value) c.halt.ensures.events)
+
+pub returns-in_ok-i-in-Halt-clause-refused : goal.returns-in_ok-i-in-Halt-clause-refused
+returns-in_ok-i-in-Halt-clause-refused c =
+    subst (λ (x : Step). (e : StackFault) → refusal c.args.self.now x ≡ Some e → c.halt.result ≡ Err e) (sym c.in-Halt.is)
+    (never_refused c.args.self.now (Halt c.in-Halt.dev) c.halt.result (never_stands c.args.self.now c.in-Halt.dev c.in_ok-i-in-Halt.i c.index_mut-in-Halt.result.now
+    (named c.self.inside.slots.items c.args.self.now c.in-Halt.dev c.in_ok-i-in-Halt.i c.index_mut-in-Halt.result.now c.self.view_is c.in_ok-i-in-Halt.ensures.place.0 (search rules) c.index_mut-in-Halt.ensures.value)))
+
+pub returns-in_ok-i-in-Halt-clause-only : goal.returns-in_ok-i-in-Halt-clause-only
+returns-in_ok-i-in-Halt-clause-only c =
+    subst (λ (x : Step). IfErr c.halt.result (λ e. IsRefusal c.args.self.now x e)) (sym c.in-Halt.is)
+    (memory_only c.args.self.now (Halt c.in-Halt.dev) c.halt.result (never_stands c.args.self.now c.in-Halt.dev c.in_ok-i-in-Halt.i c.index_mut-in-Halt.result.now
+    (named c.self.inside.slots.items c.args.self.now c.in-Halt.dev c.in_ok-i-in-Halt.i c.index_mut-in-Halt.result.now c.self.view_is c.in_ok-i-in-Halt.ensures.place.0 (search rules) c.index_mut-in-Halt.ensures.value)) tt c.halt.ensures.only)
+
+pub returns-in_ok-i-in-Halt-clause-err : goal.returns-in_ok-i-in-Halt-clause-err
+returns-in_ok-i-in-Halt-clause-err c =
+    subst (λ (x : Step). IfErr c.halt.result (λ e. slice_set c.self.inside.slots.items c.in_ok-i-in-Halt.i c.halt.new.self ≡ refused_after c.args.self.now x e)) (sym c.in-Halt.is)
+    (stays_refused c.self.inside.slots.items c.args.self.now c.in-Halt.dev c.in_ok-i-in-Halt.i c.index_mut-in-Halt.result.now c.halt.new.self c.halt.result _ c.self.view_is
+    (named c.self.inside.slots.items c.args.self.now c.in-Halt.dev c.in_ok-i-in-Halt.i c.index_mut-in-Halt.result.now c.self.view_is c.in_ok-i-in-Halt.ensures.place.0 (search rules) c.index_mut-in-Halt.ensures.value) c.halt.ensures.err)
+
+pub returns-in_ok-i-in-Halt-clause-between : goal.returns-in_ok-i-in-Halt-clause-between
+returns-in_ok-i-in-Halt-clause-between c = subst (λ (x : Step). ConfiguresBetweenRounds c.args.self.now (x ∷ [])) (sym c.in-Halt.is) (others_between c.args.self.now (Halt c.in-Halt.dev) tt)
+
+pub returns-in_ok-i-in-Halt-clause-room : goal.returns-in_ok-i-in-Halt-clause-room
+returns-in_ok-i-in-Halt-clause-room c =
+    subst (λ (x : Step). HasRoomFor c.args.self.now x (vec_len c.args.out.now) (vec_capacity c.args.out.now) → c.halt.result ≢ Err Memory) (sym c.in-Halt.is)
+    (enough_room c.args.self.now c.in-Halt.dev c.in_ok-i-in-Halt.i c.index_mut-in-Halt.result.now c.halt.result (vec_len c.args.out.now) (vec_capacity c.args.out.now)
+    (named c.self.inside.slots.items c.args.self.now c.in-Halt.dev c.in_ok-i-in-Halt.i c.index_mut-in-Halt.result.now c.self.view_is c.in_ok-i-in-Halt.ensures.place.0 (search rules) c.index_mut-in-Halt.ensures.value) c.halt.ensures.room)
+
+pub returns-in_ok-i-in-Halt-clause-few : goal.returns-in_ok-i-in-Halt-clause-few
+returns-in_ok-i-in-Halt-clause-few c =
+    subst (λ (x : Step). vec_len c.halt.new.out ≤ vec_len c.args.out.now + most_events c.args.self.now x) (sym c.in-Halt.is)
+    (few_of_it c.args.self.now c.in-Halt.dev c.in_ok-i-in-Halt.i c.index_mut-in-Halt.result.now (vec_len c.args.out.now) (vec_len c.halt.new.out)
+    (named c.self.inside.slots.items c.args.self.now c.in-Halt.dev c.in_ok-i-in-Halt.i c.index_mut-in-Halt.result.now c.self.view_is c.in_ok-i-in-Halt.ensures.place.0 (search rules) c.index_mut-in-Halt.ensures.value) c.halt.ensures.few)
 
 -- a reset
 
@@ -290,14 +378,14 @@ returns-in_ok-i-in-Reset-clause-events c =
 pub returns-in_ok-i-in-Reset-clause-refused : goal.returns-in_ok-i-in-Reset-clause-refused
 returns-in_ok-i-in-Reset-clause-refused c =
     subst (λ (x : Step). (e : StackFault) → refusal c.args.self.now x ≡ Some e → c.reset.result ≡ Err e) (sym c.in-Reset.is)
-    (reset_refused c.args.self.now c.in-Reset.dev c.in_ok-i-in-Reset.i c.index_mut-in-Reset.result.now c.reset.result
-    (named c.self.inside.slots.items c.args.self.now c.in-Reset.dev c.in_ok-i-in-Reset.i c.index_mut-in-Reset.result.now c.self.view_is c.in_ok-i-in-Reset.ensures.place.0 (search rules) c.index_mut-in-Reset.ensures.value))
+    (never_refused c.args.self.now (Reset c.in-Reset.dev) c.reset.result (never_stands c.args.self.now c.in-Reset.dev c.in_ok-i-in-Reset.i c.index_mut-in-Reset.result.now
+    (named c.self.inside.slots.items c.args.self.now c.in-Reset.dev c.in_ok-i-in-Reset.i c.index_mut-in-Reset.result.now c.self.view_is c.in_ok-i-in-Reset.ensures.place.0 (search rules) c.index_mut-in-Reset.ensures.value)))
 
 pub returns-in_ok-i-in-Reset-clause-only : goal.returns-in_ok-i-in-Reset-clause-only
 returns-in_ok-i-in-Reset-clause-only c =
     subst (λ (x : Step). IfErr c.reset.result (λ e. IsRefusal c.args.self.now x e)) (sym c.in-Reset.is)
-    (reset_only c.args.self.now c.in-Reset.dev c.in_ok-i-in-Reset.i c.index_mut-in-Reset.result.now c.reset.result
-    (named c.self.inside.slots.items c.args.self.now c.in-Reset.dev c.in_ok-i-in-Reset.i c.index_mut-in-Reset.result.now c.self.view_is c.in_ok-i-in-Reset.ensures.place.0 (search rules) c.index_mut-in-Reset.ensures.value) c.reset.ensures.only)
+    (memory_only c.args.self.now (Reset c.in-Reset.dev) c.reset.result (never_stands c.args.self.now c.in-Reset.dev c.in_ok-i-in-Reset.i c.index_mut-in-Reset.result.now
+    (named c.self.inside.slots.items c.args.self.now c.in-Reset.dev c.in_ok-i-in-Reset.i c.index_mut-in-Reset.result.now c.self.view_is c.in_ok-i-in-Reset.ensures.place.0 (search rules) c.index_mut-in-Reset.ensures.value)) tt c.reset.ensures.only)
 
 pub returns-in_ok-i-in-Reset-clause-err : goal.returns-in_ok-i-in-Reset-clause-err
 returns-in_ok-i-in-Reset-clause-err c =
