@@ -56,6 +56,3 @@ pub use host::{HostTransfer, MAX_TRIES, Outcome, Progress};
 pub use pieces::MAX_PACKET;
 pub use requests::Requests;
 pub use setup::Setup;
-
-#[cfg(test)]
-mod tests;

@@ -27,6 +27,3 @@ pub use decoding::decode;
 pub use encoding::encode;
 pub use fault::PacketFault;
 pub use packet::{MAX_ADDRESS, MAX_ENDPOINT, MAX_PAYLOAD, Packet, TokenKind, fits};
-
-#[cfg(test)]
-mod tests;

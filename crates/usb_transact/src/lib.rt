@@ -27,6 +27,3 @@ pub use bus::{Bus, Phase, carried, replied};
 pub use device::DevPipe;
 pub use host::{HostPipe, Took};
 pub use transaction::{Fate, exchange};
-
-#[cfg(test)]
-mod tests;

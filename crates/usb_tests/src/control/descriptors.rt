@@ -1,12 +1,11 @@
 //! What a host reads of descriptors: a keyboard's, and those bytes with some of them changed.
 use super::keyboard::{CONFIG, DEVICE};
 use super::text::{bytes_of, parts};
-use crate::descriptors::{ConfigInfo, DeviceInfo};
-use crate::fault::ControlFault;
 use arrayvec::ArrayVec;
 use std::alloc::Global;
 use std::fmt::Write;
 use std::test::Fail;
+use usb_control::{ConfigInfo, ControlFault, DeviceInfo};
 
 /// What is read of a configuration: the length of the report descriptor, the endpoint, and subclass and protocol; or the
 /// fault.

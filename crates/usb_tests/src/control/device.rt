@@ -1,11 +1,11 @@
 //! The device's end against packets of any host.
 use super::keyboard::Keyboard;
 use super::text::{bytes_of, hex, parts};
-use crate::device::DevControl;
 use arrayvec::ArrayVec;
 use std::alloc::Global;
 use std::fmt::Write;
 use std::test::Fail;
+use usb_control::DevControl;
 use usb_packet::{decode, encode};
 
 /// Packets that the device hears, each with its answer behind `=` where it has one: what is told is how often a write took

@@ -1,10 +1,9 @@
 //! The host's end against packets of a foreign device.
 use super::text::{begin, bytes_of, hex, outcome, parts, request_of};
-use crate::host::{HostTransfer, Progress};
-use crate::setup::Setup;
 use arrayvec::ArrayVec;
 use std::alloc::Global;
 use std::test::Fail;
+use usb_control::{HostTransfer, Outcome, Setup};
 use usb_packet::{decode, encode};
 
 /// Requests by their bytes, and by their fields: bmRequestType, bRequest, wValue, wIndex and wLength, and whether it reads.
@@ -92,7 +91,7 @@ fn packet_of(word: &str) -> ArrayVec<u8, 65> {
 
 /// It hears what comes, if it runs: whether it sends ACK.
 fn hears(transfer: &mut HostTransfer, word: &str) -> bool {
-    transfer.progress() == Progress::Running
+    matches!(transfer.outcome(), Outcome::Running)
         && transfer.take(decode(&packet_of(word)).ok().as_ref())
 }
 
@@ -102,7 +101,7 @@ fn taken(alloc: Global, words: &str) -> Result<String, Fail> {
     let mut transfer = begin(alloc, 5, &request_of(request), &[2])?;
     let mut sent = false;
     for word in tries.split_whitespace() {
-        if transfer.progress() != Progress::Running {
+        if !matches!(transfer.outcome(), Outcome::Running) {
             return Ok(format!(in alloc; "it ended before {word}")?);
         }
         sent = hears(&mut transfer, word);
@@ -153,7 +152,7 @@ const SENT: [(&str, &str, &str); 4] = [
 
 /// What the host sends in a try.
 fn sent(alloc: Global, transfer: &HostTransfer) -> Result<String, Fail> {
-    if transfer.progress() != Progress::Running {
+    if !matches!(transfer.outcome(), Outcome::Running) {
         return Ok(format!(in alloc; "nothing")?);
     }
     let mut told = hex(alloc, &encode(&transfer.token()))?;

@@ -1,11 +1,9 @@
 //! Whole transfers between both ends, under fates.
 use super::keyboard::Keyboard;
 use super::text::{begin, outcome, parts, request_of};
-use crate::device::DevControl;
-use crate::fault::ControlFault;
-use crate::host::{HostTransfer, Outcome, Progress};
 use std::alloc::Global;
 use std::test::Fail;
+use usb_control::{ControlFault, DevControl, HostTransfer, Outcome};
 use usb_transact::Fate;
 
 /// The fate of a try by its word: the token, the reply or the ACK is lost, or none of them.
@@ -21,7 +19,7 @@ fn fate_of(word: Option<&&str>) -> Fate {
 /// Plays the fates in turn, and then clean tries until the transfer ends: how many tries it took.
 fn play(transfer: &mut HostTransfer, control: &mut DevControl<Keyboard>, fates: &[&str]) -> usize {
     for at in 0..100 {
-        if transfer.progress() != Progress::Running {
+        if !matches!(transfer.outcome(), Outcome::Running) {
             return at;
         }
         transfer.step(control, fate_of(fates.get(at)));

@@ -1,10 +1,10 @@
 //! Expected values are worked out by hand from USB 2.0: 8.4.6 for what each end answers, 8.5.4 for an interrupt-IN
 //! transaction, 8.6 for the toggles, with 8.6.4 for a lost ACK, and 9.4.5 for a halted endpoint.
-use super::*;
 use arrayvec::ArrayVec;
 use std::process::Abort;
 use std::test::Fail;
 use usb_packet::{Packet, TokenKind};
+use usb_transact::{Bus, DevPipe, Fate, HostPipe, Phase, Took, carried, exchange, replied};
 
 /// Both toggles: what the host expects, and what the device sends under.
 fn toggles(host: &HostPipe, device: &DevPipe) -> (bool, bool) {

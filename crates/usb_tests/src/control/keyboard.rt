@@ -1,8 +1,7 @@
 //! What answers the requests of the tests: a keyboard that answers standard requests (USB 2.0, 9.4) and keeps an output
 //! report (HID 1.11, 7.2.2).
-use crate::requests::Requests;
-use crate::setup::Setup;
 use arrayvec::ArrayVec;
+use usb_control::{Requests, Setup};
 
 /// A device descriptor: vendor FEFF, product 0001 (USB 2.0, table 9-8).
 #[rattlefmt::skip]
@@ -91,8 +90,8 @@ impl Requests for Keyboard {
     ghost use Rattle.std.specs.Prelude.{◌≡◌, ◌≤◌, Some, true, false};
     ghost use Rattle.std.proofs.Common.{rules, ap, ◌∙◌};
     ghost use Rattle.usb_control.specs.SetupBytes.{reads};
-    ghost use Rattle.usb_control.specs.declared.tests.keyboard.Prepared.TheVariants as prepared_for;
-    ghost use Rattle.usb_control.specs.declared.tests.keyboard.Keyboard.{Keyboard};
+    ghost use Rattle.usb_tests.specs.declared.control.keyboard.Prepared.TheVariants as prepared_for;
+    ghost use Rattle.usb_tests.specs.declared.control.keyboard.Keyboard.{Keyboard};
 
     ghost answer_of = { λ k. Some k.answer.items };
 

@@ -2,11 +2,11 @@
 //! 8.4.4 and 8.4.5 for what else follows a PID. Sweeps test each byte and each token body against those tables.
 ghost use Rattle.std.specs.Prelude.{◌≡◌, ◌≤◌, length};
 
-use super::*;
 use arrayvec::{ArrayString, ArrayVec};
 use std::fmt::Write;
 use std::process::Abort;
 use std::test::Fail;
+use usb_packet::{Packet, PacketFault, TokenKind, decode, encode, fits};
 
 /// Each kind of token, with its PID.
 const KINDS: [(TokenKind, u8); 3] = [

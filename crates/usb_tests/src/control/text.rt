@@ -3,13 +3,11 @@
 ghost use Rattle.std.specs.Prelude.{◌≤◌};
 
 use super::keyboard::{CONFIG, DEVICE, REPORT};
-use crate::fault::ControlFault;
-use crate::host::{HostTransfer, Outcome};
-use crate::setup::Setup;
 use arrayvec::ArrayVec;
 use std::alloc::Global;
 use std::fmt::Write;
 use std::test::Fail;
+use usb_control::{ControlFault, HostTransfer, Outcome, Setup};
 use usb_packet::MAX_ADDRESS;
 
 /// Bytes in hex, a blank behind each.
