@@ -2,6 +2,7 @@
 //! appendix E). The bytes of the configuration are written out from the tables of USB 2.0, 9.6, and of HID 1.11, 6.2.1.
 
 mod foreign;
+mod halts;
 
 use arrayvec::ArrayVec;
 use hid_descriptor::ReportKind;
@@ -117,7 +118,7 @@ fn a_host_brings_its_device_up(rt: HostRuntime) -> Result<(), Fail> {
 
 /// The requests that don't begin in each state, with whether they do in `Cold`, `Described`, `Parsed` and `Ready`.
 #[rattlefmt::skip]
-const STATES: [(Request, [bool; 4]); 8] = [
+const STATES: [(Request, [bool; 4]); 11] = [
     (Request::Config,                                             [true, false, false, false]),
     (Request::Report,                                             [false, true, false, false]),
     (Request::Configure,                                          [false, false, true, false]),
@@ -126,6 +127,9 @@ const STATES: [(Request, [bool; 4]); 8] = [
     (Request::GetIdle { id: 0 },                                  [false, false, true, true]),
     (Request::GetProtocol,                                        [false, false, true, true]),
     (Request::GetReport { kind: ReportKind::Input, id: 0 },       [false, false, true, true]),
+    (Request::Halt,                                               [false, false, false, true]),
+    (Request::Clear,                                              [false, false, false, true]),
+    (Request::EndpointStatus,                                     [false, false, false, true]),
 ];
 
 /// Whether a request begins at a new host behind the first so many of the requests that lead from `Cold` to `Ready`.

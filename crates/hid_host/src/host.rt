@@ -226,9 +226,8 @@ impl HostDevice {
             ≤ length out.old.items + max_events (items_of host.layout)) }
         ensures room { vec_capacity out.new ≡ vec_capacity out.old }
     {
-        match &self.phase {
-            HostPhase::Cold | HostPhase::Described(_) | HostPhase::Parsed(..) => {}
-            HostPhase::Ready(host) => host.tell_cut(round, fixed, out),
+        if let HostPhase::Ready(host) = &self.phase {
+            host.tell_cut(round, fixed, out);
         }
     }
 

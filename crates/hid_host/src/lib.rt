@@ -6,21 +6,24 @@
 //!   Described   Report                 the report descriptor is laid out -> Parsed
 //!   Parsed      Configure              the device is configured          -> Ready
 //!   Ready       token, reply           Input reports: events
+//!   Ready       Halt, Clear            STALL to polls; no poll, and DATA0 again
 //!   each        reset                  the device is forgotten           -> Cold
 //! ```
-//! `Device`, `Status` and `GetConfiguration` may be begun in every state, `Protocol` in `Parsed`, and the other requests of
-//! reports in `Parsed` and `Ready`; the state stays. One transfer runs at a time;
+//! `Device`, `Status` and `GetConfiguration` may be begun in every state, `Protocol` in `Parsed`, the other requests of
+//! reports in `Parsed` and `Ready`, and `EndpointStatus` where `Halt` and `Clear` may; the state stays. One transfer runs at a time;
 //! [`control_step`](HostDevice::control_step) makes one try of it, and the state moves where it is done.
 //!
 //! The rule to know: an answer that can't be read (B1 to B6, L1 to L16), and a want of memory, end the transfer and leave
-//! the state; the request may be begun again.
+//! the state; the request may be begun again. From the begin of a `Clear` until one is done no poll goes, also where it
+//! failed: it may have taken effect.
 //!
 //! The promise: a request begins exactly where none runs and its state is the one of the table (`refused` and `only` on
 //! [`begin`](HostDevice::begin)), each try goes packet by packet, and the state moves by the table where the request is
 //! done and never else ([`control_step`](HostDevice::control_step)). With a virtual device the host is ready only while
 //! that is configured, and has its layout, whatever is lost ([`laws::hosts_know_their_devices`]). Of polls `told`, `after`
-//! and `events` on [`reply`](HostDevice::reply), and of resets of the bus `events` on [`reset`](HostDevice::reset). Only `ready`, `begin`, and a `control_step` that ends `Report` or
-//! `Configure` take memory.
+//! and `events` on [`reply`](HostDevice::reply), of resets of the bus `events` on [`reset`](HostDevice::reset), and of a round
+//! that a halt or its end cuts `events` on [`tell_cut`](HostDevice::tell_cut). Only `ready`, `begin`, and a `control_step`
+//! that ends `Report` or `Configure` take memory.
 #![tactic(auto)]
 
 mod conclusions;
