@@ -1,6 +1,6 @@
 -- What a halt of a device, or the end of one, tells: as the station of the device and its host says.
 use Rattle.std.proofs.Common.{◌≡◌, ◌∙◌, ℕ, Bool, true, false, List, [], Option, Some, None, refl, ap, sym, subst, not}
-use Rattle.std.specs.Prelude.{if◌then◌else◌, length}
+use Rattle.std.specs.Prelude.{if◌then◌else◌, length, is_some, Result}
 use Rattle.std.specs.Bool.{beq}
 use Rattle.hid_layout.specs.Controls.{Item, items_of, max_events}
 use Rattle.hid_layout.specs.Layout.{Contents}
@@ -12,20 +12,25 @@ use Rattle.hid_lives.specs.Lives as lives
 use Rattle.hid_lives.specs.Stations.{Station}
 use Rattle.hid_device.specs.Core.{CoreState, IsSound, halted_core, round_of}
 use Rattle.hid_device.specs.Device.{DeviceState, core_of, halted_device}
+use Rattle.usb_transact.specs.declared.transaction.Fate.{Fate}
+use Rattle.usb_control.specs.declared.host.Progress.{Progress}
 use Rattle.usb_control.specs.Device.{DevControlState}
+use Rattle.hid_host.specs.declared.fault.StackFault.{StackFault}
 use Rattle.hid_host.specs.declared.phase.HostPhase.{HostPhase}
 use Rattle.hid_host.specs.declared.phase.HostPhase.TheVariants.{Cold, Described, Parsed, Ready}
 use Rattle.hid_host.specs.declared.host.Transfer.{Transfer}
+use Rattle.hid_host.specs.Bringing.{may_cut}
 use Rattle.hid_host.specs.Host.{HostEnd}
 use Rattle.hid_host.specs.Phase.{state_of}
 use Rattle.hid_host.specs.Knowing.{Knows, LeavesTransfers, with_core}
 use Rattle.hid_host.specs.Ready.{Known}
 use Rattle.hid_host.specs.Resetting.{awaited, cut_told, told_cut}
-use Rattle.hid_stack.specs.Members.{Halts, Member, events_by, expects_of, halted_deed, halted_if, held_at, held_if, member_after}
+use Rattle.hid_stack.specs.Members.{Halts, Member, control_at, events_by, expects_of, halted_deed, halted_if, held_at, held_if, member_after, tried_deed}
 use Rattle.hid_stack.specs.Slot.{ArePaired, IsEvenUnless, IsUntouched, StandTogether, held_of, joined, joint, round_between, station_of}
-use Rattle.hid_stack.specs.Sums.{CutsNone}
-use Rattle.hid_stack.proofs.MemberLemmas.{IsEffect, quiet_effect}
-use Rattle.hid_stack.proofs.TransferLemmas.{IsOpenBehind, expects_so, halted_with, host_by}
+use Rattle.hid_stack.specs.Sums.{CutsByRequest, CutsNone, IsBetween}
+use Rattle.hid_stack.proofs.MemberLemmas.{IsEffect, brings_effect, quiet_effect}
+use Rattle.hid_stack.specs.Tells.{kept_if}
+use Rattle.hid_stack.proofs.TransferLemmas.{IsOpenBehind, Steps, expects_so, halted_with, host_by}
 
 -- ---- what is told
 
@@ -190,3 +195,36 @@ still_open (Some Configures) before r behind = absurd (cc)
 still_open (Some lives.Halts) before r behind = absurd (cc)
 still_open (Some lives.Clears) before r behind = absurd (cc)
 still_open (Some lives.Resets) before r behind = tt
+
+-- so what was told before it is kept where it is so
+kept_so : (items : List Item) (s : Station) (deed : Option Deed) (before now : Option ℕ) (may : Bool) → IsEffect deed → IsOpenBehind before deed now → (before ≡ None → s.current ≡ None)
+    → (deed ≡ Some Configures → s.current ≡ None) → (may ≡ false → CutsNone deed) → kept_if may (is_some now) (cut_events items s) ≡ events_by items s deed
+kept_so items s deed before now false is behind none apart cuts = sym (quiet_effect items s deed is (cuts refl))
+kept_so items s deed before None true is behind none apart cuts = tried_tells items s deed before None is behind none refl apart
+kept_so items s deed before (Some r) true is behind none apart cuts = sym (quiet_effect items s deed is (still_open deed before r behind))
+
+tried_effect : (fate : Fate) (m : Member) (o : Option Transfer) → IsEffect (tried_deed fate m o)
+tried_effect fate m None = tt
+tried_effect fate m (Some t) = brings_effect fate t.ends (control_at m)
+
+uncut_by : (fate : Fate) (m : Member) (o : Option Transfer) → CutsByRequest fate m o → may_cut o ≡ false → CutsNone (tried_deed fate m o)
+uncut_by fate m None cuts none = tt
+uncut_by fate m (Some t) cuts none = cuts none
+
+pub kept_at_try : (fate : Fate) (device : DeviceState) (control : DevControlState CoreState) (host host_then : HostEnd) (o : Option Transfer) (result : Result Progress StackFault) → Steps fate device control host host_then o result
+    → StandTogether device host.clearing host.phase
+    → kept_if (may_cut o) (is_some control.requests.current) (cut_events (items_of (core_of device).layout) (station_of (core_of device) host.phase))
+    ≡ events_by (items_of (core_of device).layout) (station_of (core_of device) host.phase) (tried_deed fate (joint device host) o)
+kept_at_try fate device control host host_then o result step together =
+    let m = joint device host in
+    kept_so (items_of (core_of device).layout) m.station (tried_deed fate m o) (core_of device).current control.requests.current (may_cut o)
+    (tried_effect fate m o) step.open_then (unready_open device host.clearing host.phase together)
+    (λ is. subst (IsBetween m.station) is step.between) (uncut_by fate m o step.cuts)
+
+-- a round is shown where one is open
+pub shown_open : (core : CoreState) → is_some (round_of core) ≡ is_some core.current
+shown_open core = by_current core.current
+  where
+    by_current : (current : Option ℕ) → is_some (round_of (record core { current = current })) ≡ is_some current
+    by_current None = refl
+    by_current (Some r) = refl

@@ -11,6 +11,7 @@ pub mod RoomLemmas
 pub mod RigLemmas
 pub mod ResetLemmas
 pub mod HaltLemmas
+pub mod BeginLemmas
 pub mod AttachLemmas
 pub mod StoryLemmas
 pub mod AnswerLemmas

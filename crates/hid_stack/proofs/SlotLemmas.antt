@@ -1,5 +1,12 @@
 -- A device and its host as one slot of the bus.
-use Rattle.std.proofs.Common.{◌≡◌, ◌∙◌, ◌≤◌, ℕ, Bool, true, false, ◌||◌, List, Option, Ok, refl, ap, sym, subst}
+use Rattle.std.proofs.Common.{◌≡◌, ◌∙◌, ◌≤◌, ◌++◌, ℕ, Bool, true, false, ◌||◌, List, length, map, Option, Some, None, Result, Ok, Err, inl, refl, ap, sym, subst}
+use Rattle.std.specs.Prelude.{OnErr, if◌then◌else◌}
+use Rattle.std.proofs.lemmas.List.{append-nil, nil_from_length}
+use Rattle.usb_transact.specs.declared.transaction.Fate.{Fate}
+use Rattle.usb_control.specs.declared.host.Progress.{Progress}
+use Rattle.hid_requests.specs.declared.request.Request.{Request}
+use Rattle.hid_requests.specs.declared.request.Request.TheVariants as requests
+use Rattle.hid_cells.specs.declared.event.Event.{Event}
 use Rattle.hid_layout.specs.Controls.{items_of, max_events}
 use Rattle.hid_descriptor.specs.Laws.{HasOneReading, AcceptsNoRefused}
 use Rattle.hid_layout.specs.Layout.{Contents, layout_of}
@@ -16,6 +23,8 @@ use Rattle.hid_host.specs.declared.fault.StackFault.{StackFault}
 use Rattle.hid_host.specs.declared.fault.StackFault.TheVariants as faults
 use Rattle.hid_host.specs.declared.fault.DescriptorFault.TheVariants.{Info, ReportLength, Layout, Device}
 use Rattle.usb_control.specs.Device.{DevControlState}
+use Rattle.hid_host.specs.declared.host.Transfer.{Transfer}
+use Rattle.hid_host.specs.Bringing.{TakesMemory, cuts_round, may_cut}
 use Rattle.hid_host.specs.Knowing.{Knows, LeavesTransfers, with_core}
 use Rattle.hid_host.specs.Phase.{may_poll, state_of}
 use Rattle.hid_host.specs.Ready.{Known}
@@ -26,7 +35,10 @@ use Rattle.hid_host.specs.Conclusions.{IsNoLayout}
 use Rattle.hid_host.specs.Host.{HostEnd, cold_host, ready_host}
 use Rattle.hid_host.specs.declared.phase.HostPhase.{HostPhase}
 use Rattle.hid_host.specs.declared.phase.HostPhase.TheVariants.{Cold, Described, Parsed, Ready}
-use Rattle.hid_stack.specs.Slot.{joint, IsEvenUnless, IsPair, IsUntouched, StandTogether}
+use Rattle.hid_stack.specs.declared.step.Delivered.{Delivered}
+use Rattle.hid_stack.specs.Members.{Member, tried_to}
+use Rattle.hid_stack.specs.Rig.{HasRoomToTry, tagged}
+use Rattle.hid_stack.specs.Slot.{joint, IsEvenUnless, IsPair, IsUntouched, StandTogether, TriesOnPair, TriesTransfer}
 
 -- where the device accepts the descriptor, its host lacks nothing but memory
 pub no_pair : (addr : ℕ) (config : Config) (descriptor : List ℕ) (fault : StackFault) (made : DeviceState)
@@ -160,21 +172,21 @@ holds_on device device_then host capacity others transfers l (together, knows, h
   subst (λ (x : Contents). max_events (items_of x) ≤ capacity) (sym l.layout) room,
 )
 
-pub changed_leaves : (device device_then : DeviceState) (change : Change) → device_then ≡ changed_device device change → IsSound (core_of device_then) → Leaves device device_then
-changed_leaves device device_then change is sound = record {
-  addr = ap (λ (d : DeviceState). d.addr) is;
-  layout = ap (λ (d : DeviceState). (core_of d).layout) is;
-  configured = ap (λ (d : DeviceState). (core_of d).is_configured) is;
-  current = ap (λ (d : DeviceState). (core_of d).current) is;
-  toggle = ap (λ (d : DeviceState). (core_of d).toggle) is;
-  halted = ap (λ (d : DeviceState). (core_of d).halted) is;
+-- a device that such a step leaves so
+pub leaves_as : (device other device_then : DeviceState) → device_then ≡ other → other.addr ≡ device.addr → (core_of other).layout ≡ (core_of device).layout → (core_of other).is_configured ≡ (core_of device).is_configured
+    → (core_of other).current ≡ (core_of device).current → (core_of other).toggle ≡ (core_of device).toggle → (core_of other).halted ≡ (core_of device).halted → IsSound (core_of device_then) → Leaves device device_then
+leaves_as device other device_then is addr layout configured current toggle halted sound = record {
+  addr = ap (λ (d : DeviceState). d.addr) is ∙ addr;
+  layout = ap (λ (d : DeviceState). (core_of d).layout) is ∙ layout;
+  configured = ap (λ (d : DeviceState). (core_of d).is_configured) is ∙ configured;
+  current = ap (λ (d : DeviceState). (core_of d).current) is ∙ current;
+  toggle = ap (λ (d : DeviceState). (core_of d).toggle) is ∙ toggle;
+  halted = ap (λ (d : DeviceState). (core_of d).halted) is ∙ halted;
   sound = sound;
 }
 
-pub changed_transfers : (clearing : Bool) (device device_then : DeviceState) (change : Change)
-    → ((clearing : Bool) (control : DevControlState CoreState) (change : Change) → LeavesTransfers clearing control (with_core control (changed_core control.requests change)))
-    → device_then ≡ changed_device device change → LeavesTransfers clearing device.control device_then.control
-changed_transfers clearing device device_then change law is = subst (λ (d : DeviceState). LeavesTransfers clearing device.control d.control) (sym is) (law clearing device.control change)
+pub transfers_as : (clearing : Bool) (device other device_then : DeviceState) → device_then ≡ other → LeavesTransfers clearing device.control other.control → LeavesTransfers clearing device.control device_then.control
+transfers_as clearing device other device_then is leaves = subst (λ (d : DeviceState). LeavesTransfers clearing device.control d.control) (sym is) leaves
 
 -- ---- polls
 
@@ -190,3 +202,38 @@ pair_together device clearing Cold pair = absurd pair
 pair_together device clearing (Described info) pair = absurd pair
 pair_together device clearing (Parsed info layout) pair = absurd pair
 pair_together device clearing (Ready known) pair = pair
+
+-- ---- tries of a transfer
+
+-- a request that gives more ends no round
+uncut_request : (request : Request) → TakesMemory request → cuts_round request ≡ false
+uncut_request requests.Halt takes = absurd takes
+uncut_request requests.Clear takes = absurd takes
+uncut_request _ takes = refl
+
+-- so the two try as their member
+pub transfers_so : (fate : Fate) (m : Member) (o : Option Transfer) (result : Result Progress StackFault) (new : Member) → TriesOnPair fate m o result new → TriesTransfer fate m o result new
+transfers_so fate m None result new tries = tries
+transfers_so fate m (Some t) (Ok progress) new tries = tries
+transfers_so fate m (Some t) (Err fault) new (is, more, to) =
+    (is, inl more, to ∙ sym (ap (λ (b : Bool). if b then m else tried_to fate m t m.host) (uncut_request t.request more.1)))
+
+-- where one is refused it ends no round
+pub uncut_err : (fate : Fate) (m : Member) (o : Option Transfer) (result : Result Progress StackFault) (new : Member) → TriesOnPair fate m o result new → OnErr result (may_cut o ≡ false)
+uncut_err fate m o (Ok progress) new tries = tt
+uncut_err fate m None (Err fault) new tries = refl
+uncut_err fate m (Some t) (Err fault) new (is, more, to) = uncut_request t.request more.1
+
+-- and so hands on nothing
+pub err_nothing : (o : Option Transfer) (result : Result Progress StackFault) (dev : ℕ) (events : List Event) (before now : List Delivered) → OnErr result (may_cut o ≡ false) → (may_cut o ≡ false → length events ≡ 0)
+    → now ≡ before ++ map (tagged dev) events → OnErr result (now ≡ before)
+err_nothing o (Ok progress) dev events before now uncut none is = tt
+err_nothing o (Err fault) dev events before now uncut none is =
+    is ∙ ap (λ (es : List Event). before ++ map (tagged dev) es) (nil_from_length events (none uncut)) ∙ append-nil before
+
+-- with room for what it may drop, memory is wanting only where its request gives more
+pub never_wanting : (fate : Fate) (m : Member) (o : Option Transfer) (result : Result Progress StackFault) (new : Member) (used capacity : ℕ) → TriesOnPair fate m o result new → HasRoomToTry fate m o used capacity
+    → result ≡ Err faults.Memory → ⊥
+never_wanting fate m None result new used capacity tries room wants = let is = tries.0 in absurd (cc)
+never_wanting fate m (Some t) (Ok progress) new used capacity tries room wants = absurd (cc)
+never_wanting fate m (Some t) (Err fault) new used capacity (is, more, to) room wants = room.1 more

@@ -541,7 +541,7 @@ pub expects_so : (device : DeviceState) (addr : ℕ) (transfer : Option Transfer
 expects_so device addr transfer clearing known pair = expects_if ((core_of device).halted || clearing) (core_of device) known pair.even
 
 -- what is held is that
-halts_so : (core : CoreState) (phase : HostPhase) → (station_of core phase).halted ≡ core.halted
+pub halts_so : (core : CoreState) (phase : HostPhase) → (station_of core phase).halted ≡ core.halted
 halts_so core Cold = refl
 halts_so core (Described info) = refl
 halts_so core (Parsed info layout) = refl
@@ -551,7 +551,7 @@ halts_so core (Ready known) = refl
 abbrev pub host_by : ℕ → Option Transfer → Bool → HostPhase → HostEnd
 host_by addr transfer clearing phase = record { addr = addr; phase = phase; transfer = transfer; clearing = clearing }
 
-holds_still : (device : DeviceState) (core : CoreState) (addr : ℕ) (transfer : Option Transfer) (before now : Bool) (phase : HostPhase) → StandTogether device before phase
+pub holds_still : (device : DeviceState) (core : CoreState) (addr : ℕ) (transfer : Option Transfer) (before now : Bool) (phase : HostPhase) → StandTogether device before phase
     → held_of core now phase ≡ held_at (state_of phase) (core.halted || now) (expects_of (joint device (host_by addr transfer before phase)))
 holds_still device core addr transfer before now Cold together = refl
 holds_still device core addr transfer before now (Described info) together = refl

@@ -1,7 +1,8 @@
 -- What a step tells, by its fate (USB 2.0, 8.4.5, 8.5.3, 8.5.4 and 8.6).
-use Rattle.std.specs.Prelude.{◌≡◌, ℕ, if◌then◌else◌, List, [], Option, Some, None}
+use Rattle.std.specs.Prelude.{◌≡◌, ℕ, Bool, true, false, if◌then◌else◌, List, [], Option, Some, None}
 use Rattle.hid_layout.specs.Controls.{items_of}
 use Rattle.hid_layout.specs.Layout.{Contents}
+use Rattle.hid_cells.specs.declared.event.Event.{Event}
 use Rattle.usb_packet.specs.declared.packet.Packet.{Packet}
 use Rattle.usb_packet.specs.declared.packet.Packet.TheVariants as packets
 use Rattle.usb_packet.specs.Spelling.{spelling}
@@ -90,3 +91,9 @@ Tells members (Control dev fate) told = elim (member_at members dev) [
   | None ↦ ⊥
   | Some m ↦ TellsTry fate m (running m.transfer) told
 ]
+
+-- what was told of the open round before a try that may end it stands where none is open behind it
+abbrev pub kept_if : Bool → Bool → List Event → List Event
+kept_if true false events = events
+kept_if true true events = []
+kept_if false is_open events = []

@@ -9,6 +9,7 @@ ghost use Rattle.hid_host.specs.Host.{running};
 ghost use Rattle.hid_host.specs.Knowing.{Knows};
 ghost use Rattle.hid_stack.specs.Members.{Halts, events_by, halted_deed, member_after, tried_deed};
 ghost use Rattle.hid_stack.specs.Slot.{StandTogether, TriesOnPair, joint, station_of};
+ghost use Rattle.hid_stack.specs.Tells.{kept_if};
 ghost use Rattle.hid_stack.specs.Sums.{CutsByRequest, IsBetween};
 
 use crate::slot::is_sound;
@@ -94,8 +95,17 @@ pub(crate) fn control_pair(
     let may_cut = host.may_cut();
     let result = host.control_step(device.control(), fate);
     is_sound(device);
-    if !may_cut || device.open_round().is_some() {
+    let is_open = device.open_round().is_some();
+    keep_if_cut(may_cut, is_open, events);
+    result
+}
+
+/// Keeps what was told of a round where a try may have ended it, and left none open.
+fn keep_if_cut(may_cut: bool, is_open: bool, events: &mut Vec<Event>)
+    ensures events { events.new.items ≡ kept_if may_cut is_open events.old.items }
+    ensures capacity { vec_capacity events.new ≡ vec_capacity events.old }
+{
+    if !may_cut || is_open {
         events.clear();
     }
-    result
 }

@@ -1,8 +1,12 @@
-use Rattle.hid_stack.proofs.SlotLemmas.{changed_leaves, changed_transfers, holds_on}
+use Rattle.std.proofs.Common.{refl}
+use Rattle.hid_device.specs.Device.{changed_device}
+use Rattle.hid_stack.proofs.SlotLemmas.{holds_on, leaves_as, transfers_as}
 use Rattle.hid_stack.proofs.slot.Slot.change.Goals as goal
 
 pub invariant_of-self : goal.invariant_of-self
 invariant_of-self c =
-    holds_on c.self.inside.device c.change-result.new.self c.self.inside.host _ c.hosts_know_their_devices.ensures.meanwhile
-    (changed_transfers c.self.inside.host.clearing c.self.inside.device c.change-result.new.self c.args.change c.devices_leave_transfers.ensures.changes c.change-result.ensures.device)
-    (changed_leaves c.self.inside.device c.change-result.new.self c.args.change c.change-result.ensures.device c.is_sound.ensures) c.self.invariant
+    let device = c.self.inside.device in
+    let other = changed_device device c.args.change in
+    holds_on device c.change-result.new.self c.self.inside.host _ c.hosts_know_their_devices.ensures.meanwhile
+    (transfers_as c.self.inside.host.clearing device other c.change-result.new.self c.change-result.ensures.device (c.devices_leave_transfers.ensures.changes c.self.inside.host.clearing device.control c.args.change))
+    (leaves_as device other c.change-result.new.self c.change-result.ensures.device refl refl refl refl refl refl c.is_sound.ensures) c.self.invariant

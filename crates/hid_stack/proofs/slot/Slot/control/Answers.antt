@@ -1,32 +1,38 @@
-use Rattle.std.proofs.Common.{◌≤◌, false, subst, sym, vec_capacity}
-use Rattle.hid_layout.specs.Controls.{items_of, max_events}
-use Rattle.hid_layout.specs.Layout.{Contents}
+use Rattle.std.proofs.Common.{◌≡◌, ◌++◌, ◌∙◌, Err, List, ap, subst, map, vec_len, vec_capacity}
+use Rattle.std.proofs.lemmas.Grind.{common_steps}
+use Rattle.hid_cells.specs.declared.event.Event.{Event}
+use Rattle.hid_host.specs.declared.fault.StackFault.TheVariants.{Memory}
 use Rattle.hid_host.specs.Host.{running}
-use Rattle.hid_stack.specs.Members.{Member, tried_deed}
+use Rattle.hid_stack.specs.Members.{Member}
+use Rattle.hid_stack.specs.Rig.{HasRoomToTry, tagged}
 use Rattle.hid_stack.specs.Slot.{TriesTransfer, joint}
-use Rattle.hid_stack.specs.Sums.{IsBetween}
-use Rattle.hid_stack.proofs.TransferLemmas.{knows_so, steps_so}
+use Rattle.hid_stack.proofs.SlotLemmas.{err_nothing, never_wanting, transfers_so, uncut_err}
 use Rattle.hid_stack.proofs.slot.Slot.control.Goals as goal
-
-pub invariant_of-self : goal.invariant_of-self
-invariant_of-self c =
-    let step = steps_so c.args.fate c.self.inside.device c.control.result.now c.control_step-result.new.control c.self.inside.host c.control_step-result.new.self c.control_step-result.result
-    c.hosts_know_their_devices.ensures.steps c.control_steps_are_computed.ensures c.control.ensures.now c.control_step-result.ensures c.self.invariant.0 c.self.invariant.1 c.self.invariant.2 c.is_sound.ensures in (
-      step.together,
-      knows_so c.args.fate c.self.inside.device c.control.result.now c.control_step-result.new.control c.self.inside.host c.control_step-result.new.self c.control_step-result.result
-          c.hosts_know_their_devices.ensures.steps c.control.ensures.now c.control_step-result.ensures c.self.invariant.0 c.self.invariant.1,
-      step.home,
-      subst (λ (l : Contents). max_events (items_of l) ≤ vec_capacity c.self.inside.events) (sym step.layout) c.self.invariant.3,
-    )
+use Rattle.hid_stack.proofs.slot.Slot.control.Goals.{else-may_cut-via-then-may_cut+else-is_err, else-may_cut-via-else-may_cut}
 
 pub returns-clause-tries : goal.returns-clause-tries
 returns-clause-tries c =
-    let step = steps_so c.args.fate c.self.inside.device c.control.result.now c.control_step-result.new.control c.self.inside.host c.control_step-result.new.self c.control_step-result.result
-    c.hosts_know_their_devices.ensures.steps c.control_steps_are_computed.ensures c.control.ensures.now c.control_step-result.ensures c.self.invariant.0 c.self.invariant.1 c.self.invariant.2 c.is_sound.ensures in
-    subst (λ (m : Member). TriesTransfer c.args.fate m (running m.transfer) c.control_step-result.result (joint (record { addr = c.self.inside.device.addr; control = c.control_step-result.new.control; waits = false }) c.control_step-result.new.self)) c.self.view_is step.tries
+    let tried = c.control_pair-result in
+    let m = joint c.self.inside.device c.self.inside.host in
+    let new = joint tried.new.device tried.new.host in
+    subst (λ (x : Member). TriesTransfer c.args.fate x (running x.transfer) tried.result new) c.self.view_is
+    (transfers_so c.args.fate m (running c.self.inside.host.transfer) tried.result new tried.ensures.tries)
 
-pub returns-clause-between : goal.returns-clause-between
-returns-clause-between c =
-    let step = steps_so c.args.fate c.self.inside.device c.control.result.now c.control_step-result.new.control c.self.inside.host c.control_step-result.new.self c.control_step-result.result
-    c.hosts_know_their_devices.ensures.steps c.control_steps_are_computed.ensures c.control.ensures.now c.control_step-result.ensures c.self.invariant.0 c.self.invariant.1 c.self.invariant.2 c.is_sound.ensures in
-    subst (λ (m : Member). IsBetween m.station (tried_deed c.args.fate m (running m.transfer))) c.self.view_is step.between
+pub returns-clause-err_events : goal.returns-clause-err_events
+returns-clause-err_events c =
+    let tried = c.control_pair-result in
+    let m = joint c.self.inside.device c.self.inside.host in
+    let same : c.else-may_cut.out.items ≡ c.args.out.now.items = elim c.else-may_cut.branch [
+      | else-may_cut-via-then-may_cut+else-is_err w ↦ let is = w.out-is in cc
+      | else-may_cut-via-else-may_cut w ↦ let is = w.out-is in cc
+    ] in
+    err_nothing (running c.self.inside.host.transfer) tried.result c.args.dev tried.new.events.items c.args.out.now.items c.hand_over.new.out.items
+    (uncut_err c.args.fate m (running c.self.inside.host.transfer) tried.result (joint tried.new.device tried.new.host) tried.ensures.tries) tried.ensures.none
+    (c.hand_over.ensures.items ∙ ap (λ (es : List Event). c.else-may_cut.out.items ++ map (tagged c.args.dev) es) c.deref.ensures.value ∙ ap (λ o. o ++ map (tagged c.args.dev) tried.new.events.items) same)
+
+pub returns-clause-room : goal.returns-clause-room
+returns-clause-room c =
+    let tried = c.control_pair-result in
+    let m = joint c.self.inside.device c.self.inside.host in
+    subst (λ (x : Member). HasRoomToTry c.args.fate x (running x.transfer) (vec_len c.args.out.now) (vec_capacity c.args.out.now) → tried.result ≡ Err Memory → ⊥) c.self.view_is
+    (never_wanting c.args.fate m (running c.self.inside.host.transfer) tried.result (joint tried.new.device tried.new.host) (vec_len c.args.out.now) (vec_capacity c.args.out.now) tried.ensures.tries)

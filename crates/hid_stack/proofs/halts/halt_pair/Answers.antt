@@ -1,0 +1,6 @@
+use Rattle.hid_stack.proofs.HaltLemmas.{halts_so}
+use Rattle.hid_stack.proofs.halts.halt_pair.Goals as goal
+
+pub returns-clause-knows : goal.returns-clause-knows
+returns-clause-knows c =
+    (halts_so c.args.device.now c.halt.new.self c.args.host.now c.hosts_know_their_devices.ensures.meanwhile c.devices_leave_transfers.ensures.halted c.halt.ensures c.is_sound.ensures c.requires.together c.requires.knows).knows
