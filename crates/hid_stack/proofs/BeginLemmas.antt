@@ -15,7 +15,7 @@ use Rattle.hid_host.specs.Knowing.{Knows, asking_of}
 use Rattle.hid_host.specs.Phase.{asking_at, state_of}
 use Rattle.hid_stack.specs.Members.{Begins, begun_unless, expects_of, held_at, member_after}
 use Rattle.hid_stack.specs.Slot.{StandTogether, joint}
-use Rattle.hid_stack.proofs.TransferLemmas.{halts_so, holds_still}
+use Rattle.hid_stack.proofs.TryLemmas.{halts_so, holds_still}
 
 -- a transfer that has yet to make its first try, with this setup
 abbrev transfer_with : ℕ → Request → Setup → Transfer

@@ -30,7 +30,8 @@ use Rattle.hid_stack.specs.Slot.{ArePaired, IsEvenUnless, IsUntouched, StandToge
 use Rattle.hid_stack.specs.Sums.{CutsByRequest, CutsNone, IsBetween}
 use Rattle.hid_stack.proofs.MemberLemmas.{IsEffect, brings_effect, quiet_effect}
 use Rattle.hid_stack.specs.Tells.{kept_if}
-use Rattle.hid_stack.proofs.TransferLemmas.{IsOpenBehind, Steps, expects_so, halted_with, host_by}
+use Rattle.hid_stack.proofs.TransferLemmas.{halted_with}
+use Rattle.hid_stack.proofs.TryLemmas.{IsOpenBehind, Steps, expects_so, host_by}
 
 -- ---- what is told
 
