@@ -1,5 +1,5 @@
 -- A host that begins a request, and the member that it is then with its device (USB 2.0, 8.5.3).
-use Rattle.std.proofs.Common.{◌≡◌, ◌∙◌, ℕ, Bool, ◌||◌, Option, Some, None, Result, Ok, Err, refl, ap, sym}
+use Rattle.std.proofs.Common.{◌≡◌, ◌∙◌, ℕ, Bool, ◌||◌, Option, Some, None, Result, Ok, Err, ap, sym}
 use Rattle.std.specs.Prelude.{IfOk, OnOk}
 use Rattle.usb_control.specs.declared.setup.Setup.{Setup}
 use Rattle.usb_control.specs.Device.{DevControlState}

@@ -1,6 +1,6 @@
 -- What a try of a transfer leaves of a device and its host, as their member (USB 2.0, 8.5.3 and 9.1.1).
-use Rattle.std.proofs.Common.{◌≡◌, ◌∙◌, ℕ, Bool, true, false, cond, not, List, Option, Some, None, Result, Ok, Err, inl, inr, refl, ap, sym, subst}
-use Rattle.std.specs.Prelude.{◌||◌, IfSome}
+use Rattle.std.proofs.Common.{◌≡◌, ◌∙◌, ℕ, Bool, true, false, List, Option, Some, None, refl, ap, sym, subst}
+use Rattle.std.specs.Prelude.{◌||◌}
 use Rattle.hid_cells.specs.declared.cell.Cell.{Cell}
 use Rattle.std.specs.Option.{option_map}
 use Rattle.hid_layout.specs.Controls.{items_of}
@@ -13,16 +13,14 @@ use Rattle.usb_transact.specs.declared.transaction.Fate.TheVariants.{Clean, Toke
 use Rattle.usb_control.specs.declared.device.Heard.{Heard}
 use Rattle.usb_control.specs.declared.device.Heard.TheVariants as hears
 use Rattle.usb_control.specs.declared.device.Stage.{Stage}
-use Rattle.usb_control.specs.declared.fault.ControlFault.TheVariants.{NoTransfer}
 use Rattle.usb_control.specs.declared.host.HostStage.{HostStage}
 use Rattle.usb_control.specs.declared.host.HostStage.TheVariants as stages
-use Rattle.usb_control.specs.declared.host.Progress.{Progress}
-use Rattle.usb_control.specs.Computed.{AppliesBy, PreparesBy, control_tried, effect_reached, host_tried}
+use Rattle.usb_control.specs.Computed.{control_tried, effect_reached, host_tried}
 use Rattle.usb_control.specs.Device.{Answers, Applies, Decides, DevControlState, Effect}
-use Rattle.usb_control.specs.Host.{HostTransferState, IsRunning, progress_of}
+use Rattle.usb_control.specs.Host.{HostTransferState}
 use Rattle.hid_requests.specs.declared.request.Request.{Request}
 use Rattle.hid_requests.specs.declared.request.Request.TheVariants as requests
-use Rattle.hid_lives.specs.Stations.{Station, Open, expected}
+use Rattle.hid_lives.specs.Stations.{Station, Open}
 use Rattle.hid_device.specs.declared.device.TheConstants.{ENDPOINT}
 use Rattle.hid_requests.specs.declared.class.Protocol.{Protocol}
 use Rattle.hid_lives.specs.Lives.{Deed, Own, Idles, Configures, befallen}
@@ -36,22 +34,18 @@ use Rattle.hid_device.specs.Outputs.{kept}
 use Rattle.hid_device.specs.Deciding.{core_table, effected, idle_set}
 use Rattle.hid_device.specs.Device.{DeviceState, core_of}
 use Rattle.hid_device.specs.Laying.{Lays}
-use Rattle.hid_host.specs.declared.fault.StackFault.{StackFault}
-use Rattle.hid_host.specs.declared.fault.StackFault.TheVariants.{Control, Memory}
 use Rattle.hid_host.specs.declared.host.Transfer.{Transfer}
 use Rattle.hid_host.specs.declared.phase.HostPhase.{HostPhase}
 use Rattle.hid_host.specs.declared.phase.HostPhase.TheVariants.{Cold, Described, Parsed, Ready}
-use Rattle.hid_host.specs.declared.phase.HostState.{HostState}
 use Rattle.hid_host.specs.declared.phase.HostState.TheVariants as states
-use Rattle.hid_host.specs.Bringing.{IsComputed, TakesMemory, answering, brought, brought_about, brought_at, carried_out, clears, clears_in, configures, cuts_in, cuts_round, ends_after, host_after}
-use Rattle.hid_host.specs.Host.{ControlSteps, HostEnd, TriesOnce, clearing_behind, is_clear, running, running_at}
-use Rattle.hid_host.specs.Knowing.{BeginsAnew, IsNoRefusal, IsPending, Knows, KnowsAt}
+use Rattle.hid_host.specs.Bringing.{TakesMemory, answering, brought, brought_about, brought_at, carried_out, clears, clears_in, configures, cuts_in, ends_after}
+use Rattle.hid_host.specs.Host.{HostEnd, clearing_behind, is_clear}
+use Rattle.hid_host.specs.Knowing.{BeginsAnew, KnowsAt}
 use Rattle.hid_host.specs.Phase.{may_begin, state_of}
 use Rattle.hid_host.specs.Ready.{Known, known_at_start, known_cleared}
-use Rattle.hid_device.specs.declared.config.Config.{Config}
-use Rattle.hid_stack.specs.Members.{Endpoint, Member, befallen_by, brought_deed, control_at, core_at, effect_deed, endpoint_of, ends_tried_at, expects_behind, expects_of, held_at, held_if, state_at, state_behind, tried_deed, tried_to, written_deed}
-use Rattle.hid_stack.specs.Slot.{ArePaired, IsEven, IsEvenUnless, IsUntouched, StandTogether, TriesOnPair, held_of, joined, joint, round_between, station_of}
-use Rattle.hid_stack.specs.Sums.{CutsByRequest, CutsNone, IsBetween}
+use Rattle.hid_stack.specs.Members.{befallen_by, brought_deed, control_at, core_at, effect_deed, endpoint_of, ends_tried_at, state_at, state_behind, written_deed}
+use Rattle.hid_stack.specs.Slot.{ArePaired, IsEven, IsEvenUnless, IsUntouched, StandTogether, joined, joint, round_between, station_of}
+use Rattle.hid_stack.specs.Sums.{CutsNone}
 
 -- ---- the device of a member is its device, but for what it heard last
 
@@ -343,7 +337,7 @@ brought_station requests.Configure addr core (Described info) needs none anew = 
 brought_station requests.Configure addr core (Parsed info layout) needs none anew = configured_at core addr (Parsed info layout) (none refl)
 brought_station requests.Configure addr core (Ready known) needs none anew = absurd (cc)
 
-brought_at_station : (stage : HostStage) (request : Request) (addr : ℕ) (core : CoreState) (phase : HostPhase) → may_begin request (state_of phase) ≡ true → (state_of phase ≡ states.Parsed → core.current ≡ None)
+pub brought_at_station : (stage : HostStage) (request : Request) (addr : ℕ) (core : CoreState) (phase : HostPhase) → may_begin request (state_of phase) ≡ true → (state_of phase ≡ states.Parsed → core.current ≡ None)
     → (is_clear request ≡ true → stage ≡ stages.Done → core.current ≡ None) → station_of core (brought_at stage request addr core phase) ≡ station_of core phase
 brought_at_station stages.Done request addr core phase needs none anew = brought_station request addr core phase needs none (λ is. anew is refl)
 brought_at_station stages.Setup request addr core phase needs none anew = refl
@@ -351,7 +345,7 @@ brought_at_station (stages.DataIn one) request addr core phase needs none anew =
 brought_at_station (stages.DataOut sent one) request addr core phase needs none anew = refl
 brought_at_station stages.StatusIn request addr core phase needs none anew = refl
 brought_at_station stages.StatusOut request addr core phase needs none anew = refl
-pub brought_at_station (stages.Failed fault) request addr core phase needs none anew = refl
+brought_at_station (stages.Failed fault) request addr core phase needs none anew = refl
 
 -- ---- how far the host comes
 
@@ -375,14 +369,14 @@ state_brought requests.Clear addr core (Described info) = refl
 state_brought requests.Clear addr core (Parsed info layout) = refl
 state_brought requests.Clear addr core (Ready known) = refl
 
-state_brought_at : (stage : HostStage) (request : Request) (addr : ℕ) (core : CoreState) (phase : HostPhase) → state_of (brought_at stage request addr core phase) ≡ state_at stage request (state_of phase)
+pub state_brought_at : (stage : HostStage) (request : Request) (addr : ℕ) (core : CoreState) (phase : HostPhase) → state_of (brought_at stage request addr core phase) ≡ state_at stage request (state_of phase)
 state_brought_at stages.Done request addr core phase = state_brought request addr core phase
 state_brought_at stages.Setup request addr core phase = refl
 state_brought_at (stages.DataIn one) request addr core phase = refl
 state_brought_at (stages.DataOut sent one) request addr core phase = refl
 state_brought_at stages.StatusIn request addr core phase = refl
 state_brought_at stages.StatusOut request addr core phase = refl
-pub state_brought_at (stages.Failed fault) request addr core phase = refl
+state_brought_at (stages.Failed fault) request addr core phase = refl
 
 -- ---- the two stay together
 
@@ -492,7 +486,7 @@ goes_together requests.Configure addr device clearing (Described info) needs sou
 goes_together requests.Configure addr device clearing (Parsed info layout) needs sound none anew knows t = starts_together device clearing addr sound knows (none refl)
 goes_together requests.Configure addr device clearing (Ready known) needs sound none anew knows t = absurd (cc)
 
-goes_together_at : (stage : HostStage) (request : Request) (addr : ℕ) (device : DeviceState) (clearing : Bool) (phase : HostPhase) → may_begin request (state_of phase) ≡ true → IsSound (core_of device)
+pub goes_together_at : (stage : HostStage) (request : Request) (addr : ℕ) (device : DeviceState) (clearing : Bool) (phase : HostPhase) → may_begin request (state_of phase) ≡ true → IsSound (core_of device)
     → (state_of phase ≡ states.Parsed → NoRounds (core_of device)) → (is_clear request ≡ true → stage ≡ stages.Done → BeginsAnew (core_of device)) → KnowsAt (brought_at stage request addr (core_of device) phase) device.addr (core_of device)
     → StandTogether device clearing phase → StandTogether device (clearing_behind stage request clearing) (brought_at stage request addr (core_of device) phase)
 goes_together_at stages.Done request addr device clearing phase needs sound none anew knows t = goes_together request addr device clearing phase needs sound none (λ is. anew is refl) knows t
@@ -501,10 +495,10 @@ goes_together_at (stages.DataIn one) request addr device clearing phase needs so
 goes_together_at (stages.DataOut sent one) request addr device clearing phase needs sound none anew knows t = t
 goes_together_at stages.StatusIn request addr device clearing phase needs sound none anew knows t = t
 goes_together_at stages.StatusOut request addr device clearing phase needs sound none anew knows t = t
-pub goes_together_at (stages.Failed fault) request addr device clearing phase needs sound none anew knows t = t
+goes_together_at (stages.Failed fault) request addr device clearing phase needs sound none anew knows t = t
 
 -- where memory is wanting for what a request gives, it is no clear
-takes_no_clear : (request : Request) (clearing : Bool) → TakesMemory request → clearing_behind stages.Done request clearing ≡ clearing
+pub takes_no_clear : (request : Request) (clearing : Bool) → TakesMemory request → clearing_behind stages.Done request clearing ≡ clearing
 takes_no_clear requests.Report clearing takes = refl
 takes_no_clear requests.Configure clearing takes = refl
 takes_no_clear requests.Device clearing takes = absurd takes
@@ -516,7 +510,7 @@ takes_no_clear (requests.GetIdle id) clearing takes = absurd takes
 takes_no_clear (requests.Protocol boot) clearing takes = absurd takes
 takes_no_clear requests.GetProtocol clearing takes = absurd takes
 takes_no_clear (requests.GetReport kind id) clearing takes = absurd takes
-pub takes_no_clear (requests.SetReport kind id set) clearing takes = absurd takes
+takes_no_clear (requests.SetReport kind id set) clearing takes = absurd takes
 takes_no_clear requests.Halt clearing takes = absurd takes
 takes_no_clear requests.Clear clearing takes = absurd takes
 takes_no_clear requests.EndpointStatus clearing takes = absurd takes

@@ -2,41 +2,27 @@
 -- and 9.1.1).
 use Rattle.std.proofs.Common.{◌≡◌, ◌∙◌, ℕ, Bool, true, false, cond, not, List, Option, Some, None, Result, Ok, Err, inl, inr, refl, ap, sym, subst}
 use Rattle.std.specs.Prelude.{◌||◌, IfSome}
-use Rattle.hid_cells.specs.declared.cell.Cell.{Cell}
-use Rattle.std.specs.Option.{option_map}
 use Rattle.hid_layout.specs.Controls.{items_of}
 use Rattle.hid_layout.specs.Layout.{Contents}
-use Rattle.hid_layout.specs.Reports.{IsLayout}
-use Rattle.hid_layout.proofs.WellFormed.{layout_of_accepted}
-use Rattle.hid_cells.proofs.BlankLemmas.{initial_fits}
 use Rattle.usb_transact.specs.declared.transaction.Fate.{Fate}
 use Rattle.usb_transact.specs.declared.transaction.Fate.TheVariants.{Clean, TokenLost, ReplyLost, AckLost}
-use Rattle.usb_control.specs.declared.device.Heard.{Heard}
-use Rattle.usb_control.specs.declared.device.Heard.TheVariants as hears
-use Rattle.usb_control.specs.declared.device.Stage.{Stage}
 use Rattle.usb_control.specs.declared.fault.ControlFault.TheVariants.{NoTransfer}
 use Rattle.usb_control.specs.declared.host.HostStage.{HostStage}
 use Rattle.usb_control.specs.declared.host.HostStage.TheVariants as stages
 use Rattle.usb_control.specs.declared.host.Progress.{Progress}
-use Rattle.usb_control.specs.Computed.{AppliesBy, PreparesBy, control_tried, effect_reached, host_tried}
+use Rattle.usb_control.specs.Computed.{AppliesBy, PreparesBy, control_tried, effect_reached}
 use Rattle.usb_control.specs.Device.{Answers, Applies, Decides, DevControlState, Effect}
 use Rattle.usb_control.specs.Host.{HostTransferState, IsRunning, progress_of}
 use Rattle.hid_requests.specs.declared.request.Request.{Request}
 use Rattle.hid_requests.specs.declared.request.Request.TheVariants as requests
-use Rattle.hid_lives.specs.Stations.{Station, Open, expected}
-use Rattle.hid_device.specs.declared.device.TheConstants.{ENDPOINT}
-use Rattle.hid_requests.specs.declared.class.Protocol.{Protocol}
+use Rattle.hid_lives.specs.Stations.{Station, expected}
 use Rattle.hid_lives.specs.Lives.{Deed, Own, Idles, Configures, befallen}
 use Rattle.hid_lives.specs.Lives as lives
-use Rattle.hid_lives.specs.Standing.{cut_at, with_idle}
 use Rattle.hid_device.specs.declared.decisions.Pending.{Pending}
 use Rattle.hid_device.specs.declared.decisions.Pending.TheVariants as pendings
-use Rattle.hid_device.specs.Apart.{carries_out, cuts}
-use Rattle.hid_device.specs.Core.{CoreState, IsSound, cleared_core, configured_core, halted_core}
-use Rattle.hid_device.specs.Outputs.{kept}
-use Rattle.hid_device.specs.Deciding.{core_table, effected, idle_set}
+use Rattle.hid_device.specs.Core.{CoreState, IsSound}
+use Rattle.hid_device.specs.Deciding.{core_table, effected}
 use Rattle.hid_device.specs.Device.{DeviceState, core_of}
-use Rattle.hid_device.specs.Laying.{Lays}
 use Rattle.hid_host.specs.declared.fault.StackFault.{StackFault}
 use Rattle.hid_host.specs.declared.fault.StackFault.TheVariants.{Control, Memory}
 use Rattle.hid_host.specs.declared.host.Transfer.{Transfer}
@@ -44,14 +30,14 @@ use Rattle.hid_host.specs.declared.phase.HostPhase.{HostPhase}
 use Rattle.hid_host.specs.declared.phase.HostPhase.TheVariants.{Cold, Described, Parsed, Ready}
 use Rattle.hid_host.specs.declared.phase.HostState.{HostState}
 use Rattle.hid_host.specs.declared.phase.HostState.TheVariants as states
-use Rattle.hid_host.specs.Bringing.{IsComputed, TakesMemory, answering, brought, brought_about, brought_at, carried_out, clears, clears_in, configures, cuts_in, cuts_round, ends_after, host_after}
+use Rattle.hid_host.specs.Bringing.{IsComputed, TakesMemory, answering, brought, brought_about, brought_at, carried_out, configures, cuts_in, cuts_round, ends_after, host_after}
 use Rattle.hid_host.specs.Host.{ControlSteps, HostEnd, TriesOnce, clearing_behind, is_clear, running, running_at}
-use Rattle.hid_host.specs.Knowing.{BeginsAnew, IsNoRefusal, IsPending, Knows, KnowsAt}
+use Rattle.hid_host.specs.Knowing.{IsNoRefusal, IsPending, Knows, KnowsAt}
 use Rattle.hid_host.specs.Phase.{may_begin, state_of}
-use Rattle.hid_host.specs.Ready.{Known, known_at_start, known_cleared}
+use Rattle.hid_host.specs.Ready.{Known}
 use Rattle.hid_device.specs.declared.config.Config.{Config}
-use Rattle.hid_stack.specs.Members.{Endpoint, Member, befallen_by, brought_deed, control_at, core_at, effect_deed, endpoint_of, ends_tried_at, expects_behind, expects_of, held_at, held_if, state_at, state_behind, tried_deed, tried_to, written_deed}
-use Rattle.hid_stack.specs.Slot.{ArePaired, IsEven, IsEvenUnless, IsUntouched, StandTogether, TriesOnPair, held_of, joined, joint, round_between, station_of}
+use Rattle.hid_stack.specs.Members.{Endpoint, Member, befallen_by, brought_deed, control_at, effect_deed, endpoint_of, ends_tried_at, expects_behind, expects_of, held_at, held_if, state_at, tried_deed, tried_to, written_deed}
+use Rattle.hid_stack.specs.Slot.{ArePaired, IsEven, IsEvenUnless, StandTogether, TriesOnPair, held_of, joined, joint, round_between, station_of}
 use Rattle.hid_stack.specs.Sums.{CutsByRequest, CutsNone, IsBetween}
 use Rattle.hid_stack.proofs.TransferLemmas.{Leaves, NoRounds, brought_at_station, brought_clears, brought_configures, brought_cuts, goes_together_at, leaves_by, same_try, state_brought_at, still_together, takes_no_clear, unready_none}
 
