@@ -377,7 +377,7 @@ effect_goes (requests.SetReport kind id bytes) clearing old new l pending h = tt
 effect_goes requests.Halt clearing old new l pending h = tt
 effect_goes requests.EndpointStatus clearing old new l pending h = tt
 
-carries_on : (phase : HostPhase) (clearing : Bool) (old new : DevControlState CoreState) (o : Option Transfer) → LeavesTransfers clearing old new → IfSome o (λ t. Carries phase t old)
+pub carries_on : (phase : HostPhase) (clearing : Bool) (old new : DevControlState CoreState) (o : Option Transfer) → LeavesTransfers clearing old new → IfSome o (λ t. Carries phase t old)
     → IfSome o (IsPending clearing) → IfSome o (λ t. Carries phase t new)
 carries_on phase clearing old new None l h pending = tt
 carries_on phase clearing old new (Some t) l c pending =

@@ -7,6 +7,7 @@ pub mod TransferLemmas
 pub mod TryLemmas
 pub mod CountLemmas
 pub mod WholeLemmas
+pub mod ClearLemmas
 pub mod SumLemmas
 pub mod RoomLemmas
 pub mod RigLemmas

@@ -1,5 +1,5 @@
 -- A request of a device's host, with anything between its tries: what both ends make of it (USB 2.0, 8.5.3 and 9.2.6).
-use Rattle.std.specs.Prelude.{◌≡◌, ◌≤◌, ℕ, suc, Bool, true, false, if◌then◌else◌, List, [], ◌∷◌, ◌++◌, Option, Some, None}
+use Rattle.std.specs.Prelude.{◌≡◌, ◌≢◌, ◌≤◌, ℕ, suc, Bool, true, false, if◌then◌else◌, List, [], ◌∷◌, ◌++◌, Option, Some, None, IfSome}
 use Rattle.usb_transact.specs.declared.transaction.Fate.{Fate}
 use Rattle.usb_control.specs.declared.host.HostStage.TheVariants.{Done}
 use Rattle.usb_control.specs.declared.setup.Setup.{Setup}
@@ -8,7 +8,7 @@ use Rattle.usb_control.specs.Meanwhile.{Ends, StandAt, decision_now}
 use Rattle.usb_control.specs.Runs.{IsOnce, acts, effects, last_decision, run}
 use Rattle.usb_control.specs.Transfer.{Decision, Refused, answered_bytes, shape_of, start}
 use Rattle.hid_requests.specs.declared.request.Request.{Request}
-use Rattle.hid_requests.specs.declared.request.Request.TheVariants.{Configure}
+use Rattle.hid_requests.specs.declared.request.Request.TheVariants.{Configure, Clear}
 use Rattle.hid_requests.specs.Asking.{sends_of, setup_for}
 use Rattle.hid_lives.specs.Lives.{Deed, Own, Idles, Configures}
 use Rattle.hid_lives.specs.Lives as lives
@@ -18,7 +18,7 @@ use Rattle.hid_host.specs.declared.host.Transfer.{Transfer}
 use Rattle.hid_host.specs.Bringing.{is_configure}
 use Rattle.hid_host.specs.Host.{running}
 use Rattle.hid_host.specs.Knowing.{asking_of}
-use Rattle.hid_stack.specs.Members.{Member, MemberStep, Scheduled, Begins, Controls, Halts, Resets, control_at, core_at, deeds_in, member_after, member_after_all, unconcluded_of}
+use Rattle.hid_stack.specs.Members.{Member, MemberStep, Scheduled, Begins, Controls, Halts, Resets, control_at, core_at, deeds_in, expects_of, member_after, member_after_all, polls_it, unconcluded_of}
 
 -- the setup of a request of a member
 abbrev pub setup_at : Member → Request → Setup
@@ -124,3 +124,27 @@ pub record IsEndedByReset (m : Member) (request : Request) (steps later : List M
   pub at_most_once : effects_in (member_after m (Begins request)) steps ≤ 1
   pub none_behind : effects_in (member_after m (Begins request)) (steps ++ Resets ∷ later)
       ≡ effects_in (member_after m (Begins request)) steps
+
+-- a transfer that isn't done: it runs, or it failed
+abbrev pub IsUndone : Option Transfer → Type 0
+IsUndone o = IfSome o (λ t. t.ends.stage ≢ Done)
+
+-- and one that is
+abbrev pub IsOver : Option Transfer → Type 0
+IsOver None = ⊥
+IsOver (Some t) = t.ends.stage ≡ Done
+
+-- No round is open, both ends begin with DATA0 (8.6), and nothing holds polls back.
+pub record IsEvenAgain (m : Member) : Type 0 where
+  pub quiet : m.station.current ≡ None
+  pub sends : m.station.odd ≡ false
+  pub expects : expects_of m ≡ false
+  pub clearing : m.clearing ≡ false
+
+-- The end of a halt, from its begin on, whatever is lost of it and befalls the device meanwhile: no poll is sent while it
+-- isn't done, also where it failed, and where a try ends it both ends begin anew (9.4.5).
+abbrev pub IsClearing : Member → List MemberStep → Type 0
+IsClearing m steps =
+    let n = member_after_all (member_after m (Begins Clear)) steps in IsUndone n.transfer
+    → (polls_it n ≡ false)
+    × ((fate : Fate) → IsOver (member_after n (Controls fate)).transfer → IsEvenAgain (member_after n (Controls fate)))

@@ -2,6 +2,7 @@
 
 ghost use Rattle.std.specs.Prelude.{◌≡◌, ◌++◌, List, None};
 ghost use Rattle.hid_requests.specs.declared.request.Request.{Request};
+ghost use Rattle.hid_requests.specs.declared.request.Request.TheVariants.{Clear};
 ghost use Rattle.hid_requests.specs.Asking.{FitsRequest};
 ghost use Rattle.hid_device.specs.Laying.{Lays};
 ghost use Rattle.hid_stack.specs.declared.step.Step.{Step as BusStep};
@@ -9,7 +10,7 @@ ghost use Rattle.hid_stack.specs.declared.step.Delivered.{Delivered};
 ghost use Rattle.hid_stack.specs.Laws.{IsMadeAs, TellsOneThing, FindsOneControl, AttachesOneDevice, PacketsMakePolls};
 ghost use Rattle.hid_stack.specs.Headline.{DeliversChanges, DevicesLive, KeepsToRounds};
 ghost use Rattle.hid_stack.specs.Members.{Member, MemberStep, begin_refusal_at, member_after_all};
-ghost use Rattle.hid_stack.specs.Transfers.{BeginsNone, IsEndedByReset, IsUnconcludedOnce, IsWhole};
+ghost use Rattle.hid_stack.specs.Transfers.{BeginsNone, IsClearing, IsEndedByReset, IsUnconcludedOnce, IsWhole};
 ghost use Rattle.hid_stack.specs.Rig.{bus_after_all, delivered_in, IsIsolated};
 ghost use Rattle.hid_stack.specs.Stories.{Act, IsItsOwn};
 ghost use Rattle.hid_stack.specs.Sums.{AllHaveMotions, ConfiguresBetweenRounds, RefusedKeepMotion, SumsUp};
@@ -81,7 +82,8 @@ pub fn motion_sums_up()
 /// the device's answer as it was fixed at the last SETUP that arrived, cut to what was asked for; a write that is done took
 /// effect at the device exactly once, one that failed or runs once at most, and one that was refused never. A configuration
 /// befell the device as often as a request for it took effect: once where it is done, also where the host then found no
-/// memory. A write that a reset ended took effect once or not at all.
+/// memory. A write that a reset ended took effect once or not at all. While a Clear isn't done its host polls nothing, and
+/// where it is done no round is open and both ends begin with DATA0, whatever was lost of it.
 pub fn transfers_are_whole()
     ensures whole { (m : Member) (request : Request) (steps : List MemberStep)
         → Lays m.descriptor m.layout → FitsRequest request → begin_refusal_at m request ≡ None
@@ -92,6 +94,8 @@ pub fn transfers_are_whole()
     ensures reset { (m : Member) (request : Request) (steps later : List MemberStep)
         → Lays m.descriptor m.layout → FitsRequest request → begin_refusal_at m request ≡ None
         → BeginsNone steps → BeginsNone later → IsEndedByReset m request steps later }
+    ensures clears { (m : Member) (steps : List MemberStep)
+        → Lays m.descriptor m.layout → begin_refusal_at m Clear ≡ None → BeginsNone steps → IsClearing m steps }
 {}
 
 /// No step changes what a device was made with.

@@ -1,3 +1,4 @@
+use Rattle.hid_stack.proofs.ClearLemmas.{clears_so}
 use Rattle.hid_stack.proofs.WholeLemmas.{ended_by_reset, unconcluded_once, whole}
 use Rattle.hid_stack.proofs.laws.transfers_are_whole.Goals as goal
 
@@ -9,3 +10,6 @@ returns-clause-unconcluded c = unconcluded_once
 
 pub returns-clause-reset : goal.returns-clause-reset
 returns-clause-reset c = ended_by_reset
+
+pub returns-clause-clears : goal.returns-clause-clears
+returns-clause-clears c = clears_so
