@@ -1,5 +1,5 @@
 -- A host that begins a request, and the member that it is then with its device (USB 2.0, 8.5.3).
-use Rattle.std.proofs.Common.{◌≡◌, ◌∙◌, ℕ, Bool, ◌||◌, Option, Some, None, Result, Ok, Err, refl, ap, sym}
+use Rattle.std.proofs.Common.{◌≡◌, ◌∙◌, ℕ, Bool, ◌||◌, Option, Some, None, Result, Ok, Err, ap, sym}
 use Rattle.std.specs.Prelude.{IfOk, OnOk}
 use Rattle.usb_control.specs.declared.setup.Setup.{Setup}
 use Rattle.usb_control.specs.Device.{DevControlState}
@@ -15,7 +15,7 @@ use Rattle.hid_host.specs.Knowing.{Knows, asking_of}
 use Rattle.hid_host.specs.Phase.{asking_at, state_of}
 use Rattle.hid_stack.specs.Members.{Begins, begun_unless, expects_of, held_at, member_after}
 use Rattle.hid_stack.specs.Slot.{StandTogether, joint}
-use Rattle.hid_stack.proofs.TransferLemmas.{halts_so, holds_still}
+use Rattle.hid_stack.proofs.TryLemmas.{halts_so, holds_still}
 
 -- a transfer that has yet to make its first try, with this setup
 abbrev transfer_with : ℕ → Request → Setup → Transfer

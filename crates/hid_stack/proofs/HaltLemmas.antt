@@ -1,8 +1,8 @@
 -- What a halt of a device, or the end of one, tells: as the station of the device and its host says.
 use Rattle.std.proofs.Common.{◌≡◌, ◌∙◌, ℕ, Bool, true, false, List, [], Option, Some, None, refl, ap, sym, subst, not}
-use Rattle.std.specs.Prelude.{if◌then◌else◌, length, is_some, Result}
+use Rattle.std.specs.Prelude.{if◌then◌else◌, is_some, Result}
 use Rattle.std.specs.Bool.{beq}
-use Rattle.hid_layout.specs.Controls.{Item, items_of, max_events}
+use Rattle.hid_layout.specs.Controls.{Item, items_of}
 use Rattle.hid_layout.specs.Layout.{Contents}
 use Rattle.hid_cells.specs.declared.cell.Cell.{Cell}
 use Rattle.hid_cells.specs.declared.event.Event.{Event}
@@ -23,14 +23,14 @@ use Rattle.hid_host.specs.Bringing.{may_cut}
 use Rattle.hid_host.specs.Host.{HostEnd}
 use Rattle.hid_host.specs.Phase.{state_of}
 use Rattle.hid_host.specs.Knowing.{Knows, LeavesTransfers, with_core}
-use Rattle.hid_host.specs.Ready.{Known}
 use Rattle.hid_host.specs.Resetting.{awaited, cut_told, told_cut}
 use Rattle.hid_stack.specs.Members.{Halts, Member, control_at, events_by, expects_of, halted_deed, halted_if, held_at, held_if, member_after, tried_deed}
-use Rattle.hid_stack.specs.Slot.{ArePaired, IsEvenUnless, IsUntouched, StandTogether, held_of, joined, joint, round_between, station_of}
+use Rattle.hid_stack.specs.Slot.{IsUntouched, StandTogether, held_of, joint, round_between, station_of}
 use Rattle.hid_stack.specs.Sums.{CutsByRequest, CutsNone, IsBetween}
 use Rattle.hid_stack.proofs.MemberLemmas.{IsEffect, brings_effect, quiet_effect}
 use Rattle.hid_stack.specs.Tells.{kept_if}
-use Rattle.hid_stack.proofs.TransferLemmas.{IsOpenBehind, Steps, expects_so, halted_with, host_by}
+use Rattle.hid_stack.proofs.TransferLemmas.{halted_with}
+use Rattle.hid_stack.proofs.TryLemmas.{IsOpenBehind, Steps, expects_so, host_by}
 
 -- ---- what is told
 

@@ -4,6 +4,7 @@ pub mod PollLemmas
 pub mod StepLemmas
 pub mod SlotLemmas
 pub mod TransferLemmas
+pub mod TryLemmas
 pub mod CountLemmas
 pub mod WholeLemmas
 pub mod SumLemmas

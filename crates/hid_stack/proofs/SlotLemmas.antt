@@ -12,12 +12,11 @@ use Rattle.hid_descriptor.specs.Laws.{HasOneReading, AcceptsNoRefused}
 use Rattle.hid_layout.specs.Layout.{Contents, layout_of}
 use Rattle.hid_layout.specs.Reports.{IsLayout}
 use Rattle.hid_layout.proofs.WellFormed.{layout_of_accepted}
-use Rattle.hid_cells.specs.declared.change.Change.{Change}
 use Rattle.hid_cells.proofs.BlankLemmas.{initial_fits}
 use Rattle.hid_device.specs.declared.config.Config.{Config}
-use Rattle.hid_device.specs.Core.{CoreState, IsSound, changed_core}
+use Rattle.hid_device.specs.Core.{CoreState, IsSound}
 use Rattle.hid_device.specs.Laying.{Lays}
-use Rattle.hid_device.specs.Device.{DeviceState, changed_device, configured_device, core_of}
+use Rattle.hid_device.specs.Device.{DeviceState, configured_device, core_of}
 use Rattle.hid_device.specs.Making.{MakesDevice, new_device}
 use Rattle.hid_host.specs.declared.fault.StackFault.{StackFault}
 use Rattle.hid_host.specs.declared.fault.StackFault.TheVariants as faults
@@ -25,7 +24,7 @@ use Rattle.hid_host.specs.declared.fault.DescriptorFault.TheVariants.{Info, Repo
 use Rattle.usb_control.specs.Device.{DevControlState}
 use Rattle.hid_host.specs.declared.host.Transfer.{Transfer}
 use Rattle.hid_host.specs.Bringing.{TakesMemory, cuts_round, may_cut}
-use Rattle.hid_host.specs.Knowing.{Knows, LeavesTransfers, with_core}
+use Rattle.hid_host.specs.Knowing.{Knows, LeavesTransfers}
 use Rattle.hid_host.specs.Phase.{may_poll, state_of}
 use Rattle.hid_host.specs.Ready.{Known}
 use Rattle.hid_host.specs.declared.phase.Start.{Start}

@@ -8,7 +8,7 @@ use Rattle.hid_device.specs.Device.{core_of}
 use Rattle.hid_stack.specs.Slot.{station_of}
 use Rattle.hid_stack.specs.Tells.{kept_if}
 use Rattle.hid_stack.proofs.HaltLemmas.{kept_at_try, shown_open}
-use Rattle.hid_stack.proofs.TransferLemmas.{knows_so, steps_so}
+use Rattle.hid_stack.proofs.TryLemmas.{knows_so, steps_so}
 use Rattle.hid_stack.proofs.halts.control_pair.Goals as goal
 
 pub returns-clause-tries : goal.returns-clause-tries

@@ -1,5 +1,4 @@
 use Rattle.std.proofs.Common.{◌≡◌, ◌++◌, ◌∙◌, Err, List, ap, subst, map, vec_len, vec_capacity}
-use Rattle.std.proofs.lemmas.Grind.{common_steps}
 use Rattle.hid_cells.specs.declared.event.Event.{Event}
 use Rattle.hid_host.specs.declared.fault.StackFault.TheVariants.{Memory}
 use Rattle.hid_host.specs.Host.{running}
