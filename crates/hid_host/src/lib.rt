@@ -36,3 +36,6 @@ mod ready;
 pub use fault::{DescriptorFault, StackFault};
 pub use host::HostDevice;
 pub use phase::{HostState, Start};
+
+#[cfg(test)]
+mod tests;

@@ -3,6 +3,7 @@
 
 mod class;
 mod halts;
+mod idle;
 mod making;
 mod play;
 mod polls;
