@@ -57,7 +57,7 @@ enum hidstack_event_kind {
     HIDSTACK_VALUE = 2,  /* an absolute control has this value now */
     HIDSTACK_NULL = 3,   /* an absolute control has no value now; value 0 */
     HIDSTACK_MOTION = 4, /* a relative control moved by this value */
-    HIDSTACK_DROPPED = 5 /* a motion that a reset of the bus let go; no call tells it today */
+    HIDSTACK_DROPPED = 5 /* a motion that a reset, a halt or its end let go; no call tells it today */
 };
 
 /* Bits of the flags of an element (HID 1.11, 6.2.2.5). */
