@@ -3,6 +3,7 @@
 Here reads the layout of tools/second-reader and keeps a view, as the definitions of this repository say it; it shares
 nothing with the programs. Map is the kernel's own map of usages to codes, as tools/c/uhidplay.c printed it.
 """
+import functools
 import importlib.machinery
 import importlib.util
 import pathlib
@@ -57,14 +58,16 @@ class Layout(READER.Layout):
         return [v - signed * (v >> item.size - 1) for v in elements] if item.size else elements
 
 
+@functools.cache
 def usage_list(item):
     return [usage for low, high in item.usages for usage in range(low, high + 1)]
 
 
+@functools.cache
 def spread(item):
     """The usage of each element of a variable item (6.2.2.8)."""
-    usages = usage_list(item)
-    return (usages + [usages[-1]] * item.count)[:item.count]
+    usages = usage_list(item)[:item.count]
+    return usages + usages[-1:] * (item.count - len(usages))
 
 
 class Here:
