@@ -2,7 +2,8 @@
 //! tablet on endpoint 0: setups in the order in which QEMU captured them (`pcap=`), as `tools/compare-qemu --setups` prints
 //! them. The emulated xHCI assigns addresses itself, so there is no SET_ADDRESS. The answers are those of the tables of
 //! USB 2.0, 9.4 and 9.6, and HID 1.11, 6.2.1 and 7.2, for a device without strings, whose endpoint 0 has packets of 8 bytes.
-//! SeaBIOS sets the boot protocol behind SET_CONFIGURATION, where this device refuses it. The rows that look at what stands behind a write were put in.
+//! SeaBIOS sets the boot protocol behind SET_CONFIGURATION, where this device refuses it. The rows that look at what
+//! stands behind a write were put in.
 
 use super::play::played;
 use std::test::Fail;
