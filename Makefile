@@ -6,11 +6,12 @@ HIDMAP := bin/hidmap
 SCRIPT ?= examples/layouts/mouse.script
 ARGS ?=
 COUNT ?= 20000
+SEED ?= 1
 PREFIX ?= /usr/local
 DESTDIR ?=
 VERSION := 0.2.0
 
-.PHONY: run test try hidrun hidplay hidmap examples library library-test library-check library-cost install deb deb-test documents memory refusals mutants descriptors clean
+.PHONY: run test try hidrun hidplay hidmap examples library library-test library-check library-cost install deb deb-test documents memory refusals mutants descriptors compare-linux clean
 
 # Runs the mouse example on the proved program.
 run: $(HIDRUN)
@@ -138,6 +139,14 @@ documents:
 # Compares the proved program with the second reader, on descriptors of the examples with some of their bytes changed.
 descriptors: $(HIDRUN)
 	tools/second-reader --random $(COUNT) $(HIDRUN)
+
+# Compares hidplay, on the recordings of the examples and on some made from a seed, with Debian's Linux kernel in QEMU and
+# with tshark, and on what QEMU's own keyboard, mouse and tablet send: docs/COMPARISON.md. Outside of the gate; it wants
+# qemu-system-x86, tshark, gcc and Debian's apt, fetches kernel and busybox into bin/linux, and says what it leaves out.
+compare-linux: $(HIDPLAY)
+	tools/compare-linux $(HIDPLAY) --seed $(SEED)
+	tools/compare-tshark $(HIDPLAY) --seed $(SEED)
+	tools/compare-qemu $(HIDPLAY)
 
 # Runs each example script on the proved program, and each test of calls that take memory, with each of its allocations
 # refused in turn: half a minute. It wants a C compiler, and the test programs that `rt ci` or `rt test` made of the
