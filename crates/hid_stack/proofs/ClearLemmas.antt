@@ -326,6 +326,6 @@ clears_so m steps lays allowed none =
     } in
     let short = short_so m.descriptor m.layout lays in
     let from : ClearsFrom steps begun = λ undone.
-        let there = pends_on steps (ready_with m) begun t refl short none undone pends in
-        (polls_none (member_after_all begun steps) there.pends.clearing, λ fate over. even_there fate (ready_with m) (member_after_all begun steps) undone there over) in
+    let there = pends_on steps (ready_with m) begun t refl short none undone pends in
+    (polls_none (member_after_all begun steps) there.pends.clearing, λ fate over. even_there fate (ready_with m) (member_after_all begun steps) undone there over) in
     subst (ClearsFrom steps) (sym (ap (λ (o : Option StackFault). begun_unless o m requests.Clear) allowed)) from
