@@ -78,7 +78,7 @@ fn switch_event(control: ControlId, usage: Usage, before: bool, after: bool, out
     }
 }
 
-/// The same, of the switch at an index of an item.
+/// The same, of the switch at an index of an item: its usage is looked up only where the switch changes.
 pub(crate) fn tell_switch(
     layout: &Layout,
     item: usize,
@@ -129,12 +129,47 @@ fn value_event(
     }
 }
 
+/// The same, of the value at an index of an item.
+fn tell_value(
+    layout: &Layout,
+    item: usize,
+    index: usize,
+    before: Option<i64>,
+    after: Option<i64>,
+    out: &mut Vec<Event>,
+)
+    requires index { index < length (usages_at layout.now item) }
+    requires room { (usage : UsageValue) → slice_get (usages_at layout.now item) index ≡ Some usage
+        → HasSpace out.old (value_event (at item index) usage before after) }
+    ensures { (usage : UsageValue) → slice_get (usages_at layout.now item) index ≡ Some usage
+        → Appends out.old (value_event (at item index) usage before after) out.new }
+{
+    if before != after {
+        let control = ControlId { item, index };
+        value_event(control, usage_at(layout, item, index), before, after, out);
+    }
+}
+
 fn motion_event(control: ControlId, usage: Usage, by: i64, out: &mut Vec<Event>)
     requires { HasSpace out.old (motion_event control usage by) }
     ensures { Appends out.old (motion_event control usage by) out.new }
 {
     if by != 0 {
         out.push_reserved(Event::Motion { control, usage, by });
+    }
+}
+
+/// The same, of the motion at an index of an item.
+fn tell_motion(layout: &Layout, item: usize, index: usize, by: i64, out: &mut Vec<Event>)
+    requires index { index < length (usages_at layout.now item) }
+    requires room { (usage : UsageValue) → slice_get (usages_at layout.now item) index ≡ Some usage
+        → HasSpace out.old (motion_event (at item index) usage by) }
+    ensures { (usage : UsageValue) → slice_get (usages_at layout.now item) index ≡ Some usage
+        → Appends out.old (motion_event (at item index) usage by) out.new }
+{
+    if by != 0 {
+        let control = ControlId { item, index };
+        motion_event(control, usage_at(layout, item, index), by, out);
     }
 }
 
@@ -181,10 +216,10 @@ pub(crate) fn value_changes(
         out.new }
 {
     for index in 0..before.len() {
-        let control = ControlId { item, index };
-        value_event(
-            control,
-            usage_at(layout, item, index),
+        tell_value(
+            layout,
+            item,
+            index,
             before.get(index),
             after.get(index),
             out,
@@ -267,13 +302,7 @@ pub(crate) fn motions(
         (map (read_motion bounds.now.least bounds.now.greatest) numbers.now)) out.new }
 {
     for index in 0..numbers.len() {
-        let control = ControlId { item, index };
-        motion_event(
-            control,
-            usage_at(layout, item, index),
-            motion(bounds, numbers, index),
-            out,
-        );
+        tell_motion(layout, item, index, motion(bounds, numbers, index), out);
     }
 }
 
