@@ -3,6 +3,7 @@
 HIDRUN := bin/hidrun
 HIDPLAY := bin/hidplay
 HIDMAP := bin/hidmap
+BENCH := bin/hid_bench
 SCRIPT ?= examples/layouts/mouse.script
 ARGS ?=
 COUNT ?= 20000
@@ -10,7 +11,7 @@ PREFIX ?= /usr/local
 DESTDIR ?=
 VERSION := 0.2.0
 
-.PHONY: run test try hidrun hidplay hidmap examples library library-test library-check library-cost install deb deb-test documents memory refusals mutants descriptors clean
+.PHONY: run test try hidrun hidplay hidmap bench examples library library-test library-check library-cost install deb deb-test documents memory refusals mutants descriptors clean
 
 # Runs the mouse example on the proved program.
 run: $(HIDRUN)
@@ -66,6 +67,19 @@ $(MAPS): crates.txt $(SOURCES)
 $(HIDMAP): $(MAPS)
 	mkdir -p bin
 	cp $(MAPS) $@
+
+# How many instructions the stack's work takes, by callgrind: the table of docs/SPEED.md.
+bench: $(BENCH)
+	tools/bench $(BENCH)
+
+BENCHES := crates/hid_bench/out/hid_bench
+
+$(BENCHES): crates.txt $(SOURCES)
+	tools/build hid_bench
+
+$(BENCH): $(BENCHES)
+	mkdir -p bin
+	cp $(BENCHES) $@
 
 # The C library: bin/lib/libhidstack.a and the shared libhidstack.so.$(VERSION), of the proved crate.
 library: bin/lib/libhidstack.a
