@@ -1,7 +1,7 @@
 -- The keys that the elements of an array name.
 use Rattle.std.proofs.Common.{◌≡◌, ◌≢◌, ℕ, zero, suc, ◌+◌, ◌<◌, ◌≤◌, ◌⊎◌, inl, inr, ◌&&◌, ◌||◌, Bool, true, false, cond, List, [], ◌∷◌, ◌++◌, length, map, replicate, take, Option, Some, None, ℤ, pos, negsuc, ◌+ℤ◌, ◌-ℤ◌, ◌≤ℤ◌, refl, sym, ap, ◌∙◌, subst, arith}
 use Rattle.std.proofs.lemmas.Bool.{cases_Bool}
-use Rattle.std.specs.List.{slice_get, slice_set}
+use Rattle.std.specs.List.{slice_get, slice_set, list_any}
 use Rattle.std.specs.Option.{is_some}
 use Rattle.std.specs.Ordering.{int_eq}
 use Rattle.std.proofs.lemmas.Int.{ints}
@@ -90,6 +90,42 @@ named_set item vs v i (k ∷ keys) (suc p) key h s e =
     without true true = refl
     without true false = refl
     without false n = refl
+
+-- the numbers before a place
+pub get_taken : (vs : List ℤ) (j k : ℕ) → j < k → slice_get (take k vs) j ≡ slice_get vs j
+get_taken [] j zero h = absurd (omega arith)
+get_taken [] j (suc k) h = refl
+get_taken (v ∷ vs) j zero h = absurd (omega arith)
+get_taken (v ∷ vs) zero (suc k) h = refl
+get_taken (v ∷ vs) (suc j) (suc k) h = get_taken vs j k (omega arith)
+
+-- a number that stands there already names no more keys
+any_hit : (test : ℤ → Bool) (vs : List ℤ) (j : ℕ) (v : ℤ) → slice_get vs j ≡ Some v → test v ≡ true → list_any test vs ≡ true
+any_hit test [] j v h e = absurd (cc)
+any_hit test (w ∷ vs) zero v h e = let same : w ≡ v = cc in rw (same, e) refl
+any_hit test (w ∷ vs) (suc j) v h e = rw (any_hit test vs j v h e) (always (test w))
+  where
+    always : (b : Bool) → (b || true) ≡ true
+    always true = refl
+    always false = refl
+
+pub named_again : (item : MainItem) (vs : List ℤ) (v : ℤ) (i : ℕ) (keys : List Key) (j : ℕ) → slice_get vs j ≡ Some v → named_from item vs i keys ≡ named_from item (vs ++ v ∷ []) i keys
+named_again item vs v i [] j h = refl
+named_again item vs v i (key ∷ keys) j h =
+    ap (λ (t : List Bool). (key.is_switch && names_key item vs i) ∷ t) (named_again item vs v (i + 1) keys j h)
+    ∙ ap (λ (b : Bool). (key.is_switch && b) ∷ named_from item (vs ++ v ∷ []) (i + 1) keys) (sym (names_more item vs v i ∙ here (cases_Bool (int_eq v (item.min +ℤ pos i)))))
+  where
+    none : (n : Bool) → (n || false) ≡ n
+    none true = refl
+    none false = refl
+
+    all : (n : Bool) → (n || true) ≡ true
+    all true = refl
+    all false = refl
+
+    here : (int_eq v (item.min +ℤ pos i) ≡ true) ⊎ (int_eq v (item.min +ℤ pos i) ≡ false) → (names_key item vs i || int_eq v (item.min +ℤ pos i)) ≡ names_key item vs i
+    here (inl e) = ap (λ (b : Bool). names_key item vs i || b) e ∙ all (names_key item vs i) ∙ sym (any_hit (λ w. int_eq w (item.min +ℤ pos i)) vs j v h e)
+    here (inr e) = ap (λ (b : Bool). names_key item vs i || b) e ∙ none (names_key item vs i)
 
 -- whether a place is a control
 pub is_key_at : (layout : Contents) (i j : ℕ) (result : Bool) → j < length (keys_at layout i) → result ≡ is_some (control_of (items_of layout) (record { item = i; index = j })) → slice_get (map (λ (key : Key). key.is_switch) (keys_at layout i)) j ≡ Some result

@@ -1,6 +1,6 @@
 //! What is kept of an item in a view once its numbers are read.
 
-ghost use Rattle.std.specs.Prelude.{◌≡◌, ◌<◌, ℕ, map, length, slice_get, Some, ◌≢◌, ◌≤◌, ◌*◌, ◌+ℤ◌, pos, ◌++◌, [], ◌∷◌, ℤ, List, MatchOption, not, true, ◌&&◌, int_le};
+ghost use Rattle.std.specs.Prelude.{◌≡◌, ◌<◌, ◌+◌, ◌-◌, ℕ, map, take, length, slice_get, Some, ◌≢◌, ◌≤◌, ◌*◌, ◌+ℤ◌, pos, ◌++◌, [], ◌∷◌, ℤ, List, MatchOption, not, true, false, ◌&&◌, int_le};
 ghost use Rattle.std.specs.List.{zip, list_any};
 ghost use Rattle.hid_descriptor.specs.Usages.{usage_list, is_rollover};
 ghost use Rattle.hid_layout.specs.Controls.{is_key};
@@ -203,6 +203,50 @@ fn add_key(array: &KeyArray<'_>, count: usize, number: &i64, after: &mut Flags) 
     }
 }
 
+/// Whether the number before an element's is the same.
+fn is_repeated(numbers: &[i64], k: usize) -> bool
+    requires { k < length numbers.now }
+    ensures { result ≡ true
+        → (0 < k) × (slice_get numbers.now (k - 1) ≡ slice_get numbers.now k) }
+{
+    k > 0 && numbers[k - 1] == numbers[k]
+}
+
+/// Adds the key that the element at an index names; false where it names ErrorRollOver. A number as the one before it
+/// names no other key, and is passed over.
+fn add_next(
+    array: &KeyArray<'_>,
+    count: usize,
+    numbers: &[i64],
+    k: usize,
+    after: &mut Flags,
+) -> bool
+    requires count { count ≡ length (usage_list array.now.entries.now) }
+    requires few { count ≤ 64 * 65536 }
+    requires range { AreBounds array.now.item.now array.now.range.least array.now.range.greatest }
+    requires within { k < length numbers.now }
+    requires after { after.old
+        ≡ named_from array.now.item.now (take k numbers.now) 0
+        (array_keys array.now.item.now (usage_list array.now.entries.now)) }
+    requires len { length after.old
+        ≡ length (array_keys array.now.item.now (usage_list array.now.entries.now)) }
+    requires clean { (j : ℕ) (v : ℤ) → j < k → slice_get numbers.now j ≡ Some v
+        → names_rollover array.now.item.now (usage_list array.now.entries.now) v ≡ false }
+    ensures rolls { (v : ℤ) → slice_get numbers.now k ≡ Some v → result
+        ≡ not (names_rollover array.now.item.now (usage_list array.now.entries.now) v) }
+    ensures keys { result ≡ true
+        → after.new
+        ≡ named_from array.now.item.now (take (k + 1) numbers.now) 0
+        (array_keys array.now.item.now (usage_list array.now.entries.now)) }
+    ensures len { length after.new ≡ length after.old }
+{
+    if is_repeated(numbers, k) {
+        return true;
+    }
+    let number = number_at(numbers, k);
+    add_key(array, count, &number, after)
+}
+
 /// The keys that these numbers name; false where one names ErrorRollOver.
 pub(crate) fn read_keys(array: &KeyArray<'_>, numbers: &[i64], after: &mut Flags) -> bool
     requires entries { length array.now.entries.now ≤ 64 }
@@ -221,8 +265,7 @@ pub(crate) fn read_keys(array: &KeyArray<'_>, numbers: &[i64], after: &mut Flags
     let count = usage_count(array.entries);
     after.release_all();
     for k in 0..numbers.len() {
-        let number = number_at(numbers, k);
-        if !add_key(array, count, &number, after) {
+        if !add_next(array, count, numbers, k, after) {
             return false;
         }
     }

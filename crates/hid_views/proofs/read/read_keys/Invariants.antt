@@ -1,5 +1,5 @@
-use Rattle.std.proofs.Common.{◌≡◌, take, drop, length}
-use Rattle.std.specs.List.{list_any}
+use Rattle.std.proofs.Common.{◌≡◌, ◌<◌, ℕ, ℤ, Some, false, take, drop, length}
+use Rattle.std.specs.List.{list_any, slice_get}
 use Rattle.hid_descriptor.specs.Usages.{usage_list}
 use Rattle.hid_views.specs.Reading.{array_keys, named_from, names_rollover}
 use Rattle.hid_views.proofs.read.read_keys.Given as goal
@@ -11,4 +11,5 @@ invariant-loop-k l =
       so_far : l.after ≡ named_from l.array.item.now (take l.k l.numbers) 0 (array_keys l.array.item.now us);
       len : length l.after ≡ length l.fn.after;
       none : list_any (names_rollover l.array.item.now us) (drop l.k l.numbers) ≡ list_any (names_rollover l.array.item.now us) l.numbers;
+      clean : (j : ℕ) (v : ℤ) → j < l.k → slice_get l.numbers j ≡ Some v → names_rollover l.array.item.now us v ≡ false;
     }
