@@ -2,8 +2,8 @@
 //! report has three bytes: its buttons, and how far it went to the right and down (HID 1.11, appendix E.10).
 
 use super::{data, tried};
-use crate::{HostDevice, StackFault};
 use hid_device::{Boot, Config, Device, MOUSE};
+use hid_host::{HostDevice, StackFault};
 use hid_layout::{ControlId, Usage};
 use hid_requests::Request;
 use hid_usages::{Change, Event};

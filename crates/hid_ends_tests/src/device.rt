@@ -3,7 +3,6 @@
 
 mod class;
 mod halts;
-mod idle;
 mod making;
 mod play;
 mod polls;

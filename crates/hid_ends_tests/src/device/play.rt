@@ -14,9 +14,9 @@
 //! Behind it, where a round is open, `round 0.1`: its report, and 1 where its data go out as DATA1; and `halted` while the
 //! endpoint is halted.
 
-use crate::{Boot, Config, Device, DeviceFault, KEYBOARD, MOUSE};
 use arrayvec::ArrayVec;
 use hid_cells::Change;
+use hid_device::{Boot, Config, Device, DeviceFault, KEYBOARD, MOUSE};
 use hid_layout::{ControlId, ReportKind};
 use std::alloc::Global;
 use std::fmt::Write;
