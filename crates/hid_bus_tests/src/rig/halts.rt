@@ -5,8 +5,8 @@ use super::{
     Act, BRINGS_UP, CLEAN, Cut, Given, NAK, Row, Tells, Verdict, asked, config, expects,
     first_that_differs, is_brought_up, step_of,
 };
-use crate::{HostState, Request, Rig, RunFault, StackFault, Start, Step, Told};
 use hid_device::{Boot, KEYBOARD, MOUSE};
+use hid_stack::{HostState, Request, Rig, RunFault, StackFault, Start, Step, Told};
 use std::test::Fail;
 use usb_control::{ControlFault, Outcome, Progress};
 use usb_transact::Fate;

@@ -2,8 +2,8 @@
 //! 8.5.4, 8.6 and 9.1.1.3), worked out by hand from the definitions.
 
 use super::{Act, CLEAN, Given, X, X_USAGE, are_delivered_of, asked_of, config, expects, step_at};
-use crate::{Delivered, HostState, MAX_DEVICES, Request, Rig, StackFault, Start, Step, Told};
 use hid_device::{Boot, KEYBOARD, MOUSE};
+use hid_stack::{Delivered, HostState, MAX_DEVICES, Request, Rig, StackFault, Start, Step, Told};
 use hid_usages::ChangeFault;
 use std::test::Fail;
 use usb_control::Progress;

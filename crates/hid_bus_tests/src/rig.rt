@@ -1,12 +1,12 @@
 //! Rows of steps on a boot keyboard, a boot mouse and others, worked out by hand from the definitions (USB 2.0, 8.5.4
 //! and 8.6).
 
-use crate::{
+use hid_device::{Boot, Config, Device, KEYBOARD, MOUSE};
+use hid_layout::{ControlId, Usage};
+use hid_stack::{
     Delivered, HostDevice, HostState, MAX_DEVICES, Request, Rig, RunFault, StackFault, Start, Step,
     Told, poll,
 };
-use hid_device::{Boot, Config, Device, KEYBOARD, MOUSE};
-use hid_layout::{ControlId, Usage};
 use hid_usages::{Change, ChangeFault, Event, ReportFault};
 use std::test::Fail;
 use usb_control::{ControlFault, Outcome, Progress};
