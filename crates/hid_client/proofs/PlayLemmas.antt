@@ -49,7 +49,7 @@ played config descriptor steps control none members after dev before given host 
       layout = layout;
       suits = subst (λ (d : ℕ). Suits d config descriptor layout) first attached.suits;
       events = λ only. subst (λ (d : ℕ). from_device d given ≡ events_of items (blank items) (crossed_rounds items (blank items) idle (own d steps))) first
-          (headline dev m (blank items) idle attached.begins (record { host = refl; station = refl }) (own_of only)
+          (headline dev m (blank items) idle attached.begins (record { host = refl; station = refl; clear = refl }) (own_of only)
           ∙ ap (λ (ds : List Delivered). from_device dev ds ++ events_of items (blank items) (crossed_rounds items (blank items) idle (own dev steps))) before_is);
       held = λ only.
           let stands = keeps dev m attached.begins refl refl (own_of only) in
