@@ -13,7 +13,6 @@ use usb_control::{ControlFault, Outcome, Progress};
 use usb_transact::{Fate, Took};
 
 mod devices;
-mod halts;
 mod memory;
 mod resets;
 
@@ -34,34 +33,13 @@ enum Act {
     Move(usize, usize, i32),
     Frame,
     Poll(Fate),
-    /// The device halts by itself.
-    Halt,
     Reset,
-    /// A request that halts the endpoint, ends that, or asks for it begins.
-    Begin(Cut),
-    Control(Fate),
-}
-
-/// A request about a halt.
-#[derive(Clone, Copy)]
-enum Cut {
-    Halt,
-    Clear,
-    Status,
 }
 
 const CLEAN: Act = Act::Poll(Fate::Clean);
 
 fn changes(dev: u8, change: Change) -> Step {
     Step::Change { dev, change }
-}
-
-fn request_of(cut: Cut) -> Request {
-    match cut {
-        Cut::Halt => Request::Halt,
-        Cut::Clear => Request::Clear,
-        Cut::Status => Request::EndpointStatus,
-    }
 }
 
 fn step_at(dev: u8, act: Act) -> Step {
@@ -71,13 +49,7 @@ fn step_at(dev: u8, act: Act) -> Step {
         Act::Move(item, index, by) => changes(dev, Change::Move(ControlId { item, index }, by)),
         Act::Frame => Step::Frame,
         Act::Poll(fate) => Step::Poll { dev, fate },
-        Act::Halt => Step::Halt { dev },
         Act::Reset => Step::Reset { dev },
-        Act::Begin(cut) => Step::Begin {
-            dev,
-            request: request_of(cut),
-        },
-        Act::Control(fate) => Step::Control { dev, fate },
     }
 }
 
@@ -91,9 +63,7 @@ enum Given {
     /// A key of the keyboard's array, its item 4, where a usage's place is its ID.
     Down(u16),
     Up(u16),
-    /// The mouse's first button, the first element of its item 0.
-    Button,
-    /// Its X, the first element of its item 2.
+    /// The mouse's X, the first element of its item 2.
     X(i64),
     Dropped(i64),
 }
@@ -118,10 +88,6 @@ fn event_of(given: Given) -> Event {
         Given::Up(id) => Event::Up {
             control: key(id),
             usage: Usage { page: 7, id },
-        },
-        Given::Button => Event::Down {
-            control: ControlId { item: 0, index: 0 },
-            usage: Usage { page: 9, id: 1 },
         },
         Given::X(by) => Event::Motion {
             control: X,
@@ -156,7 +122,6 @@ enum Verdict {
     Fresh,
     Again,
     Nak,
-    Stall,
     Silent,
 }
 
@@ -166,8 +131,6 @@ enum Tells {
     Quiet,
     Lost,
     Sends(&'static [u8], Verdict),
-    /// How far a transfer has come.
-    Tries(Progress),
 }
 
 fn is_verdict(took: &Took, wanted: Verdict) -> bool {
@@ -175,7 +138,6 @@ fn is_verdict(took: &Took, wanted: Verdict) -> bool {
         (Took::Fresh(_), Verdict::Fresh) => true,
         (Took::Again, Verdict::Again) => true,
         (Took::Nak, Verdict::Nak) => true,
-        (Took::Stall, Verdict::Stall) => true,
         (Took::Silent, Verdict::Silent) => true,
         _ => false,
     }
@@ -184,7 +146,6 @@ fn is_verdict(took: &Took, wanted: Verdict) -> bool {
 fn is_told(told: &Told, wanted: Tells) -> bool {
     match (told, wanted) {
         (Told::Quiet, Tells::Quiet) => true,
-        (Told::Transfer(progress), Tells::Tries(wanted)) => *progress == wanted,
         (Told::Polled { reply: None, took }, Tells::Lost) => is_verdict(took, Verdict::Silent),
         (
             Told::Polled {

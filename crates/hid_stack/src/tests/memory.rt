@@ -3,7 +3,7 @@
 
 use super::{changes, config};
 use crate::{Delivered, HostState, Request, Rig, StackFault, Start, Step, Told};
-use hid_device::{Boot, Device, DeviceCause, DeviceFault, KEYBOARD, MOUSE};
+use hid_device::{Boot, Device, DeviceCause, DeviceFault, KEYBOARD};
 use hid_layout::{Cause, ControlId, Layout, LayoutFault, Usage};
 use hid_usages::{Change, Event, Shown, Snapshot, View};
 use std::test::Fail;
@@ -147,72 +147,6 @@ fn a_reset_is_made_again(rt: HostRuntime) -> Result<(), Fail> {
     taken(&mut rig, &Step::Reset { dev: 1 }, &mut later)?;
     assert!(rt; later.as_slice() == [up()].as_slice());
     assert!(rt; state(&rig) == Some(HostState::Cold));
-    Ok(())
-}
-
-const X: ControlId = ControlId { item: 2, index: 0 };
-
-/// A boot mouse whose open round has motion that hasn't crossed.
-fn moved(rt: &HostRuntime, out: &mut Vec<Delivered>) -> Result<Rig, StackFault> {
-    let mut rig = bus(rt)?;
-    let config = config(Boot::Mouse);
-    match rig.attach(&config, &MOUSE, Start::Ready) {
-        Err(StackFault::Memory) => {
-            rig.attach(&config, &MOUSE, Start::Ready)?;
-        }
-        told => {
-            told?;
-        }
-    }
-    rig.step(&changes(1, Change::Move(X, 5)), out)?;
-    let poll = Step::Poll {
-        dev: 1,
-        fate: Fate::ReplyLost,
-    };
-    taken(&mut rig, &poll, out)?;
-    Ok(rig)
-}
-
-fn dropped() -> Delivered {
-    Delivered {
-        dev: 1,
-        event: Event::Dropped {
-            control: X,
-            usage: Usage { page: 1, id: 0x30 },
-            by: 5,
-        },
-    }
-}
-
-#[test]
-fn a_halt_is_made_again(rt: HostRuntime) -> Result<(), Fail> {
-    let mut out = Vec::new(rt.alloc());
-    let mut rig = moved(&rt, &mut out)?;
-    let mut later = Vec::new(rt.alloc());
-    taken(&mut rig, &Step::Halt { dev: 1 }, &mut later)?;
-    assert!(rt; later.as_slice() == [dropped()].as_slice());
-    assert!(rt; rig.device(1)?.pipe().halted());
-    Ok(())
-}
-
-/// A try of a request that may end a round is refused before anything is sent, and the transfer goes on.
-#[test]
-fn tries_of_halts_and_clears_are_made_again(rt: HostRuntime) -> Result<(), Fail> {
-    for request in [Request::Halt, Request::Clear] {
-        let mut out = Vec::new(rt.alloc());
-        let mut rig = moved(&rt, &mut out)?;
-        taken(&mut rig, &Step::Begin { dev: 1, request }, &mut out)?;
-        let mut later = Vec::new(rt.alloc());
-        let control = Step::Control {
-            dev: 1,
-            fate: Fate::Clean,
-        };
-        assert!(rt; taken(&mut rig, &control, &mut later)? == Told::Transfer(Progress::Running));
-        assert!(rt; later.is_empty());
-        let mut last = Vec::new(rt.alloc());
-        assert!(rt; taken(&mut rig, &control, &mut last) == DONE);
-        assert!(rt; last.as_slice() == [dropped()].as_slice());
-    }
     Ok(())
 }
 
