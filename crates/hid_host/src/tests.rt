@@ -31,7 +31,12 @@ fn keyboard(rt: &HostRuntime) -> Result<Device, Fail> {
         interval: 10,
         boot: Boot::Keyboard,
     };
-    Ok(Device::new(rt.alloc(), 1, &config, &KEYBOARD)?)
+    device(rt, &config, &KEYBOARD)
+}
+
+/// A device at address 1 that isn't configured.
+fn device(rt: &HostRuntime, config: &Config, descriptor: &[u8]) -> Result<Device, Fail> {
+    Ok(Device::new(rt.alloc(), 1, config, descriptor)?)
 }
 
 /// A keyboard's configuration, its interface, its HID descriptor and its endpoint.

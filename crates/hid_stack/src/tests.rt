@@ -26,6 +26,18 @@ fn config(boot: Boot) -> Config {
     }
 }
 
+/// A bus with this device alone.
+fn bus_with(rt: &HostRuntime, boot: Boot, descriptor: &[u8], start: Start) -> Result<Rig, Fail> {
+    let mut rig = Rig::new(rt.alloc())?;
+    rig.attach(&config(boot), descriptor, start)?;
+    Ok(rig)
+}
+
+/// One device more.
+fn attach_to(rig: &mut Rig, boot: Boot, descriptor: &[u8], start: Start) -> Result<u8, StackFault> {
+    rig.attach(&config(boot), descriptor, start)
+}
+
 /// A step of one device; a control by its item and index.
 #[derive(Clone, Copy)]
 enum Act {
@@ -285,8 +297,7 @@ fn first_that_differs(
 #[test]
 fn a_schedule_tells_and_delivers(rt: HostRuntime) -> Result<(), Fail> {
     for (name, boot, descriptor, rows) in SCHEDULES {
-        let mut rig = Rig::new(rt.alloc())?;
-        rig.attach(&config(boot), descriptor, Start::Ready)?;
+        let mut rig = bus_with(&rt, boot, descriptor, Start::Ready)?;
         let fails_at = first_that_differs(&rt, &mut rig, rows)?;
         assert!(rt; fails_at.is_none(), "{name}: step {fails_at:?}");
     }
@@ -295,8 +306,7 @@ fn a_schedule_tells_and_delivers(rt: HostRuntime) -> Result<(), Fail> {
 
 #[test]
 fn a_run_ends_at_its_first_refusal(rt: HostRuntime) -> Result<(), Fail> {
-    let mut rig = Rig::new(rt.alloc())?;
-    rig.attach(&config(Boot::Keyboard), &KEYBOARD, Start::Ready)?;
+    let mut rig = bus_with(&rt, Boot::Keyboard, &KEYBOARD, Start::Ready)?;
     let mut out = Vec::new(rt.alloc());
     let steps = [
         step_of(Act::Press(4, 4)),
@@ -349,7 +359,7 @@ fn the_two_ends_show_their_toggles(rt: HostRuntime) -> Result<(), Fail> {
     let report: [u8; 8] = [0, 0, 0x04, 0, 0, 0, 0, 0];
     let mut rig = Rig::new(rt.alloc())?;
     assert_eq!(rt;
-        rig.attach(&config(Boot::Keyboard), &KEYBOARD, Start::Ready),
+        attach_to(&mut rig, Boot::Keyboard, &KEYBOARD, Start::Ready),
         Ok(1)
     );
     let mut out = Vec::new(rt.alloc());
@@ -373,18 +383,23 @@ fn the_two_ends_show_their_toggles(rt: HostRuntime) -> Result<(), Fail> {
 }
 
 /// A boot keyboard at address 1 with its key a pressed.
-fn pressed_keyboard(rt: &HostRuntime) -> Result<Device, Fail> {
-    let mut device = Device::new(rt.alloc(), 1, &config(Boot::Keyboard), &KEYBOARD)?;
+fn pressed_keyboard(rt: &HostRuntime, descriptor: &[u8]) -> Result<Device, Fail> {
+    let mut device = Device::new(rt.alloc(), 1, &config(Boot::Keyboard), descriptor)?;
     device.configure();
     device.change(Change::Press(ControlId { item: 4, index: 4 }))?;
     Ok(device)
 }
 
+/// A host of address 1 that is ready.
+fn ready_host(rt: &HostRuntime, descriptor: &[u8]) -> Result<HostDevice, Fail> {
+    Ok(HostDevice::ready(rt.alloc(), 1, descriptor)?)
+}
+
 #[test]
 fn two_ends_are_polled_without_a_rig(rt: HostRuntime) -> Result<(), Fail> {
     let report: [u8; 8] = [0, 0, 0x04, 0, 0, 0, 0, 0];
-    let mut device = pressed_keyboard(&rt)?;
-    let mut host = HostDevice::ready(rt.alloc(), 1, &KEYBOARD)?;
+    let mut device = pressed_keyboard(&rt, &KEYBOARD)?;
+    let mut host = ready_host(&rt, &KEYBOARD)?;
     let mut out = Vec::with_capacity(rt.alloc(), host.max_events())?;
     let told = poll(&Fate::AckLost, &mut device, &mut host, &mut out)?;
     let sent = Tells::Sends(&[0xC3, 0, 0, 0x04, 0, 0, 0, 0, 0], Verdict::Fresh);
@@ -396,7 +411,7 @@ fn two_ends_are_polled_without_a_rig(rt: HostRuntime) -> Result<(), Fail> {
 
 #[test]
 fn a_cold_host_polls_nothing(rt: HostRuntime) -> Result<(), Fail> {
-    let mut device = pressed_keyboard(&rt)?;
+    let mut device = pressed_keyboard(&rt, &KEYBOARD)?;
     let mut host = HostDevice::cold(rt.alloc(), 1);
     let mut out = Vec::new(rt.alloc());
     let told = poll(&Fate::Clean, &mut device, &mut host, &mut out);
@@ -407,8 +422,7 @@ fn a_cold_host_polls_nothing(rt: HostRuntime) -> Result<(), Fail> {
 
 #[test]
 fn a_control_is_found_by_its_usage(rt: HostRuntime) -> Result<(), Fail> {
-    let mut rig = Rig::new(rt.alloc())?;
-    rig.attach(&config(Boot::Mouse), &MOUSE, Start::Ready)?;
+    let mut rig = bus_with(&rt, Boot::Mouse, &MOUSE, Start::Ready)?;
     let wheel = Usage { page: 1, id: 0x38 };
     let y = Usage { page: 1, id: 0x31 };
     assert_eq!(rt; rig.find(1, y), Ok(ControlId { item: 2, index: 1 }));
@@ -437,19 +451,19 @@ const REFUSED: [(Boot, &[u8], &str); 3] = [
 fn refusals_are_printed_as_their_codes(rt: HostRuntime) -> Result<(), Fail> {
     let mut rig = Rig::new(rt.alloc())?;
     for (boot, descriptor, text) in REFUSED {
-        match rig.attach(&config(boot), descriptor, Start::Ready) {
+        match attach_to(&mut rig, boot, descriptor, Start::Ready) {
             Ok(_) => assert!(rt; false, "{text}"),
             Err(fault) => assert_eq!(rt; format!(in rt.alloc(); "{fault}")?.as_str(), text),
         }
     }
     for n in 1..=MAX_DEVICES {
         assert!(rt;
-            rig.attach(&config(Boot::Mouse), &MOUSE, Start::Ready) == Ok(n as u8),
+            attach_to(&mut rig, Boot::Mouse, &MOUSE, Start::Ready) == Ok(n as u8),
             "{n}"
         );
     }
     assert_eq!(rt;
-        rig.attach(&config(Boot::Keyboard), &MOUSE, Start::Ready),
+        attach_to(&mut rig, Boot::Keyboard, &MOUSE, Start::Ready),
         Err(StackFault::TooManyDevices)
     );
 
@@ -529,8 +543,7 @@ fn is_brought_up(rt: &HostRuntime, rig: &mut Rig, requests: &[Asks]) -> Result<b
 
 #[test]
 fn a_cold_device_is_brought_up(rt: HostRuntime) -> Result<(), Fail> {
-    let mut rig = Rig::new(rt.alloc())?;
-    rig.attach(&config(Boot::Keyboard), &KEYBOARD, Start::Cold)?;
+    let mut rig = bus_with(&rt, Boot::Keyboard, &KEYBOARD, Start::Cold)?;
     let mut out = Vec::new(rt.alloc());
     assert!(rt; is_brought_up(&rt, &mut rig, &BRINGS_UP)?);
     assert!(rt; rig.host(1)?.state() == HostState::Ready);
@@ -542,8 +555,7 @@ fn a_cold_device_is_brought_up(rt: HostRuntime) -> Result<(), Fail> {
 
 #[test]
 fn the_bytes_of_a_read_are_shown(rt: HostRuntime) -> Result<(), Fail> {
-    let mut rig = Rig::new(rt.alloc())?;
-    rig.attach(&config(Boot::Keyboard), &KEYBOARD, Start::Cold)?;
+    let mut rig = bus_with(&rt, Boot::Keyboard, &KEYBOARD, Start::Cold)?;
     let mut out = Vec::new(rt.alloc());
     asked(&mut rig, Request::GetConfiguration, 2, &mut out)?;
     assert!(rt;
@@ -570,8 +582,7 @@ const REFUSED_WHEN_COLD: [(Step, StackFault); 4] = [
 
 #[test]
 fn a_cold_device_is_refused_polls_and_tries(rt: HostRuntime) -> Result<(), Fail> {
-    let mut rig = Rig::new(rt.alloc())?;
-    rig.attach(&config(Boot::Keyboard), &KEYBOARD, Start::Cold)?;
+    let mut rig = bus_with(&rt, Boot::Keyboard, &KEYBOARD, Start::Cold)?;
     let mut out = Vec::new(rt.alloc());
     for (step, fault) in REFUSED_WHEN_COLD {
         let told = rig.step(&step, &mut out);

@@ -1,7 +1,9 @@
 //! Seven devices on one bus, interleaved, with packets that are lost and resets between: each goes its own way (USB 2.0,
 //! 8.5.4, 8.6 and 9.1.1.3), worked out by hand from the definitions.
 
-use super::{Act, CLEAN, Given, X, X_USAGE, are_delivered_of, asked_of, config, expects, step_at};
+use super::{
+    Act, CLEAN, Given, X, X_USAGE, are_delivered_of, asked_of, attach_to, expects, step_at,
+};
 use crate::{Delivered, HostState, MAX_DEVICES, Request, Rig, StackFault, Start, Step, Told};
 use hid_device::{Boot, KEYBOARD, MOUSE};
 use hid_usages::ChangeFault;
@@ -58,7 +60,7 @@ fn descriptor_of(boot: Boot) -> &'static [u8] {
 /// Attaches the devices of these stories.
 fn attach(rig: &mut Rig, stories: &[Story]) -> Result<(), StackFault> {
     for story in stories {
-        rig.attach(&config(story.boot), descriptor_of(story.boot), story.start)?;
+        attach_to(rig, story.boot, descriptor_of(story.boot), story.start)?;
     }
     Ok(())
 }
@@ -134,7 +136,7 @@ fn there_is_no_eighth_device(rt: HostRuntime) -> Result<(), Fail> {
     for dev in 1..=7 {
         rig.step(&step_at(dev, Act::Reset), &mut out)?;
     }
-    let eighth = rig.attach(&config(Boot::Mouse), &MOUSE, Start::Cold);
+    let eighth = attach_to(&mut rig, Boot::Mouse, &MOUSE, Start::Cold);
     assert_eq!(rt; eighth, Err(StackFault::TooManyDevices));
     for act in [Act::Reset, CLEAN, Act::Move(2, 0, 1)] {
         assert!(rt; rig.step(&step_at(8, act), &mut out) == Err(StackFault::NoDevice));
@@ -173,7 +175,7 @@ fn a_frame_reaches_each_device(rt: HostRuntime) -> Result<(), Fail> {
     let mut rig = Rig::new(rt.alloc())?;
     let mut out = Vec::new(rt.alloc());
     for _ in 1..=3 {
-        rig.attach(&config(Boot::Keyboard), &KEYBOARD, Start::Ready)?;
+        attach_to(&mut rig, Boot::Keyboard, &KEYBOARD, Start::Ready)?;
     }
     for dev in [2, 3] {
         let told = asked_of(&mut rig, dev, IDLE, 2, &mut out)?;

@@ -1,8 +1,8 @@
 //! Halts of an endpoint, by the device and by its host, and what stands behind them (USB 2.0, 9.4.1, 9.4.5 and 9.4.9),
 //! worked out by hand from the definitions.
 
-use super::{Act, CLEAN, Cut, Given, NAK, Row, Tells, Verdict, config, first_that_differs};
-use crate::{Rig, StackFault, Start};
+use super::{Act, CLEAN, Cut, Given, NAK, Row, Tells, Verdict, bus_with, first_that_differs};
+use crate::{StackFault, Start};
 use hid_device::{Boot, KEYBOARD, MOUSE};
 use std::test::Fail;
 use usb_control::{ControlFault, Progress};
@@ -150,8 +150,7 @@ const HALTS: [(&str, Boot, &[u8], &[Row]); 8] = [
 #[test]
 fn halts_and_clears_tell_and_deliver(rt: HostRuntime) -> Result<(), Fail> {
     for (name, boot, descriptor, rows) in HALTS {
-        let mut rig = Rig::new(rt.alloc())?;
-        rig.attach(&config(boot), descriptor, Start::Ready)?;
+        let mut rig = bus_with(&rt, boot, descriptor, Start::Ready)?;
         let fails_at = first_that_differs(&rt, &mut rig, rows)?;
         assert!(rt; fails_at.is_none(), "{name}: step {fails_at:?}");
     }

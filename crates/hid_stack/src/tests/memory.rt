@@ -1,7 +1,7 @@
 //! Calls of a rig that find no memory: each is made again, and gives what it gives at once with memory. These tests hold
 //! whichever growth of theirs is refused: `rt try --test --fail-alloc N` refuses the Nth one of each.
 
-use super::{changes, config};
+use super::{attach_to, changes, config};
 use crate::{Delivered, HostState, Request, Rig, StackFault, Start, Step, Told};
 use hid_device::{Boot, Device, DeviceCause, DeviceFault, KEYBOARD};
 use hid_layout::{Cause, ControlId, Layout, LayoutFault, Usage};
@@ -44,9 +44,10 @@ fn bus(rt: &HostRuntime) -> Result<Rig, StackFault> {
 
 /// Attaches a boot keyboard. Where that is refused no device is there, and the next one has the same number.
 fn attached(rig: &mut Rig, start: Start) -> Result<u8, StackFault> {
-    let config = config(Boot::Keyboard);
-    match rig.attach(&config, &KEYBOARD, start) {
-        Err(StackFault::Memory) if rig.device(1).is_err() => rig.attach(&config, &KEYBOARD, start),
+    match attach_to(rig, Boot::Keyboard, &KEYBOARD, start) {
+        Err(StackFault::Memory) if rig.device(1).is_err() => {
+            attach_to(rig, Boot::Keyboard, &KEYBOARD, start)
+        }
         told => told,
     }
 }
@@ -150,28 +151,28 @@ fn a_reset_is_made_again(rt: HostRuntime) -> Result<(), Fail> {
     Ok(())
 }
 
-/// The layout of a boot keyboard.
-fn keyboard(rt: &HostRuntime) -> Result<Layout, LayoutFault> {
-    match Layout::parse(rt.alloc(), &KEYBOARD) {
+/// The layout of a descriptor.
+fn layout(rt: &HostRuntime, descriptor: &[u8]) -> Result<Layout, LayoutFault> {
+    match Layout::parse(rt.alloc(), descriptor) {
         Err(
             LayoutFault {
                 cause: Cause::Memory,
                 at: 0,
             },
-        ) => Layout::parse(rt.alloc(), &KEYBOARD),
+        ) => Layout::parse(rt.alloc(), descriptor),
         made => made,
     }
 }
 
 /// A boot keyboard.
-fn device(rt: &HostRuntime) -> Result<Device, DeviceFault> {
-    match Device::new(rt.alloc(), 1, &config(Boot::Keyboard), &KEYBOARD) {
+fn device(rt: &HostRuntime, descriptor: &[u8]) -> Result<Device, DeviceFault> {
+    match Device::new(rt.alloc(), 1, &config(Boot::Keyboard), descriptor) {
         Err(
             DeviceFault {
                 cause: DeviceCause::Memory | DeviceCause::Layout(Cause::Memory),
                 at: 0,
             },
-        ) => Device::new(rt.alloc(), 1, &config(Boot::Keyboard), &KEYBOARD),
+        ) => Device::new(rt.alloc(), 1, &config(Boot::Keyboard), descriptor),
         made => made,
     }
 }
@@ -187,7 +188,7 @@ fn transfer(rt: &HostRuntime) -> Result<HostTransfer, ControlFault> {
 
 #[test]
 fn what_takes_memory_is_made_again(rt: HostRuntime) -> Result<(), Fail> {
-    let layout = keyboard(&rt)?;
+    let layout = layout(&rt, &KEYBOARD)?;
     assert_eq!(rt; layout.items().len(), 5);
     let shown = match Shown::blank(rt.alloc(), &layout) {
         Err(_) => Shown::blank(rt.alloc(), &layout)?,
@@ -204,7 +205,7 @@ fn what_takes_memory_is_made_again(rt: HostRuntime) -> Result<(), Fail> {
         Ok(snapshot) => snapshot,
     };
     assert!(rt; snapshot.press(&layout, KEY).is_ok());
-    assert_eq!(rt; device(&rt)?.layout().items().len(), 5);
+    assert_eq!(rt; device(&rt, &KEYBOARD)?.layout().items().len(), 5);
     assert!(rt; transfer(&rt)?.outcome() == Outcome::Running);
     Ok(())
 }

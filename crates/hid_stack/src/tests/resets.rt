@@ -2,7 +2,7 @@
 //! HID 1.11, 7.2), worked out by hand from the definitions.
 
 use super::{
-    Act, Asks, BRINGS_UP, CLEAN, Given, Row, Tells, Verdict, asked, config, first_that_differs,
+    Act, Asks, BRINGS_UP, CLEAN, Given, Row, Tells, Verdict, asked, bus_with, first_that_differs,
     is_brought_up, step_of,
 };
 use crate::{HostState, Request, Rig, RunFault, StackFault, Start, Step, Told};
@@ -118,13 +118,6 @@ const KEYBOARDS: [(&str, &[Row], &[Row]); 2] = [
     ("nothing was told, so nothing goes up",       &NOTHING,    &KEY_BEHIND),
 ];
 
-/// A bus with one device that was just configured.
-fn ready(rt: &HostRuntime, boot: Boot, descriptor: &[u8]) -> Result<Rig, Fail> {
-    let mut rig = Rig::new(rt.alloc())?;
-    rig.attach(&config(boot), descriptor, Start::Ready)?;
-    Ok(rig)
-}
-
 /// Whether each step up to a reset tells and delivers as its row says, the host is cold then, and so behind the next
 /// configuration.
 fn goes_on(
@@ -151,7 +144,7 @@ fn is_forgotten(rig: &Rig) -> Result<bool, StackFault> {
 #[test]
 fn a_reset_of_a_mouse_drops_what_was_not_heard(rt: HostRuntime) -> Result<(), Fail> {
     for (name, before, behind) in MICE {
-        let mut rig = ready(&rt, Boot::Mouse, &MOUSE)?;
+        let mut rig = bus_with(&rt, Boot::Mouse, &MOUSE, Start::Ready)?;
         assert!(rt;
             goes_on(&rt, &mut rig, before, &BRINGS_A_MOUSE_UP, behind)?,
             "{name}"
@@ -163,7 +156,7 @@ fn a_reset_of_a_mouse_drops_what_was_not_heard(rt: HostRuntime) -> Result<(), Fa
 #[test]
 fn a_reset_of_a_keyboard_lets_its_keys_go(rt: HostRuntime) -> Result<(), Fail> {
     for (name, before, behind) in KEYBOARDS {
-        let mut rig = ready(&rt, Boot::Keyboard, &KEYBOARD)?;
+        let mut rig = bus_with(&rt, Boot::Keyboard, &KEYBOARD, Start::Ready)?;
         assert!(rt;
             goes_on(&rt, &mut rig, before, &BRINGS_UP, behind)?,
             "{name}"
@@ -175,9 +168,8 @@ fn a_reset_of_a_keyboard_lets_its_keys_go(rt: HostRuntime) -> Result<(), Fail> {
 /// Whether a reset amid a transfer tells nothing and leaves nothing of it. The host has done these requests, which
 /// bring the device up, and is cold, described, parsed or ready then.
 fn is_reset_amid_a_transfer(rt: &HostRuntime, done: &[Asks]) -> Result<bool, Fail> {
-    let mut rig = Rig::new(rt.alloc())?;
+    let mut rig = bus_with(rt, Boot::Keyboard, &KEYBOARD, Start::Cold)?;
     let mut out = Vec::new(rt.alloc());
-    rig.attach(&config(Boot::Keyboard), &KEYBOARD, Start::Cold)?;
     let is_up = is_brought_up(rt, &mut rig, done)?;
     let running = asked(&mut rig, Request::Status, 1, &mut out)?;
     let told = rig.step(&step_of(Act::Reset), &mut out)?;
@@ -218,7 +210,7 @@ fn are_lights(rig: &Rig, lights: u8) -> Result<bool, StackFault> {
 
 /// Whether a reset ends the write behind these tries, with these lights before it and none behind.
 fn is_ended(rt: &HostRuntime, fates: &[Fate], lights: u8) -> Result<bool, Fail> {
-    let mut rig = ready(rt, Boot::Keyboard, &KEYBOARD)?;
+    let mut rig = bus_with(rt, Boot::Keyboard, &KEYBOARD, Start::Ready)?;
     let mut out = Vec::new(rt.alloc());
     let request = Request::SetReport {
         kind: ReportKind::Output,
@@ -270,7 +262,7 @@ const BEHIND_A_RESET: [(Step, Result<Told, StackFault>); 12] = [
 
 #[test]
 fn behind_a_reset_a_refusal_has_its_place(rt: HostRuntime) -> Result<(), Fail> {
-    let mut rig = ready(&rt, Boot::Keyboard, &KEYBOARD)?;
+    let mut rig = bus_with(&rt, Boot::Keyboard, &KEYBOARD, Start::Ready)?;
     let mut out = Vec::new(rt.alloc());
     rig.step(&step_of(Act::Reset), &mut out)?;
     for (step, wanted) in BEHIND_A_RESET {
