@@ -1,0 +1,58 @@
+-- The pieces of a report by its items are those of its bytes.
+use Rattle.std.proofs.Common.{◌≡◌, ℕ, zero, suc, ◌<◌, ◌==◌, ◌||◌, Bool, true, false, cond, List, [], ◌∷◌, length, refl, ap, ◌∙◌, arith}
+use Rattle.std.specs.Prelude.{if◌then◌else◌}
+use Rattle.std.specs.List.{list_any}
+use Rattle.std.proofs.lemmas.Bool.Decides.{Decides-eqb}
+use Rattle.hid_descriptor.specs.declared.report.Report.{Report}
+use Rattle.hid_layout.specs.declared.main_item.MainItem.{MainItem}
+use Rattle.hid_descriptor.specs.Usages.{Entry, usage_list}
+use Rattle.hid_layout.specs.Layout.{Contents, report_bytes}
+use Rattle.hid_layout.specs.Reports.{IsLayout}
+use Rattle.hid_layout.specs.Controls.{Item, form_of, input_item, no_item, item_of, items_from, items_of, is_input}
+use Rattle.hid_cells.specs.Parts.{IsInput, is_of}
+use Rattle.hid_cells.specs.Pieces.{pieces_for, pieces_of}
+
+-- a report that may be there and is an Input report is there
+input_within : (reports : List Report) (r : ℕ) → is_input reports r ≡ true → r < length reports
+input_within [] r h = absurd (cc)
+input_within (x ∷ reports) zero h = omega arith
+input_within (x ∷ reports) (suc r) h = omega (arith, input_within reports r h)
+
+-- an item by whether its report is an Input report
+abbrev item_if : Contents → MainItem → List Entry → Bool → Item
+item_if layout m es b = cond b (input_item m.report (report_bytes layout m.report) (form_of m (usage_list es) m.shape)) no_item
+
+-- the item of another report is passed over, and the first one of the report counts
+item_pieces : (layout : Contents) (r : ℕ) (m : MainItem) (es : List Entry) (rest : ℕ) → IsInput layout r
+    → (if is_of r (item_of layout m es) then pieces_for (item_of layout m es).bytes else rest) ≡ (if m.report == r then pieces_for (report_bytes layout r) else rest)
+item_pieces layout r m es rest input = by_number (m.report == r) refl
+  where
+    other : (b : Bool) → (m.report == r) ≡ false → cond (is_of r (item_if layout m es b)) (pieces_for (item_if layout m es b).bytes) rest ≡ rest
+    other true e = ap (λ (x : Bool). cond x (pieces_for (report_bytes layout m.report)) rest) e
+    other false e = refl
+
+    by_number : (b : Bool) → (m.report == r) ≡ b → (if is_of r (item_of layout m es) then pieces_for (item_of layout m es).bytes else rest) ≡ (if b then pieces_for (report_bytes layout r) else rest)
+    by_number true e =
+        let same : m.report ≡ r = (Decides-eqb m.report r).0 e in
+        let in_it : is_input layout.reports m.report ≡ true = ap (is_input layout.reports) same ∙ input in
+        rw in_it (ap (λ (x : Bool). cond x (pieces_for (report_bytes layout m.report)) rest) e ∙ ap (λ (n : ℕ). pieces_for (report_bytes layout n)) same)
+    by_number false e = other (is_input layout.reports m.report) e
+
+pieces_from : (layout : Contents) (r : ℕ) (items : List MainItem) (ess : List (List Entry)) → IsInput layout r → length ess ≡ length items → list_any (λ (item : MainItem). item.report == r) items ≡ true
+    → pieces_of (items_from layout items ess) r ≡ pieces_for (report_bytes layout r)
+unfolding items_from
+pieces_from layout r [] ess input each there = absurd (cc)
+pieces_from layout r (m ∷ items) [] input each there = absurd (omega arith)
+pieces_from layout r (m ∷ items) (es ∷ ess) input each there =
+    item_pieces layout r m es (pieces_of (items_from layout items ess) r) input ∙ by_number (m.report == r) there (pieces_from layout r items ess input (omega arith))
+  where
+    by_number : (b : Bool) → (b || list_any (λ (item : MainItem). item.report == r) items) ≡ true
+        → (list_any (λ (item : MainItem). item.report == r) items ≡ true → pieces_of (items_from layout items ess) r ≡ pieces_for (report_bytes layout r))
+        → (if b then pieces_for (report_bytes layout r) else pieces_of (items_from layout items ess) r) ≡ pieces_for (report_bytes layout r)
+    by_number true h rest = refl
+    by_number false h rest = rest h
+
+-- of each Input report of a layout
+pub pieces_are : (layout : Contents) (r : ℕ) → IsLayout layout → IsInput layout r → pieces_of (items_of layout) r ≡ pieces_for (report_bytes layout r)
+pieces_are layout r laid input =
+    pieces_from layout r layout.items layout.entries input laid.entries_there (laid.item_there r (input_within layout.reports r input))
