@@ -1,8 +1,9 @@
--- The pieces of a report by its items are those of its bytes.
-use Rattle.std.proofs.Common.{◌≡◌, ℕ, zero, suc, ◌<◌, ◌==◌, ◌||◌, Bool, true, false, cond, List, [], ◌∷◌, length, refl, ap, ◌∙◌, arith}
+-- The pieces of a report: by its items they are those of its bytes, and joined they are the report.
+use Rattle.std.proofs.Common.{◌≡◌, ℕ, zero, suc, ◌+◌, ◌-◌, ◌*◌, ◌/◌, ◌<◌, ◌≤◌, ◌==◌, ◌||◌, Bool, true, false, cond, List, [], ◌∷◌, ◌++◌, length, take, drop, refl, ap, sym, ◌∙◌, arith, length-drop, take_all}
 use Rattle.std.specs.Prelude.{if◌then◌else◌}
 use Rattle.std.specs.List.{list_any}
 use Rattle.std.proofs.lemmas.Bool.Decides.{Decides-eqb}
+use Rattle.std.proofs.lemmas.List.{length-take-le}
 use Rattle.hid_descriptor.specs.declared.report.Report.{Report}
 use Rattle.hid_layout.specs.declared.main_item.MainItem.{MainItem}
 use Rattle.hid_descriptor.specs.Usages.{Entry, usage_list}
@@ -10,7 +11,7 @@ use Rattle.hid_layout.specs.Layout.{Contents, report_bytes}
 use Rattle.hid_layout.specs.Reports.{IsLayout}
 use Rattle.hid_layout.specs.Controls.{Item, form_of, input_item, no_item, item_of, items_from, items_of, is_input}
 use Rattle.hid_cells.specs.Parts.{IsInput, is_of}
-use Rattle.hid_cells.specs.Pieces.{pieces_for, pieces_of}
+use Rattle.hid_cells.specs.Pieces.{pieces_for, pieces_of, piece_of}
 
 -- a report that may be there and is an Input report is there
 input_within : (reports : List Report) (r : ℕ) → is_input reports r ≡ true → r < length reports
@@ -56,3 +57,41 @@ pieces_from layout r (m ∷ items) (es ∷ ess) input each there =
 pub pieces_are : (layout : Contents) (r : ℕ) → IsLayout layout → IsInput layout r → pieces_of (items_of layout) r ≡ pieces_for (report_bytes layout r)
 pieces_are layout r laid input =
     pieces_from layout r layout.items layout.entries input laid.entries_there (laid.item_there r (input_within layout.reports r input))
+
+-- there is one at least
+pub some_piece : (items : List Item) (r : ℕ) → 0 < pieces_of items r
+some_piece [] r = omega arith
+some_piece (item ∷ items) r = elim (is_of r item) as (λ (b : Bool). 0 < cond b (pieces_for item.bytes) (pieces_of items r)) [ true ↦ some item.bytes | false ↦ some_piece items r ]
+  where
+    some : (bytes : ℕ) → 0 < (bytes - 1) / 64 + 1
+    some bytes = omega arith
+
+-- what a host has collected before a piece, and with it
+abbrev none : List ℕ
+none = []
+
+take_none : (n : ℕ) → take n none ≡ none
+take_none zero = refl
+take_none (suc n) = refl
+
+take_more : (a b : ℕ) (bytes : List ℕ) → take a bytes ++ take b (drop a bytes) ≡ take (a + b) bytes
+take_more zero b bytes = ap (λ (n : ℕ). take n bytes) (let e : b ≡ zero + b = omega arith in e)
+take_more (suc a) b [] = take_none b ∙ sym (take_none (suc a + b))
+take_more (suc a) b (x ∷ bytes) = ap (λ (rest : List ℕ). x ∷ rest) (take_more a b bytes) ∙ ap (λ (n : ℕ). take n (x ∷ bytes)) (let e : suc (a + b) ≡ suc a + b = omega arith in e)
+
+pub collected_more : (bytes : List ℕ) (piece : ℕ) → take (64 * piece) bytes ++ piece_of bytes piece ≡ take (64 * (piece + 1)) bytes
+collected_more bytes piece = take_more (64 * piece) 64 bytes ∙ ap (λ (n : ℕ). take n bytes) (let e : 64 * piece + 64 ≡ 64 * (piece + 1) = omega arith in e)
+
+-- with the last piece that is all
+pub collected_all : (bytes : List ℕ) (piece : ℕ) → pieces_for (length bytes) ≤ piece + 1 → take (64 * (piece + 1)) bytes ≡ bytes
+collected_all bytes piece last = take_all (64 * (piece + 1)) bytes (omega (arith, last))
+
+-- each piece before it is full, and more is to come
+pub full_piece : (bytes : List ℕ) (piece : ℕ) → piece + 1 < pieces_for (length bytes) → length (piece_of bytes piece) ≡ 64
+full_piece bytes piece more = length-take-le 64 (drop (64 * piece) bytes) (omega (arith, more, length-drop (64 * piece) bytes))
+
+pub more_to_come : (bytes : List ℕ) (piece : ℕ) → piece + 1 < pieces_for (length bytes) → length (take (64 * (piece + 1)) bytes) < length bytes
+more_to_come bytes piece more =
+    let few : 64 * (piece + 1) < length bytes = omega (arith, more) in
+    let taken : length (take (64 * (piece + 1)) bytes) ≡ 64 * (piece + 1) = length-take-le (64 * (piece + 1)) bytes (omega (arith, few)) in
+    omega (arith, few, taken)

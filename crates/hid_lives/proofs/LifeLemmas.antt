@@ -1,5 +1,5 @@
 -- Behind its life a station stands and has told as what came of its course says.
-use Rattle.std.proofs.Common.{◌≡◌, ◌++◌, ℕ, suc, ◌+◌, ◌-◌, ◌/◌, ◌<◌, ◌≤◌, Bool, true, false, not, ◌&&◌, List, [], ◌∷◌, Option, Some, None, Result, Ok, Err, refl, ap, sym, ◌∙◌, subst, inl, inr, ◌⊎◌, cond, append_assoc, arith}
+use Rattle.std.proofs.Common.{◌≡◌, ◌++◌, ℕ, suc, ◌+◌, ◌<◌, ◌≤◌, Bool, true, false, not, ◌&&◌, List, [], ◌∷◌, Option, Some, None, Result, Ok, Err, refl, ap, sym, ◌∙◌, subst, inl, inr, ◌⊎◌, cond, append_assoc, arith}
 use Rattle.std.specs.Prelude.{if◌then◌else◌, nat_le}
 use Rattle.std.proofs.lemmas.Bool.Decides.{nat_tests}
 use Rattle.hid_layout.specs.Controls.{Item}
@@ -8,12 +8,12 @@ use Rattle.hid_cells.specs.declared.change.Change.{Change}
 use Rattle.hid_cells.specs.declared.change.ChangeFault.{ChangeFault}
 use Rattle.hid_cells.specs.declared.event.Event.{Event}
 use Rattle.hid_cells.specs.Cells.{blank}
-use Rattle.hid_cells.specs.Parts.{is_of}
-use Rattle.hid_cells.specs.Pieces.{pieces_for, pieces_of}
+use Rattle.hid_cells.specs.Pieces.{pieces_of}
 use Rattle.hid_cells.specs.Snapshots.{changed}
 use Rattle.hid_cells.specs.Views.{seen, changes_between, drops_between}
 use Rattle.usb_transact.specs.declared.transaction.Fate.{Fate}
 use Rattle.usb_transact.specs.declared.transaction.Fate.TheVariants.{Clean, TokenLost, ReplyLost, AckLost}
+use Rattle.hid_cells.proofs.PieceLemmas.{some_piece}
 use Rattle.hid_lives.specs.Standing.{Standing, configured, first_due, due_where, after_change, after_frame, with_idle, no_idle, cut_at, after_opening}
 use Rattle.hid_lives.specs.Rounds.{Changes, Frame, Polls, Round, Course, new_round, is_clean, closed_in, ahead_after, ahead_in, crossed_with, pieces_closed, pieces_crossed, has_crossed, has_closed, polled, part_events, fresh_course, opened_if, closed_by_poll, after_poll}
 use Rattle.hid_lives.specs.Stations.{Station, Open, is_whole, fresh, open_first, opened_by, answered, round_events}
@@ -531,16 +531,9 @@ if_due : (items : List Item) (d : Standing) (halted : Bool) (P : Bool → Option
 if_due items d true P not_due due = not_due true
 if_due items d false P not_due due = elim (first_due items d) as (P false) [ None ↦ not_due false | Some r ↦ due r ]
 
--- a round that just opened: it has a piece
-some_pieces : (items : List Item) (r : ℕ) → 0 < pieces_of items r
-some_pieces [] r = omega arith
-some_pieces (item ∷ items) r = elim (is_of r item) as (λ (b : Bool). 0 < cond b (pieces_for item.bytes) (pieces_of items r)) [ true ↦ some item.bytes | false ↦ some_pieces items r ]
-  where
-    some : (bytes : ℕ) → 0 < (bytes - 1) / 64 + 1
-    some bytes = omega arith
-
+-- a round that just opened has a piece
 new_links : (items : List Item) (r : ℕ) (d : Standing) → Links (new_round items r d) 0 false false d
-new_links items r d = record { piece_is = refl; ahead_is = refl; unclosed = some_pieces items r; whole_is = above (pieces_of items r) 0 (some_pieces items r); parts = refl }
+new_links items r d = record { piece_is = refl; ahead_is = refl; unclosed = some_piece items r; whole_is = above (pieces_of items r) 0 (some_piece items r); parts = refl }
 
 opened : (items : List Item) (fate : Fate) (deeds : List Deed) → Partway items (Own (Polls fate) ∷ deeds) → (d : Standing) (odd : Bool) (view : List Cell) (r : ℕ)
     → Lives items (Own (Polls fate) ∷ deeds) odd view [] (station (after_opening items r d) (Some (open_first items r)) odd view false) (course (after_opening items r d) (Some (new_round items r (after_opening items r d))) false)
