@@ -1,6 +1,6 @@
 -- A configured device with its ready host, between transactions: the state that both ends together keep (USB 2.0,
 -- 8.5.4, 8.6 and 9.4.5).
-use Rattle.std.specs.Prelude.{ℕ, ◌+◌, Bool, true, false, not, ◌&&◌, nat_le, if◌then◌else◌, List, [], ◌∷◌, ◌++◌, Option, Some, None}
+use Rattle.std.specs.Prelude.{◌≡◌, ℕ, ◌+◌, ◌<◌, Bool, true, false, not, ◌&&◌, nat_le, if◌then◌else◌, List, [], ◌∷◌, ◌++◌, Option, Some, None, IfSome}
 use Rattle.std.specs.Option.{option_map}
 use Rattle.hid_layout.specs.Controls.{Item}
 use Rattle.hid_cells.specs.declared.cell.Cell.{Cell}
@@ -29,6 +29,11 @@ pub record Station : Type 0 where
   pub odd : Bool
   pub view : List Cell
   pub halted : Bool
+
+-- the open round has the pieces of its report, and one of them is at hand
+abbrev pub HasPieces : List Item → Station → Type 0
+HasPieces items s =
+    IfSome s.current (λ round. (round.pieces ≡ pieces_of items round.report) × (round.piece < round.pieces))
 
 -- the report of the open round, where one is
 abbrev pub report_open : Option Open → Option ℕ

@@ -12,7 +12,7 @@ ghost use Rattle.hid_lives.specs.Halting.{HasCuts, OpensNext, StaysDue};
 ghost use Rattle.hid_lives.specs.Lives.{Clears, Deed, Halts, AreWithinEpoch, happenings, rounds_ended, told_from, told_in, befallen_all};
 ghost use Rattle.hid_lives.specs.Motion.{HasMotions, KeepsMotion, KeepsAccepted, KeepsThroughLife, AreBetweenRounds, are_accepted};
 ghost use Rattle.hid_lives.specs.Rounds.{OwnStep, Round, reaches_host, is_clean, has_crossed, has_closed, rounds, events_of, events_of_epoch, fresh_course};
-ghost use Rattle.hid_lives.specs.Stations.{Station, Open, is_last, fresh, after_all, events_in};
+ghost use Rattle.hid_lives.specs.Stations.{Station, Open, HasPieces, is_last, fresh, after_all, events_in};
 
 /// Over all that befalls a device, from any station without an open round on, what is told is the events of what came
 /// of it, and the station stands behind it as that says: the view, the open round, and both toggles.
@@ -74,6 +74,14 @@ pub fn short_reports_are_one_piece()
         → has_crossed round ≡ list_any reaches_host round.polls }
     ensures closes { (round : Round) → round.pieces ≡ 1
         → has_closed round ≡ list_any is_clean round.polls }
+{}
+
+/// The piece at hand is one of its report's, behind any life from a configuration on.
+pub fn open_rounds_have_a_piece()
+    ensures fresh { (items : List Item) (snapshot : List Cell) (idle : List ℕ)
+        → HasPieces items (fresh items snapshot idle) }
+    ensures lived { (items : List Item) (s : Station) (deeds : List Deed) → HasPieces items s
+        → HasPieces items (befallen_all items s deeds) }
 {}
 
 /// A halt or a clear loses no report: where it cuts a round, whether that had crossed or not, its report is due behind it,
