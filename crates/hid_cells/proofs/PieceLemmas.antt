@@ -1,9 +1,10 @@
 -- The pieces of a report: by its items they are those of its bytes, and joined they are the report.
+use Rattle.std.proofs.Math.Nat.{min-eq_left, min-eq_right}
 use Rattle.std.proofs.Common.{◌≡◌, ℕ, zero, suc, ◌+◌, ◌-◌, ◌*◌, ◌/◌, ◌<◌, ◌≤◌, ◌==◌, ◌||◌, Bool, true, false, cond, List, [], ◌∷◌, ◌++◌, length, take, drop, refl, ap, sym, ◌∙◌, arith, length-drop, take_all}
-use Rattle.std.specs.Prelude.{if◌then◌else◌}
+use Rattle.std.specs.Prelude.{if◌then◌else◌, min, nat_le}
 use Rattle.std.specs.List.{list_any}
-use Rattle.std.proofs.lemmas.Bool.Decides.{Decides-eqb}
-use Rattle.std.proofs.lemmas.List.{length-take-le}
+use Rattle.std.proofs.lemmas.Bool.Decides.{Decides-eqb, nat_tests}
+use Rattle.std.proofs.lemmas.List.{drop_all, length-take-le}
 use Rattle.hid_descriptor.specs.declared.report.Report.{Report}
 use Rattle.hid_layout.specs.declared.main_item.MainItem.{MainItem}
 use Rattle.hid_descriptor.specs.Usages.{Entry, usage_list}
@@ -95,3 +96,16 @@ more_to_come bytes piece more =
     let few : 64 * (piece + 1) < length bytes = omega (arith, more) in
     let taken : length (take (64 * (piece + 1)) bytes) ≡ 64 * (piece + 1) = length-take-le (64 * (piece + 1)) bytes (omega (arith, few)) in
     omega (arith, few, taken)
+
+-- behind the last byte there is none
+pub drop_min : (bytes : List ℕ) (n m : ℕ) → length bytes ≤ m → drop (min n m) bytes ≡ drop n bytes
+drop_min bytes n m fits = either (nat_le n m) refl
+  where
+    either : (b : Bool) → nat_le n m ≡ b → drop (min n m) bytes ≡ drop n bytes
+    either true h =
+        let below : n ≤ m = grind (arith, nat_tests, h) in
+        ap (λ (k : ℕ). drop k bytes) (min-eq_left below)
+    either false h =
+        let above : m ≤ n = grind (arith, nat_tests, h) in
+        let past : length bytes ≤ n = omega (arith, fits, above) in
+        ap (λ (k : ℕ). drop k bytes) (min-eq_right above) ∙ drop_all m bytes fits ∙ sym (drop_all n bytes past)
