@@ -3,13 +3,14 @@
 //! out by hand from the descriptors.
 
 use super::data;
-use crate::{HostDevice, HostState, StackFault};
+use crate::{HostDevice, StackFault};
 use hid_device::{Boot, Config, Device};
-use hid_layout::{ControlId, Layout, Usage};
+use hid_layout::ControlId;
 use hid_requests::Request;
-use hid_usages::{Event, ReportFault, Shown};
+use hid_usages::{Change, ReportFault};
 use std::test::Fail;
 use usb_control::Progress;
+use usb_packet::Packet;
 use usb_transact::{Fate, Took};
 
 /// 100 values of a byte each, in a report without an ID.
@@ -23,12 +24,6 @@ const LONG: [u8; 15] = [
 const NUMBERED: [u8; 25] = [
     0x05, 0x01, 0x85, 0x01, 0x09, 0x30, 0x15, 0x00, 0x26, 0xFF, 0x00, 0x75, 0x08, 0x95, 0x64, 0x81, 0x02,
     0x85, 0x02, 0x09, 0x31, 0x95, 0x01, 0x81, 0x02,
-];
-
-/// A report of 100 motions.
-#[rattlefmt::skip]
-const WHEELS: [u8; 14] = [
-    0x05, 0x01, 0x09, 0x30, 0x15, 0x81, 0x25, 0x7F, 0x75, 0x08, 0x95, 0x64, 0x81, 0x06,
 ];
 
 /// So many bytes, of which the first is this, and the others 0.
@@ -51,23 +46,6 @@ enum Told {
 const SHORT: Told = Told::Refused(ReportFault::Short);
 
 const UNKNOWN: Told = Told::Refused(ReportFault::UnknownReport);
-
-/// Data by toggle, first byte and count.
-const fn data0(first: u8, count: usize) -> Sent {
-    Sent {
-        one: false,
-        first,
-        count,
-    }
-}
-
-const fn data1(first: u8, count: usize) -> Sent {
-    Sent {
-        one: true,
-        first,
-        count,
-    }
-}
 
 /// Whether a host that is given these data tells so, and takes no event where it doesn't.
 fn tells(rt: &HostRuntime, host: &mut HostDevice, sent: &Sent, told: &Told) -> Result<bool, Fail> {
@@ -131,6 +109,52 @@ fn a_report_is_read_once_it_is_whole(rt: HostRuntime) -> Result<(), Fail> {
                 "{name}: {first} {count}"
             );
         }
+    }
+    Ok(())
+}
+
+/// A device at address 1 with that report, configured.
+fn long_device(rt: &HostRuntime) -> Result<Device, Fail> {
+    let config = Config {
+        vendor: 0xFFFF,
+        product: 0x0001,
+        interval: 10,
+        boot: Boot::No,
+    };
+    let mut device = Device::new(rt.alloc(), 1, &config, &LONG)?;
+    device.configure();
+    Ok(device)
+}
+
+/// The events of a poll of which nothing is lost, where it brings fresh data.
+fn polled(
+    rt: &HostRuntime,
+    host: &mut HostDevice,
+    device: &mut Device,
+) -> Result<Option<usize>, Fail> {
+    let answer = device.on_packet(&host.token()?);
+    let mut out = Vec::with_capacity(rt.alloc(), host.max_events())?;
+    let took = host.reply(answer.as_ref(), &mut out)?;
+    device.on_packet(&Packet::Ack);
+    Ok(match took {
+        Took::Fresh(_) => Some(out.len()),
+        _ => None,
+    })
+}
+
+#[test]
+fn a_clear_forgets_what_came_of_a_report(rt: HostRuntime) -> Result<(), Fail> {
+    let mut device = long_device(&rt)?;
+    let mut host = HostDevice::ready(rt.alloc(), 1, &LONG)?;
+    device.change(Change::Set(ControlId { item: 0, index: 99 }, 7))?;
+    assert_eq!(rt; polled(&rt, &mut host, &mut device)?, Some(0));
+    host.begin(&Request::Clear)?;
+    for wanted in [Progress::Running, Progress::Done] {
+        let told = host.control_step(device.control(), Fate::Clean);
+        assert!(rt; told == Ok(wanted));
+    }
+    for wanted in [Some(0), Some(1), None] {
+        assert_eq!(rt; polled(&rt, &mut host, &mut device)?, wanted);
     }
     Ok(())
 }
