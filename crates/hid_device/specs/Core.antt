@@ -1,6 +1,6 @@
 -- What a contract sees of a device's inside, and what befalls it (USB 2.0, 8.5.4, 8.6, 9.1.1.3, 9.2, 9.4.5 and 9.4.7;
 -- HID 1.11, 7.2.4 and 7.2.6).
-use Rattle.std.specs.Prelude.{◌≡◌, ℕ, ◌+◌, ◌<◌, Bool, true, false, not, nat_le, if◌then◌else◌, List, length, Option, Some, None, IfSome}
+use Rattle.std.specs.Prelude.{◌≡◌, ℕ, ◌+◌, ◌<◌, Bool, true, false, not, nat_le, if◌then◌else◌, List, length, unwrap_or, Option, Some, None, IfSome}
 use Rattle.hid_layout.specs.Layout.{Contents}
 use Rattle.hid_layout.specs.Controls.{Item, items_of}
 use Rattle.hid_cells.specs.declared.cell.Cell.{Cell}
@@ -71,22 +71,26 @@ flipped toggle (Some r) = not toggle
 abbrev pub is_last_piece : List Item → ℕ → ℕ → Bool
 is_last_piece items r piece = nat_le (pieces_of items r) (piece + 1)
 
--- an acknowledgement of the last piece closes the round
-abbrev pub left_open : List Item → Option ℕ → ℕ → Option ℕ
-left_open items None piece = None
-left_open items (Some r) piece = if is_last_piece items r piece then None else Some r
+-- the piece behind the one that goes out, where there is one
+abbrev pub next_piece : List Item → Option ℕ → ℕ → Option ℕ
+next_piece items None piece = None
+next_piece items (Some r) piece = if is_last_piece items r piece then None else Some (piece + 1)
 
--- and behind that of another one the next piece goes out
-abbrev pub piece_behind : List Item → Option ℕ → ℕ → ℕ
-piece_behind items None piece = 0
-piece_behind items (Some r) piece = if is_last_piece items r piece then 0 else piece + 1
+-- of a core
+abbrev pub next_of : CoreState → Option ℕ
+next_of core = next_piece (items_of core.layout) core.current core.piece
+
+-- the round stays open while another piece goes out
+abbrev pub left_open : Option ℕ → Option ℕ → Option ℕ
+left_open current None = None
+left_open current (Some next) = current
 
 -- An acknowledgement closes the piece that goes out, and the round with its last one.
 abbrev pub closed_core : CoreState → CoreState
 closed_core core = record core {
   toggle = flipped core.toggle core.current;
-  current = left_open (items_of core.layout) core.current core.piece;
-  piece = piece_behind (items_of core.layout) core.current core.piece;
+  current = left_open core.current (next_of core);
+  piece = unwrap_or (next_of core) 0;
 }
 
 -- SET_CONFIGURATION takes effect: no round is open, data begin with DATA0, and a halt ends (USB 2.0, 9.1.1.5 and 9.4.5).

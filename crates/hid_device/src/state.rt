@@ -8,7 +8,7 @@ ghost use Rattle.hid_parts.specs.Encoding.{AreBytes};
 ghost use Rattle.hid_cells.specs.Snapshots.{Changes};
 ghost use Rattle.usb_packet.specs.Spelling.{Fits};
 ghost use Rattle.hid_device.specs.Standing.{is_due, due_where};
-ghost use Rattle.hid_device.specs.Core.{IsSound, armed_of, opened_core, opening_of, closed_core, configured_core, halted_core, cleared_core, piece_at, poll_answer, reset_core, changed_core, framed_core, round_of};
+ghost use Rattle.hid_device.specs.Core.{IsSound, armed_of, opened_core, opening_of, closed_core, configured_core, halted_core, cleared_core, piece_at, poll_answer, reset_core, changed_core, framed_core, next_of, round_of};
 ghost use Rattle.hid_device.specs.declared.decisions.Pending.TheVariants.{Keep, Nothing};
 ghost use Rattle.hid_device.specs.Decisions.{decided_by};
 ghost use Rattle.hid_device.specs.Deciding.{decided_row, effected, idle_told, keeps, output_of, reads_any, report_now, sets_idle, still_bytes};
@@ -358,16 +358,27 @@ impl Core {
     pub(crate) fn acknowledged(&mut self)
         ensures { self.new ≡ closed_core self.old }
     {
+        let next = self.next_piece();
         self.pipe.acknowledged();
-        match self.current {
-            Some(report) if self.piece + 1 < pieces_of(&self.layout, report) => {
-                self.piece += 1;
-                self.pipe.arm(piece_of(&self.round, self.piece));
+        match next {
+            Some(piece) => {
+                self.pipe.arm(piece_of(&self.round, piece));
+                self.piece = piece;
             }
-            Some(_) | None => {
+            None => {
                 self.current = None;
                 self.piece = 0;
             }
+        }
+    }
+
+    /// The piece behind the one that goes out, where there is one.
+    fn next_piece(&self) -> Option<usize>
+        ensures { result ≡ next_of self.now }
+    {
+        match self.current {
+            Some(report) if pieces_of(&self.layout, report) > self.piece + 1 => Some(self.piece + 1),
+            Some(_) | None => None,
         }
     }
 
