@@ -109,3 +109,29 @@ drop_min bytes n m fits = either (nat_le n m) refl
         let above : m ≤ n = grind (arith, nat_tests, h) in
         let past : length bytes ≤ n = omega (arith, fits, above) in
         ap (λ (k : ℕ). drop k bytes) (min-eq_right above) ∙ drop_all m bytes fits ∙ sym (drop_all n bytes past)
+
+-- nor is one taken
+take_min : (bytes : List ℕ) (n m : ℕ) → length bytes ≤ n → take (min n m) bytes ≡ take m bytes
+take_min bytes n m fits = either (nat_le n m) refl
+  where
+    either : (b : Bool) → nat_le n m ≡ b → take (min n m) bytes ≡ take m bytes
+    either true h =
+        let below : n ≤ m = grind (arith, nat_tests, h) in
+        let past : length bytes ≤ m = omega (arith, fits, below) in
+        ap (λ (k : ℕ). take k bytes) (min-eq_left below) ∙ take_all n bytes fits ∙ sym (take_all m bytes past)
+    either false h =
+        let above : m ≤ n = grind (arith, nat_tests, h) in
+        ap (λ (k : ℕ). take k bytes) (min-eq_right above)
+
+-- a range of bytes that begins and ends within them is a piece of them
+pub piece_is : (bytes : List ℕ) (start from count : ℕ) → from ≡ min start (length bytes) → count ≡ min (length bytes - from) 64
+    → take count (take (length bytes - from) (drop from bytes)) ≡ take 64 (drop start bytes)
+piece_is bytes start from count begins ends =
+    let long : length (drop from bytes) ≡ length bytes - from = length-drop from bytes in
+    let fits : length (drop from bytes) ≤ length bytes - from = omega (arith, long) in
+    let within : length bytes ≤ length bytes = omega arith in
+    ap (take count) (take_all (length bytes - from) (drop from bytes) fits)
+    ∙ ap (λ (n : ℕ). take n (drop from bytes)) ends
+    ∙ take_min (drop from bytes) (length bytes - from) 64 fits
+    ∙ ap (λ (n : ℕ). take 64 (drop n bytes)) begins
+    ∙ ap (take 64) (drop_min bytes start (length bytes) within)

@@ -1,6 +1,6 @@
 -- What an acknowledgement leaves: the round with its next piece, or none.
 use Rattle.std.proofs.Common.{◌≡◌, ℕ, ◌+◌, ◌<◌, ◌≤◌, Bool, true, false, cond, List, Option, Some, None, refl, ap, sym, ◌∙◌, arith}
-use Rattle.std.specs.Prelude.{nat_le, unwrap_or}
+use Rattle.std.specs.Prelude.{nat_le, unwrap_or, IfSome}
 use Rattle.std.proofs.lemmas.Bool.Decides.{nat_tests}
 use Rattle.hid_layout.specs.Layout.{Contents}
 use Rattle.hid_layout.specs.Controls.{Item, items_of}
@@ -8,8 +8,7 @@ use Rattle.hid_cells.specs.declared.cell.Cell.{Cell}
 use Rattle.hid_cells.specs.Pieces.{piece_of, pieces_of}
 use Rattle.hid_parts.specs.Encoded.{part_bytes}
 use Rattle.usb_transact.specs.Device.{toggle_behind}
-use Rattle.hid_device.specs.Inputs.{input_count}
-use Rattle.hid_device.specs.Core.{CoreState, IsBelow, IsPiece, IsQuiet, IsSound, SendsPart, flipped, is_last_piece, left_open, next_piece, piece_armed}
+use Rattle.hid_device.specs.Core.{CoreState, IsPiece, IsQuiet, IsSound, armed_of, closed_core, flipped, is_last_piece, left_open, next_of, next_piece, piece_armed}
 
 -- the toggle changes where a round is open
 pub toggle_is : (layout : Contents) (parts : List Cell) (toggle : Bool) (current : Option ℕ) (piece : ℕ)
@@ -34,10 +33,28 @@ next_goes items (Some r) piece next halted e quiet = quiet
 
 -- what is armed then is that piece of the part
 pub next_is_armed : (layout : Contents) (parts : List Cell) (current : Option ℕ) (piece next : ℕ) (round : List ℕ) → next_piece (items_of layout) current piece ≡ Some next
-    → (elim current [ None ↦ Unit {0} | Some r ↦ round ≡ part_bytes layout r parts ])
+    → IfSome current (λ r. round ≡ part_bytes layout r parts)
     → Some (piece_of round next) ≡ piece_armed layout parts current next
 next_is_armed layout parts None piece next round e keeps = absurd (cc)
 next_is_armed layout parts (Some r) piece next round e keeps = ap (λ (bytes : List ℕ). Some (piece_of bytes next)) keeps
+
+-- the inside behind an acknowledgement, with the piece behind the one that went out
+pub closes_piece : (core : CoreState) (armed : Option (List ℕ)) (piece : ℕ) → armed ≡ armed_of core → next_of core ≡ Some piece
+    → record core { toggle = toggle_behind core.toggle armed; piece = piece } ≡ closed_core core
+closes_piece core armed piece is next =
+    let toggle : toggle_behind core.toggle armed ≡ flipped core.toggle core.current
+    = ap (toggle_behind core.toggle) is ∙ toggle_is core.layout core.standing.fixed core.toggle core.current core.piece in
+    ap (λ (t : Bool). record core { toggle = t; piece = piece }) toggle
+    ∙ ap (λ (o : Option ℕ). record core { toggle = flipped core.toggle core.current; current = left_open core.current o; piece = unwrap_or o 0 }) (sym next)
+
+-- and where there is none
+pub closes_round : (core : CoreState) (armed : Option (List ℕ)) → armed ≡ armed_of core → next_of core ≡ None
+    → record core { toggle = toggle_behind core.toggle armed; current = None; piece = 0 } ≡ closed_core core
+closes_round core armed is next =
+    let toggle : toggle_behind core.toggle armed ≡ flipped core.toggle core.current
+    = ap (toggle_behind core.toggle) is ∙ toggle_is core.layout core.standing.fixed core.toggle core.current core.piece in
+    ap (λ (t : Bool). record core { toggle = t; current = None; piece = 0 }) toggle
+    ∙ ap (λ (o : Option ℕ). record core { toggle = flipped core.toggle core.current; current = left_open core.current o; piece = unwrap_or o 0 }) (sym next)
 
 -- a device stays sound with another piece of its round
 pub sound_at_piece : (core : CoreState) (toggle : Bool) (piece : ℕ) → IsSound core → IsPiece (items_of core.layout) core.current piece

@@ -377,8 +377,15 @@ impl Core {
         ensures { result ≡ next_of self.now }
     {
         match self.current {
-            Some(report) if pieces_of(&self.layout, report) > self.piece + 1 => Some(self.piece + 1),
-            Some(_) | None => None,
+            Some(report) => {
+                let pieces = pieces_of(&self.layout, report);
+                if self.piece + 1 < pieces {
+                    Some(self.piece + 1)
+                } else {
+                    None
+                }
+            }
+            None => None,
         }
     }
 
