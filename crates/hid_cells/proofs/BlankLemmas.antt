@@ -15,8 +15,8 @@ use Rattle.hid_layout.specs.declared.control.ControlKind.TheVariants.{Switch, Va
 use Rattle.hid_descriptor.specs.Usages.{Entry, usage_list}
 use Rattle.hid_descriptor.specs.Fields.{is_padding}
 use Rattle.hid_layout.specs.Layout.{Contents}
-use Rattle.hid_layout.specs.Reports.{IsLayout, HasElements}
-use Rattle.hid_layout.specs.Controls.{Form, NoControls, Elements, Keys, Key, Item, items_of, item_of, form_of, form_at, head_of, is_input}
+use Rattle.hid_layout.specs.Reports.{IsLayout, HasElements, report_bytes}
+use Rattle.hid_layout.specs.Controls.{Form, NoControls, Elements, Keys, Key, Item, items_of, item_of, form_of, form_at, head_of, is_input, input_item, no_item}
 use Rattle.hid_cells.specs.declared.cell.Cell.{Cell}
 use Rattle.hid_cells.specs.Cells.{is_in, pressed_count, blank_cell, blank, HasRoom, is_value, are_values, are_motions, are_pressable, InSnapshot, InView, Suits, FitsSnapshot, FitsView}
 use Rattle.hid_cells.proofs.ListLemmas.{cons_count, map_at, mapped_at}
@@ -34,10 +34,10 @@ sound_form m us Padding has = tt
 sound_form m us Variable has = test_true _ ((has refl).some_value.le)
 sound_form m us Array has = (has refl).some
 
-sound_item : (layout : Contents) (m : MainItem) (es : List Entry) → (is_padding m.shape ≡ false → HasElements m) → IsSound (item_of layout.reports m es).form
+sound_item : (layout : Contents) (m : MainItem) (es : List Entry) → (is_padding m.shape ≡ false → HasElements m) → IsSound (item_of layout m es).form
 sound_item layout m es has = by_input (is_input layout.reports m.report)
   where
-    by_input : (b : Bool) → IsSound (let a : Item = record { report = Some m.report; form = form_of m (usage_list es) m.shape } in let z : Item = record { report = None; form = NoControls } in cond b a z).form
+    by_input : (b : Bool) → IsSound (let a : Item = input_item m.report (report_bytes layout m.report) (form_of m (usage_list es) m.shape) in let z : Item = no_item in cond b a z).form
     by_input true = sound_form m (usage_list es) m.shape has
     by_input false = tt
 
@@ -46,8 +46,8 @@ sound_items layout laid i item h =
     let within : i < length layout.items = omega (arith, slice_get_within (items_of layout) i item h, items_of-length layout laid) in
     let m = got layout.items i within in
     let es = got layout.entries i (omega (arith, laid.entries_there)) in
-    let is : slice_get (items_of layout) i ≡ Some (item_of layout.reports m.0 es.0) = items_from-at layout.reports layout.items layout.entries i m.0 es.0 m.1 es.1 in
-    let same : item_of layout.reports m.0 es.0 ≡ item = cc in
+    let is : slice_get (items_of layout) i ≡ Some (item_of layout m.0 es.0) = items_from-at layout layout.items layout.entries i m.0 es.0 m.1 es.1 in
+    let same : item_of layout m.0 es.0 ≡ item = cc in
     let P : Item → Type 0 = λ it. IsSound it.form in
     subst P same (sound_item layout m.0 es.0 (laid.elements i m.0 m.1))
 

@@ -4,7 +4,6 @@ use Rattle.std.specs.List.{slice_get, slice_set}
 use Rattle.std.specs.Option.{option_map}
 use Rattle.std.proofs.lemmas.Option.{slice_get_within}
 use Rattle.hid_layout.specs.declared.main_item.MainItem.{MainItem}
-use Rattle.hid_descriptor.specs.declared.report.Report.{Report}
 use Rattle.hid_layout.specs.declared.control.Control.{Control}
 use Rattle.hid_layout.specs.declared.control.ControlId.{ControlId}
 use Rattle.hid_descriptor.specs.Usages.{Entry}
@@ -12,32 +11,32 @@ use Rattle.hid_layout.specs.Layout.{Contents}
 use Rattle.hid_layout.specs.Reports.{IsLayout}
 use Rattle.hid_layout.specs.Controls.{Form, NoControls, Item, items_of, items_from, item_of, control_of, control_in, form_at}
 
-pub items_from-at : (rs : List Report) (ms : List MainItem) (ess : List (List Entry)) (i : ℕ) (m : MainItem) (es : List Entry) → slice_get ms i ≡ Some m → slice_get ess i ≡ Some es
-    → slice_get (items_from rs ms ess) i ≡ Some (item_of rs m es)
+pub items_from-at : (layout : Contents) (ms : List MainItem) (ess : List (List Entry)) (i : ℕ) (m : MainItem) (es : List Entry) → slice_get ms i ≡ Some m → slice_get ess i ≡ Some es
+    → slice_get (items_from layout ms ess) i ≡ Some (item_of layout m es)
 unfolding items_from
-items_from-at rs [] ess i m es h k = absurd (cc)
-items_from-at rs (a ∷ ms) [] i m es h k = absurd (cc)
-items_from-at rs (a ∷ ms) (b ∷ ess) zero m es h k =
+items_from-at layout [] ess i m es h k = absurd (cc)
+items_from-at layout (a ∷ ms) [] i m es h k = absurd (cc)
+items_from-at layout (a ∷ ms) (b ∷ ess) zero m es h k =
     let e : a ≡ m = cc in
     let f : b ≡ es = cc in
     rw (e, f) refl
-items_from-at rs (a ∷ ms) (b ∷ ess) (suc i) m es h k = items_from-at rs ms ess i m es h k
+items_from-at layout (a ∷ ms) (b ∷ ess) (suc i) m es h k = items_from-at layout ms ess i m es h k
 
-pub items_from-length : (rs : List Report) (ms : List MainItem) (ess : List (List Entry)) → length ess ≡ length ms → length (items_from rs ms ess) ≡ length ms
+pub items_from-length : (layout : Contents) (ms : List MainItem) (ess : List (List Entry)) → length ess ≡ length ms → length (items_from layout ms ess) ≡ length ms
 unfolding items_from
-items_from-length rs [] [] h = refl
-items_from-length rs [] (e ∷ ess) h = refl
-items_from-length rs (m ∷ ms) [] h = absurd (omega arith)
-items_from-length rs (m ∷ ms) (e ∷ ess) h = ap suc (items_from-length rs ms ess (omega arith))
+items_from-length layout [] [] h = refl
+items_from-length layout [] (e ∷ ess) h = refl
+items_from-length layout (m ∷ ms) [] h = absurd (omega arith)
+items_from-length layout (m ∷ ms) (e ∷ ess) h = ap suc (items_from-length layout ms ess (omega arith))
 
-pub items_from-short : (rs : List Report) (ms : List MainItem) (ess : List (List Entry)) → length (items_from rs ms ess) ≤ length ms
+pub items_from-short : (layout : Contents) (ms : List MainItem) (ess : List (List Entry)) → length (items_from layout ms ess) ≤ length ms
 unfolding items_from
-items_from-short rs [] ess = omega arith
-items_from-short rs (m ∷ ms) [] = omega arith
-items_from-short rs (m ∷ ms) (e ∷ ess) = omega (arith, items_from-short rs ms ess)
+items_from-short layout [] ess = omega arith
+items_from-short layout (m ∷ ms) [] = omega arith
+items_from-short layout (m ∷ ms) (e ∷ ess) = omega (arith, items_from-short layout ms ess)
 
 pub items_of-length : (layout : Contents) → IsLayout layout → length (items_of layout) ≡ length layout.items
-items_of-length layout laid = items_from-length layout.reports layout.items layout.entries laid.entries_there
+items_of-length layout laid = items_from-length layout layout.items layout.entries laid.entries_there
 
 -- an item by its place
 pub got : {A : Type 0} (xs : List A) (i : ℕ) → i < length xs → (x : A) × (slice_get xs i ≡ Some x)
@@ -61,7 +60,7 @@ control_found items c control h = by_item (slice_get items c.item) refl h
 pub control_within : (layout : Contents) (c : ControlId) (control : Control) → control_of (items_of layout) c ≡ Some control → c.item < length layout.items
 control_within layout c control h =
     let found = control_found (items_of layout) c control h in
-    omega (arith, slice_get_within (items_of layout) c.item found.item found.there, items_from-short layout.reports layout.items layout.entries)
+    omega (arith, slice_get_within (items_of layout) c.item found.item found.there, items_from-short layout layout.items layout.entries)
 
 pub form_at-is : (items : List Item) (i : ℕ) (item : Item) → slice_get items i ≡ Some item → form_at items i ≡ item.form
 form_at-is items i item h = ap (λ (o : Option Item). elim o as (λ _. Form) [ None ↦ NoControls | Some found ↦ found.form ]) h

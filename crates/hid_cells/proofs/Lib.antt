@@ -11,3 +11,5 @@ pub mod SkipLemmas
 pub mod EmptyLemmas
 pub mod ResetLemmas
 pub mod KeyWordLemmas
+pub mod PieceLemmas
+mod PieceVectors

@@ -1,5 +1,5 @@
 -- What a report shows of what is kept.
-use Rattle.std.proofs.Common.{◌≡◌, ℕ, zero, suc, ◌+◌, ◌<◌, ◌==◌, Bool, true, false, cond, List, [], ◌∷◌, ◌++◌, length, take, drop, Option, Some, None, ℤ, refl, sym, ap, ◌∙◌, arith, unwrap_or, get_or}
+use Rattle.std.proofs.Common.{◌≡◌, ℕ, zero, suc, ◌+◌, ◌<◌, ◌==◌, Bool, true, false, cond, List, [], ◌∷◌, ◌++◌, length, take, drop, Option, Some, ℤ, refl, sym, ap, ◌∙◌, arith, unwrap_or, get_or}
 use Rattle.std.specs.List.{slice_get, slice_set}
 use Rattle.std.proofs.lemmas.Option.{slice_get_within, slice_get-get_or}
 use Rattle.hid_layout.specs.declared.control.ControlKind.TheVariants.{Switch, Value, NullValue, Relative}
@@ -9,8 +9,8 @@ use Rattle.std.proofs.lemmas.Bool.Decides.{Decides-eqb}
 use Rattle.hid_cells.proofs.FillLemmas.{unfilled_at, fill_next, filled}
 use Rattle.hid_cells.proofs.ItemLemmas.{got, items_from-at}
 use Rattle.hid_layout.specs.Layout.{Contents}
-use Rattle.hid_layout.specs.Reports.{IsLayout}
-use Rattle.hid_layout.specs.Controls.{Form, NoControls, Elements, Keys, Item, items_of, item_of, form_of, head_of, is_input}
+use Rattle.hid_layout.specs.Reports.{IsLayout, report_bytes}
+use Rattle.hid_layout.specs.Controls.{Form, NoControls, Elements, Keys, Item, items_of, item_of, form_of, head_of, is_input, input_item, no_item}
 use Rattle.hid_cells.specs.declared.cell.Cell.{Cell}
 use Rattle.hid_cells.specs.declared.cell.Cell.TheVariants.{Vacant, Pressed, Holding, Moved, RolledOver}
 use Rattle.hid_cells.specs.Cells.{is_in, are_motions, HasRoom, InSnapshot, InPart, Suits}
@@ -41,7 +41,7 @@ by_item_length f (it ∷ items) (x ∷ xs) [] h k = absurd (omega arith)
 by_item_length f (it ∷ items) (x ∷ xs) (y ∷ bs) h k = ap suc (by_item_length f items xs bs (omega arith) (omega arith))
 
 pub item_at-is : (items : List Item) (i : ℕ) (item : Item) → slice_get items i ≡ Some item → item_at items i ≡ item
-item_at-is items i item h = ap (λ (o : Option Item). unwrap_or o (record { report = None; form = NoControls })) h
+item_at-is items i item h = ap (λ (o : Option Item). unwrap_or o no_item) h
 
 -- A cell of a snapshot can be copied into the part of the same item.
 pub room_of : (form : Form) (cell part : Cell) → HasRoom (head_of form) cell → InSnapshot form cell → HasRoom (head_of form) part → HasRoomOf cell part
@@ -148,15 +148,15 @@ pub of_report : (layout : Contents) → IsLayout layout → (i r : ℕ) (m : Mai
 of_report layout laid i r m h input =
     let within : i < length layout.items = slice_get_within layout.items i m h in
     let es = got layout.entries i (omega (arith, laid.entries_there)) in
-    let is = items_from-at layout.reports layout.items layout.entries i m es.0 h es.1 in
-    rw (item_at-is (items_of layout) i (item_of layout.reports m es.0) is) (by_number (m.report == r) refl es.0)
+    let is = items_from-at layout layout.items layout.entries i m es.0 h es.1 in
+    rw (item_at-is (items_of layout) i (item_of layout m es.0) is) (by_number (m.report == r) refl es.0)
   where
     by_input : (b : Bool) → (m.report == r) ≡ false → (es : List Entry)
-        → (m.report == r) ≡ is_of r (let a : Item = record { report = Some m.report; form = form_of m (usage_list es) m.shape } in let z : Item = record { report = None; form = NoControls } in cond b a z)
+        → (m.report == r) ≡ is_of r (let a : Item = input_item m.report (report_bytes layout m.report) (form_of m (usage_list es) m.shape) in let z : Item = no_item in cond b a z)
     by_input true e es = refl
     by_input false e es = e
 
-    by_number : (b : Bool) → (m.report == r) ≡ b → (es : List Entry) → (m.report == r) ≡ is_of r (item_of layout.reports m es)
+    by_number : (b : Bool) → (m.report == r) ≡ b → (es : List Entry) → (m.report == r) ≡ is_of r (item_of layout m es)
     by_number true e es =
         let same : m.report ≡ r = (Decides-eqb m.report r).0 e in
         let in_it : is_input layout.reports m.report ≡ true = ap (is_input layout.reports) same ∙ input in

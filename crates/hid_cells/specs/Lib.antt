@@ -3,6 +3,7 @@ pub mod Words
 pub mod Cells
 pub mod Snapshots
 pub mod Parts
+pub mod Pieces
 pub mod Samples
 pub mod Codes
 pub mod Keys

@@ -11,7 +11,7 @@ use Rattle.hid_layout.specs.declared.control.Controls.{Controls}
 use Rattle.hid_layout.specs.declared.control.Controls.TheVariants as head
 use Rattle.hid_layout.specs.declared.control.ControlKind.TheVariants.{Relative}
 use Rattle.hid_layout.specs.Layout.{Contents}
-use Rattle.hid_layout.specs.Controls.{NoControls, Item, head_of, is_input}
+use Rattle.hid_layout.specs.Controls.{Item, head_of, is_input, no_item}
 use Rattle.hid_cells.specs.declared.cell.Cell.{Cell}
 use Rattle.hid_cells.specs.declared.cell.Cell.TheVariants.{Vacant, Pressed, Holding, Moved, RolledOver}
 use Rattle.hid_layout.specs.declared.control.ControlId.{ControlId}
@@ -28,7 +28,7 @@ IsInput layout r = is_input layout.reports r ≡ true
 
 -- the item at a place; one without controls behind the last
 abbrev pub item_at : List Item → ℕ → Item
-item_at items i = unwrap_or (slice_get items i) (record { report = None; form = NoControls })
+item_at items i = unwrap_or (slice_get items i) no_item
 
 -- the items' cells of two lists, put together item by item
 abbrev pub by_item : {A : Type 0} → (Item → Cell → Cell → A) → List Item → List Cell → List Cell → List A

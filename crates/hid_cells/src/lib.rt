@@ -23,6 +23,7 @@ mod flags;
 mod items;
 mod keys;
 mod parts;
+mod pieces;
 mod reset;
 
 pub use blank::{blank_cell, blank_cells, blank_parts};
@@ -35,4 +36,5 @@ pub use flags::Flags;
 pub use items::{is_input, is_of, item_at, item_count, plan_of};
 pub use keys::{has_keys, key_words};
 pub use parts::{cell_at, has_zeros, is_changed, show_cell, show_cells, show_still, take_cells};
+pub use pieces::{MAX_PIECE, piece_of, pieces_of};
 pub use reset::reset_parts;

@@ -201,5 +201,5 @@ none_listed = record {
   few = omega arith;
 }
   where
-    small_limit : (id : ℕ) (b : Bool) → 0 ≤ cond b 512 504
+    small_limit : (id : ℕ) (b : Bool) → 0 ≤ cond b 2048 2040
     small_limit id b = omega arith

@@ -86,8 +86,8 @@ ids_length id ids = by_case (not (nat_eq id 0) && not (list_any (λ k. nat_eq k 
     by_case true = length-append ids (id ∷ [])
     by_case false = omega arith
 
-placed_more : (heads : List KeptField) (f : KeptField) → ArePlaced heads → f.offset + f.size * f.count ≤ 512 → ArePlaced (heads ++ f ∷ [])
-placed_more [] f w h zero g e = let same : f ≡ g = some_is f g e in subst (λ (x : KeptField). x.offset + x.size * x.count ≤ 512) same h
+placed_more : (heads : List KeptField) (f : KeptField) → ArePlaced heads → f.offset + f.size * f.count ≤ 2048 → ArePlaced (heads ++ f ∷ [])
+placed_more [] f w h zero g e = let same : f ≡ g = some_is f g e in subst (λ (x : KeptField). x.offset + x.size * x.count ≤ 2048) same h
 placed_more [] f w h (suc i) g e = absurd (cc)
 placed_more (x ∷ xs) f w h zero g e = w zero g e
 placed_more (x ∷ xs) f w h (suc i) g e = placed_more xs f (λ k a b. w (suc k) a b) h i g e
@@ -127,7 +127,7 @@ ids_told id other old new there o n = by_case (nat_eq id other) refl
     by_case false e = n ∙ ap (λ x. x || (not (nat_eq id 0) && nat_eq id other)) o ∙ rw e (none (nat_eq other 0) (nat_eq id 0))
 
 -- one more field with its usages and its collections
-pub kept_more : (fs : List Field) (f : KeptField) (es : List Entry) (path : List Collection) (old new : KeptFields) → AreKept fs old → f.size * f.count ≢ 0 → f.id < 256 → f.offset + f.size * f.count ≤ 512
+pub kept_more : (fs : List Field) (f : KeptField) (es : List Entry) (path : List Collection) (old new : KeptFields) → AreKept fs old → f.size * f.count ≢ 0 → f.id < 256 → f.offset + f.size * f.count ≤ 2048
     → new.list.items ≡ old.list.items ++ f ∷ [] → new.lists ≡ listed_more old.lists es path → new.reports.list.items ≡ with_bits f.kind f.id (f.size * f.count) old.reports.list.items
     → new.elements ≡ old.elements + cond (is_padding f.shape) 0 f.count → new.ids.list.items ≡ with_id f.id old.ids.list.items → AreKept (fs ++ whole_field f es path ∷ []) new
 unfolding report_ids

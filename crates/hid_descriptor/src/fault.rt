@@ -39,7 +39,7 @@ pub enum Cause {
     UnpairedUsage,
     /// L14: a Delimiter item (HID 1.11, 6.2.2.8), which this reader doesn't know.
     Delimiter,
-    /// L15: a report of more than 64 bytes with its ID (our choice).
+    /// L15: a report of more than 256 bytes with its ID (our choice).
     ReportTooLong,
     /// L16: more than 512 listed items, 4,096 data fields, 64 usage entries of one item or 64 report IDs (our choice).
     TooMany,

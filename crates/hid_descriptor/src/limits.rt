@@ -22,7 +22,7 @@ pub const MAX_OPEN_COLLECTIONS: usize = 16;
 pub const MAX_REPORT_IDS: usize = 64;
 
 /// The longest report, in bytes with its ID (our choice).
-pub const MAX_REPORT_BYTES: u32 = 64;
+pub const MAX_REPORT_BYTES: u32 = 256;
 
 /// The widest data field, in bits (our choice).
 pub const MAX_WIDTH: u32 = 32;

@@ -1,3 +1,4 @@
+pub mod AckLemmas
 pub mod ApartLemmas
 pub mod DueLemmas
 pub mod InputLemmas

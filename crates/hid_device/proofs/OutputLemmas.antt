@@ -143,6 +143,8 @@ sound_with core is_configured idle protocol outputs before long are = record {
   each_idle = long;
   each_cut = before.each_cut;
   of_input = before.of_input;
+  piece = before.piece;
+  sends = before.sends;
   quiet = before.quiet;
   outputs = are;
 }

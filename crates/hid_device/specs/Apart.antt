@@ -26,8 +26,8 @@ cut_core core Clear = cleared_core core
 cut_core core _ = core
 
 -- What polls go by stays: the snapshot, the parts last fixed, the frames that were counted, which rounds were cut, the open
--- round, the toggle, and whether the device is configured and its endpoint halted. What requests set, and the request
--- itself, may be others.
+-- round and its piece, the toggle, and whether the device is configured and its endpoint halted. What requests set, and the
+-- request itself, may be others.
 abbrev pub LeavesRounds : CoreState → CoreState → Type 0
 LeavesRounds old new =
     new ≡ record old {
@@ -45,6 +45,7 @@ LeavesRequests old new =
     new ≡ record old {
       standing = with_idle old.standing.idle new.standing;
       current = new.current;
+      piece = new.piece;
       toggle = new.toggle;
     }
 

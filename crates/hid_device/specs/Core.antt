@@ -1,12 +1,14 @@
 -- What a contract sees of a device's inside, and what befalls it (USB 2.0, 8.5.4, 8.6, 9.1.1.3, 9.2, 9.4.5 and 9.4.7;
 -- HID 1.11, 7.2.4 and 7.2.6).
-use Rattle.std.specs.Prelude.{◌≡◌, ℕ, ◌<◌, Bool, true, false, not, List, length, Option, Some, None}
+use Rattle.std.specs.Prelude.{◌≡◌, ℕ, ◌+◌, ◌<◌, Bool, true, false, not, nat_le, if◌then◌else◌, List, length, unwrap_or, Option, Some, None, IfSome}
 use Rattle.hid_layout.specs.Layout.{Contents}
-use Rattle.hid_layout.specs.Controls.{items_of}
+use Rattle.hid_layout.specs.Controls.{Item, items_of}
 use Rattle.hid_cells.specs.declared.cell.Cell.{Cell}
 use Rattle.hid_cells.specs.declared.change.Change.{Change}
 use Rattle.hid_cells.specs.Cells.{FitsSnapshot, FitsShown}
 use Rattle.hid_cells.specs.Codes.{has_empty_codes}
+use Rattle.hid_cells.specs.Pieces.{piece_of, pieces_of}
+use Rattle.hid_parts.specs.Encoded.{part_bytes}
 use Rattle.hid_parts.specs.Encoding.{IsEncoding, AreBytes, part_numbers}
 use Rattle.hid_cells.specs.Parts.{has_zeros}
 use Rattle.usb_packet.specs.declared.packet.Packet.{Packet}
@@ -22,9 +24,9 @@ use Rattle.hid_device.specs.Outputs.{AreOutputs, bare_outputs}
 use Rattle.hid_device.specs.Standing.{Standing, configured, cut_at, due_where, after_change, after_frame, after_opening, no_idle}
 
 -- Its layout, its configuration and its descriptor; whether SET_CONFIGURATION took effect; how it stands; the
--- report of the round that is open, where one is; whether data go out as DATA1, and whether the endpoint that they go out
--- of is halted; its protocol, and its Output and Feature reports as they were set last; and of the last request the answer,
--- where it has one, and what is carried out when its status is asked for.
+-- report of the round that is open, where one is, and which of its pieces goes out, from 0; whether data go out as DATA1,
+-- and whether the endpoint that they go out of is halted; its protocol, and its Output and Feature reports as they were set
+-- last; and of the last request the answer, where it has one, and what is carried out when its status is asked for.
 pub record CoreState : Type 0 where
   pub layout : Contents
   pub config : Config
@@ -32,6 +34,7 @@ pub record CoreState : Type 0 where
   pub is_configured : Bool
   pub standing : Standing
   pub current : Option ℕ
+  pub piece : ℕ
   pub toggle : Bool
   pub halted : Bool
   pub protocol : Protocol
@@ -39,9 +42,10 @@ pub record CoreState : Type 0 where
   pub answer : Option (List ℕ)
   pub pending : Pending
 
--- A round of a report opens: the part that it shows is fixed.
+-- A round of a report opens: the part that it shows is fixed, and the first piece of its bytes goes out.
 abbrev pub opened_core : CoreState → ℕ → CoreState
-opened_core core r = record core { standing = after_opening (items_of core.layout) r core.standing; current = Some r }
+opened_core core r =
+    record core { standing = after_opening (items_of core.layout) r core.standing; current = Some r; piece = 0 }
 
 -- where a report is due, a round of it opens
 abbrev pub opened_core_if : CoreState → Option ℕ → CoreState
@@ -63,9 +67,31 @@ abbrev pub flipped : Bool → Option ℕ → Bool
 flipped toggle None = toggle
 flipped toggle (Some r) = not toggle
 
--- An acknowledgement closes the round.
+-- the piece at this place is the last one of the report
+abbrev pub is_last_piece : List Item → ℕ → ℕ → Bool
+is_last_piece items r piece = nat_le (pieces_of items r) (piece + 1)
+
+-- the piece behind the one that goes out, where there is one
+abbrev pub next_piece : List Item → Option ℕ → ℕ → Option ℕ
+next_piece items None piece = None
+next_piece items (Some r) piece = if is_last_piece items r piece then None else Some (piece + 1)
+
+-- of a core
+abbrev pub next_of : CoreState → Option ℕ
+next_of core = next_piece (items_of core.layout) core.current core.piece
+
+-- the round stays open while another piece goes out
+abbrev pub left_open : Option ℕ → Option ℕ → Option ℕ
+left_open current None = None
+left_open current (Some next) = current
+
+-- An acknowledgement closes the piece that goes out, and the round with its last one.
 abbrev pub closed_core : CoreState → CoreState
-closed_core core = record core { toggle = flipped core.toggle core.current; current = None }
+closed_core core = record core {
+  toggle = flipped core.toggle core.current;
+  current = left_open core.current (next_of core);
+  piece = unwrap_or (next_of core) 0;
+}
 
 -- SET_CONFIGURATION takes effect: no round is open, data begin with DATA0, and a halt ends (USB 2.0, 9.1.1.5 and 9.4.5).
 abbrev pub configured_core : CoreState → CoreState
@@ -73,6 +99,7 @@ configured_core core = record core {
   is_configured = true;
   standing = configured (items_of core.layout) core.standing.snapshot core.standing.idle;
   current = None;
+  piece = 0;
   toggle = false;
   halted = false;
 }
@@ -80,13 +107,19 @@ configured_core core = record core {
 -- The endpoint is halted: the round that is open ends, and its report is due (USB 2.0, 9.4.5; our choice). The toggle
 -- stays.
 abbrev pub halted_core : CoreState → CoreState
-halted_core core = record core { standing = cut_at core.current core.standing; current = None; halted = true }
+halted_core core =
+    record core { standing = cut_at core.current core.standing; current = None; piece = 0; halted = true }
 
 -- The halt is ended, where there is one: the round that is open ends all the same, its report is due, and data begin with
 -- DATA0 (USB 2.0, 9.4.5).
 abbrev pub cleared_core : CoreState → CoreState
-cleared_core core =
-    record core { standing = cut_at core.current core.standing; current = None; toggle = false; halted = false }
+cleared_core core = record core {
+  standing = cut_at core.current core.standing;
+  current = None;
+  piece = 0;
+  toggle = false;
+  halted = false;
+}
 
 -- The bus is reset: the device isn't configured (USB 2.0, 9.1.1.3), no round is open, its endpoint isn't halted, no idle
 -- time is set (our choice), reports are in the report protocol (HID 1.11, 7.2.6), Output and Feature reports are zeros (our
@@ -96,6 +129,7 @@ reset_core core = record core {
   is_configured = false;
   standing = configured (items_of core.layout) core.standing.snapshot (no_idle core.standing.idle);
   current = None;
+  piece = 0;
   toggle = false;
   halted = false;
   protocol = protocols.Report;
@@ -118,23 +152,33 @@ pub record AreBytesOf (layout : Contents) (parts : List Cell) (r : ℕ) (bytes :
   pub shows : IsEncoding layout r (part_numbers layout parts) bytes
   pub only : (other : List ℕ) → AreBytes other → IsEncoding layout r (part_numbers layout parts) other → other ≡ bytes
 
--- What is armed: the bytes of the part that was fixed, exactly while a round is open.
-abbrev pub IsArmed : Contents → List Cell → Option ℕ → Option (List ℕ) → Type 0
-IsArmed layout parts None None = Unit {0}
-IsArmed layout parts (Some r) (Some bytes) = AreBytesOf layout parts r bytes
-IsArmed layout parts _ _ = ⊥
+-- What is armed: a piece of the bytes of the part that was fixed, exactly while a round is open.
+abbrev pub piece_armed : Contents → List Cell → Option ℕ → ℕ → Option (List ℕ)
+piece_armed layout parts None piece = None
+piece_armed layout parts (Some r) piece = Some (piece_of (part_bytes layout r parts) piece)
+
+-- of a device
+abbrev pub armed_of : CoreState → Option (List ℕ)
+armed_of core = piece_armed core.layout core.standing.fixed core.current core.piece
 
 -- The answer to a poll: STALL while the endpoint is halted, else what is armed under the toggle, else NAK (USB 2.0,
 -- 8.4.6.1).
-abbrev pub Answers : CoreState → Packet → Type 0
-Answers core packet =
-    (armed : Option (List ℕ)) × IsArmed core.layout core.standing.fixed core.current armed
-    × (packet ≡ answer_with core.halted core.toggle armed)
+abbrev pub poll_answer : CoreState → Packet
+poll_answer core = answer_with core.halted core.toggle (armed_of core)
 
 -- the report of the open round is an Input report
 abbrev pub IsBelow : ℕ → Option ℕ → Type 0
 IsBelow count None = Unit {0}
 IsBelow count (Some r) = r < count
+
+-- a piece of the open round goes out, and where none is open the next one begins with its first
+abbrev pub IsPiece : List Item → Option ℕ → ℕ → Type 0
+IsPiece items None piece = piece ≡ 0
+IsPiece items (Some r) piece = piece < pieces_of items r
+
+-- the bytes of an open round show the part that was fixed
+abbrev pub SendsPart : Contents → List Cell → Option ℕ → Type 0
+SendsPart layout parts current = IfSome current (λ r. AreBytesOf layout parts r (part_bytes layout r parts))
 
 -- no round is open while the endpoint is halted
 abbrev pub IsQuiet : Option ℕ → Bool → Type 0
@@ -153,14 +197,25 @@ pub record IsSound (core : CoreState) : Type 0 where
   pub each_idle : length core.standing.idle ≡ input_count core.layout.reports
   pub each_cut : length core.standing.cut ≡ input_count core.layout.reports
   pub of_input : IsBelow (input_count core.layout.reports) core.current
+  pub piece : IsPiece (items_of core.layout) core.current core.piece
+  pub sends : SendsPart core.layout core.standing.fixed core.current
   pub quiet : IsQuiet core.current core.halted
   pub outputs : AreOutputs core.layout core.outputs
 
--- the same, with what its pipe has armed, and with room for the parts that are asked for
-pub record IsCore (core : CoreState) (bytes : Option (List ℕ)) (parts : List Cell) : Type 0 where
+-- the bytes that are kept of an open round
+abbrev pub KeepsRound : CoreState → List ℕ → Type 0
+KeepsRound core bytes = IfSome core.current (λ r. bytes ≡ part_bytes core.layout r core.standing.fixed)
+
+-- the same, with what its pipe has armed, the bytes of its round, and with room for the parts that are asked for
+pub record IsCore (core : CoreState) (sent : Option (List ℕ)) (bytes : List ℕ) (parts : List Cell) : Type 0 where
   pub sound : IsSound core
-  pub armed : IsArmed core.layout core.standing.fixed core.current bytes
+  pub armed : sent ≡ armed_of core
+  pub round : KeepsRound core bytes
   pub room : FitsShown (items_of core.layout) parts
+
+-- which piece of the open round goes out, from 0
+abbrev pub piece_at : CoreState → Option ℕ
+piece_at core = elim core.current [ None ↦ None | Some r ↦ Some core.piece ]
 
 -- the report of the open round, and whether its data go out as DATA1
 abbrev pub round_of : CoreState → Option (ℕ × Bool)

@@ -9,7 +9,7 @@ use Rattle.usb_control.specs.declared.device.Heard.TheVariants.{Nothing}
 use Rattle.usb_control.specs.Device.{DevControlState, Effect, effect, idle}
 use Rattle.usb_control.specs.Computed.{answer_to, control_after}
 use Rattle.hid_device.specs.declared.device.TheConstants.{ENDPOINT}
-use Rattle.hid_device.specs.Core.{CoreState, opening_of, closed_core, configured_core, halted_core, reset_core, changed_core, framed_core, Answers}
+use Rattle.hid_device.specs.Core.{CoreState, opening_of, closed_core, configured_core, halted_core, reset_core, changed_core, framed_core, poll_answer}
 use Rattle.hid_device.specs.Deciding.{core_table}
 
 -- its address, its endpoint 0 with its inside, and whether the last packet was answered with data of its pipe, so that
@@ -69,7 +69,7 @@ abbrev pub controlled : DeviceState → Effect → DeviceState
 controlled d effect =
     record { addr = d.addr; control = control_after core_table effect (core_of d); waits = false }
 
--- any other packet but a poll ends a wait, and an ACK directly behind the data of a poll closes the round
+-- any other packet but a poll ends a wait, and an ACK directly behind the data of a poll closes the piece that they are
 abbrev pub unheard : DeviceState → Packet → DeviceState
 unheard d Ack = passed d (closed_core (core_of d)) false
 unheard d (Token kind addr endp) = passed d (core_of d) false
@@ -85,24 +85,14 @@ heard d packet = if is_control d packet then controlled d (effect_of d packet) e
 abbrev pub device_after : DeviceState → Packet → DeviceState
 device_after d packet = if is_poll d packet then polled_device d (opening_of (core_of d)) else heard d packet
 
--- a poll has an answer, and it is the one of the round
-abbrev pub AnswersPoll : CoreState → Option Packet → Type 0
-AnswersPoll core None = ⊥
-AnswersPoll core (Some packet) = Answers core packet
-
 -- endpoint 0 answers as a control transfer goes, and nothing else is answered
 abbrev pub control_answer : DeviceState → Packet → Option Packet
 control_answer d packet = if is_control d packet then answer_to (effect_of d packet) else None
 
--- a packet that is a poll is answered so, and any other by this
-abbrev pub AnswersIf : Bool → CoreState → Option Packet → Option Packet → Type 0
-AnswersIf true core other result = AnswersPoll core result
-AnswersIf false core other result = result ≡ other
-
 -- What it answers: a poll as it stands once a round was opened for it, and endpoint 0.
-abbrev pub DeviceAnswers : DeviceState → Packet → Option Packet → Type 0
-DeviceAnswers d packet result =
-    AnswersIf (is_poll d packet) (opening_of (core_of d)) (control_answer d packet) result
+abbrev pub device_answer : DeviceState → Packet → Option Packet
+device_answer d packet =
+    if is_poll d packet then Some (poll_answer (opening_of (core_of d))) else control_answer d packet
 
 -- a configuration without a transfer ends the pipe's wait too
 abbrev pub configured_device : DeviceState → DeviceState

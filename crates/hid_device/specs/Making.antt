@@ -38,6 +38,7 @@ new_core config descriptor layout = record {
     cut = replicate (input_count layout.reports) false;
   };
   current = None;
+  piece = 0;
   toggle = false;
   halted = false;
   protocol = protocols.Report;

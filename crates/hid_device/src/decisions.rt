@@ -10,7 +10,7 @@ use hid_requests::Protocol;
 #[derive(Drop)]
 pub enum Answer {
     /// These bytes.
-    Bytes(ArrayVec<u8, 64>),
+    Bytes(ArrayVec<u8, 256>),
     /// The report descriptor, which the device keeps.
     Descriptor,
 }
@@ -47,7 +47,7 @@ pub enum Decision {
 
 /// A read of these bytes.
 pub(crate) fn reads(bytes: &[u8]) -> Decision
-    requires { length bytes.now ≤ 64 }
+    requires { length bytes.now ≤ 256 }
     ensures { (descriptor : List ℕ) → decided_by descriptor result ≡ Reads bytes.now }
 {
     Decision::Reads(Answer::Bytes(ArrayVec::try_from(bytes).unwrap()))
@@ -55,7 +55,7 @@ pub(crate) fn reads(bytes: &[u8]) -> Decision
 
 /// A read of these bytes where something holds.
 pub(crate) fn reads_if(holds: bool, bytes: &[u8]) -> Decision
-    requires { length bytes.now ≤ 64 }
+    requires { length bytes.now ≤ 256 }
     ensures { (descriptor : List ℕ) → decided_by descriptor result ≡ reads_if holds bytes.now }
 {
     if holds {

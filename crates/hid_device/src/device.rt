@@ -5,8 +5,8 @@ ghost use Rattle.std.specs.Option.{option_copied};
 ghost use Rattle.hid_layout.specs.Controls.{items_of};
 ghost use Rattle.hid_cells.specs.Snapshots.{Changes};
 ghost use Rattle.usb_packet.specs.Spelling.{Fits};
-ghost use Rattle.hid_device.specs.Core.{IsSound, IsArmed, Answers, opening_of, round_of};
-ghost use Rattle.hid_device.specs.Device.{is_poll, device_after, DeviceAnswers, configured_device, halted_device, controlled, core_of, changed_device, effect_of, framed_device, passed, polled_device, reset_device};
+ghost use Rattle.hid_device.specs.Core.{IsSound, armed_of, opening_of, piece_at, poll_answer, round_of};
+ghost use Rattle.hid_device.specs.Device.{is_poll, device_after, device_answer, configured_device, halted_device, controlled, core_of, changed_device, effect_of, framed_device, passed, polled_device, reset_device};
 ghost use Rattle.hid_device.specs.Deciding.{output_of};
 ghost use Rattle.hid_device.specs.Making.{MakesDevice};
 
@@ -145,13 +145,14 @@ impl Device {
     /// | a token to its address and endpoint 0 | endpoint 0 |
     /// | IN to its address and [`ENDPOINT`], once it is configured | the pipe: a poll |
     /// | data | endpoint 0, which looks whether its token stands before it |
-    /// | ACK directly behind the data of a poll | the pipe: its round is closed |
+    /// | ACK directly behind the data of a poll | the pipe: the piece is closed, and with the last one its round |
     /// | another ACK | endpoint 0 |
     /// | all else | none; it ends what either waits for |
     pub fn on_packet(&mut self, packet: &Packet) -> Option<Packet>
-        // A poll opens a round where none is open and some report is due; an ACK directly behind its data closes it.
+        // A poll opens a round where none is open and some report is due; an ACK directly behind its data closes the piece
+        // that they are.
         ensures device { self.new ≡ device_after self.old packet.now }
-        ensures answer { DeviceAnswers self.old packet.now result }
+        ensures answer { result ≡ device_answer self.old packet.now }
 
         // An answer has a spelling, and can be read back.
         ensures fits { IfSome result (λ answer. Fits answer) }
@@ -195,6 +196,13 @@ impl Device {
         self.control.requests().open_round()
     }
 
+    /// Which piece of the open round goes out, from 0: its bytes go in pieces of 64, of which the last one has the rest.
+    pub fn piece(&self) -> Option<usize>
+        ensures { result ≡ piece_at (core_of self.now) }
+    {
+        self.control.requests().piece()
+    }
+
     /// The parts that were fixed last, blank where none was since the configuration.
     pub fn fixed(&self) -> &Shown
         ensures { result.now ≡ (core_of self.now).standing.fixed }
@@ -210,13 +218,12 @@ impl Device {
         self.control.requests().output(kind, id)
     }
 
-    /// The pipe of its Input reports: something is armed exactly while a round is open, and it is the bytes of the part that
-    /// was fixed for it. It is halted while the endpoint is.
+    /// The pipe of its Input reports: something is armed exactly while a round is open, and it is the piece that goes out of
+    /// the bytes of the part that was fixed for it. It is halted while the endpoint is.
     pub fn pipe(&self) -> &DevPipe
         ensures toggle { result.now.toggle ≡ (core_of self.now).toggle }
         ensures halted { result.now.halted ≡ (core_of self.now).halted }
-        ensures armed { IsArmed (core_of self.now).layout (core_of self.now).standing.fixed
-            (core_of self.now).current result.now.armed }
+        ensures armed { result.now.armed ≡ armed_of (core_of self.now) }
     {
         self.control.requests().pipe()
     }
@@ -258,7 +265,7 @@ impl Device {
     /// The answer to a poll, once a round was opened for it.
     fn poll(&mut self) -> Packet
         ensures device { self.new ≡ polled_device self.old (opening_of (core_of self.old)) }
-        ensures answer { Answers (opening_of (core_of self.old)) result }
+        ensures answer { result ≡ poll_answer (opening_of (core_of self.old)) }
         ensures fits { Fits result }
         ensures sound { IsSound (core_of self.new) }
     {

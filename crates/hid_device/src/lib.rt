@@ -6,9 +6,10 @@
 //!                            its part is fixed                             Snapshot::shown -> fixed
 //!                            its motion is taken out                       Snapshot::take_motion
 //!                            its frames are counted anew                   frames
-//!                            its bytes are armed                           encode_report -> DevPipe::arm
+//!                            its bytes are kept, and the first 64 armed    encode_report -> DevPipe::arm
 //!              <-------  what is armed under the toggle, else NAK          DevPipe::answer; STALL while it is halted
-//!   ACK 0xD2 --------->  directly behind data: the round is closed         DevPipe::acknowledged
+//!   ACK 0xD2 --------->  directly behind data: the next 64 bytes are       DevPipe::acknowledged, DevPipe::arm
+//!                            armed, and behind the last the round is closed
 //!
 //!   SETUP 2D 01 00, DATA0 80 08 .. -->  endpoint 0: DevControl           Core::prepare: decides, fixes the answer
 //!   IN 69 01 00 ------>  the answer, or STALL; or what is pending            Core::answer, Core::apply
@@ -20,19 +21,19 @@
 //!   Device::halt         nothing armed, no round, its report due; STALL until the halt ends
 //!   Device::reset        all as it was at first but the snapshot, and its address
 //! ```
-//! The rule to know: a round's part is fixed when the round opens, and goes out again and again, the same bytes under the
-//! same toggle, until its acknowledgement arrives. What changes meanwhile goes into a later round, and motion that its
-//! field can't carry stays in the snapshot for one.
+//! The rule to know: a round's part is fixed when the round opens. Its bytes go out in pieces of 64, each again and again
+//! under the same toggle, until its acknowledgement arrives. What changes meanwhile goes into a later round, and motion
+//! that its field can't carry stays in the snapshot for one.
 //!
 //! A new device isn't configured: it answers no poll, and at endpoint 0 what the standards have for that state. All that
 //! endpoint 0 reads and writes stands in [`Core`], beside the address and the wait for an ACK. What it reads of a report is
 //! the report of now, without motion: nothing is fixed, and no round opens.
 //!
 //! The promise: a device is made exactly where no cause of [`DeviceCause`] stands ([`Device::new`]); a packet does to it
-//! what `device_after` says, and is answered as `DeviceAnswers` says (`device` and `answer` on [`Device::on_packet`]), of
+//! what `device_after` says, and is answered as `device_answer` says (`device` and `answer` on [`Device::on_packet`]), of
 //! which `specs/Rounds.antt` of `hid_lives` makes rounds and their events; something is armed exactly while a round is open,
-//! and it is the bytes of the part that was fixed for it (`armed` on [`Device::pipe`]); and the two endpoints leave one
-//! another as they were ([`laws::ends_are_apart`]). No call takes memory but [`Device::new`].
+//! and it is a piece of the bytes of the part that was fixed for it (`armed` on [`Device::pipe`]); and the two endpoints
+//! leave one another as they were ([`laws::ends_are_apart`]). No call takes memory but [`Device::new`].
 //! ```text
 //!   let mut mouse = Device::new(alloc, 1, &config, &MOUSE)?;         // or Err, printed as `V10 at 12`
 //!   mouse.configure();

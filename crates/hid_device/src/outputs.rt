@@ -16,7 +16,7 @@ use std::marker::Model;
 /// An Output or Feature report as a host set it last, its ID first where it has one; at first zeros.
 #[derive(Drop)]
 pub(crate) struct KeptReport {
-    bytes: ArrayVec<u8, 64>,
+    bytes: ArrayVec<u8, 256>,
 }
 
 impl Model for KeptReport {
@@ -31,14 +31,14 @@ impl KeptReport {
     /// In bytes, its length.
     pub(crate) fn len(&self) -> usize
         ensures length { result ≡ length self.now }
-        ensures short { result ≤ 64 }
+        ensures short { result ≤ 256 }
     {
         self.bytes.len()
     }
 
     pub(crate) fn bytes(&self) -> &[u8]
         ensures bytes { result.now ≡ self.now }
-        ensures short { length result.now ≤ 64 }
+        ensures short { length result.now ≤ 256 }
     {
         &self.bytes
     }
@@ -58,7 +58,7 @@ fn bare(layout: &Layout, report: usize) -> KeptReport
     requires { report < length layout.now.reports }
     ensures { result ≡ bare_report layout.now report }
 {
-    let _items = layout.items(); // with what holds of every layout, as that a report has at most 64 bytes
+    let _items = layout.items(); // with what holds of every layout, as that a report has at most 256 bytes
     KeptReport {
         bytes: bare_report(layout, report),
     }

@@ -8,7 +8,7 @@ ghost use Rattle.hid_parts.specs.Encoding.{AreBytes};
 ghost use Rattle.hid_cells.specs.Snapshots.{Changes};
 ghost use Rattle.usb_packet.specs.Spelling.{Fits};
 ghost use Rattle.hid_device.specs.Standing.{is_due, due_where};
-ghost use Rattle.hid_device.specs.Core.{IsSound, IsArmed, Answers, opened_core, opening_of, closed_core, configured_core, halted_core, cleared_core, reset_core, changed_core, framed_core, round_of};
+ghost use Rattle.hid_device.specs.Core.{IsSound, armed_of, opened_core, opening_of, closed_core, configured_core, halted_core, cleared_core, piece_at, poll_answer, reset_core, changed_core, framed_core, next_of, round_of};
 ghost use Rattle.hid_device.specs.declared.decisions.Pending.TheVariants.{Keep, Nothing};
 ghost use Rattle.hid_device.specs.Decisions.{decided_by};
 ghost use Rattle.hid_device.specs.Deciding.{decided_row, effected, idle_told, keeps, output_of, reads_any, report_now, sets_idle, still_bytes};
@@ -22,7 +22,7 @@ use crate::frames::{count_frame, is_idle_over, set_idle};
 use crate::inputs::input_count;
 use crate::outputs::{KeptReport, bare_outputs, input_with, kept_place, reset_outputs};
 use arrayvec::ArrayVec;
-use hid_cells::{Change, ChangeFault, has_empty_codes, has_zeros};
+use hid_cells::{Change, ChangeFault, has_empty_codes, has_zeros, piece_of, pieces_of};
 use hid_fields::WordCodec;
 use hid_layout::{Layout, ReportKind};
 use hid_parts::{Shown, Snapshot, encode_report};
@@ -56,6 +56,10 @@ pub struct Core {
     pipe: DevPipe,
     /// The report of the open round.
     current: Option<usize>,
+    /// The bytes of the open round, which go out in pieces.
+    round: ArrayVec<u8, 256>,
+    /// Which of them is armed, from 0; 0 where no round is open.
+    piece: usize,
     /// In which form a boot device sends its reports.
     protocol: Protocol,
     /// The Output and Feature reports, in the order of the layout, as they were set last.
@@ -88,6 +92,7 @@ impl Model for Core {
         cut = c.cut.items;
       };
       current = c.current;
+      piece = c.piece;
       toggle = c.pipe.toggle;
       halted = c.pipe.halted;
       protocol = c.protocol;
@@ -96,7 +101,7 @@ impl Model for Core {
       pending = c.pending;
     } };
 
-    // What is armed is the part that was fixed, exactly while a round is open; there is room for a still part.
+    // What is armed is a piece of the part that was fixed, exactly while a round is open; there is room for a still part.
     ghost invariant = { λ c. IsCore (record {
       layout = c.layout;
       config = c.config;
@@ -110,13 +115,14 @@ impl Model for Core {
         cut = c.cut.items;
       };
       current = c.current;
+      piece = c.piece;
       toggle = c.pipe.toggle;
       halted = c.pipe.halted;
       protocol = c.protocol;
       outputs = c.outputs.items;
       answer = option_map (answer_bytes c.descriptor.items) c.answer;
       pending = c.pending;
-    }) c.pipe.armed c.still };
+    }) c.pipe.armed c.round.items c.still };
 }
 
 /// The layout of a descriptor, of which a device can send every report.
@@ -178,6 +184,8 @@ impl Core {
             cut,
             pipe: DevPipe::new(),
             current: None,
+            round: ArrayVec::new(),
+            piece: 0,
             protocol: Protocol::Report,
             outputs,
             still,
@@ -223,8 +231,7 @@ impl Core {
     pub(crate) fn pipe(&self) -> &DevPipe
         ensures toggle { result.now.toggle ≡ self.now.toggle }
         ensures halted { result.now.halted ≡ self.now.halted }
-        ensures armed { IsArmed self.now.layout self.now.standing.fixed self.now.current
-            result.now.armed }
+        ensures armed { result.now.armed ≡ armed_of self.now }
     {
         &self.pipe
     }
@@ -241,6 +248,16 @@ impl Core {
     {
         match self.current {
             Some(report) => Some((report, self.pipe.toggle())),
+            None => None,
+        }
+    }
+
+    /// Which piece of the open round goes out, from 0.
+    pub(crate) fn piece(&self) -> Option<usize>
+        ensures { result ≡ piece_at self.now }
+    {
+        match self.current {
+            Some(_) => Some(self.piece),
             None => None,
         }
     }
@@ -272,6 +289,7 @@ impl Core {
         self.cut.fill(false);
         self.pipe.restart(); // a halt ends with it
         self.current = None;
+        self.piece = 0;
     }
 
     /// The endpoint is halted: the round that is open ends, and its report is due (USB 2.0, 9.4.5).
@@ -283,6 +301,7 @@ impl Core {
         }
         self.pipe.halt();
         self.current = None;
+        self.piece = 0;
     }
 
     /// A halt ends, where there is one: a round that is open ends as by a halt, and data begin with DATA0 (USB 2.0, 9.4.5).
@@ -327,19 +346,47 @@ impl Core {
     /// The answer to a poll: STALL while the endpoint is halted, else what is armed under the toggle, else NAK (USB 2.0,
     /// 8.4.6.1).
     pub(crate) fn poll_answer(&self) -> Packet
-        ensures answer { Answers self.now result }
+        ensures answer { result ≡ poll_answer self.now }
         ensures fits { Fits result }
         ensures sound { IsSound self.now }
     {
         self.pipe.answer()
     }
 
-    /// An acknowledgement has arrived: the round is closed (USB 2.0, 8.6.2).
+    /// An acknowledgement has arrived: the piece is closed (USB 2.0, 8.6.2). The next one is armed, and behind the last one
+    /// the round is closed.
     pub(crate) fn acknowledged(&mut self)
         ensures { self.new ≡ closed_core self.old }
     {
+        let next = self.next_piece();
         self.pipe.acknowledged();
-        self.current = None;
+        match next {
+            Some(piece) => {
+                self.pipe.arm(piece_of(&self.round, piece));
+                self.piece = piece;
+            }
+            None => {
+                self.current = None;
+                self.piece = 0;
+            }
+        }
+    }
+
+    /// The piece behind the one that goes out, where there is one.
+    fn next_piece(&self) -> Option<usize>
+        ensures { result ≡ next_of self.now }
+    {
+        match self.current {
+            Some(report) => {
+                let pieces = pieces_of(&self.layout, report);
+                if self.piece + 1 < pieces {
+                    Some(self.piece + 1)
+                } else {
+                    None
+                }
+            }
+            None => None,
+        }
     }
 
     /// Whether a report is due: its controls call for it, its idle time is over, or its last round was cut short.
@@ -370,7 +417,7 @@ impl Core {
     }
 
     /// Opens a round of a report: fixes its part, takes the part's motion out of the snapshot, counts its frames anew, and
-    /// arms its bytes. The report isn't cut any more.
+    /// arms the first piece of its bytes. The report isn't cut any more.
     fn open(&mut self, report: usize)
         requires input { report < length self.old.standing.frames }
         requires none { self.old.current ≡ None }
@@ -381,10 +428,11 @@ impl Core {
         self.snapshot.take_motion(&self.layout, report, &self.fixed);
         self.frames[report] = 0;
         self.cut[report] = false;
-        let bytes = encode_report::<WordCodec>(&self.layout, report, &self.fixed);
-        are_bytes(&bytes);
-        self.pipe.arm(&bytes);
+        self.round = encode_report::<WordCodec>(&self.layout, report, &self.fixed);
+        are_bytes(&self.round);
+        self.pipe.arm(piece_of(&self.round, 0));
         self.current = Some(report);
+        self.piece = 0;
     }
 }
 
@@ -399,7 +447,7 @@ impl Core {
     /// The Output or Feature report of this kind and ID, as it was set last.
     pub(crate) fn output(&self, kind: ReportKind, id: u8) -> Option<&[u8]>
         ensures output { option_copied result ≡ output_of self.now kind id }
-        ensures short { IfSome result (λ bytes. length bytes.now ≤ 64) }
+        ensures short { IfSome result (λ bytes. length bytes.now ≤ 256) }
     {
         match kept_place(&self.layout, kind, id) {
             Some(place) => Some(self.outputs[place].bytes()),
@@ -408,7 +456,7 @@ impl Core {
     }
 
     /// The bytes of an Input report as it is now, with every motion 0.
-    fn still_report(&mut self, report: usize) -> ArrayVec<u8, 64>
+    fn still_report(&mut self, report: usize) -> ArrayVec<u8, 256>
         requires { report < length self.old.standing.frames }
         ensures bytes { result.items ≡ still_bytes self.old report }
         ensures same { self.new ≡ self.old }

@@ -6,6 +6,7 @@ mod class;
 mod halts;
 mod idle;
 mod making;
+mod pieces;
 mod play;
 mod polls;
 mod requests;

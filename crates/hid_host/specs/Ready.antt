@@ -1,13 +1,15 @@
--- What a ready host keeps, and what it makes of the answers to its polls (USB 2.0, 8.5.4, 8.6 and 9.4.5; HID 1.11, 5.6).
-use Rattle.std.specs.Prelude.{◌≡◌, ℕ, false, List, [], Result, Ok, Err}
+-- What a ready host keeps, and what it makes of the answers to its polls (USB 2.0, 5.7.3, 8.5.4, 8.6 and 9.4.5; HID 1.11,
+-- 5.6).
+use Rattle.std.specs.Prelude.{◌≡◌, ℕ, ◌%◌, ◌<◌, Bool, false, ◌||◌, nat_le, nat_lt, if◌then◌else◌, List, [], ◌++◌, length, Result, Ok, Err}
 use Rattle.hid_layout.specs.Layout.{Contents}
 use Rattle.hid_layout.specs.Controls.{items_of}
 use Rattle.hid_cells.specs.declared.cell.Cell.{Cell}
 use Rattle.hid_cells.specs.declared.event.Event.{Event}
 use Rattle.hid_cells.specs.declared.fault.ReportFault.{ReportFault}
+use Rattle.hid_descriptor.specs.declared.limits.TheConstants.{MAX_REPORT_BYTES}
 use Rattle.hid_layout.specs.Reports.{IsLayout}
 use Rattle.hid_usages.specs.Cells.{FitsView, blank}
-use Rattle.hid_usages.specs.Reading.{report_named}
+use Rattle.hid_usages.specs.Reading.{bytes_awaited, report_named}
 use Rattle.hid_usages.specs.Taking.{read_view, read_events}
 use Rattle.usb_transact.specs.declared.host.Took.{Took}
 use Rattle.usb_transact.specs.declared.host.Took.TheVariants.{Fresh, Again, Nak, Stall, Silent}
@@ -16,11 +18,13 @@ use Rattle.usb_transact.specs.Taken.{host_after}
 use Rattle.hid_host.specs.declared.fault.StackFault.{StackFault}
 use Rattle.hid_host.specs.declared.fault.StackFault.TheVariants.{Report}
 
--- the layout of the reports, the pipe that is polled, and the host's view of the controls
+-- the layout of the reports, the pipe that is polled, the host's view of the controls, and the bytes that came of a report
+-- that isn't whole yet
 pub record Known : Type 0 where
   pub layout : Contents
   pub pipe : HostPipeState
   pub view : List Cell
+  pub collected : List ℕ
 
 -- a view of the controls of a layout, and the initial one
 pub record AreViews (layout : Contents) (view first : List Cell) : Type 0 where
@@ -29,36 +33,74 @@ pub record AreViews (layout : Contents) (view first : List Cell) : Type 0 where
   pub initial : first ≡ blank (items_of layout)
   pub room : FitsView (items_of layout) first
 
--- a host that was freshly given a layout and polls this endpoint: it expects DATA0, and its view is the initial one
+-- full packets, and fewer bytes than the longest report has
+pub record ArePackets (bytes : List ℕ) : Type 0 where
+  pub full : length bytes % 64 ≡ 0
+  pub few : length bytes < MAX_REPORT_BYTES
+
+-- a host that was freshly given a layout and polls this endpoint: it expects DATA0, its view is the initial one, and
+-- nothing came yet
 abbrev pub known_at_start : ℕ → ℕ → Contents → Known
-known_at_start addr endpoint layout =
-    record { layout = layout; pipe = host_at_start addr endpoint; view = blank (items_of layout) }
+known_at_start addr endpoint layout = record {
+  layout = layout;
+  pipe = host_at_start addr endpoint;
+  view = blank (items_of layout);
+  collected = [];
+}
 
--- a halt of the endpoint was ended: DATA0 is expected (9.4.5)
+-- a halt of the endpoint was ended: DATA0 is expected (9.4.5), and what came of a report before is forgotten, for its
+-- device sends it no further
 abbrev pub known_cleared : Known → Known
-known_cleared known = record known { pipe = record known.pipe { expects = false } }
+known_cleared known = record known { pipe = record known.pipe { expects = false }; collected = [] }
 
--- What the host tells of what it took: fresh data that are no Input report are refused.
-abbrev pub read_or_refused : Took → Result ℕ ReportFault → Result Took StackFault
-read_or_refused taken (Ok r) = Ok taken
-read_or_refused taken (Err fault) = Err (Report fault)
+-- A report ends with its last byte, or with a packet that isn't full (5.7.3), of which so many bytes came.
+abbrev pub is_whole : Contents → List ℕ → ℕ → Bool
+is_whole layout bytes last = nat_lt last 64 || nat_le (bytes_awaited layout bytes) (length bytes)
 
--- what is told of each: fresh data are read, and all else is told as it is
-abbrev pub told_of : Contents → Took → Result Took StackFault
-told_of layout (Fresh payload) = read_or_refused (Fresh payload) (report_named layout payload.items)
-told_of layout Again = Ok Again
-told_of layout Nak = Ok Nak
-told_of layout Stall = Ok Stall
-told_of layout Silent = Ok Silent
+-- what came of a report, with the data of one more packet
+abbrev pub bytes_with : Known → List ℕ → List ℕ
+bytes_with known payload = known.collected ++ payload
 
--- The view after fresh data: their report is read. Data that are refused leave it.
+-- and whether it ends with them
+abbrev pub ends_with : Known → List ℕ → Bool
+ends_with known payload = is_whole known.layout (bytes_with known payload) (length payload)
+
+-- a report that ended is read, or it is refused
+abbrev pub read_or_fault : Result ℕ ReportFault → Result (Unit {0}) ReportFault
+read_or_fault (Ok r) = Ok tt
+read_or_fault (Err fault) = Err fault
+
+-- what comes of fresh data: where a report ends with them it is read
+abbrev pub data_read : Known → List ℕ → Result (Unit {0}) ReportFault
+data_read known payload =
+    if ends_with known payload then read_or_fault (report_named known.layout (bytes_with known payload)) else Ok tt
+
+-- What the host tells of what it took: data that are no Input report are refused.
+abbrev pub told_read : Took → Result (Unit {0}) ReportFault → Result Took StackFault
+told_read taken (Ok done) = Ok taken
+told_read taken (Err fault) = Err (Report fault)
+
+-- what is told of each: all but fresh data as it is
+abbrev pub told_of : Known → Took → Result Took StackFault
+told_of known (Fresh payload) = told_read (Fresh payload) (data_read known payload.items)
+told_of known Again = Ok Again
+told_of known Nak = Ok Nak
+told_of known Stall = Ok Stall
+told_of known Silent = Ok Silent
+
+-- The view after a report that ended: it is read. One that is refused leaves it.
 abbrev pub view_read : Contents → List ℕ → List Cell → List Cell
 view_read layout bytes view =
     elim (report_named layout bytes) [ Ok r ↦ read_view layout r bytes view | Err fault ↦ view ]
 
+-- data before the last of their report leave it
+abbrev pub view_with : Known → List ℕ → List Cell
+view_with known payload =
+    if ends_with known payload then view_read known.layout (bytes_with known payload) known.view else known.view
+
 -- and nothing else changes it
 abbrev pub view_behind : Known → Took → List Cell
-view_behind known (Fresh payload) = view_read known.layout payload.items known.view
+view_behind known (Fresh payload) = view_with known payload.items
 view_behind known _ = known.view
 
 -- And the events that they give.
@@ -66,11 +108,29 @@ abbrev pub events_read : Contents → List ℕ → List Cell → List Event
 events_read layout bytes view =
     elim (report_named layout bytes) [ Ok r ↦ read_events layout r bytes view | Err fault ↦ [] ]
 
+-- data before the last of their report give none
+abbrev pub events_with : Known → List ℕ → List Event
+events_with known payload =
+    if ends_with known payload then events_read known.layout (bytes_with known payload) known.view else []
+
 -- and nothing else gives any
 abbrev pub events_behind : Known → Took → List Event
-events_behind known (Fresh payload) = events_read known.layout payload.items known.view
+events_behind known (Fresh payload) = events_with known payload.items
 events_behind known _ = []
+
+-- what came of a report is kept until it ends
+abbrev pub collected_with : Known → List ℕ → List ℕ
+collected_with known payload = if ends_with known payload then [] else bytes_with known payload
+
+-- and nothing else changes what is kept
+abbrev pub collected_behind : Known → Took → List ℕ
+collected_behind known (Fresh payload) = collected_with known payload.items
+collected_behind known _ = known.collected
 
 -- The host after it took what came: fresh data change its toggle, also those that are refused.
 abbrev pub known_behind : Known → Took → Known
-known_behind known taken = record known { pipe = host_after taken known.pipe; view = view_behind known taken }
+known_behind known taken = record known {
+  pipe = host_after taken known.pipe;
+  view = view_behind known taken;
+  collected = collected_behind known taken;
+}

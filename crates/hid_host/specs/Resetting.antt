@@ -1,6 +1,6 @@
 -- What a host tells at a reset of the bus, and where a halt or its end cuts a round (USB 2.0, 7.1.7.5, 8.6, 9.1.1.3 and
 -- 9.4.5; our choice).
-use Rattle.std.specs.Prelude.{ℕ, Bool, if◌then◌else◌, List, [], Option, Some, None, IfSome}
+use Rattle.std.specs.Prelude.{ℕ, Bool, not, ◌||◌, if◌then◌else◌, List, [], Option, Some, None, IfSome, unwrap_or}
 use Rattle.std.specs.Bool.{beq}
 use Rattle.hid_layout.specs.Layout.{Contents}
 use Rattle.hid_layout.specs.Controls.{Item, items_of}
@@ -9,15 +9,17 @@ use Rattle.hid_cells.specs.declared.event.Event.{Event}
 use Rattle.hid_cells.specs.Cells.{blank, FitsShown}
 use Rattle.hid_cells.specs.Parts.{IsInput}
 use Rattle.hid_cells.specs.Views.{changes_between, drops_between}
+use Rattle.hid_device.specs.Core.{is_last_piece}
 use Rattle.hid_host.specs.declared.phase.HostPhase.{HostPhase}
 use Rattle.hid_host.specs.declared.phase.HostPhase.TheVariants.{Ready}
 use Rattle.hid_host.specs.Ready.{Known}
 
--- The report of a round that is open at the device, where the host hasn't got its data: they go out under the toggle that
--- the host expects (USB 2.0, 8.6).
-abbrev pub awaited : Bool → Option (ℕ × Bool) → Option ℕ
-awaited expects None = None
-awaited expects (Some round) = if beq round.1 expects then Some round.0 else None
+-- The report of a round that is open at the device, where the host hasn't got all of its data: those of the piece at this
+-- place go out under the toggle that the host expects (USB 2.0, 8.6), or others are behind them.
+abbrev pub awaited : List Item → Bool → Option (ℕ × Bool) → Option ℕ → Option ℕ
+awaited items expects None piece = None
+awaited items expects (Some round) piece =
+    if beq round.1 expects || not (is_last_piece items round.0 (unwrap_or piece 0)) then Some round.0 else None
 
 -- What is told until a view is the initial one again: what changes, and the motions of these parts that a report shows
 -- which is awaited; they are dropped.
@@ -26,15 +28,16 @@ told_back items view parts None = changes_between items view (blank items)
 told_back items view parts (Some r) = drops_between items r view (blank items) parts
 
 -- by a ready host
-abbrev pub known_told_back : Known → Option (ℕ × Bool) → List Cell → List Event
-known_told_back known round parts =
-    told_back (items_of known.layout) known.view parts (awaited known.pipe.expects round)
+abbrev pub known_told_back : Known → Option (ℕ × Bool) → Option ℕ → List Cell → List Event
+known_told_back known round piece parts =
+    told_back (items_of known.layout) known.view parts
+    (awaited (items_of known.layout) known.pipe.expects round piece)
 
--- What a host tells at a reset, where this round is open at its device and these parts were fixed last: one that isn't
--- ready has told nothing yet.
-abbrev pub reset_told : HostPhase → Option (ℕ × Bool) → List Cell → List Event
-reset_told (Ready known) round parts = known_told_back known round parts
-reset_told _ round parts = []
+-- What a host tells at a reset, where this round is open at its device, this piece of it goes out, and these parts were
+-- fixed last: one that isn't ready has told nothing yet.
+abbrev pub reset_told : HostPhase → Option (ℕ × Bool) → Option ℕ → List Cell → List Event
+reset_told (Ready known) round piece parts = known_told_back known round piece parts
+reset_told _ round piece parts = []
 
 -- What is told where a round is cut: the view stays, and the motions of these parts that a report shows which is awaited
 -- are dropped.
@@ -43,15 +46,16 @@ told_cut items view parts None = []
 told_cut items view parts (Some r) = drops_between items r view view parts
 
 -- by a ready host
-abbrev pub known_cut : Known → Option (ℕ × Bool) → List Cell → List Event
-known_cut known round parts =
-    told_cut (items_of known.layout) known.view parts (awaited known.pipe.expects round)
+abbrev pub known_cut : Known → Option (ℕ × Bool) → Option ℕ → List Cell → List Event
+known_cut known round piece parts =
+    told_cut (items_of known.layout) known.view parts
+    (awaited (items_of known.layout) known.pipe.expects round piece)
 
--- What a host tells where this round is cut that was open at its device, and these parts were fixed last: one that isn't
--- ready has polled none.
-abbrev pub cut_told : HostPhase → Option (ℕ × Bool) → List Cell → List Event
-cut_told (Ready known) round parts = known_cut known round parts
-cut_told _ round parts = []
+-- What a host tells where this round is cut that was open at its device, of which this piece went out, and these parts were
+-- fixed last: one that isn't ready has polled none.
+abbrev pub cut_told : HostPhase → Option (ℕ × Bool) → Option ℕ → List Cell → List Event
+cut_told (Ready known) round piece parts = known_cut known round piece parts
+cut_told _ round piece parts = []
 
 -- the round is of an Input report of this layout, and the parts are of its controls
 pub record SuitsRound (layout : Contents) (round : Option (ℕ × Bool)) (parts : List Cell) : Type 0 where

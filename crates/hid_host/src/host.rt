@@ -154,11 +154,14 @@ impl HostDevice {
         }
     }
 
-    /// Takes what came after the token, if something did (USB 2.0, 8.6). Fresh data are read as an Input report, and
-    /// what changes and moves in the view is appended. There is reserved room for `max_events` more; no memory is taken.
+    /// Takes what came after the token, if something did (USB 2.0, 8.6). Fresh data are joined to those of the packets before
+    /// them, until an Input report ends: with its last byte, as its first byte tells how long it is, or with a packet that
+    /// isn't full (5.7.3). Then it is read, and what changes and moves in the view is appended; before that nothing is. There
+    /// is reserved room for `max_events` more; no memory is taken.
     ///
     /// # Errors
-    /// [`StackFault::Report`] where fresh data are no Input report: the toggle has moved on, and the view stays.
+    /// [`StackFault::Report`] where what ended is no Input report: the toggle has moved on, its bytes are forgotten, and the
+    /// view stays.
     pub fn reply(
         &mut self,
         packet: Option<&Packet>,
@@ -169,7 +172,7 @@ impl HostDevice {
             + max_events (items_of host.layout) ≤ vec_capacity out.old) }
         // What is told, what the host keeps, and the events.
         ensures told { IfReady self.old.phase (λ host. result
-            ≡ told_of host.layout (taken host.pipe.expects (option_copied packet.entry))) }
+            ≡ told_of host (taken host.pipe.expects (option_copied packet.entry))) }
         ensures after { IfReady self.old.phase (λ host. self.new
             ≡ ready_after self.old host
             (taken host.pipe.expects (option_copied packet.entry))) }
@@ -190,44 +193,57 @@ impl HostDevice {
 
     /// The bus was reset: the host forgets its device and its transfer, and is cold. A ready host tells what changes until its
     /// view is the initial one again. It is given the round that is open at its device before, with whether its data go out
-    /// as DATA1, and the parts that were fixed last there: motion of a round whose data it hasn't got is told as dropped.
-    /// There is reserved room for `max_events` more where it is ready; no memory is taken.
-    pub fn reset(&mut self, round: Option<(usize, bool)>, fixed: &Shown, out: &mut Vec<Event>)
+    /// as DATA1, which piece of it goes out, and the parts that were fixed last there: motion of a round whose data it hasn't
+    /// got, all of them, is told as dropped. There is reserved room for `max_events` more where it is ready; no memory is
+    /// taken.
+    pub fn reset(
+        &mut self,
+        round: Option<(usize, bool)>,
+        piece: Option<usize>,
+        fixed: &Shown,
+        out: &mut Vec<Event>,
+    )
         requires suits { IfReady self.old.phase (λ host. SuitsRound host.layout round fixed.now) }
         requires room { IfReady self.old.phase (λ host. vec_len out.old
             + max_events (items_of host.layout) ≤ vec_capacity out.old) }
         ensures host { self.new ≡ cold_host self.old.addr }
         ensures events { out.new.items
-            ≡ out.old.items ++ reset_told self.old.phase round fixed.now }
+            ≡ out.old.items ++ reset_told self.old.phase round piece fixed.now }
         ensures few { IfReady self.old.phase (λ host. length out.new.items
             ≤ length out.old.items + max_events (items_of host.layout)) }
         ensures room { vec_capacity out.new ≡ vec_capacity out.old }
     {
         match &self.phase {
-            HostPhase::Cold | HostPhase::Described(_) | HostPhase::Parsed(..) => {}
-            HostPhase::Ready(host) => host.tell_back(round, fixed, out),
+            HostPhase::Cold | HostPhase::Described(_) | HostPhase::Parsed(..) => {} // it has told nothing
+            HostPhase::Ready(host) => host.tell_back(round, piece, fixed, out),
         }
         self.phase = HostPhase::Cold;
         self.transfer = None;
         self.clearing = false;
     }
 
-    /// A halt of the endpoint, or its end, cut the round that was open at the device: motion of it whose data the host hasn't
-    /// got is told as dropped, and nothing else. It is given that round, with whether its data went out as DATA1, and the
-    /// parts that were fixed last, and stands as it did before the cut; one that isn't ready tells nothing. There is reserved
-    /// room for `max_events` more where it is ready; no memory is taken.
-    pub fn tell_cut(&self, round: Option<(usize, bool)>, fixed: &Shown, out: &mut Vec<Event>)
+    /// A halt of the endpoint, or its end, cut the round that was open at the device: its motion is told as dropped where the
+    /// host hasn't got all of its data, and nothing else. It is given that round, with whether its data went out as DATA1,
+    /// which piece of it went out, and the parts that were fixed last, and stands as it did before the cut; one that isn't
+    /// ready tells nothing. There is reserved room for `max_events` more where it is ready; no memory is taken.
+    pub fn tell_cut(
+        &self,
+        round: Option<(usize, bool)>,
+        piece: Option<usize>,
+        fixed: &Shown,
+        out: &mut Vec<Event>,
+    )
         requires suits { IfReady self.now.phase (λ host. SuitsRound host.layout round fixed.now) }
         requires room { IfReady self.now.phase (λ host. vec_len out.old
             + max_events (items_of host.layout) ≤ vec_capacity out.old) }
         ensures events { out.new.items
-            ≡ out.old.items ++ cut_told self.now.phase round fixed.now }
+            ≡ out.old.items ++ cut_told self.now.phase round piece fixed.now }
         ensures few { IfReady self.now.phase (λ host. length out.new.items
             ≤ length out.old.items + max_events (items_of host.layout)) }
         ensures room { vec_capacity out.new ≡ vec_capacity out.old }
     {
         if let HostPhase::Ready(host) = &self.phase {
-            host.tell_cut(round, fixed, out);
+            host.tell_cut(round, piece, fixed, out);
         }
     }
 

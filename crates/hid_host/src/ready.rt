@@ -1,24 +1,31 @@
-//! What a ready host keeps: the layout of the reports, the pipe that it polls, and its view of the controls.
-ghost use Rattle.std.specs.Prelude.{◌≡◌, ◌≤◌, ◌+◌, ◌++◌, length, vec_len, vec_capacity};
+//! What a ready host keeps: the layout of the reports, the pipe that it polls, its view of the controls, and what came of a
+//! report that isn't whole yet.
+ghost use Rattle.std.specs.Prelude.{◌≡◌, ◌≤◌, ◌<◌, ◌+◌, ◌++◌, false, not, length, unwrap_or, vec_len, vec_capacity, IfSome};
 ghost use Rattle.std.specs.Option.{option_copied};
+ghost use Rattle.hid_descriptor.specs.declared.limits.TheConstants.{MAX_REPORT_BYTES};
 ghost use Rattle.hid_layout.specs.Controls.{items_of, max_events};
 ghost use Rattle.hid_layout.specs.Reports.{IsLayout};
 ghost use Rattle.hid_usages.specs.Cells.{FitsView, blank};
+ghost use Rattle.hid_usages.specs.Parts.{IsInput};
+ghost use Rattle.hid_usages.specs.Reading.{report_named};
 ghost use Rattle.usb_packet.specs.Spelling.{Fits};
 ghost use Rattle.usb_transact.specs.Taken.{taken};
 ghost use Rattle.usb_transact.specs.Host.{token_to};
-ghost use Rattle.hid_host.specs.Ready.{Known, known_at_start, known_behind, known_cleared, told_of, events_behind};
+ghost use Rattle.hid_device.specs.Core.{is_last_piece};
+ghost use Rattle.hid_host.specs.Ready.{collected_with, data_read, events_behind, events_read, events_with, is_whole, known_at_start, known_behind, known_cleared, read_or_fault, told_of, view_read, view_with};
 ghost use Rattle.hid_host.specs.Resetting.{SuitsRound, awaited, known_cut, known_told_back};
 
 use crate::fault::StackFault;
+use arrayvec::ArrayVec;
+use hid_cells::pieces_of;
 use hid_fields::WordCodec;
 use hid_layout::Layout;
-use hid_usages::{Event, Shown, View, changes, changes_and_drops};
+use hid_usages::{Event, ReportFault, Shown, View, bytes_awaited, changes, changes_and_drops};
 use std::marker::Model;
-use usb_packet::{MAX_ADDRESS, MAX_ENDPOINT, Packet};
+use usb_packet::{MAX_ADDRESS, MAX_ENDPOINT, MAX_PAYLOAD, Packet};
 use usb_transact::{HostPipe, Took};
 
-/// What a ready host keeps. A contract sees it as `layout`, `pipe` and `view`.
+/// What a ready host keeps. A contract sees it as `layout`, `pipe`, `view` and `collected`.
 #[derive(Drop)]
 pub struct ReadyHost {
     layout: Layout,
@@ -26,16 +33,42 @@ pub struct ReadyHost {
     view: View,
     /// The initial view, to which a reset of the bus goes back.
     initial: View,
+    /// What came of a report that isn't whole yet: full packets.
+    collected: ArrayVec<u8, 256>,
 }
 
 impl Model for ReadyHost {
-    ghost use Rattle.hid_host.specs.Ready.{AreViews, Known};
+    ghost use Rattle.hid_host.specs.Ready.{ArePackets, AreViews, Known};
 
     ghost Value = { Known };
 
-    ghost view = { λ h. record { layout = h.layout; pipe = h.pipe; view = h.view } };
+    ghost view = { λ h. record {
+      layout = h.layout;
+      pipe = h.pipe;
+      view = h.view;
+      collected = h.collected.items;
+    } };
 
-    ghost invariant = { λ h. AreViews h.layout h.view h.initial };
+    ghost invariant = { λ h. AreViews h.layout h.view h.initial × ArePackets h.collected.items };
+}
+
+/// Reads a report that has ended. One that is refused leaves the view.
+fn read_report(
+    layout: &Layout,
+    bytes: &[u8],
+    view: &mut View,
+    out: &mut Vec<Event>,
+) -> Result<(), ReportFault>
+    requires fits { FitsView (items_of layout.now) view.old }
+    requires room { vec_len out.old + max_events (items_of layout.now) ≤ vec_capacity out.old }
+    ensures told { result ≡ read_or_fault (report_named layout.now bytes.now) }
+    ensures view { view.new ≡ view_read layout.now bytes.now view.old }
+    ensures events { out.new.items ≡ out.old.items ++ events_read layout.now bytes.now view.old }
+    ensures fits { FitsView (items_of layout.now) view.new }
+    ensures few { length out.new.items ≤ length out.old.items + max_events (items_of layout.now) }
+    ensures room { vec_capacity out.new ≡ vec_capacity out.old }
+{
+    view.take_report::<WordCodec>(layout, bytes, out)
 }
 
 impl ReadyHost {
@@ -59,6 +92,7 @@ impl ReadyHost {
             pipe: HostPipe::new(addr, endpoint),
             view,
             initial,
+            collected: ArrayVec::new(),
         }
     }
 
@@ -80,11 +114,12 @@ impl ReadyHost {
         }
     }
 
-    /// A halt of the endpoint was ended: DATA0 is expected (USB 2.0, 9.4.5).
+    /// A halt of the endpoint was ended: DATA0 is expected (USB 2.0, 9.4.5), and what came of a report before is forgotten.
     pub(crate) fn restart(&mut self)
         ensures { self.new ≡ known_cleared self.old }
     {
         self.pipe.restart();
+        self.collected.clear(); // its device sends that report no further
     }
 
     /// How many events a reply gives at most.
@@ -117,7 +152,7 @@ impl ReadyHost {
         requires room { vec_len out.old + max_events (items_of self.old.layout)
             ≤ vec_capacity out.old }
         ensures told { result
-            ≡ told_of self.old.layout (taken self.old.pipe.expects (option_copied packet.entry)) }
+            ≡ told_of self.old (taken self.old.pipe.expects (option_copied packet.entry)) }
         ensures after { self.new
             ≡ known_behind self.old (taken self.old.pipe.expects (option_copied packet.entry)) }
         ensures events { out.new.items
@@ -129,10 +164,7 @@ impl ReadyHost {
     {
         let took = self.pipe.take(packet);
         if let Took::Fresh(payload) = &took {
-            match self
-                .view
-                .take_report::<WordCodec>(&self.layout, payload.as_slice(), out)
-            {
+            match self.read(payload.as_slice(), out) {
                 Ok(()) => {}
                 Err(fault) => return Err(StackFault::Report(fault)),
             }
@@ -140,22 +172,75 @@ impl ReadyHost {
         Ok(took)
     }
 
-    /// The report of the round that is open at the device, where its data haven't come: they go out under the toggle that is
-    /// expected.
-    fn awaited(&self, round: Option<(usize, bool)>) -> Option<usize>
-        ensures { result ≡ awaited self.now.pipe.expects round }
+    /// Whether a report ends with these bytes, of which so many came last: it is as long as it should be, or the last packet
+    /// isn't full (USB 2.0, 5.7.3).
+    fn is_whole(&self, bytes: &[u8], last: usize) -> bool
+        ensures whole { result ≡ is_whole self.now.layout bytes.now last }
+        ensures goes_on { result ≡ false → (MAX_PAYLOAD ≤ last) × (length bytes.now < MAX_REPORT_BYTES) }
+    {
+        last < MAX_PAYLOAD || bytes_awaited(&self.layout, bytes) <= bytes.len()
+    }
+
+    /// Joins fresh data to what came of their report before, and reads the report where it ends with them. There is reserved
+    /// room for `max_events` more.
+    fn read(&mut self, payload: &[u8], out: &mut Vec<Event>) -> Result<(), ReportFault>
+        requires short { length payload.now ≤ MAX_PAYLOAD }
+        requires room { vec_len out.old + max_events (items_of self.old.layout)
+            ≤ vec_capacity out.old }
+        ensures told { result ≡ data_read self.old payload.now }
+        ensures after { self.new ≡ record self.old {
+          view = view_with self.old payload.now;
+          collected = collected_with self.old payload.now;
+        } }
+        ensures events { out.new.items ≡ out.old.items ++ events_with self.old payload.now }
+        ensures few { length out.new.items
+            ≤ length out.old.items + max_events (items_of self.old.layout) }
+        ensures room { vec_capacity out.new ≡ vec_capacity out.old }
+    {
+        if self.collected.is_empty() && self.is_whole(payload, payload.len()) {
+            return read_report(&self.layout, payload, &mut self.view, out);
+        }
+        self.collected.try_extend_from_slice(payload).unwrap();
+        if !self.is_whole(&self.collected, payload.len()) {
+            return Ok(());
+        }
+        let told = read_report(&self.layout, &self.collected, &mut self.view, out);
+        self.collected.clear();
+        told
+    }
+
+    /// Whether a piece of a report is followed by another.
+    fn is_followed(&self, report: usize, piece: Option<usize>) -> bool
+        requires { IsInput self.now.layout report }
+        ensures { result ≡ not (is_last_piece (items_of self.now.layout) report (unwrap_or piece 0)) }
+    {
+        piece.unwrap_or(0) < pieces_of(&self.layout, report) - 1
+    }
+
+    /// The report of the round that is open at the device, where its data haven't all come: those of this piece go out under
+    /// the toggle that is expected, or others are behind them.
+    fn awaited(&self, round: Option<(usize, bool)>, piece: Option<usize>) -> Option<usize>
+        requires { IfSome round (λ it. IsInput self.now.layout it.0) }
+        ensures { result ≡ awaited (items_of self.now.layout) self.now.pipe.expects round piece }
     {
         match round {
-            Some((report, one)) if one == self.pipe.expects() => Some(report),
-            _ => None,
+            Some((report, one)) => {
+                if one == self.pipe.expects() || self.is_followed(report, piece) {
+                    Some(report)
+                } else {
+                    None
+                }
+            }
+            None => None,
         }
     }
 
     /// Tells what changes until the view is the initial one again, and drops the motion of the round that is open at the
-    /// device, where its data haven't come. There is reserved room for `max_events` more.
+    /// device, where its data haven't all come. There is reserved room for `max_events` more.
     pub(crate) fn tell_back(
         &self,
         round: Option<(usize, bool)>,
+        piece: Option<usize>,
         fixed: &Shown,
         out: &mut Vec<Event>,
     )
@@ -163,12 +248,12 @@ impl ReadyHost {
         requires room { vec_len out.old + max_events (items_of self.now.layout)
             ≤ vec_capacity out.old }
         ensures events { out.new.items
-            ≡ out.old.items ++ known_told_back self.now round fixed.now }
+            ≡ out.old.items ++ known_told_back self.now round piece fixed.now }
         ensures few { length out.new.items
             ≤ length out.old.items + max_events (items_of self.now.layout) }
         ensures room { vec_capacity out.new ≡ vec_capacity out.old }
     {
-        match self.awaited(round) {
+        match self.awaited(round, piece) {
             Some(report) => changes_and_drops(
                 &self.layout,
                 &self.view,
@@ -181,18 +266,24 @@ impl ReadyHost {
         }
     }
 
-    /// Drops the motion of the round that was open at the device, where its data haven't come: a halt, or its end, cuts it.
+    /// Drops the motion of the round that was open at the device, where its data haven't all come: a halt, or its end, cuts it.
     /// There is reserved room for `max_events` more.
-    pub(crate) fn tell_cut(&self, round: Option<(usize, bool)>, fixed: &Shown, out: &mut Vec<Event>)
+    pub(crate) fn tell_cut(
+        &self,
+        round: Option<(usize, bool)>,
+        piece: Option<usize>,
+        fixed: &Shown,
+        out: &mut Vec<Event>,
+    )
         requires suits { SuitsRound self.now.layout round fixed.now }
         requires room { vec_len out.old + max_events (items_of self.now.layout)
             ≤ vec_capacity out.old }
-        ensures events { out.new.items ≡ out.old.items ++ known_cut self.now round fixed.now }
+        ensures events { out.new.items ≡ out.old.items ++ known_cut self.now round piece fixed.now }
         ensures few { length out.new.items
             ≤ length out.old.items + max_events (items_of self.now.layout) }
         ensures room { vec_capacity out.new ≡ vec_capacity out.old }
     {
-        if let Some(report) = self.awaited(round) {
+        if let Some(report) = self.awaited(round, piece) {
             changes_and_drops(&self.layout, &self.view, &self.view, report, fixed, out);
         }
     }

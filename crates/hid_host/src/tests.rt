@@ -2,6 +2,7 @@
 //! appendix E). The bytes of the configuration are written out from the tables of USB 2.0, 9.6, and of HID 1.11, 6.2.1.
 
 mod foreign;
+mod pieces;
 
 use crate::{DescriptorFault, HostDevice, HostState, StackFault};
 use arrayvec::ArrayVec;

@@ -175,4 +175,4 @@ starts_at starts ess i s es e a b = ap (λ o. unwrap_or o s) (sym a ∙ ap (λ l
 
 pub none_past : (layout : Contents) (d : ControlId) (u : Usage) → length layout.items ≤ d.item → shown_at (items_of layout) d ≡ Some u → ⊥
 none_past layout d u le h =
-    let none : None ≡ Some u = ap (λ o. option_map (λ (c : Control). c.usage) (control_of_item d.index o)) (sym (items_from-past layout.reports layout.items layout.entries d.item le)) ∙ h in absurd (cc)
+    let none : None ≡ Some u = ap (λ o. option_map (λ (c : Control). c.usage) (control_of_item d.index o)) (sym (items_from-past layout layout.items layout.entries d.item le)) ∙ h in absurd (cc)

@@ -1,5 +1,5 @@
 -- The controls of an item by their places.
-use Rattle.std.proofs.Common.{◌≡◌, ℕ, zero, suc, ◌+◌, ◌-◌, ◌<◌, ◌≤◌, min, true, false, cond, List, [], ◌∷◌, length, take, refl, ap, ◌∙◌, arith, Option, Some, None, unwrap_or}
+use Rattle.std.proofs.Common.{◌≡◌, ℕ, zero, suc, ◌+◌, ◌-◌, ◌<◌, ◌≤◌, min, Bool, true, false, cond, List, [], ◌∷◌, length, take, refl, ap, ◌∙◌, arith, Option, Some, None, unwrap_or}
 use Rattle.std.specs.List.{slice_get}
 use Rattle.std.specs.Option.{option_map}
 use Rattle.std.proofs.lemmas.Option.{slice_get_past}
@@ -8,11 +8,10 @@ use Rattle.hid_descriptor.specs.declared.usage.Usage.{Usage}
 use Rattle.hid_layout.specs.declared.main_item.MainItem.{MainItem}
 use Rattle.std.specs.Prelude.{is_some, pos, ◌+ℤ◌}
 use Rattle.hid_layout.specs.Sent.{rollover_number}
-use Rattle.hid_descriptor.specs.declared.report.Report.{Report}
 use Rattle.hid_layout.specs.declared.control.ControlId.{ControlId}
 use Rattle.hid_descriptor.specs.Usages.{Entry, usage_list}
-use Rattle.hid_layout.specs.Layout.{Contents}
-use Rattle.hid_layout.specs.Controls.{Item, Form, NoControls, spread, keys_from, is_key, has_place, rollover_from, is_input, item_of, form_of, items_from, items_of, form_of_item, form_at, control_in, control_of_item, control_of, events_in, max_events}
+use Rattle.hid_layout.specs.Layout.{Contents, report_bytes}
+use Rattle.hid_layout.specs.Controls.{Item, NoControls, input_item, no_item, spread, keys_from, is_key, has_place, rollover_from, is_input, item_of, form_of, items_from, items_of, form_of_item, form_at, control_in, control_of_item, control_of, events_in, max_events}
 use Rattle.std.proofs.lemmas.List.Sums.{sum_by-append}
 use Rattle.hid_layout.proofs.IndexLemmas.{take_next}
 
@@ -80,35 +79,36 @@ rolls_over item us = by_place (rollover_from item 0 us)
     by_place (Some i) = refl
 
 -- an item of a layout, as the definitions of controls see it
-pub items_from-get : (reports : List Report) (items : List MainItem) (ess : List (List Entry)) (i : ℕ) (item : MainItem) (es : List Entry) → slice_get items i ≡ Some item → slice_get ess i ≡ Some es → slice_get (items_from reports items ess) i ≡ Some (item_of reports item es)
+pub items_from-get : (layout : Contents) (items : List MainItem) (ess : List (List Entry)) (i : ℕ) (item : MainItem) (es : List Entry) → slice_get items i ≡ Some item → slice_get ess i ≡ Some es → slice_get (items_from layout items ess) i ≡ Some (item_of layout item es)
 unfolding items_from
-items_from-get reports [] ess i item es a b = absurd (cc)
-items_from-get reports (x ∷ items) [] i item es a b = absurd (cc)
-items_from-get reports (x ∷ items) (y ∷ ess) zero item es a b =
-    ap (λ z. Some (item_of reports z y)) (ap (λ o. unwrap_or o item) a) ∙ ap (λ z. Some (item_of reports item z)) (ap (λ o. unwrap_or o es) b)
-items_from-get reports (x ∷ items) (y ∷ ess) (suc i) item es a b = items_from-get reports items ess i item es a b
+items_from-get layout [] ess i item es a b = absurd (cc)
+items_from-get layout (x ∷ items) [] i item es a b = absurd (cc)
+items_from-get layout (x ∷ items) (y ∷ ess) zero item es a b =
+    ap (λ z. Some (item_of layout z y)) (ap (λ o. unwrap_or o item) a) ∙ ap (λ z. Some (item_of layout item z)) (ap (λ o. unwrap_or o es) b)
+items_from-get layout (x ∷ items) (y ∷ ess) (suc i) item es a b = items_from-get layout items ess i item es a b
 
-pub items_from-past : (reports : List Report) (items : List MainItem) (ess : List (List Entry)) (i : ℕ) → length items ≤ i → slice_get (items_from reports items ess) i ≡ None
+pub items_from-past : (layout : Contents) (items : List MainItem) (ess : List (List Entry)) (i : ℕ) → length items ≤ i → slice_get (items_from layout items ess) i ≡ None
 unfolding items_from
-items_from-past reports [] ess i h = refl
-items_from-past reports (x ∷ items) [] i h = refl
-items_from-past reports (x ∷ items) (y ∷ ess) zero h = absurd (omega arith)
-items_from-past reports (x ∷ items) (y ∷ ess) (suc i) h = items_from-past reports items ess i (omega arith)
+items_from-past layout [] ess i h = refl
+items_from-past layout (x ∷ items) [] i h = refl
+items_from-past layout (x ∷ items) (y ∷ ess) zero h = absurd (omega arith)
+items_from-past layout (x ∷ items) (y ∷ ess) (suc i) h = items_from-past layout items ess i (omega arith)
 
-abbrev shown_item : Option ℕ → Form → Item
-shown_item report form = record { report = report; form = form }
+-- by whether its report is an Input report
+abbrev item_if : Contents → MainItem → List Entry → Bool → Item
+item_if layout item es b = cond b (input_item item.report (report_bytes layout item.report) (form_of item (usage_list es) item.shape)) no_item
 
-pub item-input : (reports : List Report) (item : MainItem) (es : List Entry) → is_input reports item.report ≡ true → (item_of reports item es).form ≡ form_of item (usage_list es) item.shape
-item-input reports item es h = ap (λ b. (cond b (shown_item (Some item.report) (form_of item (usage_list es) item.shape)) (shown_item None NoControls)).form) h
+pub item-input : (layout : Contents) (item : MainItem) (es : List Entry) → is_input layout.reports item.report ≡ true → (item_of layout item es).form ≡ form_of item (usage_list es) item.shape
+item-input layout item es h = ap (λ b. (item_if layout item es b).form) h
 
-pub item-other : (reports : List Report) (item : MainItem) (es : List Entry) → is_input reports item.report ≡ false → (item_of reports item es).form ≡ NoControls
-item-other reports item es h = ap (λ b. (cond b (shown_item (Some item.report) (form_of item (usage_list es) item.shape)) (shown_item None NoControls)).form) h
+pub item-other : (layout : Contents) (item : MainItem) (es : List Entry) → is_input layout.reports item.report ≡ false → (item_of layout item es).form ≡ NoControls
+item-other layout item es h = ap (λ b. (item_if layout item es b).form) h
 
 pub form-input : (layout : Contents) (i : ℕ) (item : MainItem) (es : List Entry) → slice_get layout.items i ≡ Some item → slice_get layout.entries i ≡ Some es → is_input layout.reports item.report ≡ true → form_at (items_of layout) i ≡ form_of item (usage_list es) item.shape
-form-input layout i item es a b h = ap form_of_item (items_from-get layout.reports layout.items layout.entries i item es a b) ∙ item-input layout.reports item es h
+form-input layout i item es a b h = ap form_of_item (items_from-get layout layout.items layout.entries i item es a b) ∙ item-input layout item es h
 
 pub form-other : (layout : Contents) (i : ℕ) (item : MainItem) (es : List Entry) → slice_get layout.items i ≡ Some item → slice_get layout.entries i ≡ Some es → is_input layout.reports item.report ≡ false → form_at (items_of layout) i ≡ NoControls
-form-other layout i item es a b h = ap form_of_item (items_from-get layout.reports layout.items layout.entries i item es a b) ∙ item-other layout.reports item es h
+form-other layout i item es a b h = ap form_of_item (items_from-get layout layout.items layout.entries i item es a b) ∙ item-other layout item es h
 
 -- the control at a place is that of the item's form
 pub control-form : (items : List Item) (c : ControlId) → control_of items c ≡ control_in (form_at items c.item) c.index
@@ -118,11 +118,11 @@ control-form items c = by_item (slice_get items c.item)
     by_item None = refl
     by_item (Some item) = refl
 
-pub items_from-length : (reports : List Report) (items : List MainItem) (ess : List (List Entry)) → length ess ≡ length items → length (items_from reports items ess) ≡ length items
+pub items_from-length : (layout : Contents) (items : List MainItem) (ess : List (List Entry)) → length ess ≡ length items → length (items_from layout items ess) ≡ length items
 unfolding items_from
-items_from-length reports [] ess e = refl
-items_from-length reports (x ∷ items) [] e = absurd (omega arith)
-items_from-length reports (x ∷ items) (y ∷ ess) e = ap suc (items_from-length reports items ess (omega arith))
+items_from-length layout [] ess e = refl
+items_from-length layout (x ∷ items) [] e = absurd (omega arith)
+items_from-length layout (x ∷ items) (y ∷ ess) e = ap suc (items_from-length layout items ess (omega arith))
 
 pub some_at : {A : Type 0} (xs : List A) (i : ℕ) → i < length xs → (x : A) × (slice_get xs i ≡ Some x)
 some_at [] i h = absurd (omega arith)

@@ -94,20 +94,20 @@ refused-delimiter : first_fault [] 0 ((0xA9 ∷ 0x01 ∷ []) ∷ []) ≡ Some (D
 unfolding field_fault are_too_many add_field reports_of reports_of_kind upward report_ids
 refused-delimiter = refl
 
--- 65 bytes
-refused-report_of_65_bytes : first_fault [] 0 ((0x75 ∷ 0x08 ∷ []) ∷ (0x95 ∷ 0x41 ∷ []) ∷ (0x81 ∷ 0x01 ∷ []) ∷ []) ≡ Some (ReportTooLong, 4)
+-- 257 bytes
+refused-report_of_257_bytes : first_fault [] 0 ((0x75 ∷ 0x08 ∷ []) ∷ (0x96 ∷ 0x01 ∷ 0x01 ∷ []) ∷ (0x81 ∷ 0x01 ∷ []) ∷ []) ≡ Some (ReportTooLong, 5)
 unfolding field_fault are_too_many add_field reports_of reports_of_kind upward report_ids
-refused-report_of_65_bytes = refl
+refused-report_of_257_bytes = refl
 
 -- 65 usages
 refused-usages_65 : first_fault [] 0 ((0x05 ∷ 0x01 ∷ []) ∷ (0x09 ∷ 0x30 ∷ []) ∷ (0x09 ∷ 0x30 ∷ []) ∷ (0x09 ∷ 0x30 ∷ []) ∷ (0x09 ∷ 0x30 ∷ []) ∷ (0x09 ∷ 0x30 ∷ []) ∷ (0x09 ∷ 0x30 ∷ []) ∷ (0x09 ∷ 0x30 ∷ []) ∷ (0x09 ∷ 0x30 ∷ []) ∷ (0x09 ∷ 0x30 ∷ []) ∷ (0x09 ∷ 0x30 ∷ []) ∷ (0x09 ∷ 0x30 ∷ []) ∷ (0x09 ∷ 0x30 ∷ []) ∷ (0x09 ∷ 0x30 ∷ []) ∷ (0x09 ∷ 0x30 ∷ []) ∷ (0x09 ∷ 0x30 ∷ []) ∷ (0x09 ∷ 0x30 ∷ []) ∷ (0x09 ∷ 0x30 ∷ []) ∷ (0x09 ∷ 0x30 ∷ []) ∷ (0x09 ∷ 0x30 ∷ []) ∷ (0x09 ∷ 0x30 ∷ []) ∷ (0x09 ∷ 0x30 ∷ []) ∷ (0x09 ∷ 0x30 ∷ []) ∷ (0x09 ∷ 0x30 ∷ []) ∷ (0x09 ∷ 0x30 ∷ []) ∷ (0x09 ∷ 0x30 ∷ []) ∷ (0x09 ∷ 0x30 ∷ []) ∷ (0x09 ∷ 0x30 ∷ []) ∷ (0x09 ∷ 0x30 ∷ []) ∷ (0x09 ∷ 0x30 ∷ []) ∷ (0x09 ∷ 0x30 ∷ []) ∷ (0x09 ∷ 0x30 ∷ []) ∷ (0x09 ∷ 0x30 ∷ []) ∷ (0x09 ∷ 0x30 ∷ []) ∷ (0x09 ∷ 0x30 ∷ []) ∷ (0x09 ∷ 0x30 ∷ []) ∷ (0x09 ∷ 0x30 ∷ []) ∷ (0x09 ∷ 0x30 ∷ []) ∷ (0x09 ∷ 0x30 ∷ []) ∷ (0x09 ∷ 0x30 ∷ []) ∷ (0x09 ∷ 0x30 ∷ []) ∷ (0x09 ∷ 0x30 ∷ []) ∷ (0x09 ∷ 0x30 ∷ []) ∷ (0x09 ∷ 0x30 ∷ []) ∷ (0x09 ∷ 0x30 ∷ []) ∷ (0x09 ∷ 0x30 ∷ []) ∷ (0x09 ∷ 0x30 ∷ []) ∷ (0x09 ∷ 0x30 ∷ []) ∷ (0x09 ∷ 0x30 ∷ []) ∷ (0x09 ∷ 0x30 ∷ []) ∷ (0x09 ∷ 0x30 ∷ []) ∷ (0x09 ∷ 0x30 ∷ []) ∷ (0x09 ∷ 0x30 ∷ []) ∷ (0x09 ∷ 0x30 ∷ []) ∷ (0x09 ∷ 0x30 ∷ []) ∷ (0x09 ∷ 0x30 ∷ []) ∷ (0x09 ∷ 0x30 ∷ []) ∷ (0x09 ∷ 0x30 ∷ []) ∷ (0x09 ∷ 0x30 ∷ []) ∷ (0x09 ∷ 0x30 ∷ []) ∷ (0x09 ∷ 0x30 ∷ []) ∷ (0x09 ∷ 0x30 ∷ []) ∷ (0x09 ∷ 0x30 ∷ []) ∷ (0x09 ∷ 0x30 ∷ []) ∷ (0x09 ∷ 0x30 ∷ []) ∷ (0x09 ∷ 0x30 ∷ []) ∷ (0x25 ∷ 0x01 ∷ []) ∷ (0x75 ∷ 0x01 ∷ []) ∷ (0x95 ∷ 0x01 ∷ []) ∷ (0x81 ∷ 0x02 ∷ []) ∷ []) ≡ Some (TooMany, 138)
 unfolding field_fault are_too_many add_field reports_of reports_of_kind upward report_ids
 refused-usages_65 = refl
 
--- 64 bytes
-accepted-report_of_64_bytes : fault_of ((0x95 ∷ 0x40 ∷ []) ∷ (0x75 ∷ 0x08 ∷ []) ∷ []) (0x81 ∷ 0x01 ∷ []) ≡ None
+-- 256 bytes
+accepted-report_of_256_bytes : fault_of ((0x96 ∷ 0x00 ∷ 0x01 ∷ []) ∷ (0x75 ∷ 0x08 ∷ []) ∷ []) (0x81 ∷ 0x01 ∷ []) ≡ None
 unfolding field_fault are_too_many add_field reports_of reports_of_kind upward report_ids
-accepted-report_of_64_bytes = refl
+accepted-report_of_256_bytes = refl
 
 -- an item with bits before the Report ID
 mixed : is_mixed ((0x85 ∷ 0x01 ∷ []) ∷ (0x81 ∷ 0x01 ∷ []) ∷ (0x95 ∷ 0x01 ∷ []) ∷ (0x75 ∷ 0x08 ∷ []) ∷ []) ≡ true
@@ -118,12 +118,12 @@ mixed = refl
 abbrev limits : List ℕ
 limits = MAX_DESCRIPTOR ∷ MAX_ITEMS ∷ MAX_ELEMENTS ∷ MAX_ENTRIES ∷ MAX_OPEN_PUSHES ∷ MAX_OPEN_COLLECTIONS ∷ MAX_REPORT_IDS ∷ MAX_REPORT_BYTES ∷ MAX_WIDTH ∷ MAX_KEYS ∷ []
 
-limits_there : limits ≡ 4096 ∷ 512 ∷ 4096 ∷ 64 ∷ 8 ∷ 16 ∷ 64 ∷ 64 ∷ 32 ∷ 65536 ∷ []
+limits_there : limits ≡ 4096 ∷ 512 ∷ 4096 ∷ 64 ∷ 8 ∷ 16 ∷ 64 ∷ 256 ∷ 32 ∷ 65536 ∷ []
 limits_there = refl
 
--- a report without an ID has 512 bits at most, and one with an ID 504 behind it
-longest_without_id : report_limit 0 ≡ 512
+-- a report without an ID has 2,048 bits at most, and one with an ID 2,040 behind it
+longest_without_id : report_limit 0 ≡ 2048
 longest_without_id = refl
 
-longest_with_id : report_limit 1 ≡ 504
+longest_with_id : report_limit 1 ≡ 2040
 longest_with_id = refl

@@ -144,6 +144,11 @@ get_within [] p x e = absurd cc
 get_within (y ∷ xs) zero x e = omega arith
 get_within (y ∷ xs) (suc p) x e = omega (arith, get_within xs p x e)
 
+there_at : {A : Type 0} (xs : List A) (p : ℕ) → p < length xs → (x : A) × (slice_get xs p ≡ Some x)
+there_at [] p h = absurd (omega (arith, h))
+there_at (y ∷ xs) zero h = (y, refl)
+there_at (y ∷ xs) (suc p) h = there_at xs p (omega (arith, h))
+
 -- what an element of a mapped list comes from
 record From {A B : Type 0} (h : A → B) (xs : List A) (i : ℕ) (y : B) : Type 0 where
   pub source : A
@@ -201,15 +206,15 @@ not_high min max width h n e =
     under true h k e = omega (arith, ints, h, k, e)
     under false h k e = omega (arith, ints, h, k, e)
 
--- no report is over 512 bits
-limit_at_most : (id : ℕ) → report_limit id ≤ 512
+-- no report is over 2048 bits
+limit_at_most : (id : ℕ) → report_limit id ≤ 2048
 limit_at_most id = by_id (nat_eq id 0)
   where
-    by_id : (b : Bool) → cond b 512 504 ≤ 512
+    by_id : (b : Bool) → cond b 2048 2040 ≤ 2048
     by_id true = omega arith
     by_id false = omega arith
 
-few_bits : (fs : List Field) (i : ℕ) (f : Field) → AreListed fs → slice_get fs i ≡ Some f → f.offset + bits_of f ≤ 512
+few_bits : (fs : List Field) (i : ℕ) (f : Field) → AreListed fs → slice_get fs i ≡ Some f → f.offset + bits_of f ≤ 2048
 few_bits fs i f a e = omega (arith, a.offsets i f e, up_to fs i f e, a.short f.kind f.id, limit_at_most f.id)
 
 has_elements : (fs : List Field) (rs : List Report) (i : ℕ) (f : Field) → AreListed fs → slice_get fs i ≡ Some f → is_padding f.shape ≡ false → HasElements (main_item rs f)
@@ -304,26 +309,46 @@ zero_id fs r report zeros e =
     let found = some_field report.kind report.id fs (omega (arith, is.0, is.1)) in
     sym (id_of report.kind report.id found.0 found.3).1 ∙ zeros found.1 found.0 found.2
 
--- no report is over 64 bytes
-all_short : (fs : List Field) (numbered : Bool) (r : ℕ) → AreListed fs → (numbered ≡ true → list_any (λ f. nat_eq f.id 0) fs ≡ false) → (bits_of_report (reports_of fs) r + 7) / 8 + cond numbered 1 0 ≤ 64
+-- no report is over 256 bytes
+all_short : (fs : List Field) (numbered : Bool) (r : ℕ) → AreListed fs → (numbered ≡ true → list_any (λ f. nat_eq f.id 0) fs ≡ false) → (bits_of_report (reports_of fs) r + 7) / 8 + cond numbered 1 0 ≤ 256
 all_short fs numbered r a unmixed = by_report (slice_get (reports_of fs) r) refl
   where
-    with_id : (n : Bool) (id bits : ℕ) → bits ≤ report_limit id → (n ≡ true → id ≢ 0) → (bits + 7) / 8 + cond n 1 0 ≤ 64
+    with_id : (n : Bool) (id bits : ℕ) → bits ≤ report_limit id → (n ≡ true → id ≢ 0) → (bits + 7) / 8 + cond n 1 0 ≤ 256
     with_id false id bits h some = omega (arith, h, limit_at_most id)
     with_id true id bits h some =
         let not_zero : nat_eq id 0 ≡ false = let s : id ≢ 0 = some refl in grind (arith, nat_tests) in
-        let limit : report_limit id ≡ 504 = rw not_zero refl in
+        let limit : report_limit id ≡ 2040 = rw not_zero refl in
         omega (arith, h, limit)
 
-    without : (n : Bool) → (0 + 7) / 8 + cond n 1 0 ≤ 64
+    without : (n : Bool) → (0 + 7) / 8 + cond n 1 0 ≤ 256
     without true = omega arith
     without false = omega arith
 
-    by_report : (o : Option Report) → slice_get (reports_of fs) r ≡ o → (elim o [ None ↦ 0 | Some report ↦ report.bits ] + 7) / 8 + cond numbered 1 0 ≤ 64
+    by_report : (o : Option Report) → slice_get (reports_of fs) r ≡ o → (elim o [ None ↦ 0 | Some report ↦ report.bits ] + 7) / 8 + cond numbered 1 0 ≤ 256
     by_report None e = without numbered
     by_report (Some report) e =
         let is = report_at fs (reports_of fs) r report (all_reports fs) e in
         with_id numbered report.id report.bits (omega (arith, is.0, a.short report.kind report.id)) (λ n. id_there fs r report e (unmixed n))
+
+-- a report has an item
+any_at : {A : Type 0} (p : A → Bool) (xs : List A) (i : ℕ) (x : A) → slice_get xs i ≡ Some x → p x ≡ true → list_any p xs ≡ true
+any_at p [] i x e h = absurd cc
+any_at p (y ∷ xs) zero x e h = let same : y ≡ x = cc in ap (λ z. p z || list_any p xs) same ∙ ap (λ b. b || list_any p xs) h
+any_at p (y ∷ xs) (suc i) x e h = ap (λ b. p y || b) (any_at p xs i x e h) ∙ or_true (p y)
+  where
+    or_true : (b : Bool) → (b || true) ≡ true
+    or_true true = refl
+    or_true false = refl
+
+has_item : (fs : List Field) (r : ℕ) (report : Report) → AreListed fs → slice_get (reports_of fs) r ≡ Some report → list_any (λ (item : MainItem). nat_eq item.report r) (map (main_item (reports_of fs)) fs) ≡ true
+has_item fs r report a e =
+    let is = report_at fs (reports_of fs) r report (all_reports fs) e in
+    let found = some_field report.kind report.id fs (omega (arith, is.0, is.1)) in
+    let named = id_of report.kind report.id found.0 found.3 in
+    let here = field_report fs found.1 found.0 a found.2 in
+    let at : place_of found.0.kind found.0.id (reports_of fs) ≡ r =
+    one_place fs _ r here.report report here.there e (here.kind_is ∙ named.0) (here.id_is ∙ named.1) in
+    any_at (λ (item : MainItem). nat_eq item.report r) (map (main_item (reports_of fs)) fs) found.1 (main_item (reports_of fs) found.0) (map_get (main_item (reports_of fs)) fs found.1 found.0 found.2) (grind (arith, nat_tests, at))
 
 -- the layout of these fields
 pub well_formed : (fs : List Field) (numbered : Bool) → AreListed fs → (numbered ≡ true → list_any (λ f. nat_eq f.id 0) fs ≡ false) → (numbered ≡ false → (i : ℕ) (f : Field) → slice_get fs i ≡ Some f → f.id ≡ 0)
@@ -344,6 +369,7 @@ well_formed fs numbered a unmixed zeros = record {
       let f = get_map (main_item (reports_of fs)) fs i item e in
       let here = field_report fs i f.source a f.there in
       subst (λ (m : MainItem). m.report < length (reports_of fs)) (sym f.made) (get_within (reports_of fs) _ here.report here.there);
+  item_there = λ r within. let report = there_at (reports_of fs) r within in has_item fs r report.0 a report.1;
   elements = λ i item e p.
       let f = get_map (main_item (reports_of fs)) fs i item e in
       let padding : is_padding f.source.shape ≡ false = sym (ap (λ (m : MainItem). is_padding m.shape) f.made) ∙ p in

@@ -20,7 +20,7 @@ use Rattle.hid_descriptor.specs.Kinds.{same_kind}
 use Rattle.hid_descriptor.specs.Usages.{Entry, usage_list, is_rollover, tells_error}
 use Rattle.hid_descriptor.specs.Flags.{has_flag, RELATIVE, NULL_STATE}
 use Rattle.hid_descriptor.specs.Faults.{least_value, greatest_value}
-use Rattle.hid_layout.specs.Layout.{Contents}
+use Rattle.hid_layout.specs.Layout.{Contents, report_bytes}
 
 -- A place of an array's usage list: its usage, and whether an element can press it.
 pub record Key : Type 0 where
@@ -34,9 +34,11 @@ pub data Form : Type 0 where
   Elements : (kind : ControlKind) → (least greatest : ℤ) → (usages : List Usage) → Form
   Keys : (elements : ℕ) → (rolls_over : Bool) → (keys : List Key) → Form
 
--- A listed item: the number of its report among the Input reports, where it is in one, and its controls.
+-- A listed item: the number of its report, where that is an Input report, the bytes of that report with its ID, and the
+-- item's controls. Padding is in its report too.
 pub record Item : Type 0 where
   pub report : Option ℕ
+  pub bytes : ℕ
   pub form : Form
 
 -- the least number of the logical range that some pattern stands for
@@ -115,22 +117,30 @@ is_input_report (Some report) = same_kind report.kind Input
 abbrev pub is_input : List Report → ℕ → Bool
 is_input reports r = is_input_report (slice_get reports r)
 
+-- an item of the Input report of this number, which has so many bytes
+abbrev pub input_item : ℕ → ℕ → Form → Item
+input_item r bytes form = record { report = Some r; bytes = bytes; form = form }
+
+-- an item of no Input report
+abbrev pub no_item : Item
+no_item = record { report = None; bytes = 0; form = NoControls }
+
 -- a listed item as it is seen: controls stand in Input reports alone
-abbrev pub item_of : List Report → MainItem → List Entry → Item
-item_of reports item es =
-    if is_input reports item.report
-    then record { report = Some item.report; form = form_of item (usage_list es) item.shape }
-    else record { report = None; form = NoControls }
+abbrev pub item_of : Contents → MainItem → List Entry → Item
+item_of layout item es =
+    if is_input layout.reports item.report
+    then input_item item.report (report_bytes layout item.report) (form_of item (usage_list es) item.shape)
+    else no_item
 
 -- these listed items with their entries, as they are seen
-unfoldable pub items_from : List Report → List MainItem → List (List Entry) → List Item
-items_from reports [] ess = []
-items_from reports (item ∷ items) [] = []
-items_from reports (item ∷ items) (es ∷ ess) = item_of reports item es ∷ items_from reports items ess
+unfoldable pub items_from : Contents → List MainItem → List (List Entry) → List Item
+items_from layout [] ess = []
+items_from layout (item ∷ items) [] = []
+items_from layout (item ∷ items) (es ∷ ess) = item_of layout item es ∷ items_from layout items ess
 
 -- what the definitions of controls, parts and views see of a layout
 abbrev pub items_of : Contents → List Item
-items_of layout = items_from layout.reports layout.items layout.entries
+items_of layout = items_from layout layout.items layout.entries
 
 -- a place of an array's usage list is a control where a key stands there
 abbrev pub control_of_key : Option Key → Option Control

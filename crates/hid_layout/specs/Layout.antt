@@ -1,5 +1,5 @@
 -- The layout that a list of items gives (HID 1.11, 5.6 and 8).
-use Rattle.std.specs.Prelude.{Bool, List, map}
+use Rattle.std.specs.Prelude.{ℕ, ◌+◌, ◌/◌, Bool, if◌then◌else◌, List, map, slice_get, Some, None}
 use Rattle.std.specs.List.{list_any}
 use Rattle.hid_descriptor.specs.declared.collection.Collection.{Collection}
 use Rattle.hid_descriptor.specs.declared.report.Report.{Report}
@@ -18,6 +18,14 @@ pub record Contents : Type 0 where
   pub items : List MainItem
   pub entries : List (List Entry)
   pub paths : List (List Collection)
+
+-- the bits of the report at a place, 0 where there is none
+abbrev pub bits_of : List Report → ℕ → ℕ
+bits_of reports r = elim (slice_get reports r) [ None ↦ 0 | Some report ↦ report.bits ]
+
+-- the bits filled up to whole bytes, and one ID byte where any Report ID item stands
+abbrev pub report_bytes : Contents → ℕ → ℕ
+report_bytes layout r = (bits_of layout.reports r + 7) / 8 + (if layout.numbered then 1 else 0)
 
 -- an item of a layout with these reports
 abbrev pub main_item : List Report → Field → MainItem

@@ -1,10 +1,12 @@
 -- The reports of a layout, and what holds of every layout (HID 1.11, 5.6 and 8).
-use Rattle.std.specs.Prelude.{◌≡◌, ℕ, ◌+◌, ◌*◌, ◌/◌, ◌<◌, ◌≤◌, false, if◌then◌else◌, Option, not, ◌&&◌, nat_lt, int_lt, List, length, slice_get, Some, None, pos, neg_ℤ, ◌^◌, ◌≤ℤ◌}
+use Rattle.std.specs.Prelude.{◌≡◌, ℕ, ◌+◌, ◌*◌, ◌<◌, ◌≤◌, true, false, if◌then◌else◌, Option, not, ◌&&◌, ◌==◌, nat_lt, int_lt, List, length, slice_get, Some, None, pos, neg_ℤ, ◌^◌, ◌≤ℤ◌}
+use Rattle.std.specs.List.{list_any}
 use Rattle.hid_descriptor.specs.declared.limits.TheConstants.{MAX_ENTRIES, MAX_REPORT_BYTES, MAX_WIDTH}
 use Rattle.hid_layout.specs.declared.main_item.MainItem.{MainItem}
 use Rattle.hid_descriptor.specs.declared.report.Report.{Report}
 use Rattle.hid_descriptor.specs.Fields.{is_padding}
 use Rattle.hid_layout.specs.Layout.{Contents}
+pub use Rattle.hid_layout.specs.Layout.{bits_of, report_bytes}
 use Rattle.hid_layout.specs.Controls.{least_of, greatest_of}
 use Rattle.hid_descriptor.specs.Usages.{Entry, usage_list}
 use Rattle.hid_descriptor.specs.declared.usage.Usage.{Usage}
@@ -14,14 +16,6 @@ use Rattle.std.specs.Option.{option_and_then}
 -- the first bit behind the ID byte, where there is one
 abbrev pub first_bit : Contents → ℕ
 first_bit layout = if layout.numbered then 8 else 0
-
--- the bits of the report at a place, 0 where there is none
-abbrev pub bits_of : List Report → ℕ → ℕ
-bits_of reports r = elim (slice_get reports r) [ None ↦ 0 | Some report ↦ report.bits ]
-
--- the bits filled up to whole bytes, and one ID byte where any Report ID item stands
-abbrev pub report_bytes : Contents → ℕ → ℕ
-report_bytes layout r = (bits_of layout.reports r + 7) / 8 + (if layout.numbered then 1 else 0)
 
 -- the usage at a place of the usage list of a listed item
 abbrev pub usage_of : Contents → ℕ → ℕ → Option Usage
@@ -60,8 +54,8 @@ pub record HasElements (item : MainItem) : Type 0 where
   pub not_low : neg_ℤ (pos (2 ^ 32)) ≤ℤ item.min
   pub not_high : item.min ≤ℤ pos (2 ^ 32)
 
--- What holds of every layout: fields lie behind one another in their report, reports are short, and no two of
--- them have the same kind and ID.
+-- What holds of every layout: fields lie behind one another in their report, each report has an item, reports are short,
+-- and no two of them have the same kind and ID.
 pub record IsLayout (layout : Contents) : Type 0 where
   pub entries_there : length layout.entries ≡ length layout.items
   pub few_entries : (i : ℕ) (es : List Entry) → slice_get layout.entries i ≡ Some es → length es ≤ MAX_ENTRIES
@@ -70,6 +64,8 @@ pub record IsLayout (layout : Contents) : Type 0 where
       → 0 < length (usage_list es)
   pub report_there : (i : ℕ) (item : MainItem) → slice_get layout.items i ≡ Some item
       → item.report < length layout.reports
+  pub item_there : (r : ℕ) → r < length layout.reports
+      → list_any (λ (item : MainItem). item.report == r) layout.items ≡ true
   pub elements : (i : ℕ) (item : MainItem) → slice_get layout.items i ≡ Some item
       → is_padding item.shape ≡ false → HasElements item
   pub apart : (i k : ℕ) (a b : MainItem)

@@ -90,10 +90,11 @@ const REFUSED: &str = "
     unpaired before reversed:         0501190529041901750195018102         > L13 at 12
     a bad size before a bad range:    0501093015052504750095018102         > L11 at 12
     a Delimiter:                      A901                                 > L14 at 0
-    65 bytes:                         750895418101                         > L15 at 4
-    64 bytes and an ID byte:          8501750895408101                     > L15 at 6
-    65 bytes by two items:            750895408101750195018101             > L15 at 10
-    64 bytes, then a Report ID:       7508954081018501                     > L9 at 8
+    257 bytes:                        75089601018101                       > L15 at 5
+    256 bytes and an ID byte:         850175089600018101                   > L15 at 7
+    257 bytes by two items:           75089600018101750195018101           > L15 at 11
+    an Output report of 257 bytes:    75089601019101                       > L15 at 5
+    256 bytes, then a Report ID:      750896000181018501                   > L9 at 9
     the first of two refused items:   8500B4                               > L8 at 0
     open and mixed, open comes first: A1017508950181018501                 > L7 at 10
 ";
@@ -129,9 +130,10 @@ const ACCEPTED: &str = "
     without usages no range counts:    1505250475F095018102         > 1 items
     without fields nothing is checked: 050119052904750195008102     > 0 items
     padding of no bits isn't listed:   750095058101                 > 0 items
-    64 bytes:                          750895408101                 > 1 items
-    63 bytes and an ID byte:           85017508953F8101             > 1 items
-    an Output report beside them:      7508954081019101             > 2 items
+    65 bytes:                          750895418101                 > 1 items
+    256 bytes:                         75089600018101               > 1 items
+    255 bytes and an ID byte:          8501750895FF8101             > 1 items
+    an Output report beside them:      750896000181019101           > 2 items
 ";
 
 #[test]

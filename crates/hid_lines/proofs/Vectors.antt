@@ -1,6 +1,6 @@
 -- Worked values of words, each by hand.
 use Rattle.std.proofs.Common.{◌≡◌, [], ◌∷◌, ◌++◌, Ok, Err, refl}
-use Rattle.std.specs.Prelude.{codes}
+use Rattle.std.specs.Prelude.{codes, replicate}
 use Rattle.hid_descriptor.specs.declared.report.ReportKind.TheVariants.{Output}
 use Rattle.hex.specs.Hex.{decode_pairs}
 use Rattle.hid_requests.specs.declared.request.Request.TheVariants.{Clear, Configure, EndpointStatus, Idle, SetReport}
@@ -31,8 +31,8 @@ a_light : request_said (codes "set-report" ∷ codes "output" ∷ codes "0" ∷ 
 unfolding request_said asked_by set_report_said byte_of number_of hex_of decode_pairs
 a_light = refl
 
--- 65 bytes and a bad digit: there are too many, whatever they are
-a_longer_report : request_said (codes "set-report" ∷ codes "output" ∷ codes "0" ∷ codes "0000000000000000000000000000000000000000000000000000000000000000000000000000000000000000000000000000000000000000000000000000000000G" ∷ []) ≡ Err Syntax
+-- 257 bytes and a bad digit: there are too many, whatever they are
+a_longer_report : request_said (codes "set-report" ∷ codes "output" ∷ codes "0" ∷ (replicate 513 48 ++ codes "G") ∷ []) ≡ Err Syntax
 unfolding request_said asked_by set_report_said byte_of number_of
 a_longer_report = refl
 

@@ -58,11 +58,11 @@ unfoldable pub report_said : List Word → Option (ReportKind × ℕ)
 report_said (kind ∷ id ∷ []) = two (kind_of kind) (byte_of id)
 report_said _ = None
 
--- a report and its bytes, 64 at most: how many there are is looked at before their digits
+-- a report and its bytes, 256 at most: how many there are is looked at before their digits
 abbrev pub set_report : Option (ReportKind × ℕ) → List Word → Result Request LineFault
 set_report None hex = Err Syntax
 set_report (Some said) hex =
-    if nat_lt 64 (byte_count hex) then Err Syntax
+    if nat_lt 256 (byte_count hex) then Err Syntax
     else with_bytes (SetReport said.0 said.1) (hex_of hex)
 
 -- TYPE ID HEX

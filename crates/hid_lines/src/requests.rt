@@ -13,7 +13,7 @@ use hid_descriptor::ReportKind;
 use hid_requests::Request;
 
 /// The most bytes of a report that is set.
-const REPORT_LIMIT: usize = 64;
+const REPORT_LIMIT: usize = 256;
 
 #[derive(Clone, Copy, Debug)]
 enum RequestWord {

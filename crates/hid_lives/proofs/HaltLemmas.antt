@@ -15,7 +15,7 @@ use Rattle.usb_transact.specs.declared.transaction.Fate.{Fate}
 use Rattle.usb_transact.specs.declared.transaction.Fate.TheVariants.{Clean, TokenLost, ReplyLost, AckLost}
 use Rattle.hid_lives.specs.Standing.{Standing, after_change, after_frame, cut_at, due_where, is_due, is_idle_over, most_frames}
 use Rattle.hid_lives.specs.Rounds.{Changes, Frame, OwnStep, Polls}
-use Rattle.hid_lives.specs.Stations.{Open, Station, after, answered, arrived, fresh, opened, opened_by, report_open}
+use Rattle.hid_lives.specs.Stations.{Open, Station, after, answered, arrived, fresh, is_last, next_piece, open_first, open_next, opened, opened_by, report_open}
 use Rattle.hid_lives.specs.Lives.{Clears, Configures, Deed, Halts, Idles, Own, Resets, befallen, befallen_all}
 use Rattle.hid_lives.specs.Halting.{AreWithoutRound, HasCuts, IsStepWithout, IsWithoutRound, OpensNext, OpensNone, StaysDue, report_opened}
 use Rattle.hid_lives.proofs.LifeLemmas.{station}
@@ -147,15 +147,15 @@ find_first p (suc n) a r from to holds = by_test (p a) refl (λ later. find_firs
         }
 
 opens_due : (items : List Item) (d : Standing) (odd : Bool) (view : List Cell) (r : ℕ) → r < length d.frames → is_due items d r ≡ true
-    → (first : ℕ) × (first ≤ r) × (is_due items d first ≡ true) × ((opened items (station d None odd view false)).current ≡ Some (record { report = first; crossed = false }))
+    → (first : ℕ) × (first ≤ r) × (is_due items d first ≡ true) × ((opened items (station d None odd view false)).current ≡ Some (open_first items first))
 opens_due items d odd view r within due =
     let one = find_first (is_due items d) (length d.frames) 0 r (omega arith) (omega (arith, within)) due in
     (one.first, one.upto, one.holds, ap (λ (o : Option ℕ). (opened_by items (station d None odd view false) o).current) one.found)
 
 pub opens_next : (items : List Item) (s : Station) (r : ℕ) → OpensNext items s r
 opens_next items s r none_open going within due =
-    subst (λ (o : Option Open). (first : ℕ) × (first ≤ r) × (is_due items s.standing first ≡ true) × ((opened items (station s.standing o s.odd s.view s.halted)).current ≡ Some (record { report = first; crossed = false }))) (sym none_open)
-    (subst (λ (h : Bool). (first : ℕ) × (first ≤ r) × (is_due items s.standing first ≡ true) × ((opened items (station s.standing None s.odd s.view h)).current ≡ Some (record { report = first; crossed = false }))) (sym going)
+    subst (λ (o : Option Open). (first : ℕ) × (first ≤ r) × (is_due items s.standing first ≡ true) × ((opened items (station s.standing o s.odd s.view s.halted)).current ≡ Some (open_first items first))) (sym none_open)
+    (subst (λ (h : Bool). (first : ℕ) × (first ≤ r) × (is_due items s.standing first ≡ true) × ((opened items (station s.standing None s.odd s.view h)).current ≡ Some (open_first items first))) (sym going)
     (opens_due items s.standing s.odd s.view r within due))
 
 -- ---- each report has its cut
@@ -193,10 +193,16 @@ arrived_cuts items s Clean cuts = opened_cuts items s.standing s.current s.odd s
 arrived_cuts items s ReplyLost cuts = opened_cuts items s.standing s.current s.odd s.view s.halted cuts
 arrived_cuts items s AckLost cuts = opened_cuts items s.standing s.current s.odd s.view s.halted cuts
 
+-- the next piece is of the same report
+next_input : (round : Open) (n : ℕ) → round.report < n → IfSome (open_next round) (λ one. one.report < n)
+next_input round n h =
+    elim (is_last round) as (λ (b : Bool). IfSome (cond b None (Some (next_piece round))) (λ one. one.report < n))
+    [ true ↦ tt | false ↦ h ]
+
 answered_cuts : (items : List Item) (d : Standing) (current : Option Open) (odd : Bool) (view : List Cell) (halted : Bool) (fate : Fate) → HasCuts (station d current odd view halted)
     → HasCuts (answered items (station d current odd view halted) fate)
 answered_cuts items d None odd view halted fate cuts = cuts
-answered_cuts items d (Some round) odd view halted Clean cuts = record { one_each = cuts.one_each; input = tt }
+answered_cuts items d (Some round) odd view halted Clean cuts = record { one_each = cuts.one_each; input = next_input round (length d.frames) cuts.input }
 answered_cuts items d (Some round) odd view halted TokenLost cuts = cuts
 answered_cuts items d (Some round) odd view halted ReplyLost cuts = cuts
 answered_cuts items d (Some round) odd view halted AckLost cuts = record { one_each = cuts.one_each; input = cuts.input }

@@ -1,4 +1,5 @@
 pub mod LifeLemmas
+pub mod PieceLemmas
 pub mod ScheduleLemmas
 pub mod ItemMotionLemmas
 pub mod HaltLemmas

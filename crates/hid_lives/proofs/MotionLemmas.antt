@@ -1,5 +1,5 @@
 -- Steps keep the motion of a control.
-use Rattle.std.proofs.Common.{◌≡◌, ℕ, zero, suc, ◌+◌, ◌<◌, Bool, true, false, cond, ◌&&◌, ◌==◌, List, [], ◌∷◌, ◌++◌, length, map, Option, Some, None, Ok, Err, ℤ, pos, ◌+ℤ◌, refl, ap, sym, ◌∙◌, arith, subst}
+use Rattle.std.proofs.Common.{◌≡◌, ℕ, zero, suc, ◌+◌, ◌<◌, Bool, true, false, not, cond, ◌&&◌, ◌==◌, List, [], ◌∷◌, ◌++◌, length, map, Option, Some, None, Ok, Err, ℤ, pos, ◌+ℤ◌, refl, ap, sym, ◌∙◌, arith, subst}
 use Rattle.std.specs.List.{slice_get, slice_set}
 use Rattle.std.specs.Option.{unwrap_or}
 use Rattle.std.proofs.lemmas.Int.{ints}
@@ -17,7 +17,7 @@ use Rattle.hid_cells.specs.Cells.{HasRoom, Suits, InSnapshot, InPart, FitsSnapsh
 use Rattle.hid_cells.specs.Events.{at, change_events}
 use Rattle.hid_cells.specs.Parts.{blank_parts, is_of, item_at, by_item, shown_cell, shown_of, shown, minus_motion, taken_of, taken, motion_of}
 use Rattle.hid_cells.specs.Snapshots.{OrFault, motion_in, changed_cell, target, cell_at, with_cell, changed_at, changed}
-use Rattle.hid_cells.specs.Views.{seen_of, seen, motions_told, part_of, events_from, events_between, changes_from, as_dropped}
+use Rattle.hid_cells.specs.Views.{seen_of, seen, motions_told, part_of, events_from, events_between, changes_from, changes_between, drops_between, as_dropped}
 use Rattle.hid_cells.proofs.ItemLemmas.{got, control_found, set_here, set_there}
 use Rattle.hid_cells.proofs.PartLemmas.{by_item_length}
 use Rattle.hid_cells.specs.declared.event.Event.{Event}
@@ -27,7 +27,7 @@ use Rattle.usb_transact.specs.declared.transaction.Fate.TheVariants.{Clean, Toke
 use Rattle.hid_lives.specs.Motion.{Conserves, open_motion, accepted_in, AreBetweenRounds, KeepsThroughLife, given_by, given_motion, moved_by_change, moved_motion, station_motion, is_done, is_accepted, step_if, accepted, are_accepted, KeepsEach, HasMotions, kept_motions, relative_controls, KeepsMotion, KeepsAccepted}
 use Rattle.hid_lives.specs.Rounds.{OwnStep, Changes, Frame, Polls, part_events}
 use Rattle.hid_lives.specs.Standing.{Standing, cut_at, due_where}
-use Rattle.hid_lives.specs.Stations.{Station, Open, report_open, fresh, opened_by, opened, arrived, answered, after, round_events, events_at, events_in, after_all}
+use Rattle.hid_lives.specs.Stations.{Station, Open, report_open, is_last, is_whole, completes, next_piece, fresh, opened_by, opened, arrived, answered, after, round_events, events_at, events_in, after_all}
 use Rattle.hid_lives.specs.Lives.{Deed, Own, Idles, Configures, Halts, Clears, Resets, owns, befallen, befallen_all, cut_events, reset_events, told_in}
 use Rattle.hid_lives.proofs.LifeLemmas.{station}
 use Rattle.hid_lives.proofs.ScheduleLemmas.{own_told, own_stands}
@@ -304,39 +304,58 @@ arrived_moving items s Clean moving = opened_moving items s.standing s.current s
 arrived_moving items s ReplyLost moving = opened_moving items s.standing s.current s.odd s.view s.halted moving
 arrived_moving items s AckLost moving = opened_moving items s.standing s.current s.odd s.view s.halted moving
 
--- a round tells its motion where it crosses, and carries none from then on
-round_keeps : (items : List Item) (d : Standing) (r : ℕ) (crossed odd : Bool) (view : List Cell) (halted : Bool) (fate : Fate) (c : ControlId) → KeepsEach items d.fixed → length view ≡ length items
-    → let s : Station = station d (Some (record { report = r; crossed = crossed })) odd view halted in
-    station_motion items s c ≡ given_motion c (round_events items s fate) +ℤ station_motion items (answered items s fate) c
-round_keeps items d r true odd view halted Clean c h k = omega (arith, ints)
-round_keeps items d r true odd view halted TokenLost c h k = omega (arith, ints)
-round_keeps items d r true odd view halted ReplyLost c h k = omega (arith, ints)
-round_keeps items d r true odd view halted AckLost c h k = omega (arith, ints)
-round_keeps items d r false odd view halted Clean c h k = let told = crossing_sum c r items view d.fixed k h in omega (arith, ints, told)
-round_keeps items d r false odd view halted TokenLost c h k = omega (arith, ints)
-round_keeps items d r false odd view halted ReplyLost c h k = omega (arith, ints)
-round_keeps items d r false odd view halted AckLost c h k = let told = crossing_sum c r items view d.fixed k h in omega (arith, ints, told)
+-- what an open round carries, by whether it has crossed
+abbrev motion_if : List Item → List Cell → ℕ → Bool → ControlId → ℤ
+motion_if items fixed r whole c = cond (not whole && is_of r (item_at items c.item)) (motion_of fixed c) (pos 0)
+
+-- A round tells its motion where it crosses, and carries none from then on: by whether the piece at hand is the last, and
+-- has crossed.
+abbrev ClosesSo : List Item → Standing → Open → List Cell → ControlId → Bool → Bool → Type 0
+ClosesSo items d round view c crossed last =
+    motion_of d.snapshot c +ℤ motion_if items d.fixed round.report (crossed && last) c
+    ≡ given_motion c (cond (last && not crossed) (part_events items round.report view d.fixed) [])
+    +ℤ (motion_of d.snapshot c +ℤ open_motion items d.fixed (cond last None (Some (next_piece round))) c)
+
+closes_so : (items : List Item) (d : Standing) (round : Open) (view : List Cell) (c : ControlId) (crossed last : Bool) → KeepsEach items d.fixed → length view ≡ length items → ClosesSo items d round view c crossed last
+closes_so items d round view c true true h k = omega (arith, ints)
+closes_so items d round view c false true h k = let told = crossing_sum c round.report items view d.fixed k h in omega (arith, ints, told)
+closes_so items d round view c true false h k = omega (arith, ints)
+closes_so items d round view c false false h k = omega (arith, ints)
+
+abbrev CrossesSo : List Item → Standing → ℕ → List Cell → ControlId → Bool → Bool → Type 0
+CrossesSo items d r view c crossed last =
+    motion_of d.snapshot c +ℤ motion_if items d.fixed r (crossed && last) c
+    ≡ given_motion c (cond (last && not crossed) (part_events items r view d.fixed) []) +ℤ (motion_of d.snapshot c +ℤ motion_if items d.fixed r last c)
+
+crosses_so : (items : List Item) (d : Standing) (r : ℕ) (view : List Cell) (c : ControlId) (crossed last : Bool) → KeepsEach items d.fixed → length view ≡ length items → CrossesSo items d r view c crossed last
+crosses_so items d r view c true true h k = omega (arith, ints)
+crosses_so items d r view c false true h k = let told = crossing_sum c r items view d.fixed k h in omega (arith, ints, told)
+crosses_so items d r view c true false h k = omega (arith, ints)
+crosses_so items d r view c false false h k = omega (arith, ints)
 
 answer_keeps : (items : List Item) (d : Standing) (current : Option Open) (odd : Bool) (view : List Cell) (halted : Bool) (fate : Fate) (c : ControlId) → KeepsEach items d.fixed → length view ≡ length items
     → let s : Station = station d current odd view halted in
     station_motion items s c ≡ given_motion c (round_events items s fate) +ℤ station_motion items (answered items s fate) c
 answer_keeps items d None odd view halted fate c h k = omega (arith, ints)
-answer_keeps items d (Some round) odd view halted fate c h k = round_keeps items d round.report round.crossed odd view halted fate c h k
+answer_keeps items d (Some round) odd view halted TokenLost c h k = omega (arith, ints)
+answer_keeps items d (Some round) odd view halted ReplyLost c h k = omega (arith, ints)
+answer_keeps items d (Some round) odd view halted Clean c h k = closes_so items d round view c round.crossed (is_last round) h k
+answer_keeps items d (Some round) odd view halted AckLost c h k = crosses_so items d round.report view c round.crossed (is_last round) h k
 
 seen_length : (items : List Item) (r : ℕ) (view parts : List Cell) → length view ≡ length items → KeepsEach items parts → length (seen items r view parts) ≡ length items
 seen_length items r view parts h k = by_item_length (seen_of r) items view parts h (moving_length items parts k)
 
-view_length : (items : List Item) (r : ℕ) (crossed : Bool) (view parts : List Cell) → length view ≡ length items → KeepsEach items parts → length (cond crossed view (seen items r view parts)) ≡ length items
-view_length items r true view parts h k = h
-view_length items r false view parts h k = seen_length items r view parts h k
+view_length : (items : List Item) (r : ℕ) (sees : Bool) (view parts : List Cell) → length view ≡ length items → KeepsEach items parts → length (cond sees (seen items r view parts) view) ≡ length items
+view_length items r true view parts h k = seen_length items r view parts h k
+view_length items r false view parts h k = h
 
 answer_moving : (items : List Item) (d : Standing) (current : Option Open) (odd : Bool) (view : List Cell) (halted : Bool) (fate : Fate) → HasMotions items (station d current odd view halted)
     → HasMotions items (answered items (station d current odd view halted) fate)
 answer_moving items d None odd view halted fate moving = moving
 answer_moving items d (Some round) odd view halted TokenLost moving = moving
 answer_moving items d (Some round) odd view halted ReplyLost moving = moving
-answer_moving items d (Some round) odd view halted Clean moving = record { snapshot = moving.snapshot; fixed = moving.fixed; view = view_length items round.report round.crossed view d.fixed moving.view moving.fixed }
-answer_moving items d (Some round) odd view halted AckLost moving = record { snapshot = moving.snapshot; fixed = moving.fixed; view = view_length items round.report round.crossed view d.fixed moving.view moving.fixed }
+answer_moving items d (Some round) odd view halted Clean moving = record { snapshot = moving.snapshot; fixed = moving.fixed; view = view_length items round.report (completes round) view d.fixed moving.view moving.fixed }
+answer_moving items d (Some round) odd view halted AckLost moving = record { snapshot = moving.snapshot; fixed = moving.fixed; view = view_length items round.report (completes round) view d.fixed moving.view moving.fixed }
 
 step_keeps : (items : List Item) (s : Station) (x : OwnStep) (c : ControlId) → HasMotions items s → Keeps items s x c
 step_keeps items s (Changes change) c moving = change_keeps items s change c (changed items s.standing.snapshot change) moving refl
@@ -433,11 +452,14 @@ quiet_between c n (item ∷ items) (b ∷ bs) (a ∷ xs) =
     omega (arith, ints, front, quiet, rest)
 
 -- A reset tells the motion that its open round still carries, and that alone.
-gone_by : (items : List Item) (d : Standing) (r : ℕ) (crossed odd : Bool) (view : List Cell) (halted : Bool) (c : ControlId) → KeepsEach items d.fixed → length view ≡ length items
-    → let s : Station = station d (Some (record { report = r; crossed = crossed })) odd view halted in
-    station_motion items s c ≡ given_motion c (reset_events items s) +ℤ station_motion items (befallen items s Resets) c
-gone_by items d r true odd view halted c h k = let quiet = quiet_between c 0 items view (blank items) in omega (arith, ints, quiet)
-gone_by items d r false odd view halted c h k =
+abbrev GoneSo : List Item → Standing → ℕ → List Cell → ControlId → Bool → Type 0
+GoneSo items d r view c whole =
+    motion_of d.snapshot c +ℤ motion_if items d.fixed r whole c
+    ≡ given_motion c (cond whole (changes_between items view (blank items)) (drops_between items r view (blank items) d.fixed)) +ℤ (motion_of d.snapshot c +ℤ pos 0)
+
+gone_by : (items : List Item) (d : Standing) (r : ℕ) (view : List Cell) (c : ControlId) (whole : Bool) → KeepsEach items d.fixed → length view ≡ length items → GoneSo items d r view c whole
+gone_by items d r view c true h k = let quiet = quiet_between c 0 items view (blank items) in omega (arith, ints, quiet)
+gone_by items d r view c false h k =
     let told = told_from c 0 c.item r items view (blank items) d.fixed (omega arith) k (blank_length items) h in
     let dropped = drops_give c (events_between items r view (blank items) d.fixed) in
     omega (arith, ints, told, dropped)
@@ -446,14 +468,16 @@ gone_with : (items : List Item) (d : Standing) (current : Option Open) (odd : Bo
     → let s : Station = station d current odd view halted in
     station_motion items s c ≡ given_motion c (reset_events items s) +ℤ station_motion items (befallen items s Resets) c
 gone_with items d None odd view halted c h k = let quiet = quiet_between c 0 items view (blank items) in omega (arith, ints, quiet)
-gone_with items d (Some round) odd view halted c h k = gone_by items d round.report round.crossed odd view halted c h k
+gone_with items d (Some round) odd view halted c h k = gone_by items d round.report view c (is_whole round) h k
 
 -- A halt and a clear tell it too.
-cut_by : (items : List Item) (d : Standing) (r : ℕ) (crossed odd : Bool) (view : List Cell) (halted still even : Bool) (c : ControlId) → KeepsEach items d.fixed → length view ≡ length items
-    → let s : Station = station d (Some (record { report = r; crossed = crossed })) odd view halted in
-    station_motion items s c ≡ given_motion c (cut_events items s) +ℤ station_motion items (cut_off s still even) c
-cut_by items d r true odd view halted still even c h k = omega (arith, ints)
-cut_by items d r false odd view halted still even c h k =
+abbrev CutSo : List Item → Standing → ℕ → List Cell → ControlId → Bool → Type 0
+CutSo items d r view c whole =
+    motion_of d.snapshot c +ℤ motion_if items d.fixed r whole c ≡ given_motion c (cond whole [] (drops_between items r view view d.fixed)) +ℤ (motion_of d.snapshot c +ℤ pos 0)
+
+cut_by : (items : List Item) (d : Standing) (r : ℕ) (view : List Cell) (c : ControlId) (whole : Bool) → KeepsEach items d.fixed → length view ≡ length items → CutSo items d r view c whole
+cut_by items d r view c true h k = omega (arith, ints)
+cut_by items d r view c false h k =
     let told = told_from c 0 c.item r items view view d.fixed (omega arith) k k h in
     let dropped = drops_give c (events_between items r view view d.fixed) in
     omega (arith, ints, told, dropped)
@@ -462,7 +486,7 @@ cut_with : (items : List Item) (d : Standing) (current : Option Open) (odd : Boo
     → let s : Station = station d current odd view halted in
     station_motion items s c ≡ given_motion c (cut_events items s) +ℤ station_motion items (cut_off s still even) c
 cut_with items d None odd view halted still even c h k = omega (arith, ints)
-cut_with items d (Some round) odd view halted still even c h k = cut_by items d round.report round.crossed odd view halted still even c h k
+cut_with items d (Some round) odd view halted still even c h k = cut_by items d round.report view c (is_whole round) h k
 
 pub lives_keep : (items : List Item) (s : Station) → HasMotions items s → (deeds : List Deed) → AreBetweenRounds items s deeds → KeepsThroughLife items s deeds
 lives_keep items s moving [] between c = omega (arith, ints)

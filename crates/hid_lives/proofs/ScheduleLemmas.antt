@@ -1,5 +1,5 @@
 -- A life of own steps alone is a schedule, and what comes of it are its rounds.
-use Rattle.std.proofs.Common.{◌≡◌, ◌++◌, ℕ, zero, suc, Bool, true, false, not, List, [], ◌∷◌, Option, Some, None, length, refl, ap, sym, ◌∙◌, subst, cond}
+use Rattle.std.proofs.Common.{◌≡◌, ◌++◌, ◌+◌, ℕ, zero, suc, Bool, true, false, not, List, [], ◌∷◌, Option, Some, None, refl, ap, sym, ◌∙◌, subst, cond, arith}
 use Rattle.std.specs.List.{filter}
 use Rattle.hid_layout.specs.Controls.{Item}
 use Rattle.hid_cells.specs.declared.cell.Cell.{Cell}
@@ -8,10 +8,10 @@ use Rattle.hid_cells.specs.Views.{seen}
 use Rattle.usb_transact.specs.declared.transaction.Fate.{Fate}
 use Rattle.usb_transact.specs.declared.transaction.Fate.TheVariants.{Clean, TokenLost, ReplyLost, AckLost}
 use Rattle.hid_lives.specs.Standing.{Standing, after_change, after_frame, due_where, with_idle}
-use Rattle.hid_lives.specs.Rounds.{OwnStep, Changes, Frame, Polls, Round, Course, has_crossed, has_closed, rounds, events_of, view_of, events_of_epoch, part_events, closed_by, still_open, after_step, after_steps}
+use Rattle.hid_lives.specs.Rounds.{OwnStep, Changes, Frame, Polls, Round, Course, pieces_closed, pieces_crossed, has_crossed, rounds, events_of, view_of, events_of_epoch, part_events, closed_by, still_open, after_step, after_steps}
 use Rattle.hid_lives.specs.Stations.{Station, Open, fresh, after, after_all, answered, arrived, events_at, events_in, expected, opened, opened_by}
-use Rattle.hid_lives.specs.Lives.{Deed, Own, Idles, Configures, Halts, Clears, Resets, owns, Happening, ended, happenings, rounds_ended, AreWithinEpoch, course_after, course_behind, round_told, view_past, told_from, view_from, toggle_from, befallen, befallen_all, told_in}
-use Rattle.hid_lives.specs.Following.{course_from, LivesOn, flips, FollowsRounds, StandsByRounds, StandsInEpoch}
+use Rattle.hid_lives.specs.Lives.{Deed, Own, Idles, Configures, Halts, Clears, Resets, owns, Happening, ended, happenings, rounds_ended, AreWithinEpoch, course_after, course_behind, round_told, view_past, told_from, view_from, flips, toggle_from, befallen, befallen_all, told_in}
+use Rattle.hid_lives.specs.Following.{course_from, LivesOn, pieces_in, FollowsRounds, StandsByRounds, StandsInEpoch}
 use Rattle.hid_lives.proofs.LifeLemmas.{course, lives_on, station}
 
 pub own_told : (items : List Item) (steps : List OwnStep) (s : Station) → told_in items s (owns steps) ≡ events_in items s steps
@@ -51,17 +51,13 @@ view_of_rounds items view (r ∷ rs) =
     elim (has_crossed r) as (λ (b : Bool). view_from items (view_past items view b r) (ended rs) ≡ view_of items view (cond b (r ∷ filter has_crossed rs) (filter has_crossed rs)))
     [ true ↦ view_of_rounds items (seen items r.report view r.parts) rs | false ↦ view_of_rounds items view rs ]
 
-flips_not : (n : ℕ) (odd : Bool) → flips n (not odd) ≡ not (flips n odd)
-flips_not zero odd = refl
-flips_not (suc n) odd = ap not (flips_not n odd)
+flips_add : (m n : ℕ) (odd : Bool) → flips n (flips m odd) ≡ flips (m + n) odd
+flips_add m zero odd = let e : m ≡ m + zero = omega arith in ap (λ (k : ℕ). flips k odd) e
+flips_add m (suc n) odd = ap not (flips_add m n odd) ∙ ap (λ (k : ℕ). flips k odd) (let e : suc (m + n) ≡ m + suc n = omega arith in e)
 
-toggle_of_rounds : (holds : Round → Bool) (odd : Bool) (rs : List Round) → toggle_from holds odd (ended rs) ≡ flips (length (filter holds rs)) odd
-toggle_of_rounds holds odd [] = refl
-toggle_of_rounds holds odd (r ∷ rs) =
-    elim (holds r) as (λ (b : Bool). toggle_from holds (cond b (not odd) odd) (ended rs) ≡ flips (length (cond b (r ∷ filter holds rs) (filter holds rs))) odd) [
-      | true ↦ toggle_of_rounds holds (not odd) rs ∙ flips_not (length (filter holds rs)) odd
-      | false ↦ toggle_of_rounds holds odd rs
-    ]
+toggle_of_rounds : (pieces : Round → ℕ) (odd : Bool) (rs : List Round) → toggle_from pieces odd (ended rs) ≡ flips (pieces_in pieces rs) odd
+toggle_of_rounds pieces odd [] = refl
+toggle_of_rounds pieces odd (r ∷ rs) = toggle_of_rounds pieces (flips (pieces r) odd) rs ∙ flips_add (pieces r) (pieces_in pieces rs) odd
 
 -- Of what befalls a station without an open round, where these rounds come of it and nothing else: they say what is told, and
 -- how the station stands.
@@ -134,15 +130,15 @@ silent items (Halts ∷ deeds) d odd view within = absurd within.0
 silent items (Clears ∷ deeds) d odd view within = absurd within.0
 silent items (Resets ∷ deeds) d odd view within = absurd within.0
 
--- The toggle that the host expects was changed once for each of these rounds that crossed.
+-- The toggle that the host expects was changed once for each piece of these rounds that crossed.
 expects_rounds : (items : List Item) (d : Standing) (odd : Bool) (view : List Cell) (halted : Bool) (deeds : List Deed) (gone : List Round) → AreWithinEpoch deeds
-    → happenings items deeds (course d None halted) ≡ ended gone → expected (befallen_all items (station d None odd view halted) deeds) ≡ flips (length (filter has_crossed gone)) odd
+    → happenings items deeds (course d None halted) ≡ ended gone → expected (befallen_all items (station d None odd view halted) deeds) ≡ flips (pieces_in pieces_crossed gone) odd
 expects_rounds items d odd view true deeds [] within happened = (silent items deeds d odd view within).expects
 expects_rounds items d odd view true deeds (r ∷ gone) within happened =
     let none : [] ≡ ended (r ∷ gone) = sym (silent items deeds d odd view within).happened ∙ happened in absurd (cc)
 expects_rounds items d odd view false deeds gone within happened =
     (lives_on items (station d None odd view false) deeds refl).expects (epoch_halts items deeds (station d None odd view false) within)
-    ∙ ap (toggle_from has_crossed odd) happened ∙ toggle_of_rounds has_crossed odd gone
+    ∙ ap (toggle_from pieces_crossed odd) happened ∙ toggle_of_rounds pieces_crossed odd gone
 
 follows_rounds : (items : List Item) (from : Station) (deeds : List Deed) (gone : List Round) → from.current ≡ None → AreWithinEpoch deeds → happenings items deeds (course_from from) ≡ ended gone
     → FollowsRounds items from.view from.odd gone (course_behind items deeds (course_from from)) (befallen_all items from deeds)
@@ -154,8 +150,8 @@ follows_rounds items from deeds gone none_open within happened =
       part = lived.part;
       view = lived.view ∙ ap (view_from items from.view) happened ∙ view_of_rounds items from.view gone;
       halted = lived.halted;
-      toggle = lived.toggle ∙ ap (toggle_from has_closed from.odd) happened ∙ toggle_of_rounds has_closed from.odd gone;
-      expects = subst (λ (o : Option Open). expected (befallen_all items (station from.standing o from.odd from.view from.halted) deeds) ≡ flips (length (filter has_crossed gone)) from.odd) (sym none_open)
+      toggle = lived.toggle ∙ ap (toggle_from pieces_closed from.odd) happened ∙ toggle_of_rounds pieces_closed from.odd gone;
+      expects = subst (λ (o : Option Open). expected (befallen_all items (station from.standing o from.odd from.view from.halted) deeds) ≡ flips (pieces_in pieces_crossed gone) from.odd) (sym none_open)
           (expects_rounds items from.standing from.odd from.view from.halted deeds gone within happened);
     }
 

@@ -12,13 +12,10 @@ use Rattle.hid_cells.specs.Parts.{blank_parts}
 use Rattle.hid_cells.specs.Samples.{usage, keyboard, mouse, hat, wheel_and_button}
 use Rattle.hid_lives.specs.Standing.{configured, first_due, after_frame}
 use Rattle.hid_lives.specs.Rounds.{OwnStep, Changes, Frame, Polls, Course, has_crossed, has_closed, after_steps, fresh_course, rounds, crossed_rounds, events_of_epoch}
-use Rattle.hid_lives.specs.Following.{flips}
+use Rattle.hid_lives.specs.Lives.{flips}
 use Rattle.hid_lives.specs.Stations.{expected}
 use Rattle.hid_lives.specs.Motion.{moved_motion, given_motion, station_motion}
-use Rattle.hid_lives.specs.Rows.{press, release, move, key_down, motion_x, stands_after}
-
-abbrev set : ℕ → ℕ → ℤ → OwnStep
-set i j v = Changes (change.Set (at i j) v)
+use Rattle.hid_lives.specs.Rows.{press, release, move, set, key_down, motion_x, stands_after}
 
 abbrev null : ℕ → ℕ → OwnStep
 null i j = Changes (change.Null (at i j))

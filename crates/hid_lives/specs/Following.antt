@@ -1,22 +1,29 @@
 -- How a station stands behind its life, and behind the rounds of its own steps (USB 2.0, 8.5.4 and 8.6).
-use Rattle.std.specs.Prelude.{◌≡◌, ℕ, zero, suc, Bool, false, not, List, length, None, IfSome}
+use Rattle.std.specs.Prelude.{◌≡◌, ℕ, ◌+◌, Bool, false, List, [], ◌∷◌, None, IfSome}
 use Rattle.std.specs.List.{filter}
 use Rattle.std.specs.Option.{option_map}
 use Rattle.hid_layout.specs.Controls.{Item}
 use Rattle.hid_cells.specs.declared.cell.Cell.{Cell}
 use Rattle.hid_cells.specs.declared.event.Event.{Event}
-use Rattle.hid_lives.specs.Rounds.{OwnStep, Round, Course, has_crossed, has_closed, rounds, after_steps, view_of}
-use Rattle.hid_lives.specs.Stations.{Station, Open, expected}
-use Rattle.hid_lives.specs.Lives.{Deed, Happening, happenings, rounds_ended, course_behind, told_from, view_from, toggle_from, befallen_all, told_in}
+use Rattle.usb_transact.specs.declared.transaction.Fate.{Fate}
+use Rattle.hid_lives.specs.Rounds.{OwnStep, Polls, Round, Course, ahead_in, pieces_closed, pieces_crossed, has_crossed, rounds, after_steps, view_of}
+use Rattle.hid_lives.specs.Stations.{Station, Open, after, events_at, expected}
+use Rattle.hid_lives.specs.Lives.{Deed, Happening, happenings, rounds_ended, course_behind, told_from, view_from, flips, toggle_from, befallen_all, told_in}
 
--- what a station keeps of the round that is open: its report, and whether it has crossed
+-- what a station keeps of the round that is open: its report, in how many pieces that goes, which of them is at hand, and
+-- whether that one has crossed
 abbrev pub open_of : Round → Open
-open_of round = record { report = round.report; crossed = has_crossed round }
+open_of round = record {
+  report = round.report;
+  pieces = round.pieces;
+  piece = pieces_closed round;
+  crossed = ahead_in false round.polls;
+}
 
 -- How a station stands behind what happened, from this view and this toggle on, and what was told: it stands as the
 -- course does, with the round that is open there, whose part is the one that was fixed last; the view took the parts
--- of the rounds that crossed, the device's toggle was changed once for each round closed, and the expected one once for
--- each round crossed, all since both ends began anew, and of toggles since a clear. (Nothing is said of the expected
+-- of the rounds that crossed, the device's toggle was changed once for each piece closed, and the expected one once for
+-- each piece crossed, all since both ends began anew, and of toggles since a clear. (Nothing is said of the expected
 -- toggle of a halted endpoint, which sends no data.)
 pub record FollowsLife (items : List Item) (before : List Cell) (odd : Bool) (happened : List Happening)
     (course : Course) (told : List Event) (s : Station) : Type 0 where
@@ -26,8 +33,8 @@ pub record FollowsLife (items : List Item) (before : List Cell) (odd : Bool) (ha
   pub part : IfSome course.current (λ round. round.parts ≡ s.standing.fixed)
   pub view : s.view ≡ view_from items before happened
   pub halted : s.halted ≡ course.halted
-  pub toggle : s.odd ≡ toggle_from has_closed odd happened
-  pub expects : s.halted ≡ false → expected s ≡ toggle_from has_crossed odd happened
+  pub toggle : s.odd ≡ toggle_from pieces_closed odd happened
+  pub expects : s.halted ≡ false → expected s ≡ toggle_from pieces_crossed odd happened
 
 -- a course begins where no round is open
 abbrev pub course_from : Station → Course
@@ -40,15 +47,19 @@ LivesOn items from deeds =
     (happenings items deeds (course_from from)) (course_behind items deeds (course_from from))
     (told_in items from deeds) (befallen_all items from deeds)
 
--- a toggle that was changed so many times (USB 2.0, 8.6)
-abbrev pub flips : ℕ → Bool → Bool
-flips zero odd = odd
-flips (suc n) odd = not (flips n odd)
+-- a poll tells nothing and leaves the view
+abbrev pub IsQuietPoll : List Item → Station → Fate → Type 0
+IsQuietPoll items s fate = (events_at items s (Polls fate) ≡ []) × ((after items s (Polls fate)).view ≡ s.view)
+
+-- the pieces of rounds, of each as many as these
+abbrev pub pieces_in : (Round → ℕ) → List Round → ℕ
+pieces_in pieces [] = 0
+pieces_in pieces (round ∷ rest) = pieces round + pieces_in pieces rest
 
 -- How a station stands behind rounds, from this view and this toggle on: as the schedule's course does, with
 -- the round that is open there, whose part is the one that was fixed last; the view took the parts of the
--- rounds that crossed; the device's toggle was changed once for each round closed, and the one that the
--- host expects once for each round crossed.
+-- rounds that crossed; the device's toggle was changed once for each piece closed, and the one that the
+-- host expects once for each piece crossed.
 pub record FollowsRounds (items : List Item) (before : List Cell) (odd : Bool)
     (gone : List Round) (course : Course) (s : Station) : Type 0 where
   pub standing : s.standing ≡ course.standing
@@ -56,8 +67,8 @@ pub record FollowsRounds (items : List Item) (before : List Cell) (odd : Bool)
   pub part : IfSome course.current (λ round. round.parts ≡ s.standing.fixed)
   pub view : s.view ≡ view_of items before (filter has_crossed gone)
   pub halted : s.halted ≡ course.halted
-  pub toggle : s.odd ≡ flips (length (filter has_closed gone)) odd
-  pub expects : expected s ≡ flips (length (filter has_crossed gone)) odd
+  pub toggle : s.odd ≡ flips (pieces_in pieces_closed gone) odd
+  pub expects : expected s ≡ flips (pieces_in pieces_crossed gone) odd
 
 -- a station stands as the rounds of these steps say
 abbrev pub StandsByRounds : List Item → Station → List OwnStep → Station → Type 0

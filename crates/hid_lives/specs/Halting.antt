@@ -6,7 +6,7 @@ use Rattle.usb_transact.specs.declared.transaction.Fate.{Fate}
 use Rattle.usb_transact.specs.declared.transaction.Fate.TheVariants.{Clean, TokenLost, ReplyLost, AckLost}
 use Rattle.hid_lives.specs.Standing.{due_where, is_due}
 use Rattle.hid_lives.specs.Rounds.{OwnStep, Changes, Frame, Polls}
-use Rattle.hid_lives.specs.Stations.{Station, Open, opened}
+use Rattle.hid_lives.specs.Stations.{Station, Open, open_first, opened}
 use Rattle.hid_lives.specs.Lives.{Deed, Own, Idles, Configures, Halts, Clears, Resets, befallen, befallen_all}
 
 -- each report has its frames and whether its round was cut, the report of the open round too
@@ -59,4 +59,4 @@ abbrev pub OpensNext : List Item → Station → ℕ → Type 0
 OpensNext items s r =
     s.current ≡ None → s.halted ≡ false → r < length s.standing.frames → is_due items s.standing r ≡ true
     → (first : ℕ) × (first ≤ r) × (is_due items s.standing first ≡ true)
-    × ((opened items s).current ≡ Some (record { report = first; crossed = false }))
+    × ((opened items s).current ≡ Some (open_first items first))

@@ -1,6 +1,6 @@
 -- The life of a device with its host: what befalls the device, and what comes of it and is told (USB 2.0, 8.5.4, 8.6,
 -- 9.1.1, 9.4.5 and 9.4.7; HID 1.11, 7.2.4; our choice).
-use Rattle.std.specs.Prelude.{ℕ, Bool, true, false, not, if◌then◌else◌, List, [], ◌∷◌, ◌++◌, map, Option, Some, None}
+use Rattle.std.specs.Prelude.{ℕ, zero, suc, Bool, true, false, not, if◌then◌else◌, List, [], ◌∷◌, ◌++◌, map, Option, Some, None}
 use Rattle.hid_layout.specs.Controls.{Item}
 use Rattle.hid_cells.specs.declared.cell.Cell.{Cell}
 use Rattle.hid_cells.specs.declared.event.Event.{Event}
@@ -8,7 +8,7 @@ use Rattle.hid_cells.specs.Cells.{blank}
 use Rattle.hid_cells.specs.Views.{seen, changes_between, drops_between}
 use Rattle.hid_lives.specs.Standing.{with_idle, no_idle, cut_at}
 use Rattle.hid_lives.specs.Rounds.{OwnStep, Round, Course, has_crossed, round_report, fresh_course, after_step, closed_by, still_open, part_events}
-use Rattle.hid_lives.specs.Stations.{Station, report_open, fresh, after, events_at}
+use Rattle.hid_lives.specs.Stations.{Station, report_open, is_whole, fresh, after, events_at}
 
 -- What befalls a device: what happens at it by itself, idle times are set, a configuration takes effect, its endpoint is
 -- halted or cleared of a halt, or the bus is reset.
@@ -155,19 +155,24 @@ view_from items view (Cut current ∷ rest) = view_from items (view_cut items vi
 view_from items view (Evened ∷ rest) = view_from items view rest
 view_from items view (Gone current ∷ rest) = view_from items (blank items) rest
 
--- a toggle behind a round that ended, where one was open
-abbrev pub toggle_past : (Round → Bool) → Bool → Option Round → Bool
-toggle_past changes odd None = odd
-toggle_past changes odd (Some round) = if changes round then not odd else odd
+-- a toggle that was changed so many times (USB 2.0, 8.6)
+abbrev pub flips : ℕ → Bool → Bool
+flips zero odd = odd
+flips (suc n) odd = not (flips n odd)
 
--- and behind a life, which each of these rounds changes (USB 2.0, 8.6)
-abbrev pub toggle_from : (Round → Bool) → Bool → List Happening → Bool
-toggle_from changes odd [] = odd
-toggle_from changes odd (Ended round ∷ rest) = toggle_from changes (if changes round then not odd else odd) rest
-toggle_from changes odd (Began ∷ rest) = toggle_from changes false rest
-toggle_from changes odd (Cut current ∷ rest) = toggle_from changes (toggle_past changes odd current) rest
-toggle_from changes odd (Evened ∷ rest) = toggle_from changes false rest
-toggle_from changes odd (Gone current ∷ rest) = toggle_from changes false rest
+-- a toggle behind a round that ended, where one was open: it changes with each of these pieces
+abbrev pub toggle_past : (Round → ℕ) → Bool → Option Round → Bool
+toggle_past pieces odd None = odd
+toggle_past pieces odd (Some round) = flips (pieces round) odd
+
+-- and behind a life
+abbrev pub toggle_from : (Round → ℕ) → Bool → List Happening → Bool
+toggle_from pieces odd [] = odd
+toggle_from pieces odd (Ended round ∷ rest) = toggle_from pieces (flips (pieces round) odd) rest
+toggle_from pieces odd (Began ∷ rest) = toggle_from pieces false rest
+toggle_from pieces odd (Cut current ∷ rest) = toggle_from pieces (toggle_past pieces odd current) rest
+toggle_from pieces odd (Evened ∷ rest) = toggle_from pieces false rest
+toggle_from pieces odd (Gone current ∷ rest) = toggle_from pieces false rest
 
 -- The station after a deed: behind a configuration both ends are freshly configured, the host with its initial view. (A
 -- host that is ready hears nothing of it: it is made anew, or reads the device again.) Behind a reset they are too, but
@@ -187,11 +192,12 @@ abbrev pub befallen_all : List Item → Station → List Deed → Station
 befallen_all items s [] = s
 befallen_all items s (x ∷ deeds) = befallen_all items (befallen items s x) deeds
 
--- what a halt or a clear tells: the motion of an open round that hasn't crossed, which is dropped
+-- what a halt or a clear tells: the motion of an open round that hasn't crossed, which is dropped, also where some of its
+-- pieces have
 abbrev pub cut_events : List Item → Station → List Event
 cut_events items s = elim s.current [
   | None ↦ []
-  | Some round ↦ (if round.crossed then []
+  | Some round ↦ (if is_whole round then []
       else drops_between items round.report s.view s.view s.standing.fixed)
 ]
 
@@ -200,7 +206,7 @@ cut_events items s = elim s.current [
 abbrev pub reset_events : List Item → Station → List Event
 reset_events items s = elim s.current [
   | None ↦ changes_between items s.view (blank items)
-  | Some round ↦ (if round.crossed then changes_between items s.view (blank items)
+  | Some round ↦ (if is_whole round then changes_between items s.view (blank items)
       else drops_between items round.report s.view (blank items) s.standing.fixed)
 ]
 

@@ -14,7 +14,7 @@ use Rattle.hid_cells.specs.declared.event.Event.TheVariants as event
 use Rattle.hid_cells.specs.Parts.{is_of, item_at, motion_of}
 use Rattle.hid_cells.specs.Snapshots.{changed}
 use Rattle.hid_lives.specs.Rounds.{OwnStep, Changes, Frame, Polls}
-use Rattle.hid_lives.specs.Stations.{Station, Open, after, after_all, events_in}
+use Rattle.hid_lives.specs.Stations.{Station, Open, is_whole, after, after_all, events_in}
 use Rattle.hid_lives.specs.Lives.{Deed, Own, Idles, Configures, Halts, Clears, Resets, befallen, befallen_all, told_in}
 
 -- two IDs name the same control
@@ -59,11 +59,11 @@ abbrev pub Conserves : ControlId → List OwnStep → ℤ → List Event → ℤ
 Conserves c steps kept_before events kept_after =
     kept_before +ℤ moved_motion c steps ≡ given_motion c events +ℤ kept_after
 
--- what the open round carries of a control's motion, unless it has crossed
+-- what the open round carries of a control's motion, unless it has crossed, with all its pieces
 abbrev pub open_motion : List Item → List Cell → Option Open → ControlId → ℤ
 open_motion items fixed None c = pos 0
 open_motion items fixed (Some round) c =
-    if not round.crossed && is_of round.report (item_at items c.item) then motion_of fixed c else pos 0
+    if not (is_whole round) && is_of round.report (item_at items c.item) then motion_of fixed c else pos 0
 
 -- The motion that a station still has: in its snapshot, and in an open round that hasn't crossed.
 abbrev pub station_motion : List Item → Station → ControlId → ℤ

@@ -1,13 +1,14 @@
--- Rounds of interrupt-IN polls: what a part goes through from its opening to its acknowledgement (USB 2.0, 8.5.4, 8.6
--- and 9.4.5).
-use Rattle.std.specs.Prelude.{ℕ, Bool, true, false, List, [], ◌∷◌, ◌++◌, Option, Some, None}
-use Rattle.std.specs.List.{list_any, filter}
+-- Rounds of interrupt-IN polls: what a part goes through from its opening to its last acknowledgement, piece by piece
+-- (USB 2.0, 5.7.3, 8.5.4, 8.6 and 9.4.5).
+use Rattle.std.specs.Prelude.{ℕ, ◌+◌, Bool, true, false, nat_le, if◌then◌else◌, List, [], ◌∷◌, ◌++◌, Option, Some, None}
+use Rattle.std.specs.List.{filter}
 use Rattle.std.specs.Option.{option_map}
 use Rattle.hid_layout.specs.Controls.{Item}
 use Rattle.hid_cells.specs.declared.cell.Cell.{Cell}
 use Rattle.hid_cells.specs.declared.change.Change.{Change}
 use Rattle.hid_cells.specs.declared.event.Event.{Event}
 use Rattle.hid_cells.specs.Cells.{blank}
+use Rattle.hid_cells.specs.Pieces.{pieces_of}
 use Rattle.hid_cells.specs.Views.{seen, events_between}
 use Rattle.usb_transact.specs.declared.transaction.Fate.{Fate}
 use Rattle.usb_transact.specs.declared.transaction.Fate.TheVariants.{Clean, TokenLost, ReplyLost, AckLost}
@@ -19,14 +20,15 @@ pub data OwnStep : Type 0 where
   Frame : OwnStep
   Polls : Fate → OwnStep
 
--- A round: its report, the parts as they were fixed when it opened, and the fates of its polls, the opening one
--- first.
+-- A round: its report and in how many pieces that goes, the parts as they were fixed when it opened, and the fates of its
+-- polls, the opening one first.
 pub record Round : Type 0 where
   pub report : ℕ
+  pub pieces : ℕ
   pub parts : List Cell
   pub polls : List Fate
 
--- the report reaches the host
+-- what is sent reaches the host
 abbrev pub reaches_host : Fate → Bool
 reaches_host Clean = true
 reaches_host TokenLost = false
@@ -40,13 +42,43 @@ is_clean TokenLost = false
 is_clean ReplyLost = false
 is_clean AckLost = false
 
--- It crosses at its first poll whose report reaches the host, and closes at its first poll of which nothing is lost.
-abbrev pub has_crossed : Round → Bool
-has_crossed round = list_any reaches_host round.polls
+-- A piece closes at its first poll of which nothing is lost: these polls closed so many, one behind the other.
+abbrev pub closed_in : List Fate → ℕ
+closed_in [] = 0
+closed_in (fate ∷ polls) = (if is_clean fate then 1 else 0) + closed_in polls
 
--- and whether nothing was lost of one of its polls
+-- A piece crosses at its first poll that reaches the host: whether the piece at hand has, once one more poll came. Where
+-- that closed one, the next is at hand.
+abbrev pub ahead_after : Bool → Fate → Bool
+ahead_after ahead Clean = false
+ahead_after ahead TokenLost = ahead
+ahead_after ahead ReplyLost = ahead
+ahead_after ahead AckLost = true
+
+-- and once these came
+abbrev pub ahead_in : Bool → List Fate → Bool
+ahead_in ahead [] = ahead
+ahead_in ahead (fate ∷ polls) = ahead_in (ahead_after ahead fate) polls
+
+-- the pieces that crossed, where so many closed, and the one at hand has crossed or not
+abbrev pub crossed_with : ℕ → Bool → ℕ
+crossed_with closed ahead = if ahead then closed + 1 else closed
+
+-- the pieces of a round that closed
+abbrev pub pieces_closed : Round → ℕ
+pieces_closed round = closed_in round.polls
+
+-- and those that crossed
+abbrev pub pieces_crossed : Round → ℕ
+pieces_crossed round = crossed_with (pieces_closed round) (ahead_in false round.polls)
+
+-- A round crosses with its last piece, and closes with it.
+abbrev pub has_crossed : Round → Bool
+has_crossed round = nat_le round.pieces (pieces_crossed round)
+
+-- and whether all pieces closed
 abbrev pub has_closed : Round → Bool
-has_closed round = list_any is_clean round.polls
+has_closed round = nat_le round.pieces (pieces_closed round)
 
 -- the course of a device: how it stands, the round that is open, where one is, and whether its endpoint is halted
 pub record Course : Type 0 where
@@ -59,15 +91,15 @@ abbrev pub round_report : Option Round → Option ℕ
 round_report current = option_map (λ round. round.report) current
 
 -- the round that a device opened as it came to stand so
-abbrev pub new_round : ℕ → Standing → Round
-new_round r d = record { report = r; parts = d.fixed; polls = [] }
+abbrev pub new_round : List Item → ℕ → Standing → Round
+new_round items r d = record { report = r; pieces = pieces_of items r; parts = d.fixed; polls = [] }
 
 -- where some report is due, a round of it opens
 abbrev pub opened_if : List Item → Course → Option ℕ → Course
 opened_if items c None = c
 opened_if items c (Some r) = record c {
   standing = after_opening items r c.standing;
-  current = Some (new_round r (after_opening items r c.standing));
+  current = Some (new_round items r (after_opening items r c.standing));
 }
 
 -- a token that arrives opens a round where none is open, the endpoint isn't halted and some report is due
@@ -83,23 +115,18 @@ at_arrival items c AckLost = opening items c
 
 -- a round with one more poll
 abbrev pub polled : Round → Fate → Round
-polled round fate = record { report = round.report; parts = round.parts; polls = round.polls ++ fate ∷ [] }
+polled round fate =
+    record { report = round.report; pieces = round.pieces; parts = round.parts; polls = round.polls ++ fate ∷ [] }
 
--- the round that is open after a poll: one of which nothing is lost closes it
+-- the round that is open after a poll, which may close its last piece
 abbrev pub open_after : Option Round → Fate → Option Round
 open_after None fate = None
-open_after (Some round) Clean = None
-open_after (Some round) TokenLost = Some (polled round TokenLost)
-open_after (Some round) ReplyLost = Some (polled round ReplyLost)
-open_after (Some round) AckLost = Some (polled round AckLost)
+open_after (Some round) fate = if has_closed (polled round fate) then None else Some (polled round fate)
 
 -- and the round that it closes
 abbrev pub closed_by_poll : Option Round → Fate → List Round
 closed_by_poll None fate = []
-closed_by_poll (Some round) Clean = polled round Clean ∷ []
-closed_by_poll (Some round) TokenLost = []
-closed_by_poll (Some round) ReplyLost = []
-closed_by_poll (Some round) AckLost = []
+closed_by_poll (Some round) fate = if has_closed (polled round fate) then polled round fate ∷ [] else []
 
 -- a poll leaves the device as it stands, and its round open or not
 abbrev pub after_poll : Course → Fate → Course

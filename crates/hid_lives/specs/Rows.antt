@@ -1,5 +1,5 @@
 -- Worked lives of known devices, by what is told of them (USB 2.0, 8.5.4, 8.6, 9.4.5 and 9.4.7).
-use Rattle.std.specs.Prelude.{◌≡◌, ℕ, false, List, [], ◌∷◌, map, ℤ}
+use Rattle.std.specs.Prelude.{◌≡◌, ℕ, Bool, false, List, [], ◌∷◌, map, ℤ}
 use Rattle.hid_layout.specs.Controls.{Item}
 use Rattle.hid_cells.specs.declared.change.Change.TheVariants as change
 use Rattle.hid_cells.specs.declared.event.Event.{Event}
@@ -10,7 +10,7 @@ use Rattle.hid_cells.specs.Samples.{usage}
 use Rattle.hid_cells.specs.Parts.{blank_parts}
 use Rattle.hid_lives.specs.Standing.{Standing}
 use Rattle.hid_lives.specs.Rounds.{OwnStep, Changes, fresh_course}
-use Rattle.hid_lives.specs.Stations.{Station, fresh, after_all}
+use Rattle.hid_lives.specs.Stations.{Station, Open, fresh, after_all}
 use Rattle.hid_lives.specs.Lives.{Deed, happenings, told_from, befallen_all}
 
 abbrev pub press : ℕ → ℕ → OwnStep
@@ -21,6 +21,9 @@ release i j = Changes (change.Release (at i j))
 
 abbrev pub move : ℕ → ℕ → ℤ → OwnStep
 move i j by = Changes (change.Move (at i j) by)
+
+abbrev pub set : ℕ → ℕ → ℤ → OwnStep
+set i j v = Changes (change.Set (at i j) v)
 
 -- a keyboard's key is a place of its item 4; the mouse has its first button in item 0, and moves to the right by item 2
 abbrev pub key_down : ℕ → Event
@@ -40,6 +43,20 @@ motion_x by = event.Motion (at 2 0) (usage 1 0x30) by
 
 abbrev pub drop_x : ℤ → Event
 drop_x by = event.Dropped (at 2 0) (usage 1 0x30) by
+
+-- the first of many values or motions along x in one report
+abbrev pub value_x : ℤ → Event
+value_x v = event.Value (at 0 0) (usage 1 0x30) v
+
+abbrev pub first_motion_x : ℤ → Event
+first_motion_x by = event.Motion (at 0 0) (usage 1 0x30) by
+
+abbrev pub first_drop_x : ℤ → Event
+first_drop_x by = event.Dropped (at 0 0) (usage 1 0x30) by
+
+-- a round of the first report, with so many pieces, of which this one is at hand
+abbrev pub open_at : ℕ → ℕ → Bool → Open
+open_at pieces piece crossed = record { report = 0; pieces = pieces; piece = piece; crossed = crossed }
 
 -- what is told of a device that was just configured, with nothing pressed or moved, one report and this idle time
 abbrev pub Tells : List Item → ℕ → List Deed → List Event → Type 0

@@ -1,23 +1,27 @@
 -- A configured device with its ready host, between transactions: the state that both ends together keep (USB 2.0,
 -- 8.5.4, 8.6 and 9.4.5).
-use Rattle.std.specs.Prelude.{ℕ, Bool, true, false, not, if◌then◌else◌, List, [], ◌∷◌, ◌++◌, Option, Some, None}
+use Rattle.std.specs.Prelude.{◌≡◌, ℕ, ◌+◌, ◌<◌, Bool, true, false, not, ◌&&◌, nat_le, if◌then◌else◌, List, [], ◌∷◌, ◌++◌, Option, Some, None, IfSome}
 use Rattle.std.specs.Option.{option_map}
 use Rattle.hid_layout.specs.Controls.{Item}
 use Rattle.hid_cells.specs.declared.cell.Cell.{Cell}
 use Rattle.hid_cells.specs.declared.event.Event.{Event}
 use Rattle.hid_cells.specs.Cells.{blank}
+use Rattle.hid_cells.specs.Pieces.{pieces_of}
 use Rattle.hid_cells.specs.Views.{seen}
 use Rattle.usb_transact.specs.declared.transaction.Fate.{Fate}
 use Rattle.usb_transact.specs.declared.transaction.Fate.TheVariants.{Clean, TokenLost, ReplyLost, AckLost}
 use Rattle.hid_lives.specs.Standing.{Standing, configured, due_where, after_opening, after_change, after_frame}
-use Rattle.hid_lives.specs.Rounds.{OwnStep, Changes, Frame, Polls, reaches_host, part_events}
+use Rattle.hid_lives.specs.Rounds.{OwnStep, Changes, Frame, Polls, part_events}
 
--- the open round: its report, whose part is the one that was fixed last, and whether it has crossed
+-- The open round: its report, whose part is the one that was fixed last, in how many pieces that goes, which of them is
+-- at hand, from 0, and whether that one has crossed.
 pub record Open : Type 0 where
   pub report : ℕ
+  pub pieces : ℕ
+  pub piece : ℕ
   pub crossed : Bool
 
--- How the device stands, the round that is open, whether the rounds closed since the configuration or the last clear are
+-- How the device stands, the round that is open, whether the pieces closed since the configuration or the last clear are
 -- odd in number, what the host holds, and whether the endpoint is halted.
 pub record Station : Type 0 where
   pub standing : Standing
@@ -25,6 +29,11 @@ pub record Station : Type 0 where
   pub odd : Bool
   pub view : List Cell
   pub halted : Bool
+
+-- the open round has the pieces of its report, and one of them is at hand
+abbrev pub HasPieces : List Item → Station → Type 0
+HasPieces items s =
+    IfSome s.current (λ round. (round.pieces ≡ pieces_of items round.report) × (round.piece < round.pieces))
 
 -- the report of the open round, where one is
 abbrev pub report_open : Option Open → Option ℕ
@@ -40,11 +49,15 @@ fresh items snapshot idle = record {
   halted = false;
 }
 
+-- a round of this report, with its first piece at hand
+abbrev pub open_first : List Item → ℕ → Open
+open_first items r = record { report = r; pieces = pieces_of items r; piece = 0; crossed = false }
+
 -- a round of this report opens
 abbrev pub opened_by : List Item → Station → Option ℕ → Station
 opened_by items s None = s
 opened_by items s (Some r) =
-    record s { standing = after_opening items r s.standing; current = Some (record { report = r; crossed = false }) }
+    record s { standing = after_opening items r s.standing; current = Some (open_first items r) }
 
 -- a token arrives: where no round is open, the endpoint isn't halted and some report is due, a round of it opens
 abbrev pub opened : List Item → Station → Station
@@ -57,13 +70,35 @@ arrived items s Clean = opened items s
 arrived items s ReplyLost = opened items s
 arrived items s AckLost = opened items s
 
--- the view once the open round's part reached the host, which takes it once
-abbrev pub view_with : List Item → Station → Open → List Cell
-view_with items s round = if round.crossed then s.view else seen items round.report s.view s.standing.fixed
+-- the piece at hand is the last one
+abbrev pub is_last : Open → Bool
+is_last round = nat_le round.pieces (round.piece + 1)
 
--- a poll of the open round: it crosses where its report reaches the host, and closes where nothing is lost
+-- all pieces have crossed
+abbrev pub is_whole : Open → Bool
+is_whole round = round.crossed && is_last round
+
+-- with the piece at hand the report is whole, and it wasn't before
+abbrev pub completes : Open → Bool
+completes round = is_last round && not round.crossed
+
+-- the view once the piece at hand reached the host, which takes the part where the report is whole, and once
+abbrev pub view_with : List Item → Station → Open → List Cell
+view_with items s round = if completes round then seen items round.report s.view s.standing.fixed else s.view
+
+-- the round with its next piece at hand
+abbrev pub next_piece : Open → Open
+next_piece round =
+    record { report = round.report; pieces = round.pieces; piece = round.piece + 1; crossed = false }
+
+-- the round that is open once the piece at hand closed
+abbrev pub open_next : Open → Option Open
+open_next round = if is_last round then None else Some (next_piece round)
+
+-- a poll of the open round: the piece at hand crosses where it reaches the host, and closes where nothing is lost
 abbrev pub round_polled : List Item → Station → Open → Fate → Station
-round_polled items s round Clean = record s { current = None; odd = not s.odd; view = view_with items s round }
+round_polled items s round Clean =
+    record s { current = open_next round; odd = not s.odd; view = view_with items s round }
 round_polled items s round AckLost =
     record s { current = Some (record round { crossed = true }); view = view_with items s round }
 round_polled items s round TokenLost = s
@@ -79,13 +114,21 @@ after items s (Changes change) = record s { standing = after_change items s.stan
 after items s Frame = record s { standing = after_frame s.standing }
 after items s (Polls fate) = answered items (arrived items s fate) fate
 
--- what the open round tells at a poll: its part, where it crosses there
+-- what the open round tells where the piece at hand reaches the host: its part, where the report is whole with it
+abbrev pub piece_events : List Item → Station → Open → List Event
+piece_events items s round =
+    if completes round then part_events items round.report s.view s.standing.fixed else []
+
+-- and at a poll
+abbrev pub polled_events : List Item → Station → Open → Fate → List Event
+polled_events items s round Clean = piece_events items s round
+polled_events items s round AckLost = piece_events items s round
+polled_events items s round TokenLost = []
+polled_events items s round ReplyLost = []
+
+-- where a round is open
 abbrev pub round_events : List Item → Station → Fate → List Event
-round_events items s fate = elim s.current [
-  | None ↦ []
-  | Some round ↦ (if round.crossed then []
-      else if reaches_host fate then part_events items round.report s.view s.standing.fixed else [])
-]
+round_events items s fate = elim s.current [ None ↦ [] | Some round ↦ polled_events items s round fate ]
 
 -- The events that a step delivers.
 abbrev pub events_at : List Item → Station → OwnStep → List Event
@@ -103,8 +146,8 @@ abbrev pub events_in : List Item → Station → List OwnStep → List Event
 events_in items s [] = []
 events_in items s (x ∷ steps) = events_at items s x ++ events_in items (after items s x) steps
 
--- The toggle that a host expects which knows what became of its polls: the device's, or the other one where the open
--- round has crossed. (A host isn't told that its endpoint halted, nor that a clear took effect which isn't done: until it
--- is done its host keeps the toggle that it had.)
+-- The toggle that a host expects which knows what became of its polls: the device's, or the other one where the piece at
+-- hand has crossed. (A host isn't told that its endpoint halted, nor that a clear took effect which isn't done: until it is
+-- done its host keeps the toggle that it had.)
 abbrev pub expected : Station → Bool
 expected s = elim s.current [ None ↦ s.odd | Some round ↦ (if round.crossed then not s.odd else s.odd) ]

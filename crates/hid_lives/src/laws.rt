@@ -1,16 +1,18 @@
 //! Laws of lives, which hold whatever runs them.
 
-ghost use Rattle.std.specs.Prelude.{◌≡◌, ℕ, List, None, true};
-ghost use Rattle.std.specs.List.{filter};
+ghost use Rattle.std.specs.Prelude.{◌≡◌, ◌≤◌, ℕ, List, None, Some, true, false};
+ghost use Rattle.std.specs.List.{filter, list_any};
 ghost use Rattle.hid_layout.specs.Controls.{Item};
 ghost use Rattle.hid_cells.specs.declared.cell.Cell.{Cell};
 ghost use Rattle.hid_cells.specs.Cells.{blank, FitsSnapshot, FitsShown, FitsView};
-ghost use Rattle.hid_lives.specs.Following.{LivesOn, StandsByRounds, StandsInEpoch, course_from};
+ghost use Rattle.hid_cells.specs.Pieces.{pieces_for};
+ghost use Rattle.usb_transact.specs.declared.transaction.Fate.{Fate};
+ghost use Rattle.hid_lives.specs.Following.{IsQuietPoll, LivesOn, StandsByRounds, StandsInEpoch, course_from};
 ghost use Rattle.hid_lives.specs.Halting.{HasCuts, OpensNext, StaysDue};
 ghost use Rattle.hid_lives.specs.Lives.{Clears, Deed, Halts, AreWithinEpoch, happenings, rounds_ended, told_from, told_in, befallen_all};
 ghost use Rattle.hid_lives.specs.Motion.{HasMotions, KeepsMotion, KeepsAccepted, KeepsThroughLife, AreBetweenRounds, are_accepted};
-ghost use Rattle.hid_lives.specs.Rounds.{OwnStep, has_crossed, rounds, events_of, events_of_epoch, fresh_course};
-ghost use Rattle.hid_lives.specs.Stations.{Station, fresh, after_all, events_in};
+ghost use Rattle.hid_lives.specs.Rounds.{OwnStep, Round, reaches_host, is_clean, has_crossed, has_closed, rounds, events_of, events_of_epoch, fresh_course};
+ghost use Rattle.hid_lives.specs.Stations.{Station, Open, HasPieces, is_last, fresh, after_all, events_in};
 
 /// Over all that befalls a device, from any station without an open round on, what is told is the events of what came
 /// of it, and the station stands behind it as that says: the view, the open round, and both toggles.
@@ -53,6 +55,33 @@ pub fn rounds_say_all_of_an_epoch()
     ensures stands { (items : List Item) (from : Station) (deeds : List Deed)
         → from.current ≡ None → AreWithinEpoch deeds
         → StandsInEpoch items from deeds (befallen_all items from deeds) }
+{}
+
+/// A report is told whole or not at all: a poll of a piece before the last one tells nothing and leaves the view, whatever is
+/// lost of it. (What is told where the last one crosses is the part that was fixed as the round opened: `lives_are_told`.)
+#[tactic(auto, using(crate::proofs::PieceLemmas::pieces))]
+pub fn reports_are_told_whole()
+    ensures { (items : List Item) (s : Station) (round : Open) (fate : Fate)
+        → s.current ≡ Some round → is_last round ≡ false → IsQuietPoll items s fate }
+{}
+
+/// A report of at most 64 bytes is one piece, and its round crosses at the first poll that reaches the host, and closes at
+/// the first of which nothing is lost.
+#[tactic(auto, using(crate::proofs::PieceLemmas::pieces))]
+pub fn short_reports_are_one_piece()
+    ensures pieces { (bytes : ℕ) → bytes ≤ 64 → pieces_for bytes ≡ 1 }
+    ensures crosses { (round : Round) → round.pieces ≡ 1
+        → has_crossed round ≡ list_any reaches_host round.polls }
+    ensures closes { (round : Round) → round.pieces ≡ 1
+        → has_closed round ≡ list_any is_clean round.polls }
+{}
+
+/// The piece at hand is one of its report's, behind any life from a configuration on.
+pub fn open_rounds_have_a_piece()
+    ensures fresh { (items : List Item) (snapshot : List Cell) (idle : List ℕ)
+        → HasPieces items (fresh items snapshot idle) }
+    ensures lived { (items : List Item) (s : Station) (deeds : List Deed) → HasPieces items s
+        → HasPieces items (befallen_all items s deeds) }
 {}
 
 /// A halt or a clear loses no report: where it cuts a round, whether that had crossed or not, its report is due behind it,

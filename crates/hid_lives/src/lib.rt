@@ -11,11 +11,13 @@
 //! ```
 //! A course keeps whole rounds, with the fates of their polls; a station keeps what both ends know, and no more. The
 //! rule to know: a round's part is the one that was fixed when it opened, and it tells its events where it crossed, once.
-//! A halt and a clear cut the round that is open: its report is due again, and motion that hadn't crossed is dropped.
+//! A report of over 64 bytes goes in pieces, each with its own toggle, and its round crosses with the last one. A halt and
+//! a clear cut the round that is open: its report is due again, and motion that hadn't crossed is dropped.
 //!
 //! The promise, for every list of deeds: the station delivers what comes of the course, and stands as that says:
 //! [`laws::lives_are_told`]. Its motion is neither lost nor doubled: [`laws::motion_is_kept`]. A report whose round was cut
-//! is due until one opens: [`laws::halts_lose_nothing`].
+//! is due until one opens: [`laws::halts_lose_nothing`]. A report is told whole or not at all:
+//! [`laws::reports_are_told_whole`].
 #![tactic(auto)]
 
 pub mod laws;

@@ -2,12 +2,12 @@
 
 ghost use Rattle.std.specs.Prelude.{◌≡◌, [], ◌∷◌, ◌++◌, replicate, true, false, Some, None, pos};
 ghost use Rattle.hid_cells.specs.Events.{at};
-ghost use Rattle.hid_cells.specs.Samples.{keyboard, mouse, wheel_and_button};
+ghost use Rattle.hid_cells.specs.Samples.{keyboard, mouse, wheel_and_button, byte_values, byte_motions};
 ghost use Rattle.usb_transact.specs.declared.transaction.Fate.TheVariants as fate;
 ghost use Rattle.hid_lives.specs.Lives.{Clears, Configures, Halts, Idles, Resets, owns};
 ghost use Rattle.hid_lives.specs.Motion.{station_motion};
 ghost use Rattle.hid_lives.specs.Rounds.{Frame as AFrame, Polls};
-ghost use Rattle.hid_lives.specs.Rows.{Tells, behind, counted, press, release, move, key_down, key_up, button_down, button_up, motion_x, drop_x, stands_after};
+ghost use Rattle.hid_lives.specs.Rows.{Tells, behind, counted, press, release, move, set, key_down, key_up, button_down, button_up, motion_x, drop_x, value_x, first_motion_x, first_drop_x, open_at, stands_after};
 ghost use Rattle.hid_lives.specs.Standing.{after_frame, cut_at, due_where, first_due, with_idle};
 ghost use Rattle.hid_lives.specs.Stations.{expected};
 
@@ -172,6 +172,95 @@ pub fn toggles_begin_anew_at_a_clear()
         (owns (move 2 0 (pos 1) ∷ Polls fate.Clean ∷ []) ++ Clears
         ∷ owns (move 2 0 (pos 2) ∷ Polls fate.Clean ∷ []))
         (motion_x (pos 1) ∷ motion_x (pos 2) ∷ []) }
+{}
+
+/// A report of a hundred bytes goes in two pieces, of 64 bytes and of 36: it is told once, with its last piece, whatever is
+/// lost on the way, and as it was when its round opened; what is set meanwhile goes into the next round.
+pub fn report_goes_in_pieces()
+    ensures as_it_was { Tells (byte_values 100) 0
+        (owns (set 0 0 (pos 7) ∷ Polls fate.AckLost ∷ set 0 0 (pos 9) ∷ Polls fate.Clean
+        ∷ Polls fate.Clean ∷ []))
+        (value_x (pos 7) ∷ []) }
+    ensures next_round { Tells (byte_values 100) 0
+        (owns (set 0 0 (pos 7) ∷ Polls fate.AckLost ∷ set 0 0 (pos 9) ∷ Polls fate.Clean
+        ∷ replicate 4 (Polls fate.Clean)))
+        (value_x (pos 7) ∷ value_x (pos 9) ∷ []) }
+    ensures nothing_before_the_last { Tells (byte_values 100) 0
+        (owns (set 0 0 (pos 7) ∷ Polls fate.Clean ∷ Polls fate.ReplyLost ∷ [])) [] }
+    ensures last_piece_twice { Tells (byte_values 100) 0
+        (owns (set 0 0 (pos 7) ∷ Polls fate.Clean ∷ Polls fate.AckLost ∷ Polls fate.AckLost
+        ∷ Polls fate.Clean ∷ []))
+        (value_x (pos 7) ∷ []) }
+    ensures motion_once { Tells (byte_motions 100) 0
+        (owns (move 0 0 (pos 200) ∷ Polls fate.AckLost ∷ replicate 3 (Polls fate.Clean)))
+        (first_motion_x (pos 127) ∷ []) }
+{}
+
+/// Each piece crosses and closes by itself, and changes the toggles of both ends.
+pub fn each_piece_changes_the_toggle()
+    ensures second_is_at_hand { (stands_after (byte_values 100)
+        (set 0 0 (pos 7) ∷ Polls fate.Clean ∷ [])).current ≡ Some (open_at 2 1 false) }
+    ensures first_has_crossed { (stands_after (byte_values 100)
+        (set 0 0 (pos 7) ∷ Polls fate.AckLost ∷ [])).current ≡ Some (open_at 2 0 true) }
+    ensures device_at_data1 { (stands_after (byte_values 100)
+        (set 0 0 (pos 7) ∷ Polls fate.Clean ∷ [])).odd ≡ true }
+    ensures host_is_ahead { expected (stands_after (byte_values 100)
+        (set 0 0 (pos 7) ∷ Polls fate.AckLost ∷ [])) ≡ true }
+    ensures host_at_data0 { expected (stands_after (byte_values 100)
+        (set 0 0 (pos 7) ∷ Polls fate.Clean ∷ Polls fate.AckLost ∷ [])) ≡ false }
+    ensures even_behind_two { (stands_after (byte_values 100)
+        (set 0 0 (pos 7) ∷ Polls fate.Clean ∷ Polls fate.Clean ∷ [])).odd ≡ false }
+    ensures odd_behind_three { (stands_after (byte_values 129)
+        (set 0 0 (pos 7) ∷ replicate 3 (Polls fate.Clean))).odd ≡ true }
+    ensures closed_behind_three { (stands_after (byte_values 129)
+        (set 0 0 (pos 7) ∷ replicate 3 (Polls fate.Clean))).current ≡ None }
+{}
+
+/// A report of 64 bytes is one piece, and one of 65 bytes two; the longest one has four.
+pub fn full_packet_is_one_piece()
+    ensures one_piece { Tells (byte_values 64) 0
+        (owns (set 0 0 (pos 7) ∷ Polls fate.Clean ∷ set 0 0 (pos 9) ∷ Polls fate.Clean ∷ []))
+        (value_x (pos 7) ∷ value_x (pos 9) ∷ []) }
+    ensures two_pieces { Tells (byte_values 65) 0
+        (owns (set 0 0 (pos 7) ∷ Polls fate.Clean ∷ [])) [] }
+    ensures three_of_four { Tells (byte_values 256) 0
+        (owns (set 0 0 (pos 7) ∷ replicate 3 (Polls fate.Clean))) [] }
+    ensures four_of_four { Tells (byte_values 256) 0
+        (owns (set 0 0 (pos 7) ∷ replicate 4 (Polls fate.Clean)))
+        (value_x (pos 7) ∷ []) }
+{}
+
+/// A reset, a halt and a clear between the pieces of a report: its motion is dropped, also where each piece so far had
+/// crossed, and what was to come with its last piece is never told. Behind a clear the report goes again from its first
+/// piece, so that no report is made of two rounds.
+pub fn round_ends_between_its_pieces()
+    ensures reset { Tells (byte_motions 100) 0
+        (owns (move 0 0 (pos 5) ∷ Polls fate.Clean ∷ []) ++ Resets ∷ [])
+        (first_drop_x (pos 5) ∷ []) }
+    ensures reset_behind_the_last { Tells (byte_motions 100) 0
+        (owns (move 0 0 (pos 5) ∷ Polls fate.Clean ∷ Polls fate.AckLost ∷ []) ++ Resets ∷ [])
+        (first_motion_x (pos 5) ∷ []) }
+    ensures halted { Tells (byte_motions 100) 0
+        (owns (move 0 0 (pos 5) ∷ Polls fate.AckLost ∷ []) ++ Halts ∷ Clears
+        ∷ owns (Polls fate.Clean ∷ Polls fate.Clean ∷ []))
+        (first_drop_x (pos 5) ∷ []) }
+    ensures from_its_first_piece { Tells (byte_values 100) 0
+        (owns (set 0 0 (pos 7) ∷ Polls fate.Clean ∷ []) ++ Clears
+        ∷ owns (set 0 0 (pos 9) ∷ Polls fate.Clean ∷ [])) [] }
+    ensures as_it_is_then { Tells (byte_values 100) 0
+        (owns (set 0 0 (pos 7) ∷ Polls fate.Clean ∷ []) ++ Clears
+        ∷ owns (set 0 0 (pos 9) ∷ Polls fate.Clean ∷ Polls fate.Clean ∷ []))
+        (value_x (pos 9) ∷ []) }
+    ensures counted_anew { (behind (byte_values 100) 0
+        (owns (set 0 0 (pos 7) ∷ Polls fate.Clean ∷ []) ++ Clears ∷ [])).odd ≡ false }
+    ensures its_motion_is_kept_till_then { station_motion (byte_motions 100) (behind (byte_motions 100) 0
+        (owns (move 0 0 (pos 200) ∷ Polls fate.Clean ∷ []))) (at 0 0) ≡ pos 200 }
+    ensures rest_stays { station_motion (byte_motions 100) (behind (byte_motions 100) 0
+        (owns (move 0 0 (pos 200) ∷ Polls fate.Clean ∷ []) ++ Halts ∷ [])) (at 0 0) ≡ pos 73 }
+    ensures configured { Tells (byte_values 100) 0
+        (owns (set 0 0 (pos 7) ∷ Polls fate.Clean ∷ []) ++ Configures
+        ∷ owns (Polls fate.Clean ∷ Polls fate.Clean ∷ []))
+        (value_x (pos 7) ∷ []) }
 {}
 
 /// A configuration keeps the idle time: four frames behind a report it goes again, and tells nothing new. Two rounds closed

@@ -22,7 +22,7 @@ pub fn layout_words(cause: hid_layout::Cause) -> &'static str
         hid_layout::Cause::BadUsageRange => "a Usage Minimum over its Maximum, or on another page",
         hid_layout::Cause::UnpairedUsage => "a Usage Minimum or Maximum without the other",
         hid_layout::Cause::Delimiter => "a Delimiter",
-        hid_layout::Cause::ReportTooLong => "a report of over 64 bytes",
+        hid_layout::Cause::ReportTooLong => "a report of over 256 bytes",
         hid_layout::Cause::TooMany => "too many items, fields, usages or Report IDs",
         hid_layout::Cause::Memory => "memory was wanting",
     }

@@ -6,8 +6,8 @@ use Rattle.hid_layout.specs.declared.main_item.MainItem.{MainItem}
 use Rattle.hid_descriptor.specs.Usages.{Entry, usage_list}
 use Rattle.hid_descriptor.specs.Fields.{is_padding}
 use Rattle.hid_layout.specs.Layout.{Contents}
-use Rattle.hid_layout.specs.Reports.{IsLayout, HasElements}
-use Rattle.hid_layout.specs.Controls.{Form, NoControls, Item, items_of, item_of, form_of, head_of, is_input}
+use Rattle.hid_layout.specs.Reports.{IsLayout, HasElements, report_bytes}
+use Rattle.hid_layout.specs.Controls.{Form, NoControls, Item, items_of, item_of, form_of, head_of, is_input, input_item, no_item}
 use Rattle.hid_cells.specs.declared.cell.Cell.{Cell}
 use Rattle.hid_cells.specs.declared.cell.Cell.TheVariants.{Vacant, Pressed, Holding, Moved, RolledOver}
 use Rattle.hid_cells.specs.Cells.{HasRoom, InPart, Suits}
@@ -42,13 +42,13 @@ sent_at-is layout i m es cell h k =
     ∙ ap (λ (o : Option (List Entry)). elim o as (λ _. List ℤ) [ None ↦ [] | Some fs ↦ sent m (usage_list fs) (form_of m (usage_list fs) m.shape) cell ]) k
 
 -- an item of an Input report has the controls of its form
-pub form_in_input : (layout : Contents) (r : ℕ) (m : MainItem) (es : List Entry) → IsInput layout r → m.report ≡ r → (item_of layout.reports m es).form ≡ form_of m (usage_list es) m.shape
+pub form_in_input : (layout : Contents) (r : ℕ) (m : MainItem) (es : List Entry) → IsInput layout r → m.report ≡ r → (item_of layout m es).form ≡ form_of m (usage_list es) m.shape
 form_in_input layout r m es input at_r =
     let in_it : is_input layout.reports m.report ≡ true = ap (is_input layout.reports) at_r ∙ input in
     rw in_it refl
 
 item_room : (layout : Contents) (m : MainItem) (es : List Entry) (cell : Cell) → (is_padding m.shape ≡ false → HasElements m) → (is_padding m.shape ≡ false → 0 < length (usage_list es))
-    → HasRoom (head_of (item_of layout.reports m es).form) cell → HasFewPlaces cell
+    → HasRoom (head_of (item_of layout m es).form) cell → HasFewPlaces cell
 item_room layout m es cell has some room = by_input (is_input layout.reports m.report) room
   where
     vacant : (cell : Cell) → HasRoom (head_of NoControls) cell → HasFewPlaces cell
@@ -58,7 +58,7 @@ item_room layout m es cell has some room = by_input (is_input layout.reports m.r
     vacant (Moved ps) h = absurd h
     vacant (RolledOver ps) h = absurd h
 
-    by_input : (b : Bool) → HasRoom (head_of (let a : Item = record { report = Some m.report; form = form_of m (usage_list es) m.shape } in let z : Item = record { report = None; form = NoControls } in cond b a z).form) cell → HasFewPlaces cell
+    by_input : (b : Bool) → HasRoom (head_of (let a : Item = input_item m.report (report_bytes layout m.report) (form_of m (usage_list es) m.shape) in let z : Item = no_item in cond b a z).form) cell → HasFewPlaces cell
     by_input true h = few_places m (usage_list es) m.shape cell has some h
     by_input false h = vacant cell h
 
@@ -69,9 +69,9 @@ can_send_all layout r parts laid input fits = record {
   each_item = λ i m d.
       let es = got layout.entries i (omega (arith, laid.entries_there, slice_get_within layout.items i m d.listed)) in
       let cell = got parts i (omega (arith, fits.one_each, items_of-length layout laid, slice_get_within layout.items i m d.listed)) in
-      let item = items_from-at layout.reports layout.items layout.entries i m es.0 d.listed es.1 in
-      let room = fits.room i (item_of layout.reports m es.0) cell.0 item cell.1 in
-      let ok = fits.suits i (item_of layout.reports m es.0) cell.0 item cell.1 in
+      let item = items_from-at layout layout.items layout.entries i m es.0 d.listed es.1 in
+      let room = fits.room i (item_of layout m es.0) cell.0 item cell.1 in
+      let ok = fits.suits i (item_of layout m es.0) cell.0 item cell.1 in
       let form = form_in_input layout r m es.0 input d.in_report in
       rw (cell_numbers layout parts i cell.0 cell.1, sent_at-is layout i m es.0 cell.0 d.listed es.1)
       (can_send m (usage_list es.0) m.shape cell.0 d.no_padding (laid.elements i m d.listed d.no_padding) (laid.some_usage i m es.0 d.listed es.1 d.no_padding)
@@ -80,8 +80,8 @@ can_send_all layout r parts laid input fits = record {
       let within : i < length layout.items = omega (arith, fits.one_each, items_of-length layout laid, slice_get_within parts i cell h) in
       let m = got layout.items i within in
       let es = got layout.entries i (omega (arith, laid.entries_there)) in
-      let item = items_from-at layout.reports layout.items layout.entries i m.0 es.0 m.1 es.1 in
-      item_room layout m.0 es.0 cell (laid.elements i m.0 m.1) (laid.some_usage i m.0 es.0 m.1 es.1) (fits.room i (item_of layout.reports m.0 es.0) cell item h);
+      let item = items_from-at layout layout.items layout.entries i m.0 es.0 m.1 es.1 in
+      item_room layout m.0 es.0 cell (laid.elements i m.0 m.1) (laid.some_usage i m.0 es.0 m.1 es.1) (fits.room i (item_of layout m.0 es.0) cell item h);
 }
 
 get-front : {A : Type 0} (xs ys : List A) (j : ℕ) → j < length xs → slice_get (xs ++ ys) j ≡ slice_get xs j

@@ -24,8 +24,8 @@ use hid_cells::{Cell, item_at, plan_of};
 use hid_fields::FieldCodec;
 use hid_layout::{Codes, Layout, MainItem, Shape, Usage};
 
-fn push_zeros(bytes: &mut ArrayVec<u8, 64>, count: usize)
-    requires { array_vec_len bytes.old + count ≤ 64 }
+fn push_zeros(bytes: &mut ArrayVec<u8, 256>, count: usize)
+    requires { array_vec_len bytes.old + count ≤ 256 }
     ensures items { bytes.new.items ≡ bytes.old.items ++ replicate count 0 }
     ensures len { array_vec_len bytes.new ≡ array_vec_len bytes.old + count }
 {
@@ -42,7 +42,7 @@ fn id_of(layout: &Layout, report: usize) -> u8
 }
 
 /// A report of zeros, behind its ID where there are IDs.
-pub fn bare_report(layout: &Layout, report: usize) -> ArrayVec<u8, 64>
+pub fn bare_report(layout: &Layout, report: usize) -> ArrayVec<u8, 256>
     requires layout { IsLayout layout.now }
     requires report { report < length layout.now.reports }
     ensures items { result.items ≡ bare_report layout.now report }
@@ -149,7 +149,7 @@ pub fn encode_report<C: FieldCodec>(
     layout: &Layout,
     report: usize,
     shown: &Shown,
-) -> ArrayVec<u8, 64>
+) -> ArrayVec<u8, 256>
     requires input { IsInput layout.now report }
     requires fits { FitsShown (items_of layout.now) shown.now }
     requires empty_codes { has_empty_codes layout.now ≡ true }

@@ -7,8 +7,8 @@ ghost use Rattle.hid_parts.specs.Numbers.{number_at, numbers_in};
 use crate::send::Sending;
 use hid_fields::{FieldCodec, to_pattern, to_value};
 
-/// The most numbers of one item: each has a bit at least, and a report has 64 bytes at most.
-pub const MAX_NUMBERS: usize = 512;
+/// The most numbers of one item: each has a bit at least, and a report has 256 bytes at most.
+pub const MAX_NUMBERS: usize = 2048;
 
 /// Puts the numbers of these fields, one behind the other, in place of what the list has. There is room for them.
 pub fn get_all<C: FieldCodec>(

@@ -66,6 +66,12 @@ const TWO_WHEELS: [u8; 22] = [
     0x85, 0x01, 0x09, 0x38, 0x81, 0x06, 0x85, 0x02, 0x09, 0x38, 0x81, 0x06,
 ];
 
+/// 256 sliders from 3 on, the longest report.
+#[rattlefmt::skip]
+const SLIDERS: [u8; 15] = [
+    0x05, 0x01, 0x09, 0x36, 0x15, 0x03, 0x25, 0x7F, 0x75, 0x08, 0x96, 0x00, 0x01, 0x81, 0x02,
+];
+
 /// A byte of padding.
 const PADDING: [u8; 6] = [0x75, 0x08, 0x95, 0x01, 0x81, 0x01];
 
@@ -213,7 +219,7 @@ type ShownRow = (
 );
 
 #[rattlefmt::skip]
-const SHOWN: [ShownRow; 12] = [
+const SHOWN: [ShownRow; 13] = [
     ("nothing is pressed",       &KEYS,            &[],                                               &[0, 0, 0]),
     ("the left Shift and a",     &KEYS,            &[Change::Press(SECOND), Change::Press(A)],                &[0x02, 0x04, 0]),
     ("keys by rising place",     &KEYS,            &[Change::Press(B), Change::Press(A)],                                 &[0, 0x04, 0x05]),
@@ -226,6 +232,7 @@ const SHOWN: [ShownRow; 12] = [
     ("the first of three buttons", &BUTTONS,       &[Change::Press(FIRST)],                           &[1]),
     ("the last of 65535 keys",   &BUTTONS_TO_FFFF, &[Change::Press(LAST_BUTTON)],                   &[0xFE, 0xFF, 0xFF, 0xFF]),
     ("padding",                  &PADDING,         &[],                                               &[0]),
+    ("the longest report",       &SLIDERS,         &[],                                               &[3; 256]),
 ];
 
 /// The same of its still part.

@@ -2,7 +2,7 @@
 
 ghost use Rattle.std.specs.Prelude.{◌≡◌, ◌++◌, ◌*◌, ◌<◌, ◌≤◌, length, slice_get, Some, OnOk, string_bytes};
 ghost use Rattle.std.specs.List.{flat_map};
-ghost use Rattle.hid_descriptor.specs.declared.limits.TheConstants.{MAX_ENTRIES};
+ghost use Rattle.hid_descriptor.specs.declared.limits.TheConstants.{MAX_ENTRIES, MAX_REPORT_BYTES};
 ghost use Rattle.hid_pieces.specs.Words.{flag_words, flags_text, kind_name, report_name, count_text, collection_name, purpose_text, collection_text, entry_text, choice_from, choice_text, field_usage, usage_words, name_in, part_name, share_text, piece_name, range_text, details_in, part_details, part_flags, place_text};
 
 use crate::label::UsageLabel;
@@ -294,7 +294,7 @@ fn print_range(text: &mut String, item: &MainItem) -> Result<(), AllocError>
 
 /// Adds what is said of an item's fields.
 fn print_details(text: &mut String, item: &MainItem) -> Result<(), AllocError>
-    requires { item.now.size * item.now.count ≤ 512 }
+    requires { item.now.size * item.now.count ≤ 8 * MAX_REPORT_BYTES }
     ensures { OnOk result (string_bytes text.new
         ≡ string_bytes text.old ++ details_in item.now.shape item.now) }
 {

@@ -222,7 +222,7 @@ spelled_so (requests.Protocol false) asking fits short few = refl
 spelled_so requests.GetProtocol asking fits short few = refl
 spelled_so (requests.GetReport kind id) asking fits short few =
     let t = type_small kind in
-    spelled 0xA1 1 (word_of (type_of kind) id) 64 (omega (arith, fits)) (omega arith)
+    spelled 0xA1 1 (word_of (type_of kind) id) 256 (omega (arith, fits)) (omega arith)
 spelled_so (requests.SetReport kind id bytes) asking fits short few =
     let t = type_small kind in
     let i = fits.0 in

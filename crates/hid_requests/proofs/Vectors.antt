@@ -32,10 +32,10 @@ idle_bytes = refl
 
 -- the Feature report of ID 7 (7.2.1)
 feature_bytes : setup_bytes (setup_for (GetReport Feature 7) (record { report_length = 63; endpoint = 1 }))
-    ≡ 0xA1 ∷ 0x01 ∷ 0x07 ∷ 0x03 ∷ 0x00 ∷ 0x00 ∷ 0x40 ∷ 0x00 ∷ []
+    ≡ 0xA1 ∷ 0x01 ∷ 0x07 ∷ 0x03 ∷ 0x00 ∷ 0x00 ∷ 0x00 ∷ 0x01 ∷ []
 feature_bytes = refl
 
-feature_row : asked_of (setup_of (0xA1 ∷ 0x01 ∷ 0x07 ∷ 0x03 ∷ 0x00 ∷ 0x00 ∷ 0x40 ∷ 0x00 ∷ [])) ≡ Some (rows.GetReport Feature 7)
+feature_row : asked_of (setup_of (0xA1 ∷ 0x01 ∷ 0x07 ∷ 0x03 ∷ 0x00 ∷ 0x00 ∷ 0x00 ∷ 0x01 ∷ [])) ≡ Some (rows.GetReport Feature 7)
 unfolding asked_of
 feature_row = refl
 

@@ -31,7 +31,7 @@ protocol_of true = protocols.Boot
 protocol_of false = protocols.Report
 
 -- The setup data of each request: the status is two bytes (9.4.5) and the configuration's number one (9.4.2), as an idle
--- time and a protocol are (HID 1.11, 7.2.3 and 7.2.5). A configuration is asked for with 255 bytes and a report with 64
+-- time and a protocol are (HID 1.11, 7.2.3 and 7.2.5). A configuration is asked for with 255 bytes and a report with 256
 -- (our choice). The feature that is set and cleared is 0, ENDPOINT_HALT (table 9-6).
 abbrev pub setup_for : Request → Asking → Setup
 setup_for Device asking = asks 0x80 6 0x0100 18
@@ -44,7 +44,7 @@ setup_for (Idle id time) asking = asks 0x21 10 (word_of time id) 0
 setup_for (GetIdle id) asking = asks 0xA1 2 id 1
 setup_for (requests.Protocol boot) asking = asks 0x21 11 (number_of (protocol_of boot)) 0
 setup_for GetProtocol asking = asks 0xA1 3 0 1
-setup_for (GetReport kind id) asking = asks 0xA1 1 (word_of (type_of kind) id) 64
+setup_for (GetReport kind id) asking = asks 0xA1 1 (word_of (type_of kind) id) 256
 setup_for (SetReport kind id bytes) asking = asks 0x21 9 (word_of (type_of kind) id) (length bytes.items)
 setup_for Halt asking = asks_endpoint 0x02 3 asking.endpoint 0
 setup_for Clear asking = asks_endpoint 0x02 1 asking.endpoint 0
@@ -55,12 +55,12 @@ abbrev pub sends_of : Request → List ℕ
 sends_of (SetReport kind id bytes) = bytes.items
 sends_of _ = []
 
--- its ID and its idle time are bytes, and the report that is set has at most 64
+-- its ID and its idle time are bytes, and the report that is set has at most 256
 abbrev pub FitsRequest : Request → Type 0
 FitsRequest (Idle id time) = (id < 2 ^ 8) × (time < 2 ^ 8)
 FitsRequest (GetIdle id) = id < 2 ^ 8
 FitsRequest (GetReport kind id) = id < 2 ^ 8
-FitsRequest (SetReport kind id bytes) = (id < 2 ^ 8) × (length bytes.items ≤ 64)
+FitsRequest (SetReport kind id bytes) = (id < 2 ^ 8) × (length bytes.items ≤ 256)
 FitsRequest _ = Unit {0}
 
 -- the endpoint that a request is about, where it is about one, is 1: that of Input reports (our choice)

@@ -59,7 +59,7 @@ pub enum Request {
         /// Its Report ID, 0 where it has none.
         id: u8,
         /// The report, its ID first where it has one.
-        bytes: ArrayVec<u8, 64>,
+        bytes: ArrayVec<u8, 256>,
     },
     /// To halt the endpoint of its Input reports: SET_FEATURE of ENDPOINT_HALT (USB 2.0, 9.4.9).
     Halt,
@@ -80,7 +80,7 @@ pub struct Asking {
 
 impl Request {
     /// The setup data of the request (USB 2.0, 9.4; HID 1.11, 7.2). A configuration is asked for once, with 255 bytes, and a
-    /// report with 64 (our choice).
+    /// report with 256 (our choice).
     pub fn setup(&self, asking: &Asking) -> Setup
         ensures setup { result ≡ setup_for self.now asking.now }
         ensures spelled { IsSpelled result }
@@ -111,7 +111,7 @@ impl Request {
                 OF_CLASS,
                 GET_REPORT,
                 word_of(type_of(*kind), *id),
-                64,
+                256,
             ),
             Request::SetReport { kind, id, bytes } => asks(
                 TO_CLASS,

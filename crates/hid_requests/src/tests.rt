@@ -26,9 +26,9 @@ const REQUESTS: [(&str, Request, [u8; 8], Asked); 17] = [
                                                  [0x21, 0x0B, 0x01, 0x00, 0x00, 0x00, 0x00, 0x00], Asked::SetProtocol { protocol: Protocol::Report }),
     ("is asked for",  Request::GetProtocol,      [0xA1, 0x03, 0x00, 0x00, 0x00, 0x00, 0x01, 0x00], Asked::GetProtocol),
     ("input report",  Request::GetReport { kind: ReportKind::Input, id: 2 },
-                                                 [0xA1, 0x01, 0x02, 0x01, 0x00, 0x00, 0x40, 0x00], Asked::GetReport { kind: ReportKind::Input, id: 2 }),
+                                                 [0xA1, 0x01, 0x02, 0x01, 0x00, 0x00, 0x00, 0x01], Asked::GetReport { kind: ReportKind::Input, id: 2 }),
     ("feature",       Request::GetReport { kind: ReportKind::Feature, id: 0 },
-                                                 [0xA1, 0x01, 0x00, 0x03, 0x00, 0x00, 0x40, 0x00], Asked::GetReport { kind: ReportKind::Feature, id: 0 }),
+                                                 [0xA1, 0x01, 0x00, 0x03, 0x00, 0x00, 0x00, 0x01], Asked::GetReport { kind: ReportKind::Feature, id: 0 }),
     ("halt",          Request::Halt,             [0x02, 0x03, 0x00, 0x00, 0x81, 0x00, 0x00, 0x00], Asked::SetFeature),
     ("its end",       Request::Clear,            [0x02, 0x01, 0x00, 0x00, 0x81, 0x00, 0x00, 0x00], Asked::ClearFeature),
     ("is asked for",  Request::EndpointStatus,   [0x82, 0x00, 0x00, 0x00, 0x81, 0x00, 0x02, 0x00], Asked::ReportStatus),
@@ -49,12 +49,13 @@ fn a_host_asks_in_the_bytes_of_the_standard(rt: HostRuntime) {
     }
 }
 
-/// Reports that are set, with their setup data: that of HID 1.11, appendix B.1, with Caps Lock lit, and one of an ID and two
-/// bytes.
+/// Reports that are set, with their setup data: that of HID 1.11, appendix B.1, with Caps Lock lit, one of an ID and two
+/// bytes, and the longest.
 #[rattlefmt::skip]
-const REPORTS: [(ReportKind, u8, &[u8], [u8; 8]); 2] = [
+const REPORTS: [(ReportKind, u8, &[u8], [u8; 8]); 3] = [
     (ReportKind::Output,  0, &[0x02],             [0x21, 0x09, 0x00, 0x02, 0x00, 0x00, 0x01, 0x00]),
     (ReportKind::Feature, 7, &[0x07, 0xAB, 0xCD], [0x21, 0x09, 0x07, 0x03, 0x00, 0x00, 0x03, 0x00]),
+    (ReportKind::Feature, 9, &[9; 256],           [0x21, 0x09, 0x09, 0x03, 0x00, 0x00, 0x00, 0x01]),
 ];
 
 #[test]

@@ -12,7 +12,7 @@ const QUIET: Options = Options {
 
 /// Scripts that run to their end.
 #[rattlefmt::skip]
-const ACCEPTED: [(&str, &str, &str); 27] = [
+const ACCEPTED: [(&str, &str, &str); 28] = [
     ("a mouse with three buttons, and its report",
         "layout 05 01 09 02 A1 01 09 01 A1 00 05 09 19 01 29 03 15 00 25 01 95 03 75 01 81 02 95 01 75 05 81 01 05 01 09 30 09 31 15 81 25 7F 75 08 95 02 81 06 C0 C0\nvalues 05 7F 81\n",
         "report input 0 bytes 3\nitem 0 input 0 at 0 1x3 variable 0..1 09:01-09:03 in 1/01:02 0/01:01\nitem 1 input 0 at 3 5x1 padding in 1/01:02 0/01:01\nitem 2 input 0 at 8 8x2 relative -127..127 01:30 01:31 in 1/01:02 0/01:01\nvalue 0.0 1 09:01\nvalue 0.1 0 09:02\nvalue 0.2 1 09:03\nvalue 2.0 127 01:30\nvalue 2.1 -127 01:31\n"),
@@ -46,9 +46,12 @@ const ACCEPTED: [(&str, &str, &str); 27] = [
     ("numbered reports, and one of them",
         "layout 05 01 09 02 A1 01 85 01 09 30 15 81 25 7F 75 08 95 01 81 06 85 02 05 09 09 01 15 00 25 01 75 01 81 02 C0\nvalues 02 01\n",
         "report input 1 bytes 2\nreport input 2 bytes 2\nitem 0 input 1 at 0 8x1 relative -127..127 01:30 in 1/01:02\nitem 1 input 2 at 0 1x1 variable 0..1 09:01 in 1/01:02\nvalue 1.0 1 09:01\n"),
-    ("a report of 64 bytes",
-        "layout 75 08 95 40 81 01\n",
-        "report input 0 bytes 64\nitem 0 input 0 at 0 8x64 padding\n"),
+    ("a report of 256 bytes",
+        "layout 75 08 96 00 01 81 01\n",
+        "report input 0 bytes 256\nitem 0 input 0 at 0 8x256 padding\n"),
+    ("a report of 65 bytes",
+        "layout 75 08 95 41 81 01\n",
+        "report input 0 bytes 65\nitem 0 input 0 at 0 8x65 padding\n"),
     ("comments, empty lines, tabs and spaces",
         "# layout\r\n\n \t\r\n\t#\n  layout\t05 01  09 30 1581257F 75 08 95 01 81 06 \n\tvalues\tfF\n",
         "report input 0 bytes 1\nitem 0 input 0 at 0 8x1 relative -127..127 01:30\nvalue 0.0 -1 01:30\n"),
@@ -159,9 +162,9 @@ const REFUSED: [(&str, &str, &str, &str); 36] = [
     ("a Delimiter",
         "layout A9 01\n",
         "", "line 1: X4 L14 at 0\n"),
-    ("a report of 65 bytes",
-        "layout 75 08 95 41 81 01\n",
-        "", "line 1: X4 L15 at 4\n"),
+    ("a report of 257 bytes",
+        "layout 75 08 96 01 01 81 01\n",
+        "", "line 1: X4 L15 at 5\n"),
     ("a report of 64 bytes is no cause",
         "layout 75 08 95 40 81 01 85 01\n",
         "", "line 1: X4 L9 at 8\n"),

@@ -15,6 +15,7 @@ use usb_transact::{Fate, Took};
 mod devices;
 mod halts;
 mod memory;
+mod pieces;
 mod resets;
 
 fn config(boot: Boot) -> Config {

@@ -17,7 +17,7 @@ use Rattle.hid_layout.specs.declared.control.Control.{Control}
 use Rattle.hid_layout.specs.declared.main_item.MainItem.{MainItem}
 use Rattle.hid_descriptor.specs.declared.shape.Shape.TheVariants.{Array}
 use Rattle.hid_descriptor.specs.declared.usage.Usage.{Usage}
-use Rattle.hid_layout.specs.Controls.{Item, Key, Elements, Keys, items_of, items_from, keys_from, rollover_from, spread, control_of_key, head_of}
+use Rattle.hid_layout.specs.Controls.{Item, Key, input_item, Elements, Keys, items_of, items_from, keys_from, rollover_from, spread, control_of_key, head_of}
 use Rattle.hid_layout.specs.Finding.{shown_at}
 use Rattle.hid_cells.specs.declared.cell.Cell.{Cell}
 use Rattle.hid_cells.specs.declared.cell.Cell.TheVariants.{Vacant, Pressed, Holding, Moved, RolledOver}
@@ -27,7 +27,7 @@ use Rattle.hid_cells.specs.Cells.{is_in, FitsView, HasRoom, InView}
 use Rattle.hid_parts.specs.Encoding.{AreBytes}
 use Rattle.hid_parts.specs.Numbers.{number_at, numbers_in}
 use Rattle.hid_views.specs.Reading.{read_switch, read_motion, names_rollover, names_key, named_from, report_named, is_rollover_at}
-use Rattle.hid_cells.specs.Samples.{usage, of_report, keyboard, mouse}
+use Rattle.hid_cells.specs.Samples.{usage, keyboard, mouse}
 use Rattle.hid_cells.specs.Snapshots.{is_pressed, cell_at}
 use Rattle.hid_cells.specs.declared.event.Event.{Event}
 use Rattle.hid_cells.specs.Events.{at, switch_events, motion_event, motion_events, change_events}
@@ -199,7 +199,7 @@ place_of (suc (suc (suc (suc (suc i))))) j id h = absurd (cc)
 -- The view.
 
 pressed_there : (view : List Cell) → FitsView keyboard view → (ps : List Bool) × (slice_get view 0 ≡ Some (Pressed ps)) × (length ps ≡ 8)
-pressed_there view fits = by_cell at.0 at.1 (fits.room 0 (of_report 0 (Elements Switch (pos 0) (pos 1) (map (usage 7) (range_with_len 0xE0 8)))) at.0 refl at.1)
+pressed_there view fits = by_cell at.0 at.1 (fits.room 0 (input_item 0 8 (Elements Switch (pos 0) (pos 1) (map (usage 7) (range_with_len 0xE0 8)))) at.0 refl at.1)
   where
     at : (cell : Cell) × (slice_get view 0 ≡ Some cell)
     at = got view 0 (omega (arith, fits.one_each))
@@ -212,7 +212,7 @@ pressed_there view fits = by_cell at.0 at.1 (fits.room 0 (of_report 0 (Elements 
     by_cell (RolledOver ps) e r = absurd r
 
 keys_there : (view : List Cell) → FitsView keyboard view → (ps : List Bool) × (slice_get view 4 ≡ Some (Pressed ps))
-keys_there view fits = by_cell at.0 at.1 (fits.room 4 (of_report 0 (Keys 6 true keyboard_keys)) at.0 refl at.1) (fits.suits 4 (of_report 0 (Keys 6 true keyboard_keys)) at.0 refl at.1)
+keys_there view fits = by_cell at.0 at.1 (fits.room 4 (input_item 0 8 (Keys 6 true keyboard_keys)) at.0 refl at.1) (fits.suits 4 (input_item 0 8 (Keys 6 true keyboard_keys)) at.0 refl at.1)
   where
     at : (cell : Cell) × (slice_get view 4 ≡ Some cell)
     at = got view 4 (omega (arith, fits.one_each))
@@ -391,7 +391,7 @@ view_there (a ∷ []) fits = absurd (omega (arith, fits.one_each))
 view_there (a ∷ b ∷ []) fits = absurd (omega (arith, fits.one_each))
 view_there (a ∷ b ∷ c ∷ d ∷ view) fits = absurd (omega (arith, fits.one_each))
 view_there (a ∷ b ∷ c ∷ []) fits =
-    by_cells a c (fits.room 0 (of_report 0 (Elements Switch (pos 0) (pos 1) (map (usage 9) (range_with_len 1 3)))) a refl refl) (fits.room 2 (of_report 0 (Elements Relative (negsuc 126) (pos 127) axes)) c refl refl)
+    by_cells a c (fits.room 0 (input_item 0 3 (Elements Switch (pos 0) (pos 1) (map (usage 9) (range_with_len 1 3)))) a refl refl) (fits.room 2 (input_item 0 3 (Elements Relative (negsuc 126) (pos 127) axes)) c refl refl)
   where
     by_cells : (x y : Cell) → HasRoom (head_of (Elements Switch (pos 0) (pos 1) (map (usage 9) (range_with_len 1 3)))) x → HasRoom (head_of (Elements Relative (negsuc 126) (pos 127) axes)) y
         → (ps : List Bool) × (m : Cell) × (ms : List ℤ) × IsView ps m ms (x ∷ b ∷ y ∷ [])

@@ -25,7 +25,9 @@ pub use hid_cells::{
     has_empty_codes, has_keys, has_zeros, is_input,
 };
 pub use hid_parts::{Shown, Snapshot, encode_report};
-pub use hid_views::{View, changes, changes_and_drops, element_value, input_report, laws};
+pub use hid_views::{
+    View, bytes_awaited, changes, changes_and_drops, element_value, input_report, laws,
+};
 
 #[cfg(test)]
 mod boot_tests;

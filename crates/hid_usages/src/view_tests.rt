@@ -7,8 +7,8 @@ ghost use Rattle.hid_cells.specs.Cells.{FitsView};
 
 use crate::boot::{KEYBOARD, MOUSE};
 use crate::{
-    Event, ReportFault, Shown, Snapshot, View, changes, changes_and_drops, has_keys, has_zeros,
-    input_report, is_input,
+    Event, ReportFault, Shown, Snapshot, View, bytes_awaited, changes, changes_and_drops, has_keys,
+    has_zeros, input_report, is_input,
 };
 use hid_fields::{BitCodec, FieldCodec, WordCodec};
 use hid_layout::{ControlId, Layout, Usage};
@@ -47,6 +47,13 @@ const TWO_REPORTS: [u8; 35] = [
 #[rattlefmt::skip]
 const FEW_BUTTONS: [u8; 16] = [
     0x05, 0x09, 0x19, 0x01, 0x29, 0x0A, 0x15, 0x00, 0x25, 0x03, 0x75, 0x08, 0x95, 0x01, 0x81, 0x00,
+];
+
+/// 255 bytes of padding and an axis: the longest report.
+#[rattlefmt::skip]
+const LONGEST: [u8; 19] = [
+    0x75, 0x08, 0x96, 0xFF, 0x00, 0x81, 0x01, 0x05, 0x01, 0x09, 0x30, 0x15, 0x00, 0x25, 0x7F, 0x95,
+    0x01, 0x81, 0x02,
 ];
 
 /// A byte of padding.
@@ -135,6 +142,12 @@ const TO_7: Event = Event::Value {
     value: 7,
 };
 
+const ACROSS: Event = Event::Value {
+    control: ControlId { item: 1, index: 0 },
+    usage: Usage { page: 1, id: 0x30 },
+    value: 7,
+};
+
 const FAR_RIGHT: Event = Event::Motion {
     control: ControlId { item: 2, index: 0 },
     usage: Usage { page: 1, id: 0x30 },
@@ -197,7 +210,7 @@ type Told = (
 );
 
 #[rattlefmt::skip]
-const TOLD: [Told; 23] = [
+const TOLD: [Told; 24] = [
     ("two keys",                          &KEYBOARD, &[&[0, 0, 5, 4, 0, 0, 0, 0]],                              &[A_DOWN, B_DOWN]),
     ("one up, two down",                  &KEYBOARD, &[&[0, 0, 4, 5, 0, 0, 0, 0], &[0, 0, 7, 6, 5, 0, 0, 0]],   &[A_UP, C_DOWN, D_DOWN]),
     ("one element of 07:01",              &KEYBOARD, &[&[0, 0, 4, 0, 0, 0, 0, 0], &[0, 0, 5, 1, 0, 0, 0, 0]],   &[]),
@@ -221,6 +234,7 @@ const TOLD: [Told; 23] = [
     ("a byte more",                       &MOUSE,    &[&[0, 1, 0xFF, 5]],                                       &[RIGHT, UP]),
     ("padding beside the buttons",        &MOUSE,    &[&[0xF8, 0, 0]],                                          &[]),
     ("padding alone",                     &PADDING,  &[&[0xFF]],                                                &[]),
+    ("the last of 256 bytes",             &LONGEST,  &[&[7; 256]],                                              &[ACROSS]),
 ];
 
 /// Takes these reports one behind the other, and keeps what the last of them tells; false where one is refused.
@@ -418,15 +432,41 @@ type Named = (
 );
 
 #[rattlefmt::skip]
-const NAMED: [Named; 7] = [
+const NAMED: [Named; 9] = [
     ("whole",         &MOUSE,       &[5, 0x7F, 0x81],    Ok(0)),
     ("longer",        &MOUSE,       &[5, 0x7F, 0x81, 9], Ok(0)),
     ("a byte short",  &MOUSE,       &[5, 0x7F],          Err(ReportFault::Short)),
+    ("256 bytes",     &LONGEST,     &[7; 256],           Ok(0)),
+    ("255 of them",   &LONGEST,     &[7; 255],           Err(ReportFault::Short)),
     ("the second",    &TWO_REPORTS, &[2, 1],             Ok(1)),
     ("an ID alone",   &TWO_REPORTS, &[2],                Err(ReportFault::Short)),
     ("nothing",       &TWO_REPORTS, &[],                 Err(ReportFault::Short)),
     ("an ID of none", &TWO_REPORTS, &[3, 0],             Err(ReportFault::UnknownReport)),
 ];
+
+/// A name, a descriptor, bytes, and how many the Input report has that begins with them.
+type Awaited = (&'static str, &'static [u8], &'static [u8], usize);
+
+#[rattlefmt::skip]
+const AWAITED: [Awaited; 8] = [
+    ("a mouse's",            &MOUSE,       &[5],      3),
+    ("before any byte",      &MOUSE,       &[],       3),
+    ("whatever there is",    &MOUSE,       &[1; 64],  3),
+    ("the longest",          &LONGEST,     &[7; 64],  256),
+    ("the second",           &TWO_REPORTS, &[2],      2),
+    ("the first",            &TWO_REPORTS, &[1, 2],   2),
+    ("an ID of none",        &TWO_REPORTS, &[3, 0],   256),
+    ("no ID",                &TWO_REPORTS, &[],       256),
+];
+
+#[test]
+fn a_report_has_its_length_by_its_first_byte(rt: HostRuntime) -> Result<(), Fail> {
+    for (name, descriptor, bytes, count) in AWAITED {
+        let layout = Layout::parse(rt.alloc(), descriptor)?;
+        assert_eq!(rt; bytes_awaited(&layout, bytes), count, "{name}");
+    }
+    Ok(())
+}
 
 /// The first row that isn't so.
 fn first_misnamed(alloc: Global, rows: &[Named]) -> Result<Option<&'static str>, Fail> {

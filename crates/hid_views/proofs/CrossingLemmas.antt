@@ -15,8 +15,8 @@ use Rattle.hid_layout.specs.declared.control.ControlKind.TheVariants.{Switch, Va
 use Rattle.hid_descriptor.specs.Usages.{Entry, usage_list}
 use Rattle.hid_descriptor.specs.Fields.{is_padding}
 use Rattle.hid_layout.specs.Layout.{Contents}
-use Rattle.hid_layout.specs.Reports.{IsLayout}
-use Rattle.hid_layout.specs.Controls.{Form, NoControls, Elements, Keys, Item, items_of, item_of, form_of, form_at, head_of, is_input}
+use Rattle.hid_layout.specs.Reports.{IsLayout, report_bytes}
+use Rattle.hid_layout.specs.Controls.{Form, NoControls, Elements, Keys, Item, items_of, item_of, form_of, form_at, head_of, is_input, input_item, no_item}
 use Rattle.hid_layout.specs.Sent.{empty_number}
 use Rattle.hid_cells.specs.declared.cell.Cell.{Cell}
 use Rattle.hid_cells.specs.declared.cell.Cell.TheVariants.{Vacant, Pressed, Holding, Moved, RolledOver}
@@ -205,11 +205,11 @@ data_item layout r i m es cell part vs laid input d entries codes numbers room o
     at_form : form_at (items_of layout) i ≡ form
     at_form = form_of_item layout r i m laid input d ∙ ap (λ (l : List Usage). form_of m l m.shape) listed
 
-    input_item : is_input layout.reports m.report ≡ true
-    input_item = ap (is_input layout.reports) d.in_report ∙ input
+    item_is_input : is_input layout.reports m.report ≡ true
+    item_is_input = ap (is_input layout.reports) d.in_report ∙ input
 
     part_is : IsPart m us form part
-    part_is = is_part m us m.shape part (laid.elements i m d.listed) (array_code layout.reports m es (code_at layout.reports layout.items layout.entries i m es d.listed entries codes) input_item) room' ok'
+    part_is = is_part m us m.shape part (laid.elements i m d.listed) (array_code layout.reports m es (code_at layout.reports layout.items layout.entries i m es d.listed entries codes) item_is_input) room' ok'
 
     read_is : read_by_numbers layout i m cell vs ≡ read_cell m us form cell (sent m us form part)
     read_is = ap (λ (l : List Usage). read_cell m l (form_at (items_of layout) i) cell vs) listed ∙ ap (λ (f : Form). read_cell m us f cell vs) at_form ∙ ap (read_cell m us form cell) numbers
@@ -227,12 +227,12 @@ data_item layout r i m es cell part vs laid input d entries codes numbers room o
 -- any item of the layout
 pub reads_item : (layout : Contents) (r i : ℕ) (m : MainItem) (es : List Entry) (bytes : List ℕ) (cell part : Cell) → IsLayout layout → IsInput layout r → has_empty_codes layout ≡ true
     → slice_get layout.items i ≡ Some m → slice_get layout.entries i ≡ Some es → (IsData layout r i m → item_numbers layout bytes m ≡ sent m (usage_list es) (form_of m (usage_list es) m.shape) part)
-    → HasRoom (head_of (item_of layout.reports m es).form) cell → InView (item_of layout.reports m es).form cell → HasRoom (head_of (item_of layout.reports m es).form) part → InPart (item_of layout.reports m es).form part
-    → ReadsItem layout r bytes i (item_of layout.reports m es) cell part
+    → HasRoom (head_of (item_of layout m es).form) cell → InView (item_of layout m es).form cell → HasRoom (head_of (item_of layout m es).form) part → InPart (item_of layout m es).form part
+    → ReadsItem layout r bytes i (item_of layout m es) cell part
 reads_item layout r i m es bytes cell part laid input codes listed entries numbers room ok room' ok' = by_data (nat_eq m.report r) (is_padding m.shape) refl refl
   where
     item : Item
-    item = item_of layout.reports m es
+    item = item_of layout m es
 
     us : List Usage
     us = usage_list es
@@ -246,10 +246,10 @@ reads_item layout r i m es bytes cell part laid input codes listed entries numbe
     told_is : told_by_report layout r bytes i cell ≡ cond (is_data_in r m) (told_by_numbers layout i m cell (read_by_numbers layout i m cell vs) vs) []
     told_is = ap (λ (o : Option MainItem). elim o as (λ _. List Event) [ None ↦ [] | Some x ↦ cond (is_data_in r x) (told_by_numbers layout i x cell (read_by_numbers layout i x cell (item_numbers layout bytes x)) (item_numbers layout bytes x)) [] ]) listed
 
-    in_report : (m.report ≡ r) → item ≡ record { report = Some m.report; form = form_of m us m.shape }
+    in_report : (m.report ≡ r) → item ≡ input_item m.report (report_bytes layout m.report) (form_of m us m.shape)
     in_report e =
         let here : is_input layout.reports m.report ≡ true = ap (is_input layout.reports) e ∙ input in
-        ap (λ (b : Bool). let a : Item = record { report = Some m.report; form = form_of m us m.shape } in let z : Item = record { report = None; form = NoControls } in cond b a z) here
+        ap (λ (b : Bool). let a : Item = input_item m.report (report_bytes layout m.report) (form_of m us m.shape) in let z : Item = no_item in cond b a z) here
 
     is_here : (m.report ≡ r) → is_of r item ≡ true
     is_here e = let same : nat_eq m.report r ≡ true = grind (arith, nat_tests) in ap (is_of r) (in_report e) ∙ same
@@ -257,7 +257,7 @@ reads_item layout r i m es bytes cell part laid input codes listed entries numbe
     is_there : (m.report ≡ r → ⊥) → is_of r item ≡ false
     is_there ne = by_input (is_input layout.reports m.report)
       where
-        by_input : (b : Bool) → is_of r (let a : Item = record { report = Some m.report; form = form_of m us m.shape } in let z : Item = record { report = None; form = NoControls } in cond b a z) ≡ false
+        by_input : (b : Bool) → is_of r (let a : Item = input_item m.report (report_bytes layout m.report) (form_of m us m.shape) in let z : Item = no_item in cond b a z) ≡ false
         by_input true = grind (arith, nat_tests)
         by_input false = refl
 
@@ -368,11 +368,11 @@ parts_back layout r parts bytes view shows fits = record { report = names_report
     numbers i m es part entries there d =
         shows.encoding.shows.elements i m (slice_get_within layout.items i m d.listed) d ∙ cell_numbers layout parts i part there ∙ sent_at-is layout i m es part d.listed entries
 
-    item_there : (i : ℕ) (m : MainItem) (es : List Entry) (item : Item) (cell part : Cell) → slice_get layout.items i ≡ Some m → slice_get layout.entries i ≡ Some es → item_of layout.reports m es ≡ item
+    item_there : (i : ℕ) (m : MainItem) (es : List Entry) (item : Item) (cell part : Cell) → slice_get layout.items i ≡ Some m → slice_get layout.entries i ≡ Some es → item_of layout m es ≡ item
         → slice_get (items_of layout) i ≡ Some item → slice_get view i ≡ Some cell → slice_get parts i ≡ Some part → ReadsItem layout r bytes i item cell part
     item_there i m es item cell part listed entries is h g k =
         let P : Item → Type 0 = λ it. HasRoom (head_of it.form) cell → InView it.form cell → HasRoom (head_of it.form) part → InPart it.form part → ReadsItem layout r bytes i it cell part in
-        let read : P (item_of layout.reports m es) = reads_item layout r i m es bytes cell part shows.laid shows.input shows.empty_codes listed entries (numbers i m es part entries k) in
+        let read : P (item_of layout m es) = reads_item layout r i m es bytes cell part shows.laid shows.input shows.empty_codes listed entries (numbers i m es part entries k) in
         subst P is read (fits.room i item cell h g) (fits.suits i item cell h g) (shows.fits.room i item part h k) (shows.fits.suits i item part h k)
 
     each : (i : ℕ) (item : Item) (cell part : Cell) → slice_get (items_of layout) i ≡ Some item → slice_get view i ≡ Some cell → slice_get parts i ≡ Some part → ReadsItem layout r bytes i item cell part
@@ -380,8 +380,8 @@ parts_back layout r parts bytes view shows fits = record { report = names_report
         let within : i < length layout.items = omega (arith, slice_get_within (items_of layout) i item h, items_of-length layout shows.laid) in
         let m = got layout.items i within in
         let es = got layout.entries i (omega (arith, shows.laid.entries_there)) in
-        let there = items_from-at layout.reports layout.items layout.entries i m.0 es.0 m.1 es.1 in
-        item_there i m.0 es.0 item cell part m.1 es.1 (same_item (item_of layout.reports m.0 es.0) item i there h) h g k
+        let there = items_from-at layout layout.items layout.entries i m.0 es.0 m.1 es.1 in
+        item_there i m.0 es.0 item cell part m.1 es.1 (same_item (item_of layout m.0 es.0) item i there h) h g k
       where
         same_item : (a b : Item) (i : ℕ) → slice_get (items_of layout) i ≡ Some a → slice_get (items_of layout) i ≡ Some b → a ≡ b
         same_item a b i h k = cc

@@ -66,7 +66,7 @@ shows_one layout r parts others bytes laid input agree is = record {
     same : (i : ℕ) (m : MainItem) → IsData layout r i m → slice_get parts i ≡ slice_get others i
     same i m d =
         let es = got layout.entries i (omega (arith, laid.entries_there, slice_get_within layout.items i m d.listed)) in
-        let there = items_from-at layout.reports layout.items layout.entries i m es.0 d.listed es.1 in
+        let there = items_from-at layout layout.items layout.entries i m es.0 d.listed es.1 in
         let test : nat_eq m.report r ≡ true = same_number m.report r d.in_report in
-        let own : is_of r (item_of layout.reports m es.0) ≡ true = ap (is_of r) (sym (item_at-is (items_of layout) i (item_of layout.reports m es.0) there)) ∙ sym (of_report layout laid i r m d.listed input) ∙ test in
-        agree.same i (item_of layout.reports m es.0) there own
+        let own : is_of r (item_of layout m es.0) ≡ true = ap (is_of r) (sym (item_at-is (items_of layout) i (item_of layout m es.0) there)) ∙ sym (of_report layout laid i r m d.listed input) ∙ test in
+        agree.same i (item_of layout m es.0) there own

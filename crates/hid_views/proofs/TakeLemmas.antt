@@ -89,8 +89,8 @@ keys_few layout i m form = omega (arith, ap (λ (f : Form). length (keys_of f)) 
 pub form_of_item : (layout : Contents) (r i : ℕ) (m : MainItem) → IsLayout layout → IsInput layout r → IsData layout r i m → IsFormOf layout i m
 form_of_item layout r i m laid input d =
     let es = got layout.entries i (omega (arith, laid.entries_there, slice_get_within layout.items i m d.listed)) in
-    let item = items_from-at layout.reports layout.items layout.entries i m es.0 d.listed es.1 in
-    form_at-is (items_of layout) i (item_of layout.reports m es.0) item ∙ form_in_input layout r m es.0 input d.in_report
+    let item = items_from-at layout layout.items layout.entries i m es.0 d.listed es.1 in
+    form_at-is (items_of layout) i (item_of layout m es.0) item ∙ form_in_input layout r m es.0 input d.in_report
     ∙ ap (λ (us : List Usage). form_of m us m.shape) (sym (list_at-is layout i es.0 es.1))
 
 pub read_from-at : (layout : Contents) (r : ℕ) (bytes : List ℕ) (i : ℕ) (cells : List Cell) (k : ℕ) (cell : Cell) → slice_get cells k ≡ Some cell → slice_get (read_from layout r bytes i cells) k ≡ Some (read_by_report layout r bytes (i + k) cell)

@@ -11,8 +11,8 @@ use Rattle.hid_descriptor.specs.declared.usage.Usage.{Usage}
 use Rattle.hid_descriptor.specs.Usages.{Entry, usage_list}
 use Rattle.hid_descriptor.specs.Fields.{is_padding}
 use Rattle.hid_layout.specs.Layout.{Contents}
-use Rattle.hid_layout.specs.Reports.{IsLayout, usage_of}
-use Rattle.hid_layout.specs.Controls.{Form, NoControls, Item, items_of, item_of, form_of, form_at, is_input, spread, keys_from, key_places}
+use Rattle.hid_layout.specs.Reports.{IsLayout, usage_of, report_bytes}
+use Rattle.hid_layout.specs.Controls.{Form, NoControls, Item, items_of, item_of, form_of, form_at, is_input, spread, keys_from, key_places, input_item, no_item}
 use Rattle.hid_cells.specs.Events.{usage_place, usages_of, usages_at, key_usages}
 pub use Rattle.hid_cells.proofs.ItemLemmas.{same_entries, same_item}
 use Rattle.hid_cells.proofs.ItemLemmas.{items_from-at, items_from-short, items_of-length, form_at-is, got}
@@ -72,7 +72,7 @@ pub usage_there : (layout : Contents) (i j : ℕ) → IsLayout layout → j < le
 usage_there layout i j laid h = by_item (slice_get (items_of layout) i) refl h
   where
     of_item : (m : MainItem) (es : List Entry) → slice_get layout.items i ≡ Some m → slice_get layout.entries i ≡ Some es → (b : Bool)
-        → (let a : Item = record { report = Some m.report; form = form_of m (usage_list es) m.shape } in let z : Item = record { report = None; form = NoControls } in form_at (items_of layout) i ≡ (cond b a z).form)
+        → (let a : Item = input_item m.report (report_bytes layout m.report) (form_of m (usage_list es) m.shape) in let z : Item = no_item in form_at (items_of layout) i ≡ (cond b a z).form)
         → j < length (usages_at layout i) → HasUsage layout i j
     of_item m es listed there false e k = absurd (omega (arith, ap (λ (f : Form). length (usages_of f)) e))
     of_item m es listed there true e k =
@@ -95,8 +95,8 @@ usage_there layout i j laid h = by_item (slice_get (items_of layout) i) refl h
         let within : i < length layout.items = omega (arith, slice_get_within (items_of layout) i item e, items_of-length layout laid) in
         let m = got layout.items i within in
         let es = got layout.entries i (omega (arith, laid.entries_there)) in
-        let there = items_from-at layout.reports layout.items layout.entries i m.0 es.0 m.1 es.1 in
-        of_item m.0 es.0 m.1 es.1 (is_input layout.reports m.0.report) (form_at-is (items_of layout) i (item_of layout.reports m.0 es.0) there) h
+        let there = items_from-at layout layout.items layout.entries i m.0 es.0 m.1 es.1 in
+        of_item m.0 es.0 m.1 es.1 (is_input layout.reports m.0.report) (form_at-is (items_of layout) i (item_of layout m.0 es.0) there) h
 
 pub usage_of-is : (layout : Contents) (i : ℕ) (es : List Entry) (place : ℕ) → slice_get layout.entries i ≡ Some es → usage_of layout i place ≡ slice_get (usage_list es) place
 usage_of-is layout i es place h = ap (option_and_then (λ fs. slice_get (usage_list fs) place)) h
@@ -117,7 +117,7 @@ usages_within layout i j h = by_item (slice_get (items_of layout) i) refl h
   where
     by_item : (o : Option Item) → slice_get (items_of layout) i ≡ o → j < length (usages_of (elim o as (λ _. Form) [ None ↦ NoControls | Some item ↦ item.form ])) → i < length layout.items
     by_item None e k = absurd (omega arith)
-    by_item (Some item) e k = omega (arith, slice_get_within (items_of layout) i item e, items_from-short layout.reports layout.items layout.entries)
+    by_item (Some item) e k = omega (arith, slice_get_within (items_of layout) i item e, items_from-short layout layout.items layout.entries)
 
 place_within : (shape : Shape) (us : List Usage) (j : ℕ) → j < length us → usage_place shape us j ≡ j
 place_within Padding us j h = refl

@@ -3,6 +3,8 @@
 use Rattle.std.specs.Prelude.{◌≡◌, ℕ, ◌+◌, ◌*◌, ◌<◌, ◌≤◌, ◌==◌, nat_lt, length, position, Result, Ok, Err, Bool, true, false, ◌&&◌, if◌then◌else◌, List, [], ◌∷◌, map, slice_get, Option, Some, None, ℤ, pos, ◌+ℤ◌}
 use Rattle.std.specs.Ordering.{int_eq}
 use Rattle.std.specs.List.{list_any, zip}
+use Rattle.std.specs.Option.{option_and_then}
+use Rattle.hid_descriptor.specs.declared.limits.TheConstants.{MAX_REPORT_BYTES}
 use Rattle.hid_fields.specs.Value.{is_negative}
 use Rattle.hid_layout.specs.declared.main_item.MainItem.{MainItem}
 use Rattle.hid_layout.specs.declared.main_item.Element.{Element}
@@ -128,6 +130,17 @@ report_named layout bytes =
           (position (is_input_with id) layout.reports)
     ]
     else whole_report layout bytes (position (is_input_with 0) layout.reports)
+
+-- the Input report whose bytes begin so, where there is one
+abbrev pub report_begun : Contents → List ℕ → Option ℕ
+report_begun layout bytes =
+    if layout.numbered then option_and_then (λ id. position (is_input_with id) layout.reports) (first_byte bytes)
+    else position (is_input_with 0) layout.reports
+
+-- In bytes, the Input report that begins so; where there is none, the longest that there may be (our choice).
+abbrev pub bytes_awaited : Contents → List ℕ → ℕ
+bytes_awaited layout bytes =
+    elim (report_begun layout bytes) [ None ↦ MAX_REPORT_BYTES | Some r ↦ report_bytes layout r ]
 
 -- the number of a data element
 abbrev pub element_number : Contents → List ℕ → Element → ℤ

@@ -1,12 +1,12 @@
 //! Which Input report bytes are, and the number of one of its elements.
 
-ghost use Rattle.std.specs.Prelude.{◌≡◌, ◌<◌, false, length, Option, Some, None, position, IsSomeAnd, IfSome};
+ghost use Rattle.std.specs.Prelude.{◌≡◌, ◌<◌, ◌≤◌, false, length, Option, Some, None, position, IsSomeAnd, IfSome};
 ghost use Rattle.hid_layout.specs.Reports.{element_of, report_bytes};
-ghost use Rattle.hid_views.specs.Reading.{is_input_with, whole_report, report_named, element_number, IsInside};
+ghost use Rattle.hid_views.specs.Reading.{is_input_with, whole_report, report_named, report_begun, bytes_awaited, element_number, IsInside};
 
 use hid_cells::ReportFault;
 use hid_fields::{FieldCodec, to_value};
-use hid_layout::{Element, Layout, Report, ReportKind};
+use hid_layout::{Element, Layout, MAX_REPORT_BYTES, Report, ReportKind};
 
 fn is_input_with(report: &Report, id: u8) -> bool
     ensures { result ≡ is_input_with id report.now }
@@ -55,6 +55,33 @@ pub fn input_report(layout: &Layout, bytes: &[u8]) -> Result<usize, ReportFault>
         }
     } else {
         whole_report(layout, bytes, 0)
+    }
+}
+
+/// The number of the Input report that begins with these bytes.
+fn report_begun(layout: &Layout, bytes: &[u8]) -> Option<usize>
+    ensures begun { result ≡ report_begun layout.now bytes.now }
+    ensures within { IfSome result (λ r. r < length layout.now.reports) }
+{
+    if !layout.numbered() {
+        return input_with(layout, 0);
+    }
+    match bytes.first() {
+        None => None,
+        Some(id) => input_with(layout, *id),
+    }
+}
+
+/// In bytes, the Input report that begins with these, by the first of them where reports are numbered (HID 1.11, 5.6); where
+/// they begin none, the longest that there may be.
+pub fn bytes_awaited(layout: &Layout, bytes: &[u8]) -> usize
+    ensures awaited { result ≡ bytes_awaited layout.now bytes.now }
+    ensures short { result ≤ MAX_REPORT_BYTES }
+{
+    let _items = layout.items(); // with what holds of every layout, as that its reports are short
+    match report_begun(layout, bytes) {
+        None => MAX_REPORT_BYTES as usize,
+        Some(report) => layout.report_bytes(report),
     }
 }
 

@@ -18,5 +18,5 @@ mod read;
 mod take;
 mod view;
 
-pub use input::{element_value, input_report};
+pub use input::{bytes_awaited, element_value, input_report};
 pub use view::{View, changes, changes_and_drops};

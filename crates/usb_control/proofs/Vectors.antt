@@ -19,7 +19,7 @@ use Rattle.usb_control.specs.Writing.{given_data}
 use Rattle.usb_control.specs.Descriptors.{config_of, report_length}
 
 -- the limits, in numbers: bytes of a write that is kept, tries in a row without an answer, bytes of a packet
-writes_to : MAX_WRITE ≡ 64
+writes_to : MAX_WRITE ≡ 256
 writes_to = refl
 
 tries_to : MAX_TRIES ≡ 3

@@ -13,7 +13,7 @@ use std::marker::Model;
 use usb_packet::{Packet, TokenKind};
 
 /// In bytes, the longest write that a device keeps: a report (our choice).
-pub const MAX_WRITE: usize = 64;
+pub const MAX_WRITE: usize = 256;
 
 /// What endpoint 0 awaits. A SETUP that arrives leads from each stage to the first of its request.
 ///
@@ -48,7 +48,7 @@ pub enum Stage {
         /// Whether DATA1 is expected.
         one: bool,
         /// What came so far.
-        bytes: ArrayVec<u8, 64>,
+        bytes: ArrayVec<u8, 256>,
         /// Whether the data stage lasts: neither all bytes came nor a short packet.
         more: bool,
     },

@@ -42,7 +42,8 @@ const MADE: &str = "
     a reversed range:              1   10 plain    05 01 19 05 29 04 25 01 75 01 95 01 81 02 > V12 at 12 (12)
     a minimum alone:               1   10 plain    05 01 19 05 25 01 75 01 95 01 81 02 > V13 at 10 (10)
     a delimiter:                   1   10 plain    A9 01 > V14 at 0 (0)
-    65 bytes:                      1   10 plain    75 08 95 41 81 01 > V15 at 4 (4)
+    256 bytes:                     1   10 plain    75 08 96 00 01 81 01 > 1 reports
+    257 bytes:                     1   10 plain    75 08 96 01 01 81 01 > V15 at 5 (5)
     an array without empty code:   1   10 plain    05 09 19 01 2A 00 01 15 00 26 FF 00 75 08 95 01 81 00 > V18 (0)
     V18 comes before V19:          1   10 plain    05 09 19 01 2A 00 01 15 00 26 FF 00 75 08 95 01 81 00 05 01 09 30 15 01 25 03 75 08 95 01 81 06 > V18 (0)
     a relative control without 0:  1   10 plain    05 01 09 30 15 01 25 03 75 08 95 01 81 06 > V19 (0)

@@ -11,8 +11,9 @@
 //!                                 it writes stands behind them
 //!   69 81 00                      a packet: its answer
 //! ```
-//! Behind it, where a round is open, `round 0.1`: its report, and 1 where its data go out as DATA1; and `halted` while the
-//! endpoint is halted.
+//! Behind it, where a round is open, `round 0.1`: its report, and 1 where its data go out as DATA1; `piece 1` where that is
+//! not the first of its pieces; and `halted` while the endpoint is halted. `07*9` are nine bytes 07, as more than eight of the
+//! same are written.
 
 use crate::{Boot, Config, Device, DeviceFault, KEYBOARD, MOUSE};
 use arrayvec::ArrayVec;
@@ -47,6 +48,32 @@ const NO_INPUT: [u8; 14] = [
     0x05, 0x08, 0x09, 0x01, 0x15, 0x00, 0x25, 0x01, 0x75, 0x08, 0x95, 0x01, 0x91, 0x02,
 ];
 
+/// 64 values of a byte each.
+#[rattlefmt::skip]
+const FULL_PACKET: [u8; 15] = [
+    0x05, 0x01, 0x09, 0x30, 0x15, 0x00, 0x26, 0xFF, 0x00, 0x75, 0x08, 0x95, 0x40, 0x81, 0x02,
+];
+
+/// 100 such values in the Input report, and 65 in an Output report.
+#[rattlefmt::skip]
+const LONG_REPORTS: [u8; 21] = [
+    0x05, 0x01, 0x09, 0x30, 0x15, 0x00, 0x26, 0xFF, 0x00, 0x75, 0x08, 0x95, 0x64, 0x81, 0x02,
+    0x09, 0x31, 0x95, 0x41, 0x91, 0x02,
+];
+
+/// 129 such values.
+#[rattlefmt::skip]
+const THREE_PIECES: [u8; 16] = [
+    0x05, 0x01, 0x09, 0x30, 0x15, 0x00, 0x26, 0xFF, 0x00, 0x75, 0x08, 0x96, 0x81, 0x00, 0x81, 0x02,
+];
+
+/// 256 such values in the Input report, and 256 in an Output report: the longest.
+#[rattlefmt::skip]
+const LONGEST: [u8; 20] = [
+    0x05, 0x01, 0x09, 0x30, 0x15, 0x00, 0x26, 0xFF, 0x00, 0x75, 0x08, 0x96, 0x00, 0x01, 0x81, 0x02,
+    0x09, 0x31, 0x91, 0x02,
+];
+
 /// A device of vendor FEFF and product 0001, polled each 10 frames, at address 1: `keyboard` and `mouse` are boot devices;
 /// `mouse 127` is a plain mouse at that address.
 fn device_of(alloc: Global, kind: &str) -> Result<Device, DeviceFault> {
@@ -55,6 +82,10 @@ fn device_of(alloc: Global, kind: &str) -> Result<Device, DeviceFault> {
         "two reports" => &TWO_REPORTS,
         "several reports" => &SEVERAL_REPORTS,
         "no input" => &NO_INPUT,
+        "64 bytes" => &FULL_PACKET,
+        "100 bytes" => &LONG_REPORTS,
+        "129 bytes" => &THREE_PIECES,
+        "256 bytes" => &LONGEST,
         _ => &MOUSE,
     };
     let addr = if kind == "mouse 127" { 127 } else { 1 };
@@ -74,21 +105,44 @@ pub fn config(kind: &str, interval: u8) -> Config {
     }
 }
 
+/// Writes so many of the same byte.
+fn write_run(text: &mut String, byte: u8, run: usize) -> Result<(), Fail> {
+    if run > 8 {
+        write!(text, "{byte:02X}*{run} ")?;
+        return Ok(());
+    }
+    for _ in 0..run {
+        write!(text, "{byte:02X} ")?;
+    }
+    Ok(())
+}
+
 /// Bytes in hex, a blank behind each.
 fn hex(alloc: Global, bytes: &[u8]) -> Result<String, Fail> {
     let mut text = String::new(alloc);
+    let mut last = 0;
+    let mut run = 0usize;
     for byte in bytes {
-        write!(text, "{byte:02X} ")?;
+        if *byte != last {
+            write_run(&mut text, last, run)?;
+            last = *byte;
+            run = 0;
+        }
+        run = run.saturating_add(1);
     }
+    write_run(&mut text, last, run)?;
     Ok(text)
 }
 
 /// The bytes that are spelled by words, as far as they are read.
-fn bytes_of(words: &[&str]) -> ArrayVec<u8, 65> {
+fn bytes_of(words: &[&str]) -> ArrayVec<u8, 264> {
     let mut bytes = ArrayVec::new();
     for word in words {
+        let (word, run) = word.split_once('*').unwrap_or((word, "1"));
         if let Ok(byte) = u8::from_str_radix(word, 16) {
-            let _ = bytes.try_push(byte);
+            for _ in 0..run.parse::<usize>().unwrap_or(1) {
+                let _ = bytes.try_push(byte);
+            }
         }
     }
     bytes
@@ -125,7 +179,7 @@ fn given(device: &mut Device, bytes: &[u8]) -> ArrayVec<u8, 65> {
 
 /// Tries until the transfer ends.
 fn run(transfer: &mut HostTransfer, device: &mut Device) {
-    for _ in 0..20 {
+    for _ in 0..40 {
         match transfer.outcome() {
             Outcome::Running => {}
             Outcome::Done(_) | Outcome::Failed(_) => return,
@@ -224,13 +278,18 @@ fn done(alloc: Global, device: &mut Device, act: &str) -> Result<String, Fail> {
     Ok(String::new(alloc))
 }
 
-/// The open round, if one is: its report and its toggle. Something is armed for it. Or that the endpoint is halted.
+/// The open round, if one is: its report, its toggle and its piece. Something is armed for it. Or that the endpoint is
+/// halted.
 pub fn round(alloc: Global, device: &Device) -> Result<String, Fail> {
-    match (device.open_round(), device.pipe().armed()) {
-        (None, None) if device.pipe().halted() => Ok(format!(in alloc; "halted")?),
-        (None, None) => Ok(String::new(alloc)),
-        (Some((report, one)), Some(_)) => Ok(format!(in alloc;
+    match (device.open_round(), device.piece(), device.pipe().armed()) {
+        (None, None, None) if device.pipe().halted() => Ok(format!(in alloc; "halted")?),
+        (None, None, None) => Ok(String::new(alloc)),
+        (Some((report, one)), Some(0), Some(_)) => Ok(format!(in alloc;
             "round {report}.{}",
+            u8::from(one)
+        )?),
+        (Some((report, one)), Some(piece), Some(_)) => Ok(format!(in alloc;
+            "round {report}.{} piece {piece}",
             u8::from(one)
         )?),
         _ => Ok(format!(in alloc; "armed without a round, or a round without")?),

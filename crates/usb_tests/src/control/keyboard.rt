@@ -38,7 +38,7 @@ pub enum Prepared {
 #[derive(Drop)]
 pub struct Keyboard {
     pub configured: bool,
-    pub output: ArrayVec<u8, 64>,
+    pub output: ArrayVec<u8, 256>,
     /// How often a write took effect.
     pub effects: u32,
     /// How often a request was decided on.
@@ -96,7 +96,7 @@ impl Requests for Keyboard {
     ghost answer_of = { λ k. Some k.answer.items };
 
     ghost prepare_gives = { λ s r said t. (t ≡ record s { answer = t.answer; prepared = t.prepared; decisions = t.decisions })
-        × (said ≡ true → reads r ≡ false → r.length ≤ 64) × (reads r ≡ true → t.prepared ≡ prepared_for.Nothing) };
+        × (said ≡ true → reads r ≡ false → r.length ≤ 256) × (reads r ≡ true → t.prepared ≡ prepared_for.Nothing) };
 
     ghost apply_gives = { λ s bytes t. s.prepared ≡ prepared_for.Nothing → t ≡ s };
 
@@ -117,7 +117,7 @@ impl Requests for Keyboard {
         self.prepared = Prepared::Nothing;
         if !setup.is_read() {
             self.prepared = Keyboard::write(setup);
-            return self.prepared != Prepared::Nothing && setup.length <= 64;
+            return self.prepared != Prepared::Nothing && setup.length <= 256;
         }
         match self.read(setup) {
             Some(bytes) => match ArrayVec::try_from(bytes) {

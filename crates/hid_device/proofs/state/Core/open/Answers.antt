@@ -1,17 +1,25 @@
 use Rattle.std.proofs.Common.{◌≡◌, ℕ, List, length, false, Option, Some, sym, ap, ◌∙◌, subst, arith}
 use Rattle.std.proofs.lemmas.List.{length-set}
+use Rattle.hid_layout.specs.Controls.{items_of}
+use Rattle.hid_cells.specs.Pieces.{piece_of}
+use Rattle.hid_cells.proofs.PieceLemmas.{some_piece}
+use Rattle.hid_parts.specs.Encoded.{part_bytes}
 use Rattle.hid_parts.specs.Encoding.{AreBytes}
 use Rattle.usb_transact.specs.Device.{DevPipeState}
-use Rattle.hid_device.specs.Core.{CoreState, IsArmed}
+use Rattle.hid_device.specs.Core.{AreBytesOf, CoreState}
 use Rattle.hid_device.proofs.state.Core.open.Goals as goal
 
 pub invariant_of-self : goal.invariant_of-self
 invariant_of-self c =
     let before = c.self.invariant.sound in
     let frames : length c.self.inside.frames.items ≡ length c.args.self.now.standing.frames = ap (λ (core : CoreState). length core.standing.frames) c.self.view_is in
-    let armed : c.arm.new.self.armed ≡ Some c.encode_report-bytes.result.items = ap (λ (pipe : DevPipeState). pipe.armed) c.arm.ensures ∙ ap Some c.deref-2.ensures.0 in
     let going : c.arm.new.self.halted ≡ false = ap (λ (pipe : DevPipeState). pipe.halted) c.arm.ensures ∙ ap (λ (core : CoreState). core.halted) c.self.view_is ∙ c.requires.going in
-    let are_bytes : AreBytes c.encode_report-bytes.result.items = subst AreBytes c.deref.ensures.0 c.are_bytes.ensures in
+    let part : List ℕ = part_bytes c.self.inside.layout c.args.report c.shown.new.parts in
+    let is : c.encode_report.result.items ≡ part = c.encode_report.ensures.bytes in
+    let are_bytes : AreBytes c.encode_report.result.items = subst AreBytes c.deref.ensures.0 c.are_bytes.ensures in
+    let shows : AreBytesOf c.self.inside.layout c.shown.new.parts c.args.report c.encode_report.result.items
+    = record { are_bytes = are_bytes; shows = c.encode_report.ensures.shows; only = c.encode_report.ensures.only } in
+    let sent : c.piece_of.result.now ≡ piece_of part 0 = c.piece_of.ensures.piece ∙ ap (λ (bytes : List ℕ). piece_of bytes 0) (c.deref-2.ensures.0 ∙ is) in
     record {
       sound = record {
         lays = before.lays;
@@ -24,10 +32,12 @@ invariant_of-self c =
         each_idle = before.each_idle;
         each_cut = length-set c.self.inside.cut.items c.args.report false ∙ before.each_cut;
         of_input = omega (arith, frames, before.each_frames, c.requires.input);
+        piece = some_piece (items_of c.self.inside.layout) c.args.report;
+        sends = subst (λ (bytes : List ℕ). AreBytesOf c.self.inside.layout c.shown.new.parts c.args.report bytes) is shows;
         quiet = going;
         outputs = before.outputs;
       };
       room = c.self.invariant.room;
-      armed = subst (λ (bytes : Option (List ℕ)). IsArmed c.self.inside.layout c.shown.new.parts (Some c.args.report) bytes) (sym armed)
-          (record { are_bytes = are_bytes; shows = c.encode_report-bytes.ensures.shows; only = c.encode_report-bytes.ensures.only });
+      round = is;
+      armed = ap (λ (pipe : DevPipeState). pipe.armed) c.arm.ensures ∙ ap Some sent;
     }

@@ -22,5 +22,6 @@ invariant_of-self c =
     record {
       sound = sound_with (the_view c.self.inside) false c.fill.new.self.items protocols.Report _ before idle (subst (AreOutputs c.self.inside.layout) (sym outputs) (bare_are c.self.inside.layout));
       armed = c.self.invariant.armed;
+      round = c.self.invariant.round;
       room = c.self.invariant.room;
     }

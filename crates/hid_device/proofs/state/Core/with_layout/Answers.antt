@@ -1,8 +1,7 @@
-use Rattle.std.proofs.Common.{◌≡◌, ℕ, List, Option, None, sym, ap, subst, arith, rules}
+use Rattle.std.proofs.Common.{◌≡◌, ℕ, List, Option, None, refl, sym, ap, subst, arith, rules}
 use Rattle.std.proofs.lemmas.Grind.{common_steps}
 use Rattle.usb_transact.specs.Device.{DevPipeState}
 use Rattle.hid_device.specs.Laying.{Lays}
-use Rattle.hid_device.specs.Core.{IsArmed}
 use Rattle.hid_device.specs.Outputs.{AreOutputs, bare_outputs}
 use Rattle.hid_device.proofs.InputLemmas.{inputs_first}
 use Rattle.hid_device.proofs.OutputLemmas.{bare_are}
@@ -25,9 +24,12 @@ invariant_of-result c =
         each_idle = grind (arith, common_steps);
         each_cut = grind (arith, common_steps);
         of_input = tt;
+        piece = refl;
+        sends = tt;
         quiet = tt;
         outputs = subst (λ (outputs : List (List ℕ)). AreOutputs c.args.layout outputs) (sym outputs) (bare_are c.args.layout);
       };
       room = c.in_ok-still.ensures.fits;
-      armed = subst (λ (bytes : Option (List ℕ)). IsArmed c.args.layout c.in_ok-fixed.fixed None bytes) (sym armed) tt;
+      armed = armed;
+      round = tt;
     }

@@ -9,7 +9,7 @@ use Rattle.hid_layout.proofs.layout.Layout.control.Goals as goal
 pub returns-then-id-len : goal.returns-then-id-len
 returns-then-id-len c =
     let layout : Contents = record { reports = c.self.inside.reports.items; numbered = c.self.inside.numbered; items = c.self.inside.items.items; entries = c.self.inside.lists.entries; paths = c.self.inside.lists.paths } in
-    sym (ap (control_of_item c.args.id.index) (items_from-past layout.reports layout.items layout.entries c.args.id.item (omega (arith, c.len.ensures, c.if-id-len.true)))) ∙ ap (λ l. control_of (items_of l) c.args.id) c.self.view_is
+    sym (ap (control_of_item c.args.id.index) (items_from-past layout layout.items layout.entries c.args.id.item (omega (arith, c.len.ensures, c.if-id-len.true)))) ∙ ap (λ l. control_of (items_of l) c.args.id) c.self.view_is
 
 pub control-requires-clause-elements : goal.control-requires-clause-elements
 control-requires-clause-elements c p =

@@ -1,0 +1,18 @@
+-- The pieces in which a report goes: the packets of an interrupt endpoint have 64 bytes at most (USB 2.0, 5.7.3; the size
+-- is our choice).
+use Rattle.std.specs.Prelude.{ℕ, ◌+◌, ◌-◌, ◌*◌, ◌/◌, if◌then◌else◌, List, [], ◌∷◌, take, drop}
+use Rattle.hid_layout.specs.Controls.{Item}
+use Rattle.hid_cells.specs.Parts.{is_of}
+
+-- so many bytes: each piece but the last is full, and there is one at least
+abbrev pub pieces_for : ℕ → ℕ
+pieces_for bytes = (bytes - 1) / 64 + 1
+
+-- the pieces of the Input report of this number, by the first item that is in it
+abbrev pub pieces_of : List Item → ℕ → ℕ
+pieces_of [] r = 1
+pieces_of (item ∷ items) r = if is_of r item then pieces_for item.bytes else pieces_of items r
+
+-- the piece at a place, from 0, of these bytes
+abbrev pub piece_of : List ℕ → ℕ → List ℕ
+piece_of bytes piece = take 64 (drop (64 * piece) bytes)

@@ -1,0 +1,160 @@
+//! Reports of more than a packet at a ready host (USB 2.0, 5.7.3, 8.6 and 9.4.5; HID 1.11, 5.6): what came of a report is kept
+//! until it ends, and forgotten where it is refused, where the endpoint is cleared, and at a reset. What is wanted was worked
+//! out by hand from the descriptors.
+
+use super::data;
+use crate::{HostDevice, StackFault};
+use hid_device::{Boot, Config, Device};
+use hid_layout::ControlId;
+use hid_requests::Request;
+use hid_usages::{Change, ReportFault};
+use std::test::Fail;
+use usb_control::Progress;
+use usb_packet::Packet;
+use usb_transact::{Fate, Took};
+
+/// 100 values of a byte each, in a report without an ID.
+#[rattlefmt::skip]
+const LONG: [u8; 15] = [
+    0x05, 0x01, 0x09, 0x30, 0x15, 0x00, 0x26, 0xFF, 0x00, 0x75, 0x08, 0x95, 0x64, 0x81, 0x02,
+];
+
+/// The same in report 1, of 101 bytes, and one value in report 2.
+#[rattlefmt::skip]
+const NUMBERED: [u8; 25] = [
+    0x05, 0x01, 0x85, 0x01, 0x09, 0x30, 0x15, 0x00, 0x26, 0xFF, 0x00, 0x75, 0x08, 0x95, 0x64, 0x81, 0x02,
+    0x85, 0x02, 0x09, 0x31, 0x95, 0x01, 0x81, 0x02,
+];
+
+/// So many bytes, of which the first is this, and the others 0.
+#[derive(Clone, Copy)]
+struct Sent {
+    one: bool,
+    first: u8,
+    count: usize,
+}
+
+/// What a host tells of them.
+#[derive(Clone, Copy)]
+enum Told {
+    /// Fresh data, with so many events.
+    Fresh(usize),
+    Again,
+    Refused(ReportFault),
+}
+
+const SHORT: Told = Told::Refused(ReportFault::Short);
+
+const UNKNOWN: Told = Told::Refused(ReportFault::UnknownReport);
+
+/// Whether a host that is given these data tells so, and takes no event where it doesn't.
+fn tells(rt: &HostRuntime, host: &mut HostDevice, sent: &Sent, told: &Told) -> Result<bool, Fail> {
+    host.token()?;
+    let mut bytes = [0; 64];
+    bytes[0] = sent.first;
+    let packet = data(sent.one, &bytes[..sent.count.min(64)]);
+    let mut out = Vec::with_capacity(rt.alloc(), host.max_events())?;
+    let took = host.reply(packet.as_ref(), &mut out);
+    Ok(match (told, took) {
+        (Told::Fresh(count), Ok(Took::Fresh(_))) => out.len() == *count,
+        (Told::Again, Ok(Took::Again)) => out.is_empty(),
+        (Told::Refused(fault), Err(StackFault::Report(found))) => found == *fault && out.is_empty(),
+        _ => false,
+    })
+}
+
+/// Data that come to a host one behind the other, and what it tells of each.
+type Row = (
+    &'static str,
+    &'static [u8],
+    &'static [(bool, u8, usize, Told)],
+);
+
+#[rattlefmt::skip]
+const ROWS: [Row; 9] = [
+    ("a report in two packets", &LONG, &[
+        (false, 7, 64, Told::Fresh(0)), (true, 0, 36, Told::Fresh(1)), (false, 7, 64, Told::Fresh(0)), (true, 0, 36, Told::Fresh(0)),
+    ]),
+    ("the same data again", &LONG, &[
+        (false, 7, 64, Told::Fresh(0)), (false, 7, 64, Told::Again), (true, 0, 36, Told::Fresh(1)), (true, 0, 36, Told::Again),
+    ]),
+    ("63 bytes end it", &LONG, &[(false, 7, 63, SHORT), (true, 7, 64, Told::Fresh(0)), (false, 0, 36, Told::Fresh(1))]),
+    ("no byte ends it", &LONG, &[(false, 7, 64, Told::Fresh(0)), (true, 0, 0, SHORT), (false, 7, 64, Told::Fresh(0)), (true, 0, 36, Told::Fresh(1))]),
+    ("35 bytes too few", &LONG, &[(false, 7, 64, Told::Fresh(0)), (true, 0, 35, SHORT), (false, 8, 64, Told::Fresh(0)), (true, 0, 36, Told::Fresh(1))]),
+    ("a longer packet", &LONG, &[(false, 7, 64, Told::Fresh(0)), (true, 0, 64, Told::Fresh(1)), (false, 8, 64, Told::Fresh(0)), (true, 0, 64, Told::Fresh(1))]),
+    ("by its first byte", &NUMBERED, &[
+        (false, 1, 64, Told::Fresh(0)), (true, 9, 37, Told::Fresh(1)), (false, 2, 2, Told::Fresh(0)), (true, 2, 64, Told::Fresh(0)),
+    ]),
+    ("an ID of none, 256 bytes", &NUMBERED, &[
+        (false, 3, 64, Told::Fresh(0)), (true, 1, 64, Told::Fresh(0)), (false, 1, 64, Told::Fresh(0)), (true, 1, 64, UNKNOWN),
+        (false, 1, 64, Told::Fresh(0)), (true, 9, 37, Told::Fresh(1)),
+    ]),
+    ("an ID of none, a short packet", &NUMBERED, &[
+        (false, 3, 64, Told::Fresh(0)), (true, 1, 63, UNKNOWN), (false, 1, 64, Told::Fresh(0)), (true, 9, 37, Told::Fresh(1)),
+    ]),
+];
+
+#[test]
+fn a_report_is_read_once_it_is_whole(rt: HostRuntime) -> Result<(), Fail> {
+    for (name, descriptor, packets) in ROWS {
+        let mut host = HostDevice::ready(rt.alloc(), 1, descriptor)?;
+        for (one, first, count, told) in packets {
+            let sent = Sent {
+                one: *one,
+                first: *first,
+                count: *count,
+            };
+            assert!(rt;
+                tells(&rt, &mut host, &sent, told)?,
+                "{name}: {first} {count}"
+            );
+        }
+    }
+    Ok(())
+}
+
+/// A device at address 1 with that report, configured.
+fn long_device(rt: &HostRuntime) -> Result<Device, Fail> {
+    let config = Config {
+        vendor: 0xFFFF,
+        product: 0x0001,
+        interval: 10,
+        boot: Boot::No,
+    };
+    let mut device = Device::new(rt.alloc(), 1, &config, &LONG)?;
+    device.configure();
+    Ok(device)
+}
+
+/// The events of a poll of which nothing is lost, where it brings fresh data.
+fn polled(
+    rt: &HostRuntime,
+    host: &mut HostDevice,
+    device: &mut Device,
+) -> Result<Option<usize>, Fail> {
+    let answer = device.on_packet(&host.token()?);
+    let mut out = Vec::with_capacity(rt.alloc(), host.max_events())?;
+    let took = host.reply(answer.as_ref(), &mut out)?;
+    device.on_packet(&Packet::Ack);
+    Ok(match took {
+        Took::Fresh(_) => Some(out.len()),
+        _ => None,
+    })
+}
+
+#[test]
+fn a_clear_forgets_what_came_of_a_report(rt: HostRuntime) -> Result<(), Fail> {
+    let mut device = long_device(&rt)?;
+    let mut host = HostDevice::ready(rt.alloc(), 1, &LONG)?;
+    device.change(Change::Set(ControlId { item: 0, index: 99 }, 7))?;
+    assert_eq!(rt; polled(&rt, &mut host, &mut device)?, Some(0));
+    host.begin(&Request::Clear)?;
+    for wanted in [Progress::Running, Progress::Done] {
+        let told = host.control_step(device.control(), Fate::Clean);
+        assert!(rt; told == Ok(wanted));
+    }
+    for wanted in [Some(0), Some(1), None] {
+        assert_eq!(rt; polled(&rt, &mut host, &mut device)?, wanted);
+    }
+    Ok(())
+}
