@@ -207,10 +207,10 @@ abbrev pub KeepsRound : CoreState → List ℕ → Type 0
 KeepsRound core bytes = IfSome core.current (λ r. bytes ≡ part_bytes core.layout r core.standing.fixed)
 
 -- the same, with what its pipe has armed, the bytes of its round, and with room for the parts that are asked for
-pub record IsCore (core : CoreState) (armed : Option (List ℕ)) (round : List ℕ) (parts : List Cell) : Type 0 where
+pub record IsCore (core : CoreState) (sent : Option (List ℕ)) (bytes : List ℕ) (parts : List Cell) : Type 0 where
   pub sound : IsSound core
-  pub armed : armed ≡ armed_of core
-  pub round : KeepsRound core round
+  pub armed : sent ≡ armed_of core
+  pub round : KeepsRound core bytes
   pub room : FitsShown (items_of core.layout) parts
 
 -- which piece of the open round goes out, from 0
