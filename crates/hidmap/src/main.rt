@@ -43,6 +43,9 @@ const WRONG_USAGE: u8 = 2;
 /// A file, standard output or memory failed.
 const OUTSIDE: u8 = 3;
 
+/// What is told where memory is wanting.
+const WANTING: &str = "memory was wanting";
+
 /// The longest input: a descriptor of 4,096 bytes takes 12,300 in an R: line, and what lies behind it is of no use.
 const LONGEST: usize = 1 << 24;
 
@@ -79,14 +82,26 @@ fn tell_words(rt: &HostRuntime, error: &clap::Error) -> u8 {
     }
 }
 
+/// What went wrong outside: `hidmap` and words, on standard error.
+fn tell_outside(rt: &HostRuntime, words: &str) -> u8 {
+    let _ = eprintln!(rt; "hidmap: {words}");
+    OUTSIDE
+}
+
+/// The bytes of a reader, up to one more than are taken.
+fn read_some<R: Read + Drop>(rt: &HostRuntime, reader: R) -> io::Result<Vec<u8>> {
+    let mut bytes = Vec::new(rt.alloc());
+    reader.take(LONGEST as u64 + 1).read_to_end(&mut bytes)?;
+    Ok(bytes)
+}
+
 /// The bytes of a file, or of standard input where the name is `-`.
 fn read_named(rt: &HostRuntime, name: &str) -> io::Result<Vec<u8>> {
-    if name != "-" {
-        return fs::read(rt, name);
+    if name == "-" {
+        read_some(rt, rt.stdin())
+    } else {
+        read_some(rt, fs::open(rt, name)?)
     }
-    let mut bytes = Vec::new(rt.alloc());
-    rt.stdin().read_to_end(&mut bytes)?;
-    Ok(bytes)
 }
 
 /// Draws the descriptor of a file, and tells what stands against it.
@@ -102,7 +117,7 @@ fn draw_file(rt: &HostRuntime, asked: &Asked<'_>) -> u8 {
     }
     match descriptor_in(rt.alloc(), bytes.as_slice()) {
         Ok(descriptor) => draw_bytes(rt, asked, descriptor.as_slice()),
-        Err(InputFault::Memory) => OUTSIDE,
+        Err(InputFault::Memory) => tell_outside(rt, WANTING),
         Err(fault) => {
             let _ = eprintln!(rt; "hidmap: {name}: {fault}");
             REFUSED
@@ -116,13 +131,19 @@ fn draw_bytes(rt: &HostRuntime, asked: &Asked<'_>, descriptor: &[u8]) -> u8 {
         return REFUSED;
     }
     match Layout::parse(rt.alloc(), descriptor) {
-        Ok(layout) => draw_layout(rt, &layout, descriptor, asked.form),
+        Ok(layout) => {
+            if layout.reports().is_empty() {
+                let name = asked.file;
+                let _ = eprintln!(rt; "hidmap: {name}: no reports");
+            }
+            draw_layout(rt, &layout, descriptor, asked.form)
+        }
         Err(
             LayoutFault {
                 cause: Cause::Memory,
                 ..
             },
-        ) => OUTSIDE,
+        ) => tell_outside(rt, WANTING),
         Err(fault) => {
             let name = asked.file;
             let words = layout_words(fault.cause);
@@ -143,7 +164,7 @@ fn draw_layout(rt: &HostRuntime, layout: &Layout, descriptor: &[u8], form: Form)
             let _ = eprintln!(rt; "hidmap: there is no such report: of {count}, the first is 0");
             WRONG_USAGE
         }
-        Err(_) => OUTSIDE,
+        Err(_) => tell_outside(rt, WANTING),
     }
 }
 
@@ -155,7 +176,7 @@ fn draw_fault(rt: &HostRuntime, descriptor: &[u8], fault: LayoutFault, form: For
         Form::Svg(_) | Form::Characters => REFUSED,
         Form::Page => match draw_refused(rt.alloc(), descriptor, fault) {
             Ok(text) => write_out(rt, &text, REFUSED),
-            Err(_) => OUTSIDE,
+            Err(_) => tell_outside(rt, WANTING),
         },
     }
 }
@@ -164,6 +185,6 @@ fn draw_fault(rt: &HostRuntime, descriptor: &[u8], fault: LayoutFault, form: For
 fn write_out(rt: &HostRuntime, text: &String, status: u8) -> u8 {
     match rt.stdout().write_all(text.as_bytes()) {
         Ok(()) => status,
-        Err(_) => OUTSIDE,
+        Err(_) => tell_outside(rt, "standard output can't be written"),
     }
 }

@@ -56,7 +56,7 @@ fn words_of(alloc: Global, line: &str) -> Result<Vec<String>, AllocError> {
 
 /// Command lines with what they ask for and of which file, or nothing where they are wrong.
 #[rattlefmt::skip]
-const WORDS: [(&str, Option<(Form, &str)>); 7] = [
+const WORDS: [(&str, Option<(Form, &str)>); 8] = [
     ("hidmap",              Some((Form::Page, "-"))),
     ("hidmap a.hid",        Some((Form::Page, "a.hid"))),
     ("hidmap --text",       Some((Form::Characters, "-"))),
@@ -64,6 +64,7 @@ const WORDS: [(&str, Option<(Form, &str)>); 7] = [
     ("hidmap --svg x a",    None),
     ("hidmap --svg",        None),
     ("hidmap a b",          None),
+    ("hidmap --svg 0 --text", None),
 ];
 
 #[test]
