@@ -20,7 +20,7 @@ mod makers;
 mod pieces;
 mod words;
 
-pub use frames::{Drawn, Frame, deepest, main_at, round_below};
+pub use frames::{Drawn, Frame, deepest, main_at, round_at};
 pub use items::{place_of, prefix_of, read_items};
 pub use label::UsageLabel;
 pub use listed::{first_bit, item_at, report_at};

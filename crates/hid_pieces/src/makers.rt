@@ -2,7 +2,7 @@
 //! items.
 
 ghost use Rattle.std.specs.Prelude.{◌≡◌, ◌==◌, ◌&&◌, ◌+◌, ◌-◌, ◌<◌, ◌≤◌, ◌^◌, length, IfOk};
-ghost use Rattle.hid_descriptor.specs.Items.{is, is_main, is_field, PUSH, POP};
+ghost use Rattle.hid_descriptor.specs.Items.{is, is_main, is_field, PUSH, POP, COLLECTION, END_COLLECTION};
 ghost use Rattle.hid_descriptor.specs.Matching.{waiting_after};
 ghost use Rattle.hid_pieces.specs.Makers.{is_global, is_local, global_place, locals_start, closed_at, lies_in, is_at, makes, is_positive_at, is_listed, listed_below};
 
@@ -74,6 +74,22 @@ fn pops_after(waiting: usize, spelled: &[u8]) -> usize
     waiting_after(PUSH, POP, waiting, spelled)
 }
 
+/// How many collections are open behind an item.
+pub fn collections_after(count: usize, spelled: &[u8]) -> usize
+    requires { count < 2 ^ 64 - 1 }
+    ensures value { result ≡ waiting_after END_COLLECTION COLLECTION count spelled.now }
+    ensures bound { result ≤ count + 1 }
+{
+    waiting_after(END_COLLECTION, COLLECTION, count, spelled)
+}
+
+/// Whether an item is an End Collection.
+pub fn ends_collection(spelled: &[u8]) -> bool
+    ensures { result ≡ is END_COLLECTION spelled.now }
+{
+    prefix_of(spelled) == END_COLLECTION
+}
+
 /// Whether an item has the prefix, where nothing waits.
 fn is_sought(prefix: u8, waiting: usize, spelled: &[u8]) -> bool
     ensures { result ≡ (waiting == 0) && is prefix spelled.now }
@@ -121,7 +137,7 @@ fn closed_at(rest: &[Item], place: usize) -> usize
         if is_sought(END_COLLECTION, waiting, item.bytes) {
             return at;
         }
-        waiting = waiting_after(END_COLLECTION, COLLECTION, waiting, item.bytes);
+        waiting = collections_after(waiting, item.bytes);
         at += 1;
     }
     at

@@ -13,7 +13,7 @@
 #![tactic(auto)]
 
 ghost use Rattle.std.specs.Prelude.{◌≤◌, length};
-ghost use Rattle.hidmap.specs.declared.TheConstants.{LONGEST};
+ghost use Rattle.hidmap.specs.declared.TheConstants.{MOST};
 
 mod input;
 #[cfg(test)]
@@ -21,7 +21,7 @@ mod tests;
 mod words;
 
 use clap::error::ErrorKind;
-use hid_layout::{Cause, Layout, LayoutFault};
+use hid_layout::{Cause, Layout, LayoutFault, MAX_DESCRIPTOR};
 use hid_notation::layout_words;
 use hid_page::{Form, draw, draw_refused};
 use input::{InputFault, descriptor_in};
@@ -46,13 +46,21 @@ const OUTSIDE: u8 = 3;
 /// What is told where memory is wanting.
 const WANTING: &str = "memory was wanting";
 
+/// What is told where standard output doesn't take all.
+const UNWRITTEN: &str = "standard output can't be written";
+
 /// The longest input: a descriptor of 4,096 bytes takes 12,300 in an R: line, and what lies behind it is of no use.
 const LONGEST: usize = 1 << 24;
 
+/// So many bytes of a descriptor are looked at. One that is longer is refused at byte 4,096, and the item that begins there
+/// has 258 at most.
+const MOST: usize = MAX_DESCRIPTOR + 258;
+
 fn main(rt: HostRuntime) -> ExitCode {
     let alloc = rt.alloc();
-    let Ok(args) = env::args(&rt) else {
-        return ExitCode::from(OUTSIDE);
+    let args = match env::args(&rt) {
+        Ok(args) => args,
+        Err(error) => return ExitCode::from(tell_no_words(&rt, error.kind())),
     };
     let words: Result<Vec<String>, _> = args.collect(alloc);
     let Ok(words) = words else {
@@ -64,6 +72,16 @@ fn main(rt: HostRuntime) -> ExitCode {
     }
 }
 
+/// Why the words of the command line can't be read: memory, or one isn't UTF-8.
+fn tell_no_words(rt: &HostRuntime, kind: io::ErrorKind) -> u8 {
+    if kind == io::ErrorKind::InvalidData {
+        let _ = eprintln!(rt; "hidmap: a word of the command line isn't UTF-8");
+        WRONG_USAGE
+    } else {
+        OUTSIDE
+    }
+}
+
 /// Help and version go to standard output, and what is wrong with the words to standard error.
 fn tell_words(rt: &HostRuntime, error: &clap::Error) -> u8 {
     match error.kind() {
@@ -71,7 +89,7 @@ fn tell_words(rt: &HostRuntime, error: &clap::Error) -> u8 {
             if print!(rt; "{error}").is_ok() {
                 FINE
             } else {
-                OUTSIDE
+                tell_outside(rt, UNWRITTEN)
             }
         }
         ErrorKind::OutOfMemory => OUTSIDE,
@@ -85,6 +103,15 @@ fn tell_words(rt: &HostRuntime, error: &clap::Error) -> u8 {
 /// What went wrong outside: `hidmap` and words, on standard error.
 fn tell_outside(rt: &HostRuntime, words: &str) -> u8 {
     let _ = eprintln!(rt; "hidmap: {words}");
+    OUTSIDE
+}
+
+/// Why a file can't be read.
+fn tell_unread(rt: &HostRuntime, name: &str, error: &io::Error) -> u8 {
+    if error.kind() == io::ErrorKind::OutOfMemory {
+        return tell_outside(rt, WANTING);
+    }
+    let _ = eprintln!(rt; "hidmap: {name}: it can't be read: {error}");
     OUTSIDE
 }
 
@@ -107,9 +134,9 @@ fn read_named(rt: &HostRuntime, name: &str) -> io::Result<Vec<u8>> {
 /// Draws the descriptor of a file, and tells what stands against it.
 fn draw_file(rt: &HostRuntime, asked: &Asked<'_>) -> u8 {
     let name = asked.file;
-    let Ok(bytes) = read_named(rt, name) else {
-        let _ = eprintln!(rt; "hidmap: {name}: it can't be read");
-        return OUTSIDE;
+    let bytes = match read_named(rt, name) {
+        Ok(bytes) => bytes,
+        Err(error) => return tell_unread(rt, name, &error),
     };
     if bytes.len() > LONGEST {
         let _ = eprintln!(rt; "hidmap: {name}: over {LONGEST} bytes");
@@ -127,9 +154,7 @@ fn draw_file(rt: &HostRuntime, asked: &Asked<'_>) -> u8 {
 
 /// Draws a descriptor, or what it is refused for.
 fn draw_bytes(rt: &HostRuntime, asked: &Asked<'_>, descriptor: &[u8]) -> u8 {
-    if descriptor.len() > LONGEST {
-        return REFUSED;
-    }
+    let descriptor = &descriptor[..descriptor.len().min(MOST)];
     match Layout::parse(rt.alloc(), descriptor) {
         Ok(layout) => {
             if layout.reports().is_empty() {
@@ -155,7 +180,7 @@ fn draw_bytes(rt: &HostRuntime, asked: &Asked<'_>, descriptor: &[u8]) -> u8 {
 
 /// Writes what is drawn of a layout.
 fn draw_layout(rt: &HostRuntime, layout: &Layout, descriptor: &[u8], form: Form) -> u8
-    requires { length descriptor.now ≤ LONGEST }
+    requires { length descriptor.now ≤ MOST }
 {
     match draw(rt.alloc(), layout, descriptor, form) {
         Ok(Some(text)) => write_out(rt, &text, FINE),
@@ -170,7 +195,7 @@ fn draw_layout(rt: &HostRuntime, layout: &Layout, descriptor: &[u8], form: Form)
 
 /// Writes the page of a refusal, where a page is asked for.
 fn draw_fault(rt: &HostRuntime, descriptor: &[u8], fault: LayoutFault, form: Form) -> u8
-    requires { length descriptor.now ≤ LONGEST }
+    requires { length descriptor.now ≤ MOST }
 {
     match form {
         Form::Svg(_) | Form::Characters => REFUSED,
@@ -185,6 +210,6 @@ fn draw_fault(rt: &HostRuntime, descriptor: &[u8], fault: LayoutFault, form: For
 fn write_out(rt: &HostRuntime, text: &String, status: u8) -> u8 {
     match rt.stdout().write_all(text.as_bytes()) {
         Ok(()) => status,
-        Err(_) => tell_outside(rt, "standard output can't be written"),
+        Err(_) => tell_outside(rt, UNWRITTEN),
     }
 }
