@@ -186,7 +186,9 @@ fn draw_layout(rt: &HostRuntime, layout: &Layout, descriptor: &[u8], form: Form)
         Ok(Some(text)) => write_out(rt, &text, FINE),
         Ok(None) => {
             let count = layout.reports().len();
-            let _ = eprintln!(rt; "hidmap: there is no such report: of {count}, the first is 0");
+            if count > 0 {
+                let _ = eprintln!(rt; "hidmap: there is no such report: of {count}, the first is 0");
+            }
             WRONG_USAGE
         }
         Err(_) => tell_outside(rt, WANTING),
