@@ -4,8 +4,8 @@ ghost use Rattle.std.specs.Prelude.{◌≡◌, ◌+◌, ◌++◌, ◌<◌, ◌�
 ghost use Rattle.hid_pieces.specs.Pieces.{LiesIn};
 ghost use Rattle.hid_pieces.specs.Frames.{first_byte, last_byte, main_at, reaching, frame_with, frame_below, open_below, round_at, frame_at, frames_of, deepest};
 
-use crate::listed::{first_bit, item_at};
 use crate::items::spelled_at;
+use crate::listed::{first_bit, item_at};
 use crate::makers::{collections_after, ends_collection, lies_in};
 use hid_items::Item;
 use hid_layout::{Layout, MainItem};
