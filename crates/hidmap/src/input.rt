@@ -158,7 +158,7 @@ fn before_brace(text: &[u8]) -> &[u8] {
     }
 }
 
-/// What stands between the first braces with an element; the whole text where no braces have one.
+/// What stands between the first braces with an element; where none have one, the text up to a closing brace.
 fn between_braces(text: &[u8]) -> &[u8] {
     let mut parts = text.split(|byte| *byte == b'{');
     let _front = parts.next();
@@ -167,7 +167,7 @@ fn between_braces(text: &[u8]) -> &[u8] {
             return before_brace(part);
         }
     }
-    text
+    before_brace(text)
 }
 
 /// Where a byte of C stands.

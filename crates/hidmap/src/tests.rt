@@ -8,7 +8,7 @@ use std::test::Fail;
 
 /// Bytes of a file, and the descriptor in them.
 #[rattlefmt::skip]
-const FILES: [(&str, &[u8], Result<&[u8], InputFault>); 32] = [
+const FILES: [(&str, &[u8], Result<&[u8], InputFault>); 33] = [
     ("binary",                         b"\x05\x01\x09\x02",              Ok(b"\x05\x01\x09\x02")),
     ("binary that ends in a line feed", b"\x09\x0A",                     Ok(b"\x09\x0A")),
     ("hex digits",                     b"0501 09 02\n",                  Ok(b"\x05\x01\x09\x02")),
@@ -30,6 +30,7 @@ const FILES: [(&str, &[u8], Result<&[u8], InputFault>); 32] = [
     ("elements of C",                  b"0x05, 0x1,\n0xA1,0X02",         Ok(b"\x05\x01\xA1\x02")),
     ("an array of C",                  b"u8 d[2] = { // {0x07}\n 0x05, /* 9 */ 0x01 };", Ok(b"\x05\x01")),
     ("an array among other braces",    b"#define N 0x02\nstruct s { int a; };\nu8 d[N] = { 0x05, 0x01 };\nint f() { return 0x1; }\n", Ok(b"\x05\x01")),
+    ("its end alone",                  b"0x05, 0x01 };\n",               Ok(b"\x05\x01")),
     ("one below a heading",            b"// HID REPORT DESCRIPTOR\nu8 d[] = { 0xC0 };\n", Ok(b"\xC0")),
     ("an element of one digit too many", b"0x05, 0x012",                 Err(InputFault::BadArray)),
     ("an element in decimal",          b"0x05, 1",                       Err(InputFault::BadArray)),
