@@ -121,13 +121,14 @@ PICTURED := $(shell grep -l '^N:' examples/recordings/*.hid) $(wildcard examples
 
 # Holds what examples are to print of layouts and reports against a second reader, and each page against the same
 # reader and a browser, manual pages and completion against what the programs say, runs each example on its proved program,
-# and some scripts on a full device.
+# some scripts on a full device, and hidmap where what is around it fails.
 examples: $(HIDRUN) $(HIDPLAY) $(HIDMAP)
 	tools/second-reader examples/*/*.script
 	tools/check-recordings examples/*/*.hid
 	tools/check-pictures $(HIDMAP) $(PICTURED)
 	tools/check-manual $(HIDRUN) $(HIDPLAY) $(HIDMAP)
 	tools/check-full-device $(HIDRUN)
+	tools/check-failures $(HIDMAP)
 	tools/check-examples $(HIDRUN) $(HIDPLAY) $(HIDMAP)
 
 # Looks whether each file, function, clause, definition and wrong body that documents cite is there, and then whether it

@@ -9,7 +9,7 @@ use Rattle.hid_items.specs.declared.spelling.Item.{Item}
 use Rattle.hid_notation.specs.Text.{hex_text, bytes_text, joined_below}
 use Rattle.hid_page.specs.declared.item_table.TheConstants.{ITEM_NAMES, ITEMS_HEAD, TABLE_END}
 use Rattle.hid_picture.specs.Escape.{escaped}
-use Rattle.hid_pieces.specs.Frames.{round_below}
+use Rattle.hid_pieces.specs.Frames.{round_at}
 use Rattle.hid_pieces.specs.Items.{spelled_at}
 use Rattle.hid_pieces.specs.Label.{usage_label}
 use Rattle.hid_pieces.specs.Makers.{global_place}
@@ -93,7 +93,7 @@ item_head at =
 -- an item is indented by the collections round it
 unfoldable pub item_words : List Item → ℕ → Spelled → List ℕ
 item_words items k item =
-    joined_below (round_below items k k) (λ i. codes "&emsp;") ++ item_name (prefix_of item)
+    joined_below (round_at items k) (λ i. codes "&emsp;") ++ item_name (prefix_of item)
     ++ data_text (page_at items k) item
 
 -- the row of an item: its place, its bytes, and what it is

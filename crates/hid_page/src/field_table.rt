@@ -1,6 +1,7 @@
 //! The fields of a report as a table, and the rules by which a field marks the items that made it.
 
 ghost use Rattle.std.specs.Prelude.{◌≡◌, ◌++◌, ◌<◌, ◌≤◌, length, slice_get, Some, OnOk, string_bytes};
+ghost use Rattle.hid_pieces.specs.Makers.{in_force};
 ghost use Rattle.hid_pieces.specs.Pieces.{LiesIn};
 ghost use Rattle.hid_picture.specs.Escape.{escaped};
 ghost use Rattle.hid_pieces.specs.Words.{entry_text, collection_text};
@@ -11,7 +12,7 @@ use hid_items::Item;
 use hid_layout::{Collection, Layout, MainItem, Shape, Usage};
 use hid_picture::push_escaped;
 use hid_pieces::{
-    first_bit, item_at, main_at, makes, place_of, print_collection, print_count, print_entry,
+    InForce, first_bit, in_force, item_at, main_at, makes, place_of, print_collection, print_count, print_entry,
     print_flags,
 };
 use std::alloc::{AllocError, Global};
@@ -38,10 +39,17 @@ fn print_mark_head(text: &mut String, i: usize) -> Result<(), AllocError>
 }
 
 /// Adds the row of an item, where it made fields of the main item m.
-fn print_mark(text: &mut String, items: &[Item], m: usize, k: usize) -> Result<(), AllocError>
+fn print_mark(
+    text: &mut String,
+    items: &[Item],
+    found: &InForce,
+    m: usize,
+    k: usize,
+) -> Result<(), AllocError>
+    requires { found.now ≡ in_force items.now m }
     ensures { OnOk result (string_bytes text.new ≡ string_bytes text.old ++ mark_at items.now m k) }
 {
-    if !makes(items, m, k) {
+    if !makes(items, found, m, k) {
         return Ok(());
     }
     let at = place_of(items, k);
@@ -53,8 +61,9 @@ fn print_mark(text: &mut String, items: &[Item], m: usize, k: usize) -> Result<(
 fn print_marks(text: &mut String, items: &[Item], m: usize) -> Result<(), AllocError>
     ensures { OnOk result (string_bytes text.new ≡ string_bytes text.old ++ marks_of items.now m) }
 {
+    let found = in_force(items, m);
     for k in 0..items.len() {
-        print_mark(text, items, m, k)?;
+        print_mark(text, items, &found, m, k)?;
     }
     Ok(())
 }
@@ -229,10 +238,17 @@ fn print_item_link(text: &mut String, at: usize) -> Result<(), AllocError>
 }
 
 /// Adds a link to an item, where it made fields of the main item m.
-fn print_link(text: &mut String, items: &[Item], m: usize, k: usize) -> Result<(), AllocError>
+fn print_link(
+    text: &mut String,
+    items: &[Item],
+    found: &InForce,
+    m: usize,
+    k: usize,
+) -> Result<(), AllocError>
+    requires { found.now ≡ in_force items.now m }
     ensures { OnOk result (string_bytes text.new ≡ string_bytes text.old ++ link_at items.now m k) }
 {
-    if !makes(items, m, k) {
+    if !makes(items, found, m, k) {
         return Ok(());
     }
     print_item_link(text, place_of(items, k))
@@ -244,8 +260,9 @@ fn print_links_cell(text: &mut String, items: &[Item], m: usize) -> Result<(), A
     ensures { OnOk result (string_bytes text.new
         ≡ string_bytes text.old ++ links_cell items.now m) }
 {
+    let found = in_force(items, m);
     for k in 0..items.len() {
-        print_link(text, items, m, k)?;
+        print_link(text, items, &found, m, k)?;
     }
     Ok(())
 }

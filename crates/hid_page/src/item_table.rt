@@ -13,7 +13,7 @@ use hid_notation::{HexText, print_bytes};
 use hid_picture::push_escaped;
 use hid_pieces::{
     COLLECTION, UsageLabel, collection_name, global_place, is_field, is_main, prefix_of,
-    print_flags, round_below,
+    print_flags, round_at,
 };
 use std::alloc::{AllocError, Global};
 
@@ -258,7 +258,7 @@ fn print_item_words(
     ensures { OnOk result (string_bytes text.new
         ≡ string_bytes text.old ++ item_words items.now k item.now.bytes.now) }
 {
-    print_indentation(text, round_below(items, k))?;
+    print_indentation(text, round_at(items, k))?;
     text.push_str(item_name(prefix_of(item.bytes)))?;
     print_data(alloc, text, page_at(items, k), item)
 }

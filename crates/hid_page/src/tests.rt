@@ -3,7 +3,7 @@
 use crate::{Form, draw, draw_refused};
 use hid_layout::boot::MOUSE;
 use hid_layout::{Layout, LayoutFault};
-use std::alloc::Global;
+use std::alloc::{AllocError, Global};
 use std::test::Fail;
 
 /// Usages and sizes at their ends: FFFF:FFFF in 32 bits, from the least number to the greatest, and every flag; then the
@@ -27,7 +27,7 @@ fn drawn(alloc: Global, descriptor: &[u8], form: Form) -> Result<String, Fail> {
 /// A descriptor, a form, and what stands in the drawing. The mouse has two collections, so its bits begin 52 + 2 * 6 from the
 /// left; a bit has 112, a byte 48, the first one begins at 34.
 #[rattlefmt::skip]
-const HOLDS: [(&[u8], Form, &str); 20] = [
+const HOLDS: [(&[u8], Form, &str); 21] = [
     (&MOUSE, Form::Svg(0),      "<a class='k0 f0' href='#f0'><svg x='848' y='34' width='112' height='36'>"),
     (&MOUSE, Form::Svg(0),      "<a class='p f1' href='#f1'><svg x='64' y='34' width='560' height='36'>"),
     (&MOUSE, Form::Svg(0),      "<a class='k2 f2' href='#f2'><svg x='64' y='130' width='896' height='36'>"),
@@ -37,6 +37,7 @@ const HOLDS: [(&[u8], Form, &str); 20] = [
     (&MOUSE, Form::Page,        "<a href='#at24'>24</a> </td></tr>"),
     (&MOUSE, Form::Page,        "body:has(.f0:hover,.f0:focus,#f0:target) :is(#f0,#at4,#at8,#at10,#at12,#at14,#at16,#at18,#at20,#at22,#at24){"),
     (&MOUSE, Form::Page,        "&emsp;&emsp;Usage Maximum Button 3</td>"),
+    (&MOUSE, Form::Page,        " C0</code></td><td>End Collection</td></tr>"),
     (&MOUSE, Form::Characters,  " 0 │padding                                          │Button 3 │Button 2 │Button 1 │││\n"),
     (&EXTREMES, Form::Page,     "FFFF:FFFF (Vendor-defined)"),
     (&EXTREMES, Form::Page,     "<td>-2147483648 to 2147483647, signed</td>"),
@@ -70,26 +71,38 @@ fn names_end_no_tag(rt: HostRuntime) -> Result<(), Fail> {
     Ok(())
 }
 
-/// In characters no line has over 100 columns, not even under 16 collections.
-#[test]
-fn lines_fit_a_terminal(rt: HostRuntime) -> Result<(), Fail> {
-    let mut deep = Vec::new(rt.alloc());
+/// A byte that is too far in front, so that what is behind it is told in two digits; then 16 collections with the longest
+/// name and kind, and a field with the longest words of flags and the longest range of names.
+fn deepest(alloc: Global) -> Result<Vec<u8>, AllocError> {
+    let mut deep = Vec::from_slice(alloc, &[0x75, 0x08, 0x95, 0x20, 0x81, 0x03])?;
     for _ in 0..16 {
-        deep.extend_from_slice(&[0xA1, 0x00])?;
+        deep.extend_from_slice(&[0x05, 0x82, 0x09, 0x40, 0xA1, 0x80])?;
     }
-    deep.extend_from_slice(&[
-        0x05, 0x09, 0x09, 0x01, 0x25, 0x01, 0x75, 0x01, 0x95, 0x01, 0x81, 0x02,
-    ])?;
+    deep.extend_from_slice(&[0x1A, 0x40, 0x00, 0x2A, 0xA4, 0x00, 0x25, 0x01, 0x82, 0xFE, 0x01])?;
     for _ in 0..16 {
         deep.push(0xC0)?;
     }
-    for descriptor in [deep.as_slice(), &EXTREMES] {
-        let text = drawn(rt.alloc(), descriptor, Form::Characters)?;
-        for line in text.as_str().lines() {
-            assert!(rt; line.chars().count() <= 100, "{line}");
-        }
-    }
+    Ok(deep)
+}
+
+/// In characters no line has over 100 columns, and one of a picture under 16 collections has as many.
+#[test]
+fn lines_fit_a_terminal(rt: HostRuntime) -> Result<(), Fail> {
+    let deep = deepest(rt.alloc())?;
+    let text = drawn(rt.alloc(), deep.as_slice(), Form::Characters)?;
+    assert_eq!(rt; widest(text.as_str()), 100);
+    let text = drawn(rt.alloc(), &EXTREMES, Form::Characters)?;
+    assert!(rt; widest(text.as_str()) <= 100);
     Ok(())
+}
+
+/// The columns of the longest line.
+fn widest(text: &str) -> usize {
+    let mut columns = 0;
+    for line in text.lines() {
+        columns = columns.max(line.chars().count());
+    }
+    columns
 }
 
 #[test]

@@ -46,7 +46,7 @@ field_class item (Some main) =
 
 -- the class of a part
 unfoldable pub part_class : Contents → Part → List ℕ
-part_class layout ReportId = codes " class='p'"
+part_class layout ReportId = codes " class='i'"
 part_class layout Filler = codes " class='p'"
 part_class layout (Field item element) = field_class item (slice_get layout.items item)
 

@@ -1,5 +1,5 @@
 -- The picture of a report in characters: a row for each byte, ten columns for each bit (our choice: docs/PICTURES.md).
-use Rattle.std.specs.Prelude.{ℕ, ◌-◌, ◌*◌, Bool, true, false, ◌==◌, ◌&&◌, ◌||◌, nat_le, nat_lt, List, [], ◌∷◌, ◌++◌, length, slice_get, unwrap_or, if◌then◌else◌, Option, None, Some, codes}
+use Rattle.std.specs.Prelude.{ℕ, ◌-◌, ◌*◌, min, Bool, true, false, ◌==◌, ◌&&◌, ◌||◌, nat_le, nat_lt, List, [], ◌∷◌, ◌++◌, length, slice_get, unwrap_or, if◌then◌else◌, Option, None, Some, codes}
 use Rattle.std.specs.List.{flat_map, list_any}
 use Rattle.std.specs.Fmt.{decimal}
 use Rattle.hid_descriptor.specs.Usages.{Entry}
@@ -11,6 +11,7 @@ use Rattle.hid_notation.specs.Text.{joined_below}
 use Rattle.hid_pieces.specs.declared.frames.Frame.{Frame}
 use Rattle.hid_pieces.specs.declared.pieces.Piece.{Piece}
 use Rattle.hid_picture.specs.declared.glyphs.TheConstants as glyphs
+use Rattle.hid_picture.specs.declared.terminal.TheConstants.{MOST_STEPS}
 use Rattle.hid_picture.specs.Escape.{printed}
 use Rattle.hid_pieces.specs.Frames.{deepest}
 use Rattle.hid_picture.specs.Lines.{byte_at, columns_of, line_of, row_lines}
@@ -127,10 +128,10 @@ row_text layout r frames pieces byte =
     line_above byte frames pieces
     ++ joined_below (row_lines layout r false byte pieces) (row_line layout r byte frames pieces)
 
--- a frame by its name and its bytes, indented by its level
+-- a frame by its name and its bytes, indented by its level as far as the columns have room for it
 unfoldable pub frame_line : Contents → Frame → List ℕ
 frame_line layout frame =
-    joined_below (frame.level - 1) (λ i. codes "  ") ++ frame_name layout frame ++ codes ": bytes " ++ decimal frame.first
+    joined_below (min (frame.level - 1) MOST_STEPS) (λ i. codes "  ") ++ frame_name layout frame ++ codes ": bytes " ++ decimal frame.first
     ++ codes " to " ++ decimal frame.last ++ 10 ∷ []
 
 -- the usages of a field, a line each

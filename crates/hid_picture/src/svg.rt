@@ -70,14 +70,15 @@ fn print_field_class(text: &mut String, item: usize, main: &MainItem) -> Result<
     write!(text, " f{item}' href='#f{item}'")
 }
 
-/// Adds the class of a part.
+/// Adds the class of a part. The edge of a Report ID is solid, as that of a field.
 #[tactic(auto, unfolding(crate::specs::Svg::part_class))]
 fn print_part_class(text: &mut String, layout: &Layout, part: Part) -> Result<(), AllocError>
     ensures { OnOk result (string_bytes text.new
         ≡ string_bytes text.old ++ part_class layout.now part) }
 {
     match part {
-        Part::ReportId | Part::Filler => text.push_str(" class='p'"),
+        Part::ReportId => text.push_str(" class='i'"),
+        Part::Filler => text.push_str(" class='p'"),
         Part::Field { item, .. } => {
             if item >= layout.items().len() {
                 return Ok(());

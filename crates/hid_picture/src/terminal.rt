@@ -1,7 +1,8 @@
 //! The picture of a report in characters: a row for each byte, ten columns for each bit.
 
-ghost use Rattle.std.specs.Prelude.{◌≡◌, ◌++◌, ◌-◌, ◌<◌, codes, length, slice_get, unwrap_or, Some, OnOk, string_bytes};
+ghost use Rattle.std.specs.Prelude.{◌≡◌, ◌++◌, ◌-◌, ◌<◌, min, codes, length, slice_get, unwrap_or, Some, OnOk, string_bytes};
 ghost use Rattle.hid_notation.specs.Text.{joined_below};
+ghost use Rattle.hid_picture.specs.declared.terminal.TheConstants.{MOST_STEPS};
 ghost use Rattle.hid_picture.specs.Terminal.{fitted, is_edge, is_edge_above, end_corner, corner, corner_at, edge_line, is_held, is_held_on, bracket, bracket_at, brackets, side_at, sides, cell_line, byte_cell, cells_line, line_number, row_line, line_above, row_number, row_text, frame_line, frame_lines, usage_lines, item_lines, field_lines, fields_text, terminal_head, rows_text, terminal_of, terminal_at};
 
 use crate::escape::push_printed;
@@ -17,6 +18,9 @@ use hid_pieces::{
     print_part_details, print_piece_name, print_report_name, report_at,
 };
 use std::alloc::{AllocError, Global};
+
+/// The name of a frame is indented by so many steps at most: the longest one then has a hundred columns.
+pub const MOST_STEPS: usize = 14;
 
 /// Adds so many columns of words: what has room, and spaces.
 #[tactic(auto, unfolding(crate::specs::Terminal::fitted))]
@@ -359,9 +363,9 @@ fn print_row(
 /// Adds the indentation of a level.
 fn print_indentation(text: &mut String, level: usize) -> Result<(), AllocError>
     ensures { OnOk result (string_bytes text.new
-        ≡ string_bytes text.old ++ joined_below (level - 1) (λ i. codes "  ")) }
+        ≡ string_bytes text.old ++ joined_below (min (level - 1) MOST_STEPS) (λ i. codes "  ")) }
 {
-    for _i in 0..level.saturating_sub(1) {
+    for _i in 0..level.saturating_sub(1).min(MOST_STEPS) {
         text.push_str("  ")?;
     }
     Ok(())

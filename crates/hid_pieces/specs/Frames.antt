@@ -1,9 +1,12 @@
 -- The collections of a report, and the bytes that they take (HID 1.11, 6.2.2.6).
 use Rattle.std.specs.Prelude.{ℕ, zero, suc, ◌+◌, ◌-◌, ◌*◌, ◌/◌, max, ◌==◌, ◌&&◌, List, [], ◌∷◌, ◌++◌, length, slice_get, unwrap_or, Option, None, Some, if◌then◌else◌}
 use Rattle.hid_items.specs.declared.spelling.Item.{Item}
+use Rattle.hid_descriptor.specs.Items.{is, COLLECTION, END_COLLECTION}
+use Rattle.hid_descriptor.specs.Matching.{waiting_after}
 use Rattle.hid_layout.specs.declared.main_item.MainItem.{MainItem}
 use Rattle.hid_layout.specs.Layout.{Contents}
 use Rattle.hid_layout.specs.Reports.{first_bit}
+use Rattle.hid_pieces.specs.Items.{spelled_at}
 use Rattle.hid_pieces.specs.declared.frames.Frame.{Frame}
 use Rattle.hid_pieces.specs.Makers.{lies_in}
 
@@ -37,15 +40,19 @@ frame_below layout items mains r c zero = None
 frame_below layout items mains r c (suc i) =
     frame_with layout items mains r c i (frame_below layout items mains r c i) (slice_get layout.items i)
 
--- how many of the first items are collections round a place
-abbrev pub round_below : List Item → ℕ → ℕ → ℕ
-round_below items c zero = 0
-round_below items c (suc k) = round_below items c k + (if lies_in items k c then 1 else 0)
+-- how many collections are open behind the first items
+abbrev pub open_below : List Item → ℕ → ℕ
+open_below items zero = 0
+open_below items (suc k) = waiting_after END_COLLECTION COLLECTION (open_below items k) (spelled_at items k)
+
+-- how many collections are round a place: those open there, but for the one that ends there
+abbrev pub round_at : List Item → ℕ → ℕ
+round_at items c = open_below items c - (if is END_COLLECTION (spelled_at items c) then 1 else 0)
 
 -- the frame with the number of collections from the outermost one to it
 abbrev pub leveled : List Item → ℕ → Option Frame → List Frame
 leveled items c None = []
-leveled items c (Some frame) = record frame { level = round_below items c c + 1 } ∷ []
+leveled items c (Some frame) = record frame { level = round_at items c + 1 } ∷ []
 
 -- the frame of the collection at a place, where the report has an item in it
 abbrev pub frame_at : Contents → List Item → List ℕ → ℕ → ℕ → List Frame

@@ -6,6 +6,7 @@ use Rattle.hid_items.specs.Spelling.{prefix_of}
 use Rattle.hid_descriptor.specs.Items.{is, is_main, is_field, USAGE_PAGE, LOGICAL_MINIMUM, LOGICAL_MAXIMUM, REPORT_SIZE, REPORT_ID, REPORT_COUNT, PUSH, POP, COLLECTION, END_COLLECTION}
 use Rattle.hid_descriptor.specs.Matching.{waiting_after}
 use Rattle.hid_pieces.specs.Items.{spelled_at, is_positive}
+use Rattle.hid_pieces.specs.declared.makers.InForce.{InForce}
 
 -- the globals that fields are made of
 abbrev pub is_global : ℕ → Bool
@@ -50,6 +51,18 @@ lies_in items c m =
 abbrev pub is_at : Option ℕ → ℕ → Bool
 is_at None k = false
 is_at (Some found) k = found == k
+
+-- what is in force at a place: the items that set the globals there, and where its locals begin
+abbrev pub in_force : List Item → ℕ → InForce
+in_force items m = record {
+  page = global_place items m USAGE_PAGE;
+  min = global_place items m LOGICAL_MINIMUM;
+  max = global_place items m LOGICAL_MAXIMUM;
+  size = global_place items m REPORT_SIZE;
+  id = global_place items m REPORT_ID;
+  count = global_place items m REPORT_COUNT;
+  locals = locals_start items m;
+}
 
 -- the item k made fields of the main item m
 abbrev pub makes : List Item → ℕ → ℕ → Bool

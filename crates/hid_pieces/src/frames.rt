@@ -2,10 +2,11 @@
 
 ghost use Rattle.std.specs.Prelude.{◌≡◌, ◌+◌, ◌++◌, ◌<◌, ◌≤◌, ◌^◌, length, slice_get, Some, IfOk, OnOk};
 ghost use Rattle.hid_pieces.specs.Pieces.{LiesIn};
-ghost use Rattle.hid_pieces.specs.Frames.{first_byte, last_byte, main_at, reaching, frame_with, frame_below, round_below, frame_at, frames_of, deepest};
+ghost use Rattle.hid_pieces.specs.Frames.{first_byte, last_byte, main_at, reaching, frame_with, frame_below, open_below, round_at, frame_at, frames_of, deepest};
 
+use crate::items::spelled_at;
 use crate::listed::{first_bit, item_at};
-use crate::makers::lies_in;
+use crate::makers::{collections_after, ends_collection, lies_in};
 use hid_items::Item;
 use hid_layout::{Layout, MainItem};
 use std::alloc::{AllocError, Global};
@@ -110,7 +111,7 @@ impl Drawn<'_> {
         match self.frame_below(c) {
             None => Ok(()),
             Some(frame) => {
-                let level = round_below(self.items, c) + 1;
+                let level = round_at(self.items, c) + 1;
                 frames.push(Frame { level, ..frame })?;
                 Ok(())
             }
@@ -130,18 +131,29 @@ impl Drawn<'_> {
     }
 }
 
-/// How many collections are open round the place c.
-pub fn round_below(items: &[Item], c: usize) -> usize
-    ensures value { result ≡ round_below items.now c c }
-    ensures few { result ≤ c }
+/// How many collections are open behind the first items.
+fn open_below(items: &[Item], end: usize) -> usize
+    ensures value { result ≡ open_below items.now end }
+    ensures few { result ≤ end }
 {
     let mut count = 0;
-    for k in 0..c {
-        if lies_in(items, k, c) {
-            count += 1;
-        }
+    for k in 0..end {
+        count = collections_after(count, spelled_at(items, k));
     }
     count
+}
+
+/// How many collections are round the place c.
+pub fn round_at(items: &[Item], c: usize) -> usize
+    ensures value { result ≡ round_at items.now c }
+    ensures few { result ≤ c }
+{
+    let count = open_below(items, c);
+    if ends_collection(spelled_at(items, c)) {
+        count.saturating_sub(1)
+    } else {
+        count
+    }
 }
 
 /// How many frames stand in one another.

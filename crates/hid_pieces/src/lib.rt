@@ -20,11 +20,13 @@ mod makers;
 mod pieces;
 mod words;
 
-pub use frames::{Drawn, Frame, deepest, main_at, round_below};
+pub use frames::{Drawn, Frame, deepest, main_at, round_at};
 pub use items::{place_of, prefix_of, read_items};
 pub use label::UsageLabel;
 pub use listed::{first_bit, item_at, report_at};
-pub use makers::{COLLECTION, global_place, is_field, is_main, listed_places, makes};
+pub use makers::{
+    COLLECTION, InForce, global_place, in_force, is_field, is_main, listed_places, makes,
+};
 pub use pieces::{Part, Piece, piece_at, pieces_of};
 pub use words::{
     collection_name, print_collection, print_count, print_entry, print_flags, print_part_details,

@@ -2,9 +2,9 @@
 //! items.
 
 ghost use Rattle.std.specs.Prelude.{◌≡◌, ◌==◌, ◌&&◌, ◌+◌, ◌-◌, ◌<◌, ◌≤◌, ◌^◌, length, IfOk};
-ghost use Rattle.hid_descriptor.specs.Items.{is, is_main, is_field, PUSH, POP};
+ghost use Rattle.hid_descriptor.specs.Items.{is, is_main, is_field, PUSH, POP, COLLECTION, END_COLLECTION};
 ghost use Rattle.hid_descriptor.specs.Matching.{waiting_after};
-ghost use Rattle.hid_pieces.specs.Makers.{is_global, is_local, global_place, locals_start, closed_at, lies_in, is_at, makes, is_positive_at, is_listed, listed_below};
+ghost use Rattle.hid_pieces.specs.Makers.{is_global, is_local, global_place, locals_start, closed_at, lies_in, is_at, in_force, makes, is_positive_at, is_listed, listed_below};
 
 use crate::items::{is_positive, prefix_of, spelled_at};
 use hid_items::Item;
@@ -21,13 +21,6 @@ const END_COLLECTION: u8 = 0xC0;
 const PUSH: u8 = 0xA4;
 
 const POP: u8 = 0xB4;
-
-/// Usage Page, Logical Minimum and Maximum, Report Size, ID and Count.
-fn is_global(prefix: u8) -> bool
-    ensures { result ≡ is_global prefix }
-{
-    matches!(prefix, 0x04 | 0x14 | 0x24 | 0x74 | 0x84 | 0x94)
-}
 
 fn is_local(prefix: u8) -> bool
     ensures { result ≡ is_local prefix }
@@ -72,6 +65,22 @@ fn pops_after(waiting: usize, spelled: &[u8]) -> usize
     ensures bound { result ≤ waiting + 1 }
 {
     waiting_after(PUSH, POP, waiting, spelled)
+}
+
+/// How many collections are open behind an item.
+pub fn collections_after(count: usize, spelled: &[u8]) -> usize
+    requires { count < 2 ^ 64 - 1 }
+    ensures value { result ≡ waiting_after END_COLLECTION COLLECTION count spelled.now }
+    ensures bound { result ≤ count + 1 }
+{
+    waiting_after(END_COLLECTION, COLLECTION, count, spelled)
+}
+
+/// Whether an item is an End Collection.
+pub fn ends_collection(spelled: &[u8]) -> bool
+    ensures { result ≡ is END_COLLECTION spelled.now }
+{
+    prefix_of(spelled) == END_COLLECTION
 }
 
 /// Whether an item has the prefix, where nothing waits.
@@ -121,7 +130,7 @@ fn closed_at(rest: &[Item], place: usize) -> usize
         if is_sought(END_COLLECTION, waiting, item.bytes) {
             return at;
         }
-        waiting = waiting_after(END_COLLECTION, COLLECTION, waiting, item.bytes);
+        waiting = collections_after(waiting, item.bytes);
         at += 1;
     }
     at
@@ -146,14 +155,60 @@ fn is_at(place: Option<usize>, k: usize) -> bool
     }
 }
 
-/// Whether the item k made fields of the main item m.
-pub fn makes(items: &[Item], m: usize, k: usize) -> bool
+/// What is in force at a main item: the places of the items that set its globals, and behind how many items its locals
+/// begin.
+#[derive(Clone, Copy)]
+pub struct InForce {
+    pub page: Option<usize>,
+    pub min: Option<usize>,
+    pub max: Option<usize>,
+    pub size: Option<usize>,
+    pub id: Option<usize>,
+    pub count: Option<usize>,
+    pub locals: usize,
+}
+
+/// What is in force at the main item m.
+pub fn in_force(items: &[Item], m: usize) -> InForce
+    ensures { result ≡ in_force items.now m }
+{
+    InForce {
+        page: global_place(items, m, 0x04),
+        min: global_place(items, m, 0x14),
+        max: global_place(items, m, 0x24),
+        size: global_place(items, m, REPORT_SIZE),
+        id: global_place(items, m, 0x84),
+        count: global_place(items, m, REPORT_COUNT),
+        locals: locals_start(items, m),
+    }
+}
+
+/// Whether the item k has the prefix of a global, and sets it in force at the main item m.
+fn is_in_force(items: &[Item], found: &InForce, m: usize, prefix: u8, k: usize) -> bool
+    requires { found.now ≡ in_force items.now m }
+    ensures { result ≡ is_global prefix && is_at (global_place items.now m prefix) k }
+{
+    let _items = items;
+    match prefix {
+        0x04 => is_at(found.page, k),
+        0x14 => is_at(found.min, k),
+        0x24 => is_at(found.max, k),
+        0x74 => is_at(found.size, k),
+        0x84 => is_at(found.id, k),
+        0x94 => is_at(found.count, k),
+        _ => false,
+    }
+}
+
+/// Whether the item k made fields of the main item m, by what is in force there.
+pub fn makes(items: &[Item], found: &InForce, m: usize, k: usize) -> bool
+    requires { found.now ≡ in_force items.now m }
     ensures { result ≡ makes items.now m k }
 {
     let prefix = prefix_of(spelled_at(items, k));
     k == m
-        || (is_global(prefix) && is_at(global_place(items, m, prefix), k))
-        || (is_local(prefix) && (locals_start(items, m) <= k && k < m))
+        || is_in_force(items, found, m, prefix, k)
+        || (is_local(prefix) && (found.locals <= k && k < m))
         || lies_in(items, k, m)
 }
 

@@ -69,6 +69,8 @@ fn read_hex(alloc: Global, text: &[u8]) -> Result<Vec<u8>, InputFault> {
     for byte in text {
         if !is_space(*byte) {
             digits.push(*byte).map_err(AllocError::from)?;
+        } else if digits.len() % 2 != 0 {
+            return Err(InputFault::BadHex);
         }
     }
     match hex::decode(alloc, digits.as_slice()) {
@@ -148,16 +150,24 @@ fn read_array(alloc: Global, text: &[u8]) -> Result<Vec<u8>, InputFault> {
     }
 }
 
-/// What stands between the last opening brace and the first closing one behind it.
-fn between_braces(text: &[u8]) -> &[u8] {
-    let mut inner = text;
-    for part in text.split(|byte| *byte == b'{') {
-        inner = part;
-    }
-    match inner.split(|byte| *byte == b'}').next() {
+/// What stands in front of the first closing brace.
+fn before_brace(text: &[u8]) -> &[u8] {
+    match text.split(|byte| *byte == b'}').next() {
         Some(part) => part,
-        None => inner,
+        None => text,
     }
+}
+
+/// What stands between the first braces with an element; where none have one, the text up to a closing brace.
+fn between_braces(text: &[u8]) -> &[u8] {
+    let mut parts = text.split(|byte| *byte == b'{');
+    let _front = parts.next();
+    for part in parts {
+        if has_prefix(before_brace(part)) {
+            return before_brace(part);
+        }
+    }
+    before_brace(text)
 }
 
 /// Where a byte of C stands.
@@ -218,24 +228,24 @@ fn is_heading(line: &[u8]) -> bool {
         .any(|word| word == b"DESCRIPTOR".as_slice())
 }
 
-/// The lines of hex digits behind the first heading of usbhid-dump, where there is one.
+/// The lines of hex digits behind the first heading of usbhid-dump that has some, where there is one.
 fn read_dump(alloc: Global, text: &[u8]) -> Result<Option<Vec<u8>>, InputFault> {
     let mut digits = Vec::new(alloc);
     let mut is_behind = false;
     for line in text.split(|byte| *byte == b'\n') {
-        if is_behind {
-            if !is_hex_text(line) {
-                break;
-            }
+        if is_behind && is_hex_text(line) {
             digits.extend_from_slice(line)?;
-        } else {
+            digits.push(b'\n').map_err(AllocError::from)?;
+        } else if digits.is_empty() {
             is_behind = is_heading(line);
+        } else {
+            break;
         }
     }
-    if is_behind {
-        return Ok(Some(read_hex(alloc, digits.as_slice())?));
+    if digits.is_empty() {
+        return Ok(None);
     }
-    Ok(None)
+    Ok(Some(read_hex(alloc, digits.as_slice())?))
 }
 
 /// Whether the bytes are text: UTF-8 in which something is printed, with no control bytes but spaces. A descriptor with

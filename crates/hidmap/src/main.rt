@@ -13,7 +13,7 @@
 #![tactic(auto)]
 
 ghost use Rattle.std.specs.Prelude.{◌≤◌, length};
-ghost use Rattle.hidmap.specs.declared.TheConstants.{LONGEST};
+ghost use Rattle.hidmap.specs.declared.TheConstants.{MOST};
 
 mod input;
 #[cfg(test)]
@@ -21,7 +21,7 @@ mod tests;
 mod words;
 
 use clap::error::ErrorKind;
-use hid_layout::{Cause, Layout, LayoutFault};
+use hid_layout::{Cause, Layout, LayoutFault, MAX_DESCRIPTOR};
 use hid_notation::layout_words;
 use hid_page::{Form, draw, draw_refused};
 use input::{InputFault, descriptor_in};
@@ -43,13 +43,24 @@ const WRONG_USAGE: u8 = 2;
 /// A file, standard output or memory failed.
 const OUTSIDE: u8 = 3;
 
+/// What is told where memory is wanting.
+const WANTING: &str = "memory was wanting";
+
+/// What is told where standard output doesn't take all.
+const UNWRITTEN: &str = "standard output can't be written";
+
 /// The longest input: a descriptor of 4,096 bytes takes 12,300 in an R: line, and what lies behind it is of no use.
 const LONGEST: usize = 1 << 24;
 
+/// So many bytes of a descriptor are looked at. One that is longer is refused at byte 4,096, and the item that begins there
+/// has 258 at most.
+const MOST: usize = MAX_DESCRIPTOR + 258;
+
 fn main(rt: HostRuntime) -> ExitCode {
     let alloc = rt.alloc();
-    let Ok(args) = env::args(&rt) else {
-        return ExitCode::from(OUTSIDE);
+    let args = match env::args(&rt) {
+        Ok(args) => args,
+        Err(error) => return ExitCode::from(tell_no_words(&rt, error.kind())),
     };
     let words: Result<Vec<String>, _> = args.collect(alloc);
     let Ok(words) = words else {
@@ -61,6 +72,16 @@ fn main(rt: HostRuntime) -> ExitCode {
     }
 }
 
+/// Why the words of the command line can't be read: memory, or one isn't UTF-8.
+fn tell_no_words(rt: &HostRuntime, kind: io::ErrorKind) -> u8 {
+    if kind == io::ErrorKind::InvalidData {
+        let _ = eprintln!(rt; "hidmap: a word of the command line isn't UTF-8");
+        WRONG_USAGE
+    } else {
+        OUTSIDE
+    }
+}
+
 /// Help and version go to standard output, and what is wrong with the words to standard error.
 fn tell_words(rt: &HostRuntime, error: &clap::Error) -> u8 {
     match error.kind() {
@@ -68,7 +89,7 @@ fn tell_words(rt: &HostRuntime, error: &clap::Error) -> u8 {
             if print!(rt; "{error}").is_ok() {
                 FINE
             } else {
-                OUTSIDE
+                tell_outside(rt, UNWRITTEN)
             }
         }
         ErrorKind::OutOfMemory => OUTSIDE,
@@ -79,22 +100,43 @@ fn tell_words(rt: &HostRuntime, error: &clap::Error) -> u8 {
     }
 }
 
+/// What went wrong outside: `hidmap` and words, on standard error.
+fn tell_outside(rt: &HostRuntime, words: &str) -> u8 {
+    let _ = eprintln!(rt; "hidmap: {words}");
+    OUTSIDE
+}
+
+/// Why a file can't be read.
+fn tell_unread(rt: &HostRuntime, name: &str, error: &io::Error) -> u8 {
+    if error.kind() == io::ErrorKind::OutOfMemory {
+        return tell_outside(rt, WANTING);
+    }
+    let _ = eprintln!(rt; "hidmap: {name}: it can't be read: {error}");
+    OUTSIDE
+}
+
+/// The bytes of a reader, up to one more than are taken.
+fn read_some<R: Read + Drop>(rt: &HostRuntime, reader: R) -> io::Result<Vec<u8>> {
+    let mut bytes = Vec::new(rt.alloc());
+    reader.take(LONGEST as u64 + 1).read_to_end(&mut bytes)?;
+    Ok(bytes)
+}
+
 /// The bytes of a file, or of standard input where the name is `-`.
 fn read_named(rt: &HostRuntime, name: &str) -> io::Result<Vec<u8>> {
-    if name != "-" {
-        return fs::read(rt, name);
+    if name == "-" {
+        read_some(rt, rt.stdin())
+    } else {
+        read_some(rt, fs::open(rt, name)?)
     }
-    let mut bytes = Vec::new(rt.alloc());
-    rt.stdin().read_to_end(&mut bytes)?;
-    Ok(bytes)
 }
 
 /// Draws the descriptor of a file, and tells what stands against it.
 fn draw_file(rt: &HostRuntime, asked: &Asked<'_>) -> u8 {
     let name = asked.file;
-    let Ok(bytes) = read_named(rt, name) else {
-        let _ = eprintln!(rt; "hidmap: {name}: it can't be read");
-        return OUTSIDE;
+    let bytes = match read_named(rt, name) {
+        Ok(bytes) => bytes,
+        Err(error) => return tell_unread(rt, name, &error),
     };
     if bytes.len() > LONGEST {
         let _ = eprintln!(rt; "hidmap: {name}: over {LONGEST} bytes");
@@ -102,7 +144,7 @@ fn draw_file(rt: &HostRuntime, asked: &Asked<'_>) -> u8 {
     }
     match descriptor_in(rt.alloc(), bytes.as_slice()) {
         Ok(descriptor) => draw_bytes(rt, asked, descriptor.as_slice()),
-        Err(InputFault::Memory) => OUTSIDE,
+        Err(InputFault::Memory) => tell_outside(rt, WANTING),
         Err(fault) => {
             let _ = eprintln!(rt; "hidmap: {name}: {fault}");
             REFUSED
@@ -112,17 +154,21 @@ fn draw_file(rt: &HostRuntime, asked: &Asked<'_>) -> u8 {
 
 /// Draws a descriptor, or what it is refused for.
 fn draw_bytes(rt: &HostRuntime, asked: &Asked<'_>, descriptor: &[u8]) -> u8 {
-    if descriptor.len() > LONGEST {
-        return REFUSED;
-    }
+    let descriptor = &descriptor[..descriptor.len().min(MOST)];
     match Layout::parse(rt.alloc(), descriptor) {
-        Ok(layout) => draw_layout(rt, &layout, descriptor, asked.form),
+        Ok(layout) => {
+            if layout.reports().is_empty() {
+                let name = asked.file;
+                let _ = eprintln!(rt; "hidmap: {name}: no reports");
+            }
+            draw_layout(rt, &layout, descriptor, asked.form)
+        }
         Err(
             LayoutFault {
                 cause: Cause::Memory,
                 ..
             },
-        ) => OUTSIDE,
+        ) => tell_outside(rt, WANTING),
         Err(fault) => {
             let name = asked.file;
             let words = layout_words(fault.cause);
@@ -134,28 +180,30 @@ fn draw_bytes(rt: &HostRuntime, asked: &Asked<'_>, descriptor: &[u8]) -> u8 {
 
 /// Writes what is drawn of a layout.
 fn draw_layout(rt: &HostRuntime, layout: &Layout, descriptor: &[u8], form: Form) -> u8
-    requires { length descriptor.now ≤ LONGEST }
+    requires { length descriptor.now ≤ MOST }
 {
     match draw(rt.alloc(), layout, descriptor, form) {
         Ok(Some(text)) => write_out(rt, &text, FINE),
         Ok(None) => {
             let count = layout.reports().len();
-            let _ = eprintln!(rt; "hidmap: there is no such report: of {count}, the first is 0");
+            if count > 0 {
+                let _ = eprintln!(rt; "hidmap: there is no such report: of {count}, the first is 0");
+            }
             WRONG_USAGE
         }
-        Err(_) => OUTSIDE,
+        Err(_) => tell_outside(rt, WANTING),
     }
 }
 
 /// Writes the page of a refusal, where a page is asked for.
 fn draw_fault(rt: &HostRuntime, descriptor: &[u8], fault: LayoutFault, form: Form) -> u8
-    requires { length descriptor.now ≤ LONGEST }
+    requires { length descriptor.now ≤ MOST }
 {
     match form {
         Form::Svg(_) | Form::Characters => REFUSED,
         Form::Page => match draw_refused(rt.alloc(), descriptor, fault) {
             Ok(text) => write_out(rt, &text, REFUSED),
-            Err(_) => OUTSIDE,
+            Err(_) => tell_outside(rt, WANTING),
         },
     }
 }
@@ -164,6 +212,6 @@ fn draw_fault(rt: &HostRuntime, descriptor: &[u8], fault: LayoutFault, form: For
 fn write_out(rt: &HostRuntime, text: &String, status: u8) -> u8 {
     match rt.stdout().write_all(text.as_bytes()) {
         Ok(()) => status,
-        Err(_) => OUTSIDE,
+        Err(_) => tell_outside(rt, UNWRITTEN),
     }
 }

@@ -20,6 +20,7 @@ fn command<'a>(alloc: Global) -> Result<Command<'a>, Error> {
         .long("svg")
         .value_name("N")
         .value_parser(value_parser!(u16))
+        .conflicts_with("text")?
         .help("Draw the picture of the report N alone, as SVG; the first is 0");
     let text = Arg::new(alloc, "text")
         .long("text")
