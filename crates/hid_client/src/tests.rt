@@ -1,6 +1,6 @@
 //! A boot keyboard, played on a bus of its own; the rows are worked out by hand (USB 2.0, 8.5.4 and 8.6).
 
-use crate::play;
+use crate::{Played, play};
 use hid_device::{Boot, Config, KEYBOARD};
 use hid_layout::{ControlId, Usage};
 use hid_stack::{Delivered, StackFault, Step};
@@ -61,6 +61,16 @@ fn up(id: u16) -> Delivered {
     }
 }
 
+/// What comes of these steps of a device.
+fn played(
+    rt: &HostRuntime,
+    descriptor: &[u8],
+    steps: &[Step],
+    control: ControlId,
+) -> Result<Played, StackFault> {
+    play(rt.alloc(), &CONFIG, descriptor, steps, control)
+}
+
 /// A key that is pressed while an acknowledgement is lost is told in the next round.
 #[test]
 fn each_key_is_told_once(rt: HostRuntime) -> Result<(), Fail> {
@@ -71,7 +81,7 @@ fn each_key_is_told_once(rt: HostRuntime) -> Result<(), Fail> {
         poll(Fate::Clean),
         poll(Fate::Clean),
     ];
-    let played = play(rt.alloc(), &CONFIG, &KEYBOARD, &steps, key(5))?;
+    let played = played(&rt, &KEYBOARD, &steps, key(5))?;
     assert_eq!(rt; played.events.as_slice(), [down(4), down(5)].as_slice());
     assert!(rt; played.is_held);
     Ok(())
@@ -87,7 +97,7 @@ fn a_key_is_held_until_its_release_crosses(rt: HostRuntime) -> Result<(), Fail> 
         ("nothing is lost", Fate::Clean, false),
     ] {
         let steps = [press(4), poll(Fate::Clean), release(4), poll(fate)];
-        let played = play(rt.alloc(), &CONFIG, &KEYBOARD, &steps, key(4))?;
+        let played = played(&rt, &KEYBOARD, &steps, key(4))?;
         assert!(rt; played.is_held == is_held, "{name}");
     }
     Ok(())
@@ -97,7 +107,7 @@ fn a_key_is_held_until_its_release_crosses(rt: HostRuntime) -> Result<(), Fail> 
 #[test]
 fn a_reset_lets_a_key_go(rt: HostRuntime) -> Result<(), Fail> {
     let steps = [press(4), poll(Fate::Clean), Step::Reset { dev: 1 }];
-    let played = play(rt.alloc(), &CONFIG, &KEYBOARD, &steps, key(4))?;
+    let played = played(&rt, &KEYBOARD, &steps, key(4))?;
     assert_eq!(rt; played.events.as_slice(), [down(4), up(4)].as_slice());
     assert!(rt; !played.is_held);
     Ok(())
@@ -114,7 +124,7 @@ fn a_step_that_is_refused_ends_it(rt: HostRuntime) {
         },
         poll(Fate::Clean),
     ];
-    let fault = play(rt.alloc(), &CONFIG, &KEYBOARD, &steps, key(4)).err();
+    let fault = played(&rt, &KEYBOARD, &steps, key(4)).err();
     assert_eq!(rt;
         fault,
         Some(StackFault::Refused(ChangeFault::NoSuchControl))

@@ -35,6 +35,11 @@ fn keyboard(rt: &HostRuntime) -> Result<Device, Fail> {
     device(rt, &config, &KEYBOARD)
 }
 
+/// A host of address 1 that is ready.
+fn ready(rt: &HostRuntime, descriptor: &[u8]) -> Result<HostDevice, Fail> {
+    Ok(HostDevice::ready(rt.alloc(), 1, descriptor)?)
+}
+
 /// A device at address 1 that isn't configured.
 fn device(rt: &HostRuntime, config: &Config, descriptor: &[u8]) -> Result<Device, Fail> {
     Ok(Device::new(rt.alloc(), 1, config, descriptor)?)
@@ -221,7 +226,7 @@ fn data(one: bool, bytes: &[u8]) -> Option<Packet> {
 
 #[test]
 fn a_short_report_is_refused_and_the_next_is_read(rt: HostRuntime) -> Result<(), Fail> {
-    let mut host = HostDevice::ready(rt.alloc(), 1, &KEYBOARD)?;
+    let mut host = ready(&rt, &KEYBOARD)?;
     let mut out = Vec::with_capacity(rt.alloc(), host.max_events())?;
     let short = data(false, &[0; 7]);
     assert_eq!(rt;

@@ -31,9 +31,14 @@ fn read(alloc: Global, layout: &Layout, place: &str) -> Result<String, Fail> {
     )?)
 }
 
+/// The layout of a descriptor that is accepted.
+fn accepted(rt: &HostRuntime, descriptor: &[u8]) -> Result<Layout, Fail> {
+    Ok(Layout::parse(rt.alloc(), descriptor)?)
+}
+
 #[test]
 fn the_mouse_has_buttons_and_motion(rt: HostRuntime) -> Result<(), Fail> {
-    let layout = Layout::parse(rt.alloc(), &MOUSE).expect(&rt, "the mouse is accepted");
+    let layout = accepted(&rt, &MOUSE)?;
     for row in READ.trim().lines() {
         let (place, wanted) = row.split_once('>').unwrap_or((row, ""));
         let told = read(rt.alloc(), &layout, place.trim())?;
@@ -45,7 +50,7 @@ fn the_mouse_has_buttons_and_motion(rt: HostRuntime) -> Result<(), Fail> {
 /// Of three buttons: their entries, and how many collections they are in; of the report: its bytes, and that it has no ID.
 #[test]
 fn readers_show_what_is_listed(rt: HostRuntime) -> Result<(), Fail> {
-    let layout = Layout::parse(rt.alloc(), &MOUSE).expect(&rt, "the mouse is accepted");
+    let layout = accepted(&rt, &MOUSE)?;
     assert!(rt; layout.reports().len() == 1 && layout.items().len() == 3);
     let told = format!(in rt.alloc();
         "{:?} {} {} {}",
@@ -229,11 +234,16 @@ fn expected_of_part(length: usize) -> Option<LayoutFault> {
     }
 }
 
+/// Why a descriptor is refused.
+fn fault_of(alloc: Global, descriptor: &[u8]) -> Option<LayoutFault> {
+    Layout::parse(alloc, descriptor).err()
+}
+
 /// The least length below `count` at which the part of a descriptor isn't refused as it has to be; `count` where there is none.
 fn first_wrong_part(alloc: Global, descriptor: &[u8], count: usize) -> usize {
     for length in 0..count {
         match descriptor.get(..length) {
-            Some(part) if Layout::parse(alloc, part).err() == expected_of_part(length) => {}
+            Some(part) if fault_of(alloc, part) == expected_of_part(length) => {}
             _ => return length,
         }
     }
@@ -249,10 +259,7 @@ fn each_part_of_a_descriptor_is_refused_by_name(rt: HostRuntime) {
         at: 49,
     };
     // one collection of the mouse stays open
-    assert_eq!(rt;
-        Layout::parse(rt.alloc(), &MOUSE[..49]).err(),
-        Some(unclosed)
-    );
+    assert_eq!(rt; fault_of(rt.alloc(), &MOUSE[..49]), Some(unclosed));
 }
 
 /// Where memory is wanting, that is told at 0; else the layout is whole. (Run with each allocation failing in turn.)

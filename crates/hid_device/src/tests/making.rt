@@ -111,9 +111,14 @@ fn causes_are_printed_as_their_codes(rt: HostRuntime) -> Result<(), Fail> {
     Ok(())
 }
 
+/// The layout of a descriptor.
+fn layout_of(rt: &HostRuntime, descriptor: &[u8]) -> Result<Layout, Fail> {
+    Ok(Layout::parse(rt.alloc(), descriptor)?)
+}
+
 #[test]
 fn an_output_report_is_no_input_report(rt: HostRuntime) -> Result<(), Fail> {
-    let layout = Layout::parse(rt.alloc(), &KEYBOARD)?;
+    let layout = layout_of(&rt, &KEYBOARD)?;
     assert_eq!(rt; layout.reports().len(), 2);
     assert_eq!(rt; input_count(&layout), 1);
     Ok(())

@@ -3,7 +3,7 @@
 
 mod limits;
 
-use super::{A, CONFIGURATION, KEY, data};
+use super::{A, CONFIGURATION, KEY, data, ready};
 use crate::{DescriptorFault, HostDevice, HostState, StackFault};
 use hid_device::KEYBOARD;
 use hid_layout::{Cause, ControlId, Layout, LayoutFault, Usage};
@@ -278,7 +278,7 @@ fn a_device_that_refuses_all_leads_nowhere(rt: HostRuntime) -> Result<(), Fail> 
 
 #[test]
 fn more_bytes_than_a_report_has_are_left_unread(rt: HostRuntime) -> Result<(), Fail> {
-    let mut host = HostDevice::ready(rt.alloc(), 1, &KEYBOARD)?;
+    let mut host = ready(&rt, &KEYBOARD)?;
     let mut out = Vec::with_capacity(rt.alloc(), host.max_events())?;
     let longer = data(false, &[0, 0, 0x04, 0, 0, 0, 0, 0, 0xFF]);
     host.reply(longer.as_ref(), &mut out)?;
@@ -331,7 +331,7 @@ fn replied(
 
 #[test]
 fn a_report_that_is_none_moves_the_toggle_alone(rt: HostRuntime) -> Result<(), Fail> {
-    let mut host = HostDevice::ready(rt.alloc(), 1, &NUMBERED)?;
+    let mut host = ready(&rt, &NUMBERED)?;
     for (name, one, bytes, fault) in REFUSED {
         let (told, expects, held, given) = replied(&rt, &mut host, data(one, bytes).as_ref())?;
         assert_eq!(rt; told, Err(StackFault::Report(fault)), "{name}");
@@ -362,7 +362,7 @@ fn no_report(which: usize) -> (Option<Packet>, Took) {
 
 #[test]
 fn what_is_no_fresh_report_changes_nothing_for_ever(rt: HostRuntime) -> Result<(), Fail> {
-    let mut host = HostDevice::ready(rt.alloc(), 1, &NUMBERED)?;
+    let mut host = ready(&rt, &NUMBERED)?;
     for at in 0..600 {
         let (packet, wanted) = no_report(at % 6);
         let (told, expects, held, given) = replied(&rt, &mut host, packet.as_ref())?;

@@ -2,7 +2,7 @@
 //! until it ends, and forgotten where it is refused, where the endpoint is cleared, and at a reset. What is wanted was worked
 //! out by hand from the descriptors.
 
-use super::data;
+use super::{data, device, ready};
 use crate::{HostDevice, StackFault};
 use hid_device::{Boot, Config, Device};
 use hid_layout::ControlId;
@@ -97,7 +97,7 @@ const ROWS: [Row; 9] = [
 #[test]
 fn a_report_is_read_once_it_is_whole(rt: HostRuntime) -> Result<(), Fail> {
     for (name, descriptor, packets) in ROWS {
-        let mut host = HostDevice::ready(rt.alloc(), 1, descriptor)?;
+        let mut host = ready(&rt, descriptor)?;
         for (one, first, count, told) in packets {
             let sent = Sent {
                 one: *one,
@@ -121,7 +121,7 @@ fn long_device(rt: &HostRuntime) -> Result<Device, Fail> {
         interval: 10,
         boot: Boot::No,
     };
-    let mut device = Device::new(rt.alloc(), 1, &config, &LONG)?;
+    let mut device = device(rt, &config, &LONG)?;
     device.configure();
     Ok(device)
 }
@@ -145,7 +145,7 @@ fn polled(
 #[test]
 fn a_clear_forgets_what_came_of_a_report(rt: HostRuntime) -> Result<(), Fail> {
     let mut device = long_device(&rt)?;
-    let mut host = HostDevice::ready(rt.alloc(), 1, &LONG)?;
+    let mut host = ready(&rt, &LONG)?;
     device.change(Change::Set(ControlId { item: 0, index: 99 }, 7))?;
     assert_eq!(rt; polled(&rt, &mut host, &mut device)?, Some(0));
     host.begin(&Request::Clear)?;
