@@ -1,6 +1,9 @@
 //! A host that brings a boot keyboard up by transfers, and that reads its reports (USB 2.0, 9.1.1; HID 1.11, 5.6 and
 //! appendix E). The bytes of the configuration are written out from the tables of USB 2.0, 9.6, and of HID 1.11, 6.2.1.
 
+ghost use Rattle.std.specs.Prelude.{IfOk};
+ghost use Rattle.hid_host.specs.Phase.{IsReady};
+
 mod foreign;
 mod pieces;
 
@@ -36,7 +39,9 @@ fn keyboard(rt: &HostRuntime) -> Result<Device, Fail> {
 }
 
 /// A host of address 1 that is ready.
-fn ready(rt: &HostRuntime, descriptor: &[u8]) -> Result<HostDevice, Fail> {
+fn ready(rt: &HostRuntime, descriptor: &[u8]) -> Result<HostDevice, Fail>
+    ensures { IfOk result (λ host. IsReady host.phase) }
+{
     Ok(HostDevice::ready(rt.alloc(), 1, descriptor)?)
 }
 

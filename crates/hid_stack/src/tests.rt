@@ -1,6 +1,9 @@
 //! Rows of steps on a boot keyboard, a boot mouse and others, worked out by hand from the definitions (USB 2.0, 8.5.4
 //! and 8.6).
 
+ghost use Rattle.std.specs.Prelude.{IfOk};
+ghost use Rattle.hid_host.specs.Phase.{IsReady};
+
 use crate::{
     Delivered, HostDevice, HostState, MAX_DEVICES, Request, Rig, RunFault, StackFault, Start, Step,
     Told, poll,
@@ -392,7 +395,9 @@ fn pressed_keyboard(rt: &HostRuntime, descriptor: &[u8]) -> Result<Device, Fail>
 }
 
 /// A host of address 1 that is ready.
-fn ready_host(rt: &HostRuntime, descriptor: &[u8]) -> Result<HostDevice, Fail> {
+fn ready_host(rt: &HostRuntime, descriptor: &[u8]) -> Result<HostDevice, Fail>
+    ensures { IfOk result (λ host. IsReady host.phase) }
+{
     Ok(HostDevice::ready(rt.alloc(), 1, descriptor)?)
 }
 
