@@ -1,4 +1,4 @@
-use Rattle.std.proofs.Common.{◌≡◌, ℕ, List, length, false, Option, Some, sym, ap, ◌∙◌, subst, arith}
+use Rattle.std.proofs.Common.{◌≡◌, ℕ, List, length, false, Some, ap, ◌∙◌, subst, arith}
 use Rattle.std.proofs.lemmas.List.{length-set}
 use Rattle.hid_layout.specs.Controls.{items_of}
 use Rattle.hid_cells.specs.Pieces.{piece_of}
