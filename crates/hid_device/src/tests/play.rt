@@ -296,19 +296,32 @@ pub fn round(alloc: Global, device: &Device) -> Result<String, Fail> {
     }
 }
 
-/// Plays rows, a line each: a name, behind `: ` what is done, and behind `>` what is told. It gives the first row of which
-/// something else is told, and that; nothing where there is none.
-pub fn played(alloc: Global, kind: &str, rows: &str) -> Result<String, Fail> {
-    let mut device = device_of(alloc, kind)?;
+/// Plays a row: a name, behind `: ` what is done, and behind `>` what is told. It gives the row and what is told where that
+/// is something else.
+fn wrong_of(alloc: Global, device: &mut Device, row: &str) -> Result<Option<String>, Fail> {
+    let (act, wanted) = row.split_once('>').unwrap_or((row, ""));
+    let mut told = done(alloc, device, act_of(act))?;
+    told.push_str(&round(alloc, device)?)?;
+    if told.trim() == wanted.trim() {
+        return Ok(None);
+    }
+    Ok(Some(format!(in alloc; "{row}, but {told}")?))
+}
+
+/// Plays rows, a line each, and gives what is wrong with the first that is; nothing where none is.
+fn wrong_row(alloc: Global, device: &mut Device, rows: &str) -> Result<String, Fail> {
     for row in rows.trim().lines() {
-        let (act, wanted) = row.split_once('>').unwrap_or((row, ""));
-        let mut told = done(alloc, &mut device, act_of(act))?;
-        told.push_str(&round(alloc, &device)?)?;
-        if told.trim() != wanted.trim() {
-            return Ok(format!(in alloc; "{row}, but {told}")?);
+        if let Some(wrong) = wrong_of(alloc, device, row)? {
+            return Ok(wrong);
         }
     }
     Ok(String::new(alloc))
+}
+
+/// Plays rows with a device of its own.
+pub fn played(alloc: Global, kind: &str, rows: &str) -> Result<String, Fail> {
+    let mut device = device_of(alloc, kind)?;
+    wrong_row(alloc, &mut device, rows)
 }
 
 /// What is done, behind the name of a row.
