@@ -14,8 +14,13 @@ use Rattle.hid_recording.specs.declared.fault.RecordingFault.{RecordingFault}
 use Rattle.hid_recording.specs.declared.fault.Summary.{Summary}
 use Rattle.hid_recording.specs.Output.{IsFront}
 use Rattle.hid_recording.specs.Session.{Session, Member, Outcome, accepted, refused, at_first}
-use Rattle.hid_recording.specs.Records.{Said, Nothing, Device, Descriptor, Report, record_of}
-use Rattle.hid_recording.specs.Telling.{goes_on, refuses, reads_named, reads_of, known_at, SaidTells, Means, TellsUnless, advanced, LineTells, LineBegins}
+use Rattle.hid_recording.specs.Records.{Said, Nothing, Blank, Device, Descriptor, Report, Begins, Bytes, record_of}
+use Rattle.hid_recording.specs.Words.{time_of}
+use Rattle.hid_recording.specs.Dumps.{numbered}
+use Rattle.hid_recording.specs.declared.dump.Address.{Address}
+use Rattle.hid_recording.specs.declared.dump.Content.{Content}
+use Rattle.hid_recording.specs.declared.dump.Content.TheVariants as contents
+use Rattle.hid_recording.specs.Telling.{goes_on, refuses, reads_named, reads_of, known_at, begins_behind, begins_of, gathers, ended, stream_told, EndTells, SaidTells, Means, TellsUnless, advanced, LineTells, LineBegins}
 use Rattle.hid_recording.specs.Runs.{Ending, Refusal, Want, Cut, Silence, ending_of, EndsAs, FirstTells, FirstBegins, RunsTo, Stops, line_of, AppendsRecording}
 use Rattle.hid_recording.specs.Place.{Place, Advances, RunsFrom, lines_at}
 use Rattle.hid_recording.proofs.PlaceLemmas.{start, first_begins, broken_run}
@@ -48,8 +53,37 @@ no_slot_text : (session : Session) (time bytes text : List ℕ) (cause : Cause) 
 no_slot_text session time bytes text cause None e = no_refusal_text session _ text cause e
 no_slot_text session time bytes text cause (Some member) e = no_report_text session time bytes text cause member (report_named member.layout bytes) e
 
+no_begun_text : (content : Option Content) (next : Session) (text : List ℕ) (cause : Cause) → ended_with text cause ≡ begins_behind content next → text ≡ []
+no_begun_text None next text cause e = not_accepted text _ cause _ e
+no_begun_text (Some content) next text cause e = no_refusal_text next _ text cause e
+
+no_begin_text : (session : Session) (address : Address) (content : Content) (time : List ℕ) (device : Option ℕ) (text : List ℕ) (cause : Cause) → ended_with text cause ≡ begins_of session address content time device → text ≡ []
+no_begin_text session address content time None text cause e = no_refusal_text _ _ text cause e
+no_begin_text session address content time (Some device) text cause e = no_begun_text session.gathered.content _ text cause e
+
+room_text : (long : Bool) (session next : Session) (why : Why) (text : List ℕ) (cause : Cause) → ended_with text cause ≡ cond long (refuses session why) (accepted [] next) → text ≡ []
+room_text true session next why text cause e = no_refusal_text session why text cause e
+room_text false session next why text cause e = not_accepted text _ cause _ e
+
+no_gathered_text : (session : Session) (bytes : List ℕ) (content : Option Content) (text : List ℕ) (cause : Cause) → ended_with text cause ≡ gathers session bytes content → text ≡ []
+no_gathered_text session bytes None text cause e = no_refusal_text session _ text cause e
+no_gathered_text session bytes (Some content) text cause e = room_text (nat_lt 4096 (length session.gathered.bytes + length bytes)) _ _ _ text cause e
+
+no_told_text : (session : Session) (time : Option (List ℕ)) (bytes text : List ℕ) (cause : Cause) → ended_with text cause ≡ stream_told time bytes session → text ≡ []
+no_told_text session None bytes text cause e = no_refusal_text session _ text cause e
+no_told_text session (Some time) bytes text cause e = no_slot_text session time bytes text cause (known_at (slice_get session.devices session.current)) e
+
+no_end_text : (session : Session) (content : Option Content) (text : List ℕ) (cause : Cause) → EndTells session content (ended_with text cause) → text ≡ []
+no_end_text session None text cause e = not_accepted text _ cause _ e
+no_end_text session (Some contents.Descriptor) text cause (inl h) = not_accepted text _ cause _ h.2
+no_end_text session (Some contents.Descriptor) text cause (inr h) = no_refusal_text _ _ text cause h.2
+no_end_text session (Some contents.Stream) text cause e = no_told_text (ended session) (time_of session.gathered.time) session.gathered.bytes text cause e
+
 no_said_text : (session : Session) (said : Said) (text : List ℕ) (cause : Cause) → SaidTells session said (ended_with text cause) → text ≡ []
 no_said_text session Nothing text cause e = not_accepted text _ cause _ e
+no_said_text session Blank text cause h = no_end_text session session.gathered.content text cause h
+no_said_text session (Begins address content time) text cause e = no_begin_text session address content time (numbered session.addresses address) text cause e
+no_said_text session (Bytes bytes) text cause e = no_gathered_text session bytes session.gathered.content text cause e
 no_said_text session (Device device) text cause e = not_accepted text _ cause _ e
 no_said_text session (Descriptor bytes) text cause (inl h) = not_accepted text _ cause _ h.2
 no_said_text session (Descriptor bytes) text cause (inr h) = no_refusal_text _ _ text cause h.2

@@ -17,7 +17,7 @@ use Rattle.hid_recording.specs.Session.{Session, accepted, refused, at_first}
 use Rattle.hid_recording.specs.Telling.{LineTells, LineBegins, TellsUnless}
 use Rattle.hid_recording.specs.Player.{summary_of}
 use Rattle.hid_recording.specs.Runs.{Silence, ending_of, EndsAs, Ends, FirstTells, FirstBegins, AllTell, RunsTo, AppendsRecording}
-use Rattle.hid_recording.specs.Place.{Place, IsUnbroken, lines_at, Writes, Advances, RunsFrom, Takes}
+use Rattle.hid_recording.specs.Place.{Place, IsUnbroken, lines_at, Writes, Advances, RunsFrom, Takes, EndsAt}
 
 -- ---- lines
 
@@ -131,6 +131,7 @@ runs_more : (session middle : Session) (first others : List (List ℕ)) (before 
 runs_more session middle first others before after text rest (Ok summary) h at k = record {
   last = k.last;
   all = all_more session middle k.last first others text rest h k.all;
+  closed = k.closed;
   lines = omega (arith, k.lines, length-append first others);
   counts = k.counts;
 }
@@ -211,20 +212,38 @@ known_rest (Some xs) (Some ys) read P h f = subst P (sym h) (f ys)
 last_line : (place : Place) → IsUnbroken place.begun → 0 < length place.begun → lines_at place [] ≡ place.begun ∷ []
 last_line place whole some = ap lines (append-nil place.begun) ∙ lines_last place.begun whole ∙ cond-false _ _ _ (ne_eqb (length place.begun) 0 (λ none. omega arith))
 
-pub last_line_told : (place : Place) (next : Session) (written : List ℕ) (summary : Summary) → IsUnbroken place.begun → 0 < length place.begun → LineTells place.session place.begun (accepted written next)
-    → summary.lines ≡ place.lines + 1 → summary ≡ summary_of next summary.lines → RunsFrom place [] written (Ok summary)
-last_line_told place next written summary whole some told lines' counts' =
-    rw (last_line place whole some) (record { last = next; all = one_tells place.session next place.begun written told; lines = omega (arith, lines'); counts = counts' })
+-- nothing more comes
+ends_at : (session : Session) (before : ℕ) (result : Result Summary RecordingFault) → EndsAt session before result → RunsTo session [] before [] result
+unfolding ending_of
+ends_at session before (Ok summary) h = record { last = session; all = (refl, refl); closed = h.0; lines = omega (arith, h.1); counts = h.2 }
+ends_at session before (Err fault) h = record {
+  first = [];
+  others = [];
+  split = refl;
+  line = omega (arith, h.1);
+  text = [];
+  now = session;
+  all = (refl, refl);
+  part = [];
+  ends = subst (λ c. Ends (FirstTells session []) (FirstBegins session []) [] c) (sym h.0) refl;
+  whole = refl;
+}
+
+pub last_line_told : (place : Place) (next : Session) (written : List ℕ) (result : Result Summary RecordingFault) → IsUnbroken place.begun → 0 < length place.begun → LineTells place.session place.begun (accepted written next)
+    → EndsAt next (place.lines + 1) result → RunsFrom place [] written result
+last_line_told place next written result whole some told ends =
+    let runs = runs_more place.session next (place.begun ∷ []) [] place.lines (place.lines + 1) written [] result (one_tells place.session next place.begun written told) (omega arith) (ends_at next (place.lines + 1) result ends) in
+    subst (λ recording. RunsTo place.session recording place.lines written result) (sym (last_line place whole some)) (subst (λ text. RunsTo place.session (place.begun ∷ []) place.lines text result) (append-nil written) runs)
 
 pub last_line_stops : (place : Place) (next : Session) (written : List ℕ) (cause : Cause) (fault : RecordingFault) → IsUnbroken place.begun → 0 < length place.begun → Writes (LineTells place.session place.begun) (LineBegins place.session place.begun) written (Err cause) next
     → fault.line ≡ place.lines + 1 → fault.cause ≡ cause → RunsFrom place [] written (Err fault)
 last_line_stops place next written cause fault whole some told at is =
     line_stops place.session (lines_at place []) [] place.lines place.begun written cause fault (last_line place whole some) at is told
 
-pub no_last_line : (place : Place) (summary : Summary) → place.begun ≡ [] → summary.lines ≡ place.lines → summary ≡ summary_of place.session summary.lines → RunsFrom place [] [] (Ok summary)
-no_last_line place summary none lines' counts' =
+pub no_last_line : (place : Place) (result : Result Summary RecordingFault) → place.begun ≡ [] → EndsAt place.session place.lines result → RunsFrom place [] [] result
+no_last_line place result none ends =
     let all : lines_at place [] ≡ [] = ap (λ bytes. lines (bytes ++ [])) none in
-    rw all (record { last = place.session; all = (refl, refl); lines = omega (arith, lines'); counts = counts' })
+    subst (λ recording. RunsTo place.session recording place.lines [] result) (sym all) (ends_at place.session place.lines result ends)
 
 -- nothing has come
 abbrev pub start : Options → Place

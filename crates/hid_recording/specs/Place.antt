@@ -1,11 +1,13 @@
 -- A recording of which some bytes have come: for proofs (our choice).
-use Rattle.std.specs.Prelude.{◌≡◌, ◌⊎◌, ◌==◌, ℕ, ◌+◌, false, List, [], ◌++◌, length, All, Option, Result, Ok, Err}
+use Rattle.std.specs.Prelude.{◌≡◌, ◌⊎◌, ◌==◌, ℕ, ◌+◌, false, List, [], ◌++◌, length, All, Option, None, Result, Ok, Err}
 use Rattle.std.specs.Str.Lines.{lines}
 use Rattle.std.specs.Io.KnownBytes.{Appends}
 use Rattle.hid_recording.specs.declared.fault.Cause.{Cause}
+use Rattle.hid_recording.specs.declared.fault.Cause.TheVariants.{Unended}
 use Rattle.hid_recording.specs.declared.fault.RecordingFault.{RecordingFault}
 use Rattle.hid_recording.specs.declared.fault.Summary.{Summary}
 use Rattle.hid_recording.specs.Session.{Session, Outcome, accepted}
+use Rattle.hid_recording.specs.Player.{summary_of}
 use Rattle.hid_recording.specs.Output.{IsFront}
 use Rattle.hid_recording.specs.Runs.{Ending, Refusal, Want, Cut, Silence, ending_of, AllTell, Ends, RunsTo}
 
@@ -77,6 +79,12 @@ abbrev pub AppendsTaken : Option (List ℕ) → Option (List ℕ) → Place → 
     → Result (Unit {0}) RecordingFault → Place → Type 0
 AppendsTaken before after old bytes result new =
     (written : List ℕ) × Appends before after written × Takes old bytes written result new
+
+-- a run that ends behind so many lines; a dump that is open there is a fault
+abbrev pub EndsAt : Session → ℕ → Result Summary RecordingFault → Type 0
+EndsAt session lines' (Ok summary) =
+    (session.gathered.content ≡ None) × (summary.lines ≡ lines') × (summary ≡ summary_of session summary.lines)
+EndsAt session lines' (Err fault) = (fault.cause ≡ Unended) × (fault.line ≡ lines' + 1)
 
 -- known bytes grew by what was written to the end of a recording that ended here
 abbrev pub AppendsRun : Option (List ℕ) → Option (List ℕ) → Place → Result Summary RecordingFault → Type 0

@@ -1,9 +1,9 @@
 -- What a run wrote and answered, of what a recording tells (our choice: docs/SCRIPT.md).
-use Rattle.std.specs.Prelude.{◌≡◌, ℕ, ◌+◌, List, [], ◌∷◌, ◌++◌, length, Result, Ok, Err, Option, IfSome}
+use Rattle.std.specs.Prelude.{◌≡◌, ℕ, ◌+◌, List, [], ◌∷◌, ◌++◌, length, Result, Ok, Err, Option, None, IfSome}
 use Rattle.std.specs.Str.Lines.{lines}
 use Rattle.std.specs.Io.KnownBytes.{Appends}
 use Rattle.hid_recording.specs.declared.fault.Cause.{Cause}
-use Rattle.hid_recording.specs.declared.fault.Cause.TheVariants.{Refused, LineTooLong, Read, Write, Memory, TooManyReads}
+use Rattle.hid_recording.specs.declared.fault.Cause.TheVariants.{Refused, LineTooLong, Read, Write, Memory, TooManyReads, Unended}
 use Rattle.hid_recording.specs.declared.fault.Options.{Options}
 use Rattle.hid_recording.specs.declared.fault.RecordingFault.{RecordingFault}
 use Rattle.hid_recording.specs.declared.fault.Summary.{Summary}
@@ -28,6 +28,7 @@ ending_of Memory = Want
 ending_of Write = Cut
 ending_of Read = Silence
 ending_of TooManyReads = Silence
+ending_of Unended = Silence
 
 -- What was written of the line at which the run ended: what it tells up to its refusal; what its first times tell; a
 -- front of that; or nothing.
@@ -60,11 +61,13 @@ AllTell session (line ∷ more) text last =
     × AllTell next more rest last
     × (text ≡ first ++ rest)
 
--- All these lines were run. So many lines came before them. The counts are those of the session behind them.
+-- All these lines were run, and no dump is open behind them. So many lines came before them. The counts are those of the
+-- session behind them.
 pub record Finishes (session : Session) (recording : List (List ℕ)) (before : ℕ) (written : List ℕ)
     (summary : Summary) : Type 0 where
   pub last : Session
   pub all : AllTell session recording written last
+  pub closed : last.gathered.content ≡ None
   pub lines : summary.lines ≡ before + length recording
   pub counts : summary ≡ summary_of last summary.lines
 
