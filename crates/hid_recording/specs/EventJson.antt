@@ -1,6 +1,8 @@
--- Events of a recording as JSON (RFC 8259; the members: our choice, docs/RECORDINGS.md).
-use Rattle.std.specs.Prelude.{ℕ, Bool, List, [], ◌∷◌, ◌++◌, if◌then◌else◌, Option, None, Some, codes}
+-- Events and refusals as JSON (RFC 8259; the members: our choice, docs/RECORDINGS.md).
+use Rattle.std.specs.Prelude.{ℕ, ℤ, Bool, List, [], ◌∷◌, ◌++◌, if◌then◌else◌, Option, None, Some, codes}
 use Rattle.std.specs.Fmt.{decimal, signed_decimal}
+use Rattle.json.specs.Token.{Token, begin_object, end_object, key, string, number}
+use Rattle.json.specs.Print.{print}
 use Rattle.hid_descriptor.specs.declared.usage.Usage.{Usage}
 use Rattle.hid_cells.specs.declared.event.Event.{Event}
 use Rattle.hid_cells.specs.declared.event.Event.TheVariants.{Down, Up, Value, Null, Motion, Dropped}
@@ -24,24 +26,49 @@ event_word (Null control usage) = codes "null"
 event_word (Motion control usage by) = codes "motion"
 event_word (Dropped control usage by) = codes "dropped"
 
--- the value that an event has
-abbrev pub json_value : Event → List ℕ
-json_value (Down control usage) = []
-json_value (Up control usage) = []
-json_value (Value control usage value) = codes ",\"value\":" ++ signed_decimal value
-json_value (Null control usage) = []
-json_value (Motion control usage by) = codes ",\"value\":" ++ signed_decimal by
-json_value (Dropped control usage by) = codes ",\"value\":" ++ signed_decimal by
+-- "time":"T","device":D
+abbrev pub source_tokens : List ℕ → ℕ → List Token
+source_tokens time device = key (codes "time") ∷ string time ∷ key (codes "device") ∷ number (decimal device) ∷ []
 
--- a name, where there is one
-abbrev pub json_name : Option Name → List ℕ
-json_name None = []
-json_name (Some name) = codes ",\"name\":\"" ++ name_text name ++ codes "\""
+-- "event":"WORD","page":P,"id":I
+abbrev pub usage_tokens : List ℕ → Usage → List Token
+usage_tokens word usage =
+    key (codes "event") ∷ string word ∷ key (codes "page") ∷ number (decimal usage.page)
+    ∷ key (codes "id") ∷ number (decimal usage.id) ∷ []
+
+-- "value":N
+abbrev pub number_tokens : ℤ → List Token
+number_tokens value = key (codes "value") ∷ number (signed_decimal value) ∷ []
+
+-- the value that an event has
+abbrev pub value_tokens : Event → List Token
+value_tokens (Down control usage) = []
+value_tokens (Up control usage) = []
+value_tokens (Value control usage value) = number_tokens value
+value_tokens (Null control usage) = []
+value_tokens (Motion control usage by) = number_tokens by
+value_tokens (Dropped control usage by) = number_tokens by
+
+-- "name":"NAME", where there is one
+abbrev pub named_tokens : Option Name → List Token
+named_tokens None = []
+named_tokens (Some name) = key (codes "name") ∷ string (name_text name) ∷ []
+
+-- the same, where it is asked for
+abbrev pub name_tokens : Bool → Option Name → List Token
+name_tokens is_asked name = if is_asked then named_tokens name else []
 
 -- {"time":"T","device":D,"event":"value","page":P,"id":I,"value":N,"name":"NAME"}
-abbrev pub json_line : List ℕ → ℕ → Bool → Event → List ℕ
-json_line time device names event =
-    codes "{\"time\":\"" ++ time ++ codes "\",\"device\":" ++ decimal device
-    ++ codes ",\"event\":\"" ++ event_word event ++ codes "\",\"page\":" ++ decimal (usage_in event).page
-    ++ codes ",\"id\":" ++ decimal (usage_in event).id ++ json_value event
-    ++ (if names then json_name (name_of (usage_in event).page (usage_in event).id) else []) ++ codes "}" ++ 10 ∷ []
+unfoldable pub event_tokens : List ℕ → ℕ → Bool → Event → List Token
+event_tokens time device names event =
+    begin_object ∷ [] ++ source_tokens time device ++ usage_tokens (event_word event) (usage_in event)
+    ++ value_tokens event ++ name_tokens names (name_of (usage_in event).page (usage_in event).id) ++ end_object ∷ []
+
+-- {"line":N,"refused":"CODE: WORDS"}
+abbrev pub refusal_tokens : ℕ → List ℕ → List Token
+refusal_tokens line words =
+    begin_object ∷ key (codes "line") ∷ number (decimal line) ∷ key (codes "refused") ∷ string words ∷ end_object ∷ []
+
+-- a line of JSON
+abbrev pub json_text : List Token → List ℕ
+json_text tokens = print tokens ++ 10 ∷ []

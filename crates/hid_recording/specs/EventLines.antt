@@ -6,7 +6,7 @@ use Rattle.hid_cells.specs.declared.event.Event.{Event}
 use Rattle.hid_names.specs.Names.{Name, name_of, name_text}
 use Rattle.hid_text.specs.EventText.{event_text}
 use Rattle.hid_recording.specs.declared.fault.Options.{Options}
-use Rattle.hid_recording.specs.EventJson.{usage_in, json_line}
+use Rattle.hid_recording.specs.EventJson.{usage_in, event_tokens, json_text}
 
 -- a name behind a space, where there is one
 abbrev pub behind_space : Option Name → List ℕ
@@ -25,7 +25,8 @@ plain_line time device names event =
 -- the line of an event
 unfoldable pub event_line : List ℕ → ℕ → Options → Event → List ℕ
 event_line time device options event =
-    if options.json then json_line time device options.names event else plain_line time device options.names event
+    if options.json then json_text (event_tokens time device options.names event)
+    else plain_line time device options.names event
 
 -- a line for each event
 abbrev pub event_lines : List ℕ → ℕ → Options → List Event → List ℕ

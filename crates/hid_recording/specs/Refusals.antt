@@ -8,6 +8,7 @@ use Rattle.hid_cells.specs.declared.fault.ReportFault.{ReportFault}
 use Rattle.hid_cells.specs.declared.fault.ReportFault.TheVariants.{Short, UnknownReport}
 use Rattle.hid_notation.specs.Causes.{layout_words}
 use Rattle.hid_usages.specs.Faults.{report_code}
+use Rattle.hid_recording.specs.EventJson.{refusal_tokens, json_text}
 use Rattle.hid_recording.specs.declared.fault.Refusal.{Refusal}
 use Rattle.hid_recording.specs.declared.fault.Refusal.TheVariants.{Syntax, BadHex, BadCount, BadDevice, BadTime, NoLayout, Unended, DumpTooLong, TooManyDevices, Layout, Report}
 use Rattle.hid_recording.specs.declared.fault.Cause.{Cause}
@@ -44,11 +45,11 @@ cause_text causes.LineTooLong = codes "R2: a line of over 16384 bytes"
 cause_text causes.Read = codes "R8: the recording can't be read"
 cause_text causes.Write = codes "R9: what it tells can't be written"
 cause_text causes.Memory = codes "R10: memory was wanting"
-cause_text causes.TooManyReads = codes "R11: the end didn't come in 1000000 reads"
+cause_text causes.TooManyReads = codes "R11: the end didn't come in 1000000000000 reads"
 cause_text causes.Unended = codes "R12: no empty line ends the last dump"
 
--- line N: CODE: WORDS; with --json the same two as members
+-- line N: CODE: WORDS; with --json the same as members
 abbrev pub refusal_line : Bool → ℕ → Refusal → List ℕ
 refusal_line json line refusal =
-    if json then codes "{\"line\":" ++ decimal line ++ codes ",\"refused\":\"" ++ refusal_text refusal ++ codes "\"}" ++ 10 ∷ []
+    if json then json_text (refusal_tokens line (refusal_text refusal))
     else codes "line " ++ decimal line ++ codes ": " ++ refusal_text refusal ++ 10 ∷ []

@@ -9,11 +9,12 @@ use hid_layout::Usage;
 use hid_names::usage_name;
 use hid_text::EventText;
 use hid_usages::Event;
-use std::alloc::AllocError;
+use std::alloc::{AllocError, Global};
 
 /// When and of which device a report came, and what is asked for.
 #[derive(Clone, Copy)]
 pub struct Source<'a> {
+    pub alloc: Global,
     pub time: &'a str,
     pub device: u8,
     pub options: Options,
@@ -38,6 +39,7 @@ fn print_plain(text: &mut String, source: &Source<'_>, event: &Event) -> Result<
         time,
         device,
         options,
+        ..
     } = *source;
     let shown = EventText {
         dev: device,

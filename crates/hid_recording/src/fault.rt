@@ -76,7 +76,7 @@ pub enum Cause {
     Write,
     /// R10: memory was wanting.
     Memory,
-    /// R11: the recording wasn't at its end after 1,000,000 reads.
+    /// R11: the recording wasn't at its end after 1,000,000,000,000 reads.
     TooManyReads,
     /// R12: no empty line has ended the last dump.
     Unended,

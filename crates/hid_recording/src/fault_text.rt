@@ -54,7 +54,7 @@ impl fmt::Display for Cause {
             Cause::Read => write!(f, "R8: the recording can't be read"),
             Cause::Write => write!(f, "R9: what it tells can't be written"),
             Cause::Memory => write!(f, "R10: memory was wanting"),
-            Cause::TooManyReads => write!(f, "R11: the end didn't come in 1000000 reads"),
+            Cause::TooManyReads => write!(f, "R11: the end didn't come in 1000000000000 reads"),
             Cause::Unended => write!(f, "R12: no empty line ends the last dump"),
         }
     }

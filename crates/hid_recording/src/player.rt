@@ -13,6 +13,7 @@ ghost use Rattle.hid_recording.specs.Place.{AppendsTold};
 
 use super::devices::Devices;
 use super::dump::{Address, Addresses, Content, DUMP_LIMIT, Dump};
+use super::event_json::print_refusal_json;
 use super::fault::{Cause, Options, Refusal, Summary};
 use super::output::write_text;
 use super::record::{Record, read_record};
@@ -73,6 +74,7 @@ fn print_described(
 /// Adds the line of a refusal.
 fn print_refusal(
     text: &mut String,
+    alloc: Global,
     options: Options,
     line: u64,
     refusal: Refusal,
@@ -81,7 +83,7 @@ fn print_refusal(
         ≡ string_bytes text.old ++ refusal_line options.json line refusal) }
 {
     if options.json {
-        writeln!(text, "{{\"line\":{line},\"refused\":\"{refusal}\"}}")
+        print_refusal_json(text, alloc, line, refusal)
     } else {
         writeln!(text, "line {line}: {refusal}")
     }
@@ -180,7 +182,7 @@ impl Player {
         let line = self.lines;
         self.refused = self.refused.saturating_add(1);
         self.text.clear();
-        print_refusal(&mut self.text, self.options, line, refusal)?;
+        print_refusal(&mut self.text, self.alloc, self.options, line, refusal)?;
         Ok(())
     }
 
@@ -228,7 +230,9 @@ impl Player {
             (string_bytes self.new.text) (session_of self.new) }
     {
         self.text.clear();
-        match self.devices.play(&mut self.text, time, self.options, bytes) {
+        match self
+            .devices
+            .play(self.alloc, &mut self.text, time, self.options, bytes) {
             Ok(events) => {
                 self.reports = self.reports.saturating_add(1);
                 self.events = self.events.saturating_add(events);

@@ -10,7 +10,7 @@ use std::alloc::Global;
 use std::io::{ErrorKind, Read, Write};
 
 /// How often the reader is asked at most.
-const READS: u32 = 1_000_000;
+const READS: u64 = 1_000_000_000_000;
 
 /// For how many bytes the reader is asked at most.
 const PIECE: usize = 4096;
@@ -55,7 +55,7 @@ pub fn play<R: Read, W: Write, H: Watch>(
 
 /// The line at which a run ended: behind the last one, where all were run.
 fn line_of(end: &Result<Summary, RecordingFault>) -> u64
-    requires { IfOk end.now (λ summary. summary.lines ≤ 4096 * 1000000) }
+    requires { IfOk end.now (λ summary. summary.lines ≤ 4096 * 1000000000000) }
     ensures { result ≡ line_of end.now }
 {
     match end {
@@ -74,7 +74,7 @@ fn play_lines<R: Read, W: Write, H: Watch>(
 ) -> Result<Summary, RecordingFault>
     ensures ran { AppendsRecording options (R.remaining reader.old) (W.contents writer.old)
         (W.contents writer.new) result }
-    ensures count { IfOk result (λ summary. summary.lines ≤ 4096 * 1000000) }
+    ensures count { IfOk result (λ summary. summary.lines ≤ 4096 * 1000000000000) }
 {
     let player = match Player::new(alloc, options) {
         Ok(player) => player,

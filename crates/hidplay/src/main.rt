@@ -10,6 +10,7 @@
 //! output can't be written, or memory was wanting.
 #![tactic(auto)]
 
+mod file_line;
 mod progress;
 mod source;
 mod status;
@@ -19,9 +20,9 @@ mod total;
 mod words;
 
 use clap::error::ErrorKind;
+use file_line::file_line;
 use hid_recording::{Cause, RecordingFault, Summary};
 use progress::Progress;
-use serde_json::Value;
 use source::{before_all, play_source};
 use status::{FINE, OUTSIDE, WRONG_USAGE, exit_of, worse};
 use std::alloc::Global;
@@ -113,14 +114,11 @@ fn print_file<W: Write>(
     if asked.files.len() < 2 {
         return Ok(());
     }
-    let Ok(name) = String::from_str(alloc, name) else {
-        return Err(Cause::Memory);
-    };
     let told = if asked.options.json {
-        let Ok(name) = Value::String(name).to_string(alloc) else {
+        let Ok(line) = file_line(alloc, name) else {
             return Err(Cause::Memory);
         };
-        writeln!(out, "{{\"file\":{name}}}")
+        out.write_all(line.as_slice())
     } else {
         writeln!(out, "file {name}")
     };

@@ -7,6 +7,7 @@ use std::io::Write;
 const STEP: u64 = 1 << 20;
 
 /// A line on a terminal, or none where there is no terminal.
+#[derive(Drop)]
 pub struct Progress<W> {
     terminal: Option<W>,
     /// The bytes of the file, where they are known.

@@ -13,8 +13,8 @@ pub enum Kind {
     Binary,
 }
 
-/// A line of this many bytes in hex is longer than a line may be.
-const TOO_MANY: usize = 5500;
+/// More bytes than a descriptor has: it is refused for its length, whatever comes behind them.
+const TOO_MANY: usize = 4097;
 
 /// How often a reader is asked at most.
 const READS: u32 = 1_000_000;
@@ -42,7 +42,7 @@ fn first_byte<R: Read>(reader: &mut BufReader<R>) -> Result<Option<u8>, Recordin
     Err(before_all(Cause::TooManyReads))
 }
 
-/// The bytes of a descriptor; those behind the first 5,500 are left.
+/// The bytes of a descriptor, up to the read that brings one too many.
 fn read_descriptor<R: Read>(alloc: Global, reader: &mut R) -> Result<Vec<u8>, RecordingFault> {
     let mut bytes = Vec::new(alloc);
     let mut piece = [0u8; 512];

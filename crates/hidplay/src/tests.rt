@@ -1,9 +1,12 @@
 //! Options and exit statuses, by hand from docs/RECORDINGS.md.
 
-use super::source::{Kind, begins_binary};
+use super::file_line::file_line;
+use super::progress::Progress;
+use super::source::{Kind, begins_binary, play_source};
 use super::words::asked_by;
-use hid_recording::Options;
+use hid_recording::{Options, Summary, Watch};
 use std::alloc::{AllocError, Global};
+use std::str::from_utf8;
 use std::test::Fail;
 
 fn words_of(alloc: Global, line: &str) -> Result<Vec<String>, AllocError> {
@@ -77,4 +80,75 @@ fn files_are_taken_for_what_is_asked(rt: HostRuntime) -> Result<(), Fail> {
         assert_eq!(rt; begins_binary(first), want, "{first}");
     }
     Ok(())
+}
+
+/// Names of files, and the lines of JSON that have them.
+#[rattlefmt::skip]
+const FILES: [(&str, &[u8]); 2] = [
+    ("a.hid",     b"{\"file\":\"a.hid\"}\n"),
+    ("a \"b\" \\", b"{\"file\":\"a \\\"b\\\" \\\\\"}\n"),
+];
+
+#[test]
+fn files_are_named_as_json(rt: HostRuntime) -> Result<(), Fail> {
+    for (name, want) in FILES {
+        let line = file_line(rt.alloc(), name)?;
+        assert_eq!(rt; line.as_slice(), want, "{name}");
+    }
+    Ok(())
+}
+
+const READ: Summary = Summary {
+    lines: 9,
+    descriptors: 1,
+    reports: 8,
+    events: 5,
+    refused: 0,
+};
+
+/// What came of a file at some sizes, on a terminal.
+fn shown(text: &mut Vec<u8>, size: Option<u64>) {
+    let mut progress = Progress::new(Some(text), size);
+    progress.see(1_048_575, &READ);
+    progress.see(1_048_576, &READ);
+    progress.see(1_048_577, &READ);
+    progress.clear();
+    progress.clear();
+}
+
+#[test]
+fn a_terminal_shows_how_far_a_file_is(rt: HostRuntime) {
+    let mut text = Vec::new(rt.alloc());
+    shown(&mut text, Some(2_000_000));
+    assert_eq!(rt; from_utf8(text.as_slice()), Ok("\r1048576 of 2000000 bytes, 8 reports\r\x1b[K"));
+    text.clear();
+    shown(&mut text, None);
+    assert_eq!(rt; from_utf8(text.as_slice()), Ok("\r1048576 bytes, 8 reports\r\x1b[K"));
+}
+
+const PLAIN: Options = Options {
+    layout: false,
+    values: false,
+    names: false,
+    strict: false,
+    json: false,
+};
+
+/// Files, what they are taken for, and what they tell.
+#[rattlefmt::skip]
+const SOURCES: [(&str, Kind, &[u8], &str); 4] = [
+    ("a descriptor",         Kind::Told,   b"\x05\x01", ""),
+    ("one that is cut off",  Kind::Told,   b"\x05",     "line 1: L1 at 0: the descriptor ends in the middle of an item\n"),
+    ("text, by the option",  Kind::Text,   b"\x05\x01", "line 1: R1: no line of a recording\n"),
+    ("bytes, by the option", Kind::Binary, b"R",        "line 1: L1 at 0: the descriptor ends in the middle of an item\n"),
+];
+
+#[test]
+fn files_tell_as_what_they_are(rt: HostRuntime) {
+    for (name, kind, bytes, want) in SOURCES {
+        let mut text = Vec::new(rt.alloc());
+        let end = play_source(rt.alloc(), bytes, kind, &mut text, PLAIN, &mut ());
+        assert!(rt; end.is_ok(), "{name}");
+        assert_eq!(rt; from_utf8(text.as_slice()), Ok(want), "{name}");
+    }
 }
