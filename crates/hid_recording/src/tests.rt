@@ -78,7 +78,7 @@ const TOLD: [(&str, Options, &str, &str); 14] = [
         "R: 14 05 09 09 01 15 00 25 01 75 01 95 01 81 02\nE: 1.5 1 01\nE: 2 1\n",
         "{\"time\":\"1.5\",\"device\":0,\"event\":\"down\",\"page\":9,\"id\":1,\"name\":\"Button 1\"}\n{\"line\":3,\"refused\":\"R4: the count isn't that of the bytes\"}\n"),
     ("values and motions as JSON", NO_NAMES,
-        "R: 33 05 01 09 30 15 00 26 FF 00 75 08 95 01 81 02 09 31 15 81 25 7F 81 06 09 39 15 01 25 08 75 08 81 42 C0\nR: 33 05 01 09 30 15 00 26 FF 00 75 08 95 01 81 02 09 31 15 81 25 7F 81 06 09 39 15 01 25 08 81 42\nE: .1 3 09 FF 01\nE: .2 3 09 00 00\n",
+        "R: 33 05 01 09 30 15 00 26 FF 00 75 08 95 01 81 02 09 31 15 81 25 7F 81 06 09 39 15 01 25 08 75 08 81 42 C0\nR: 31 05 01 09 30 15 00 26 FF 00 75 08 95 01 81 02 09 31 15 81 25 7F 81 06 09 39 15 01 25 08 81 42\nE: .1 3 09 FF 01\nE: .2 3 09 00 00\n",
         "{\"line\":1,\"refused\":\"R4: the count isn't that of the bytes\"}\n{\"time\":\".1\",\"device\":0,\"event\":\"value\",\"page\":1,\"id\":48,\"value\":9}\n{\"time\":\".1\",\"device\":0,\"event\":\"motion\",\"page\":1,\"id\":49,\"value\":-1}\n{\"time\":\".1\",\"device\":0,\"event\":\"value\",\"page\":1,\"id\":57,\"value\":1}\n{\"time\":\".2\",\"device\":0,\"event\":\"null\",\"page\":1,\"id\":57}\n"),
     ("dumps of seventeen interfaces", PLAIN,
         "1:1:0:DESCRIPTOR 1\n\n1:1:1:DESCRIPTOR 1\n\n1:1:2:DESCRIPTOR 1\n\n1:1:3:DESCRIPTOR 1\n\n1:1:4:DESCRIPTOR 1\n\n1:1:5:DESCRIPTOR 1\n\n1:1:6:DESCRIPTOR 1\n\n1:1:7:DESCRIPTOR 1\n\n1:1:8:DESCRIPTOR 1\n\n1:1:9:DESCRIPTOR 1\n\n1:1:10:DESCRIPTOR 1\n\n1:1:11:DESCRIPTOR 1\n\n1:1:12:DESCRIPTOR 1\n\n1:1:13:DESCRIPTOR 1\n\n1:1:14:DESCRIPTOR 1\n\n1:1:15:DESCRIPTOR 1\n\n1:1:16:DESCRIPTOR 1\n\n",
