@@ -58,16 +58,28 @@ named_tokens (Some name) = key (codes "name") ∷ string (name_text name) ∷ []
 abbrev pub name_tokens : Bool → Option Name → List Token
 name_tokens is_asked name = if is_asked then named_tokens name else []
 
--- {"time":"T","device":D,"event":"value","page":P,"id":I,"value":N,"name":"NAME"}
-unfoldable pub event_tokens : List ℕ → ℕ → Bool → Event → List Token
-event_tokens time device names event =
-    begin_object ∷ [] ++ source_tokens time device ++ usage_tokens (event_word event) (usage_in event)
-    ++ value_tokens event ++ name_tokens names (name_of (usage_in event).page (usage_in event).id) ++ end_object ∷ []
+-- an object of these members
+abbrev pub object : List Token → List Token
+object members = begin_object ∷ members ++ end_object ∷ []
 
--- {"line":N,"refused":"CODE: WORDS"}
-abbrev pub refusal_tokens : ℕ → List ℕ → List Token
-refusal_tokens line words =
-    begin_object ∷ key (codes "line") ∷ number (decimal line) ∷ key (codes "refused") ∷ string words ∷ end_object ∷ []
+-- "time":"T","device":D,"event":"WORD","page":P,"id":I,"value":N,"name":"NAME"
+abbrev pub event_members : List ℕ → ℕ → Bool → Event → List Token
+event_members time device names event =
+    source_tokens time device ++ usage_tokens (event_word event) (usage_in event)
+    ++ value_tokens event ++ name_tokens names (name_of (usage_in event).page (usage_in event).id)
+
+-- an event
+unfoldable pub event_tokens : List ℕ → ℕ → Bool → Event → List Token
+event_tokens time device names event = object (event_members time device names event)
+
+-- "line":N,"refused":"CODE: WORDS"
+abbrev pub refusal_members : ℕ → List ℕ → List Token
+refusal_members line words =
+    key (codes "line") ∷ number (decimal line) ∷ key (codes "refused") ∷ string words ∷ []
+
+-- a refusal
+unfoldable pub refusal_tokens : ℕ → List ℕ → List Token
+refusal_tokens line words = object (refusal_members line words)
 
 -- a line of JSON
 abbrev pub json_text : List Token → List ℕ

@@ -2,7 +2,7 @@
 
 ghost use Rattle.std.specs.Prelude.{◌≡◌, ◌++◌, [], Some, OnOk, string_bytes};
 ghost use Rattle.hid_names.specs.Names.{named, name_of};
-ghost use Rattle.hid_recording.specs.EventJson.{usage_in, event_word, source_tokens, usage_tokens, number_tokens, value_tokens, named_tokens, name_tokens, event_tokens, refusal_tokens, json_text};
+ghost use Rattle.hid_recording.specs.EventJson.{usage_in, event_word, source_tokens, usage_tokens, number_tokens, value_tokens, named_tokens, name_tokens, event_members, event_tokens, refusal_members, refusal_tokens, json_text};
 ghost use Rattle.hid_recording.specs.Refusals.{refusal_text};
 
 use super::event_line::Source;
@@ -109,19 +109,43 @@ fn put_name(json: &mut Writer, source: &Source<'_>, usage: Usage) -> Result<(), 
     }
 }
 
+/// The members of an event.
+fn put_event_members(
+    json: &mut Writer,
+    source: &Source<'_>,
+    event: &Event,
+) -> Result<(), AllocError>
+    ensures tokens { OnOk result (json.new.tokens ≡ json.old.tokens
+        ++ event_members source.now.time.now source.now.device source.now.options.names event.now) }
+    ensures before { json.new.before ≡ json.old.before }
+{
+    let usage = usage_in(event);
+    put_source(json, source.time, source.device)?;
+    put_usage(json, event_word(event), usage)?;
+    put_value(json, event)?;
+    put_name(json, source, usage)
+}
+
 /// An event, as an object.
 fn put_event(json: &mut Writer, source: &Source<'_>, event: &Event) -> Result<(), AllocError>
     ensures tokens { OnOk result (json.new.tokens ≡ json.old.tokens
         ++ event_tokens source.now.time.now source.now.device source.now.options.names event.now) }
     ensures before { json.new.before ≡ json.old.before }
 {
-    let usage = usage_in(event);
     json.begin_object()?;
-    put_source(json, source.time, source.device)?;
-    put_usage(json, event_word(event), usage)?;
-    put_value(json, event)?;
-    put_name(json, source, usage)?;
+    put_event_members(json, source, event)?;
     json.end_object()
+}
+
+/// The members of a refusal.
+fn put_refusal_members(json: &mut Writer, line: u64, words: &str) -> Result<(), AllocError>
+    ensures tokens { OnOk result (json.new.tokens ≡ json.old.tokens ++ refusal_members line words.now) }
+    ensures before { json.new.before ≡ json.old.before }
+{
+    json.key("line")?;
+    json.u64(line)?;
+    json.key("refused")?;
+    json.string(words)
 }
 
 /// A refusal of a line, as an object.
@@ -130,10 +154,7 @@ fn put_refusal(json: &mut Writer, line: u64, words: &str) -> Result<(), AllocErr
     ensures before { json.new.before ≡ json.old.before }
 {
     json.begin_object()?;
-    json.key("line")?;
-    json.u64(line)?;
-    json.key("refused")?;
-    json.string(words)?;
+    put_refusal_members(json, line, words)?;
     json.end_object()
 }
 
