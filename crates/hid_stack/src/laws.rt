@@ -16,7 +16,7 @@ ghost use Rattle.hid_stack.specs.Stories.{Act, IsItsOwn};
 ghost use Rattle.hid_stack.specs.Sums.{AllHaveMotions, ConfiguresBetweenRounds, RefusedKeepMotion, SumsUp};
 
 use hid_layout::laws::{accepted_or_refused, one_reading, one_refusal};
-pub use hid_lives::laws::{motion_is_kept, rounds_say_all};
+pub use hid_lives::laws::{halts_lose_nothing, motion_is_kept, rounds_say_all};
 
 /// A step tells one thing at most.
 pub fn one_telling()

@@ -23,10 +23,11 @@
 //!
 //! The promise, for every report descriptor that both ends accept and every list of changes, frames and polls: the events
 //! delivered are exactly the changes between the successive parts that crossed, in order, none twice: `headline` on
-//! [`Rig::run`]. With transfers, halts and resets between the polls the same holds from each configuration on: `lives`. Each step
-//! is told by its definition: `told`, `after` and `events` on [`Rig::step`]. Each device goes its own way: `isolated`, and
-//! over lists of attaches and steps [`laws::devices_are_their_own`]. Its motion is neither lost nor doubled: `conserves`. A
-//! host is ready only while its device is configured, and only with its layout: `shows` on [`Rig::host`].
+//! [`Rig::run`]. With transfers, halts and resets between the polls the same holds from each configuration on: `lives`.
+//! Each step is told by its definition: `told`, `after` and `events` on [`Rig::step`]. Each device goes its own way:
+//! `isolated`, and over lists of attaches and steps [`laws::devices_are_their_own`]. A halt or a clear loses no report:
+//! [`laws::halts_lose_nothing`]. The motion of a device is neither lost nor doubled: `conserves`. A host is ready only while
+//! its device is configured, and only with its layout: `shows` on [`Rig::host`].
 #![tactic(auto)]
 
 mod fault;

@@ -72,8 +72,8 @@ fn acknowledge<B: Bus>(bus: &B, took: &Took, device: &mut Device)
 /// for `max_events` more, and no memory is taken.
 ///
 /// # Errors
-/// [`StackFault::NotReady`] where the host isn't ready, or has a clear pending: it sends nothing. [`StackFault::Report`] where fresh data are
-/// no Input report: no ACK is sent for them.
+/// [`StackFault::NotReady`] where the host isn't ready, or has a clear pending: it sends nothing. [`StackFault::Report`]
+/// where fresh data are no Input report: no ACK is sent for them.
 pub fn poll<B: Bus>(
     bus: &B,
     device: &mut Device,

@@ -160,11 +160,11 @@ impl Rig {
     /// # Errors
     /// [`StackFault::NoDevice`] where no device has this number. Of a change [`StackFault::Refused`]. Of a poll
     /// [`StackFault::NotReady`] where the host isn't ready, or has a clear pending; then [`StackFault::Memory`], but never
-    /// with room for what it delivers; of a halt and a reset that alone. Of a request that begins [`StackFault::Control`] where another transfer runs; then
-    /// [`StackFault::NotReady`] where the host is in another state; then [`StackFault::Memory`]. Of a try
-    /// [`StackFault::Control`] where no transfer runs; then [`StackFault::Memory`], where a request to halt or to clear runs
-    /// and there is no room for what it may drop: nothing is sent, and the transfer goes on; else where a layout or a view
-    /// finds none.
+    /// with room for what it delivers; of a halt and a reset that alone. Of a request that begins [`StackFault::Control`]
+    /// where another transfer runs; then [`StackFault::NotReady`] where the host is in another state; then
+    /// [`StackFault::Memory`]. Of a try [`StackFault::Control`] where no transfer runs; then [`StackFault::Memory`], where a
+    /// request to halt or to clear runs and there is no room for what it may drop: nothing is sent, and the transfer goes on;
+    /// else where a layout or a view finds none.
     pub fn step(&mut self, step: &Step, out: &mut Vec<Delivered>) -> Result<Told, StackFault>
         // What it tells, where the bus stands after it, and what it delivers.
         ensures told { IfOk result (λ told. Tells self.old step.now told) }
@@ -185,8 +185,8 @@ impl Rig {
         ensures between { ConfiguresBetweenRounds self.old (step.now ∷ []) }
         ensures cuts { OnlyHaltsCut self.old step.now }
 
-        // With room for what a poll, a halt, its end or a reset delivers, memory is never wanting. A step fills no more than that, and
-        // gives none back.
+        // With room for what a poll, a halt, its end or a reset delivers, memory is never wanting. A step fills no more than
+        // that, and gives none back.
         ensures room { HasRoomFor self.old step.now (vec_len out.old) (vec_capacity out.old)
             → result ≢ Err StackFault.Memory }
         ensures few { vec_len out.new ≤ vec_len out.old + most_events self.old step.now }
@@ -244,8 +244,8 @@ impl Rig {
         ensures headline { OnOk result
             (DeliversChanges self.old steps.now out.old.items out.new.items) }
 
-        // A device that is polled, without an open round, stands as the rounds of its own steps say: with the open round, the view
-        // of the parts that crossed, and toggles by the numbers of rounds closed and crossed.
+        // A device that is polled, without an open round, stands as the rounds of its own steps say: with the open round,
+        // the view of the parts that crossed, and toggles by the numbers of rounds closed and crossed.
         ensures rounds { OnOk result (KeepsToRounds self.old steps.now self.new) }
 
         // The same of any device without an open round, whatever befalls it: a configuration that takes effect begins

@@ -13,6 +13,7 @@ use usb_control::{ControlFault, Outcome, Progress};
 use usb_transact::{Fate, Took};
 
 mod devices;
+mod halts;
 mod memory;
 mod resets;
 
@@ -33,13 +34,34 @@ enum Act {
     Move(usize, usize, i32),
     Frame,
     Poll(Fate),
+    /// The device halts by itself.
+    Halt,
     Reset,
+    /// A request about a halt begins.
+    Begin(Cut),
+    Control(Fate),
+}
+
+/// A request about a halt.
+#[derive(Clone, Copy)]
+enum Cut {
+    Halt,
+    Clear,
+    Status,
 }
 
 const CLEAN: Act = Act::Poll(Fate::Clean);
 
 fn changes(dev: u8, change: Change) -> Step {
     Step::Change { dev, change }
+}
+
+fn request_of(cut: Cut) -> Request {
+    match cut {
+        Cut::Halt => Request::Halt,
+        Cut::Clear => Request::Clear,
+        Cut::Status => Request::EndpointStatus,
+    }
 }
 
 fn step_at(dev: u8, act: Act) -> Step {
@@ -49,7 +71,13 @@ fn step_at(dev: u8, act: Act) -> Step {
         Act::Move(item, index, by) => changes(dev, Change::Move(ControlId { item, index }, by)),
         Act::Frame => Step::Frame,
         Act::Poll(fate) => Step::Poll { dev, fate },
+        Act::Halt => Step::Halt { dev },
         Act::Reset => Step::Reset { dev },
+        Act::Begin(cut) => Step::Begin {
+            dev,
+            request: request_of(cut),
+        },
+        Act::Control(fate) => Step::Control { dev, fate },
     }
 }
 
@@ -63,7 +91,9 @@ enum Given {
     /// A key of the keyboard's array, its item 4, where a usage's place is its ID.
     Down(u16),
     Up(u16),
-    /// The mouse's X, the first element of its item 2.
+    /// The mouse's first button, the first element of its item 0.
+    Button,
+    /// Its X, the first element of its item 2.
     X(i64),
     Dropped(i64),
 }
@@ -88,6 +118,10 @@ fn event_of(given: Given) -> Event {
         Given::Up(id) => Event::Up {
             control: key(id),
             usage: Usage { page: 7, id },
+        },
+        Given::Button => Event::Down {
+            control: ControlId { item: 0, index: 0 },
+            usage: Usage { page: 9, id: 1 },
         },
         Given::X(by) => Event::Motion {
             control: X,
@@ -122,6 +156,7 @@ enum Verdict {
     Fresh,
     Again,
     Nak,
+    Stall,
     Silent,
 }
 
@@ -131,6 +166,9 @@ enum Tells {
     Quiet,
     Lost,
     Sends(&'static [u8], Verdict),
+    /// How far a transfer has come.
+    Tries(Progress),
+    Refused(StackFault),
 }
 
 fn is_verdict(took: &Took, wanted: Verdict) -> bool {
@@ -138,6 +176,7 @@ fn is_verdict(took: &Took, wanted: Verdict) -> bool {
         (Took::Fresh(_), Verdict::Fresh) => true,
         (Took::Again, Verdict::Again) => true,
         (Took::Nak, Verdict::Nak) => true,
+        (Took::Stall, Verdict::Stall) => true,
         (Took::Silent, Verdict::Silent) => true,
         _ => false,
     }
@@ -146,6 +185,7 @@ fn is_verdict(took: &Took, wanted: Verdict) -> bool {
 fn is_told(told: &Told, wanted: Tells) -> bool {
     match (told, wanted) {
         (Told::Quiet, Tells::Quiet) => true,
+        (Told::Transfer(progress), Tells::Tries(wanted)) => *progress == wanted,
         (Told::Polled { reply: None, took }, Tells::Lost) => is_verdict(took, Verdict::Silent),
         (
             Told::Polled {
@@ -218,6 +258,14 @@ const SCHEDULES: [(&str, Boot, &[u8], &[Row]); 4] = [
     ),
 ];
 
+fn is_answer(answer: &Result<Told, StackFault>, wanted: Tells) -> bool {
+    match (answer, wanted) {
+        (Ok(told), _) => is_told(told, wanted),
+        (Err(fault), Tells::Refused(cause)) => *fault == cause,
+        (Err(_), _) => false,
+    }
+}
+
 /// The first step of device 1 that tells or delivers anything else than its row says.
 fn first_that_differs(
     rt: &HostRuntime,
@@ -226,8 +274,8 @@ fn first_that_differs(
 ) -> Result<Option<usize>, Fail> {
     for (at, (act, wanted, events)) in rows.iter().enumerate() {
         let mut out = Vec::new(rt.alloc());
-        let told = rig.step(&step_of(*act), &mut out)?;
-        if !(is_told(&told, *wanted) && are_delivered(&out, events)) {
+        let answer = rig.step(&step_of(*act), &mut out);
+        if !(is_answer(&answer, *wanted) && are_delivered(&out, events)) {
             return Ok(Some(at));
         }
     }
