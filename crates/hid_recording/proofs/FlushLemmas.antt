@@ -21,7 +21,7 @@ use Rattle.hid_recording.specs.declared.dump.Address.{Address}
 use Rattle.hid_recording.specs.declared.dump.Content.{Content}
 use Rattle.hid_recording.specs.declared.dump.Content.TheVariants as contents
 use Rattle.hid_recording.specs.Telling.{goes_on, refuses, reads_named, reads_of, known_at, begins_behind, begins_of, gathers, ended, stream_told, EndTells, SaidTells, Means, TellsUnless, advanced, LineTells, LineBegins}
-use Rattle.hid_recording.specs.Runs.{Ending, Refusal, Want, Cut, Silence, ending_of, EndsAs, FirstTells, FirstBegins, RunsTo, Stops, line_of, AppendsRecording}
+use Rattle.hid_recording.specs.Runs.{Ending, Refusal, Want, Cut, Silence, Never, ending_of, EndsAs, FirstTells, FirstBegins, RunsTo, Stops, line_of, AppendsRecording}
 use Rattle.hid_recording.specs.Place.{Place, Advances, RunsFrom, lines_at}
 use Rattle.hid_recording.proofs.PlaceLemmas.{start, first_begins, broken_run}
 
@@ -110,6 +110,7 @@ cut_there Refusal session (bytes ∷ more) part cause h = (part, line_begins ses
 cut_there Want session recording part cause h = (part, h, ([], sym (append-nil part)))
 cut_there Cut session recording part cause h = h
 cut_there Silence session recording part cause h = ([], first_begins session recording, rw h ([], refl))
+cut_there Never session recording part cause h = absurd h
 
 cut_stops : (session : Session) (recording : List (List ℕ)) (before : ℕ) (written : List ℕ) (first fault : RecordingFault) → fault.line ≡ first.line → fault.cause ≡ causes.Write
     → Stops session recording before written first → Stops session recording before written fault
@@ -131,7 +132,19 @@ cut_stops session recording before written first fault at is h = record {
 cut_at_end : (session : Session) (recording : List (List ℕ)) (written : List ℕ) (result : Result Summary RecordingFault) (fault : RecordingFault) → fault.line ≡ line_of result → fault.cause ≡ causes.Write
     → RunsTo session recording 0 written result → Stops session recording 0 written fault
 unfolding ending_of
-cut_at_end session recording written (Err first) fault at is h = cut_stops session recording 0 written first fault at is h
+cut_at_end session recording written (Err first) fault at is (inl h) = cut_stops session recording 0 written first fault at is h
+cut_at_end session recording written (Err first) fault at is (inr h) = record {
+  first = recording;
+  others = [];
+  split = sym (append-nil recording);
+  line = omega (arith, at, h.line);
+  text = written;
+  now = h.last;
+  all = h.all;
+  part = [];
+  ends = subst (λ c. EndsAs (ending_of c) (FirstTells h.last []) (FirstBegins h.last []) [] c) (sym is) ([], refl, ([], refl));
+  whole = sym (append-nil written);
+}
 cut_at_end session recording written (Ok summary) fault at is h = record {
   first = recording;
   others = [];
@@ -161,12 +174,12 @@ flushed_run options (Some recording) c d e result h k = (h.0, kept_written c d e
 pub never_flushed : (options : Options) (a c d e : Option (List ℕ)) (result : Result Summary RecordingFault) (fault : RecordingFault) → fault.line ≡ line_of result → fault.cause ≡ causes.Write
     → AppendsRecording options a c d result → Keeps d e → AppendsRecording options a c e (Err fault)
 never_flushed options None c d e result fault at is h k = tt
-never_flushed options (Some recording) c d e result fault at is h k = (h.0, kept_written c d e h.0 h.1 k, cut_at_end (at_first options) (lines recording) h.0 result fault at is h.2)
+never_flushed options (Some recording) c d e result fault at is h k = (h.0, kept_written c d e h.0 h.1 k, inl (cut_at_end (at_first options) (lines recording) h.0 result fault at is h.2))
 
 -- one before a read did
 cut_here : (place : Place) (more : List ℕ) (fault : RecordingFault) → fault.cause ≡ causes.Write → fault.line ≡ place.lines + 1 → RunsFrom place more [] (Err fault)
 unfolding ending_of
-cut_here place more fault is at = record {
+cut_here place more fault is at = inl (record {
   first = [];
   others = lines_at place more;
   split = refl;
@@ -177,7 +190,7 @@ cut_here place more fault is at = record {
   part = [];
   ends = subst (λ c. EndsAs (ending_of c) (FirstTells place.session (lines_at place more)) (FirstBegins place.session (lines_at place more)) [] c) (sym is) ([], first_begins place.session (lines_at place more), ([], refl));
   whole = refl;
-}
+})
 
 pub cut_run : (options : Options) (a b c d e : Option (List ℕ)) (read written : List ℕ) (now : Place) (fault : RecordingFault) → Consumes a b read → Appends c d written → Advances (start options) read written now
     → Keeps d e → fault.cause ≡ causes.Write → fault.line ≡ now.lines + 1 → AppendsRecording options a c e (Err fault)
