@@ -19,12 +19,14 @@ use Rattle.hid_recording.specs.declared.fault.Cause.TheVariants as causes
 use Rattle.hid_recording.specs.declared.fault.Options.{Options}
 use Rattle.hid_recording.specs.declared.fault.Refusal.{Refusal as Why}
 use Rattle.hid_recording.specs.declared.fault.Refusal.TheVariants as refusals
+use Rattle.hid_recording.specs.declared.dump.Content.{Content}
+use Rattle.hid_recording.specs.declared.dump.Content.TheVariants as contents
 use Rattle.hid_recording.specs.Output.{AppendsFront}
 use Rattle.hid_recording.specs.Refusals.{is_memory}
 use Rattle.hid_recording.specs.Session.{Session, Member, Outcome, accepted, refused, counted}
 use Rattle.hid_recording.specs.Records.{Said, record_of}
 use Rattle.hid_recording.specs.EventLines.{event_lines}
-use Rattle.hid_recording.specs.Telling.{refuses, with_device, TellsDescriptor, SaidTells, values_asked, report_text, reads_named, reads_of, known_at, report_told, Means, TellsUnless, LineTells, LineBegins}
+use Rattle.hid_recording.specs.Telling.{refuses, with_device, TellsDescriptor, SaidTells, values_asked, report_text, reads_named, reads_of, known_at, report_told, ended, EndTells, Means, TellsUnless, LineTells, LineBegins}
 use Rattle.hid_recording.specs.Gathering.{EndsIn, Gathers}
 use Rattle.hid_recording.specs.Playing.{TakesOne, SlotTakesNone, PlaysAt}
 use Rattle.hid_recording.specs.Runs.{ending_of, Ends}
@@ -57,6 +59,13 @@ pub descriptor_refused : (session : Session) (bytes : List ℕ) (fault : LayoutF
     → Gathers (λ o. o ≡ refuses (with_device session None) (refusals.Layout fault)) r text next → Gathers (TellsDescriptor bytes session) r text next
 descriptor_refused session bytes fault r text next other told h =
     gathers_so (λ o. o ≡ refuses (with_device session None) (refusals.Layout fault)) (TellsDescriptor bytes session) r text next (λ o e. inr (fault, explained fault.cause bytes fault.at other told, e)) h
+
+-- a dump of a descriptor, told in the session that its end leaves
+pub dump_described : (session : Session) (content : Option Content) (bytes : List ℕ) (now : Session) (r : Result (Unit {0}) Cause) (text : List ℕ) (next : Session) → Gathers (TellsDescriptor bytes now) r text next
+    → content ≡ Some contents.Descriptor → bytes ≡ session.gathered.bytes → now ≡ ended session → Gathers (EndTells session content) r text next
+dump_described session content bytes now r text next h is same after =
+    subst (λ c. Gathers (EndTells session c) r text next) (sym is)
+    (subst (λ (s : Session). Gathers (TellsDescriptor session.gathered.bytes s) r text next) after (subst (λ b. Gathers (TellsDescriptor b now) r text next) same h))
 
 -- a line that is a record
 pub said_meant : (session : Session) (meant : Result Said Why) (said : Said) (r : Result (Unit {0}) Cause) (text : List ℕ) (next : Session) → meant ≡ Ok said
