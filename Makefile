@@ -11,19 +11,21 @@ PREFIX ?= /usr/local
 DESTDIR ?=
 VERSION := 0.2.0
 
-.PHONY: run test try hidrun hidplay hidmap examples library library-test library-check library-cost install deb deb-test documents memory refusals mutants descriptors compare-linux clean
+.PHONY: run test try hidrun hidplay hidmap examples library library-test library-check library-cost scale play-cost install deb deb-test documents memory refusals mutants descriptors compare-linux clean
 
 # Runs the mouse example on the proved program.
 run: $(HIDRUN)
 	$(HIDRUN) < examples/layouts/mouse.script
 
 # Proves, tests and builds everything from nothing, looks whether all that documents cite is there, and runs each
-# example on the program that it built.
+# example on the program that it built, and the C library's where there is a C compiler.
 test:
 	rm -rf bin/build/rooms
 	rt ci
 	$(MAKE) --no-print-directory documents
 	$(MAKE) --no-print-directory hidrun hidplay hidmap examples memory
+	@if $(CC) --version > /dev/null 2>&1; then $(MAKE) --no-print-directory library-test; else \
+	  echo "library: the C library and its tests are left out, since there is no C compiler"; fi
 
 # Runs a script without a proof: make try SCRIPT=FILE ARGS=--trace
 try:
@@ -67,6 +69,14 @@ $(MAPS): crates.txt $(SOURCES)
 $(HIDMAP): $(MAPS)
 	mkdir -p bin
 	cp $(MAPS) $@
+
+# Plays a folder of recordings by GNU parallel, stops it in the middle and resumes it: docs/SCALE.md.
+scale: $(HIDPLAY)
+	tools/check-scale $(HIDPLAY)
+
+# How many instructions a report takes in hidplay, by callgrind, and how much memory a recording of 1 GB.
+play-cost: $(HIDPLAY)
+	tools/play-cost $(HIDPLAY)
 
 # The C library: bin/lib/libhidstack.a and the shared libhidstack.so.$(VERSION), of the proved crate.
 library: bin/lib/libhidstack.a
@@ -126,6 +136,7 @@ examples: $(HIDRUN) $(HIDPLAY) $(HIDMAP)
 	tools/second-reader examples/*/*.script
 	tools/check-recordings examples/*/*.hid
 	tools/check-pictures $(HIDMAP) $(PICTURED)
+	tools/check-hidplay $(HIDPLAY)
 	tools/check-manual $(HIDRUN) $(HIDPLAY) $(HIDMAP)
 	tools/check-full-device $(HIDRUN)
 	tools/check-failures $(HIDMAP)

@@ -234,8 +234,15 @@ uint32_t hidstack_run(const uint8_t *script, size_t length, uint32_t options, ui
  *   NONE, MEMORY: `told` is 0 */
 uint32_t hidstack_cause_text(uint32_t cause, uint8_t *out, size_t room, uint64_t *told);
 
+/* The same in words: `a Pop without a Push` of 3. It takes no memory. */
+uint32_t hidstack_cause_words(uint32_t cause, uint8_t *out, size_t room, uint64_t *told);
+
 /* A usage as page and ID in hex, `01:30`, of 5 to 9 bytes; else as hidstack_cause_text. */
 uint32_t hidstack_usage_text(uint16_t page, uint16_t id, uint8_t *out, size_t room, uint64_t *told);
+
+/* The name of a usage in the HID Usage Tables: `X`, `Button 1`; NONE where they have none that the library knows. Else
+ * as hidstack_cause_text. */
+uint32_t hidstack_usage_name(uint16_t page, uint16_t id, uint8_t *out, size_t room, uint64_t *told);
 
 #ifdef __cplusplus
 }

@@ -234,10 +234,16 @@ def numbered(text):
     return "\n".join(lines)
 
 
+def is_of_hid_recorder(path):
+    """Whether it is neither a binary descriptor nor a dump of usbhid-dump."""
+    data = path.read_bytes()
+    return data[:1] not in (b"\x05", b"\x06") and b":STREAM" not in data
+
+
 def recordings(paths, seed):
     """Names and texts of what is played."""
     real = {}
-    for path in paths:
+    for path in filter(is_of_hid_recorder, paths):
         text = path.read_text()
         descriptors = [line.split()[2:] for line in text.splitlines() if line.startswith("R:")]
         if "\nN:" in text and len(descriptors) == 1:

@@ -24,6 +24,18 @@ hidstack = ctypes.CDLL(sys.argv[1])
 hidstack.hidstack_open.argtypes = [ctypes.c_char_p, ctypes.c_size_t, ctypes.POINTER(Handle), ctypes.POINTER(Opened)]
 hidstack.hidstack_feed.argtypes = [ctypes.POINTER(Handle), ctypes.c_char_p, ctypes.c_size_t, ctypes.POINTER(Event), ctypes.c_size_t,
                                    ctypes.POINTER(ctypes.c_uint64)]
+hidstack.hidstack_usage_name.argtypes = [ctypes.c_uint16, ctypes.c_uint16, ctypes.c_char_p, ctypes.c_size_t,
+                                         ctypes.POINTER(ctypes.c_uint64)]
+
+
+def name_of(event):
+    """What the usage of an event is called, or nothing."""
+    name, told = ctypes.create_string_buffer(80), ctypes.c_uint64()
+    if hidstack.hidstack_usage_name(event.page, event.id, name, len(name), ctypes.byref(told)) != 0:
+        return ""
+    return " " + name.raw[:told.value].decode()
+
+
 device, opened, count = Handle(), Opened(), ctypes.c_uint64()
 if hidstack.hidstack_open(MOUSE, len(MOUSE), ctypes.byref(device), ctypes.byref(opened)) != 0:
     sys.exit(f"refused: L{opened.cause} at {opened.at}")
@@ -31,5 +43,5 @@ events = (Event * opened.room)()
 for report in (bytes([0x05, 0x7F, 0x81]), bytes([0x04, 0, 0])):
     if hidstack.hidstack_feed(ctypes.byref(device), report, len(report), events, len(events), ctypes.byref(count)) == 0:
         for event in events[:count.value]:
-            print(f"{KINDS[event.kind]} {event.page:02X}:{event.id:02X} {event.value}")
+            print(f"{KINDS[event.kind]} {event.page:02X}:{event.id:02X} {event.value}{name_of(event)}")
 hidstack.hidstack_close(ctypes.byref(device))

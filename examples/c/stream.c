@@ -20,10 +20,23 @@ static uint64_t report_bytes(struct hidstack *device, const struct hidstack_open
 static void print(const struct hidstack_event *event)
 {
     static const char *const words[] = {"up", "down", "value", "null", "motion", "dropped"};
-    uint8_t usage[9];
+    uint8_t usage[9], name[80];
     uint64_t told;
-    if (hidstack_usage_text(event->page, event->id, usage, sizeof usage, &told) == HIDSTACK_OK)
-        printf("%s %.*s %" PRId64 "\n", words[event->kind], (int)told, (const char *)usage, event->value);
+    if (hidstack_usage_text(event->page, event->id, usage, sizeof usage, &told) != HIDSTACK_OK)
+        return;
+    printf("%s %.*s %" PRId64, words[event->kind], (int)told, (const char *)usage, event->value);
+    if (hidstack_usage_name(event->page, event->id, name, sizeof name, &told) == HIDSTACK_OK)
+        printf(" %.*s", (int)told, (const char *)name);
+    putchar('\n');
+}
+
+static void print_refusal(const struct hidstack_opened *opened)
+{
+    uint8_t words[80];
+    uint64_t told;
+    if (hidstack_cause_words(opened->cause, words, sizeof words, &told) == HIDSTACK_OK)
+        fprintf(stderr, "refused: L%" PRIu32 " at %" PRIu64 ": %.*s\n", opened->cause, opened->at, (int)told,
+                (const char *)words);
 }
 
 static int open_file(const char *name, struct hidstack *device, struct hidstack_opened *opened)
@@ -49,7 +62,7 @@ int main(int argc, char **argv)
         return 2;
     }
     if (!open_file(argv[1], &device, &opened)) {
-        fprintf(stderr, "refused: L%" PRIu32 " at %" PRIu64 "\n", opened.cause, opened.at);
+        print_refusal(&opened);
         return 1;
     }
     events = calloc(opened.room + 1, sizeof *events);

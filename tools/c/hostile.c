@@ -248,6 +248,39 @@ static void texts(void)
     want("no room at null", hidstack_usage_text(1, 2, NULL, 0, &told), HIDSTACK_NO_ROOM);
 }
 
+static void words(void)
+{
+    static const char pop[] = "a Pop without a Push", mouse_name[] = "Mouse", button[] = "Button 65535";
+    uint8_t text[128], shortest[sizeof pop - 1];
+    uint64_t told;
+    uint32_t number, page, id;
+    want("L3 in words", hidstack_cause_words(3, shortest, sizeof shortest, &told), HIDSTACK_OK);
+    want("its words", told == sizeof shortest && memcmp(shortest, pop, sizeof shortest) == 0, 1);
+    want("one byte too few", hidstack_cause_words(3, text, sizeof shortest - 1, &told), HIDSTACK_NO_ROOM);
+    want("its length is told", told, sizeof shortest);
+    for (number = 1; number <= 17; number++)
+        want("each cause has words", hidstack_cause_words(number, text, sizeof text, &told) == HIDSTACK_OK && told > 0, 1);
+    want("no words of 0", hidstack_cause_words(0, text, sizeof text, &told), HIDSTACK_NONE);
+    want("nothing is told", told, 0);
+    want("no words of 18", hidstack_cause_words(18, text, sizeof text, &told), HIDSTACK_NONE);
+    want("no words of the greatest", hidstack_cause_words(UINT32_MAX, NULL, 0, &told), HIDSTACK_NONE);
+    want("01:02", hidstack_usage_name(1, 2, text, sizeof mouse_name - 1, &told), HIDSTACK_OK);
+    want("is a mouse", told == 5 && memcmp(text, mouse_name, 5) == 0, 1);
+    want("one byte too few", hidstack_usage_name(1, 2, text, 4, &told), HIDSTACK_NO_ROOM);
+    want("it needs 5", told, 5);
+    want("the last button", hidstack_usage_name(9, UINT16_MAX, text, sizeof text, &told), HIDSTACK_OK);
+    want("has its number", told == sizeof button - 1 && memcmp(text, button, sizeof button - 1) == 0, 1);
+    want("no button 0", hidstack_usage_name(9, 0, text, sizeof text, &told), HIDSTACK_NONE);
+    want("nothing is told", told, 0);
+    want("no name of a vendor's", hidstack_usage_name(0xFF00, 1, NULL, 0, &told), HIDSTACK_NONE);
+    want("no room at null", hidstack_usage_name(1, 0x30, NULL, 0, &told), HIDSTACK_NO_ROOM);
+    for (page = 0; page <= 0xFFFF; page += page < 0x120 ? 1 : 0x101)
+        for (id = 0; id <= 0x400; id++) {
+            uint32_t status = hidstack_usage_name((uint16_t)page, (uint16_t)id, text, sizeof text, &told);
+            want("a name, or none", (status == HIDSTACK_OK && told > 0) || (status == HIDSTACK_NONE && told == 0), 1);
+        }
+}
+
 /*RUN*/
 static void runs(void)
 {
@@ -276,6 +309,7 @@ int main(void)
     tables();
     any_descriptors();
     texts();
+    words();
     runs();
     puts(wrong ? "WRONG" : "as wanted");
     return wrong;

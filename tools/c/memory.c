@@ -73,6 +73,24 @@ static int texts(void)
     }
 }
 
+static int names(void)
+{
+    uint8_t text[16];
+    uint64_t told;
+    calls = 0;
+    if (hidstack_cause_words(3, text, sizeof text, &told) != HIDSTACK_NO_ROOM || calls != 0) /* it takes none */
+        return 1;
+    for (fails = 0;; fails++) {
+        uint32_t status;
+        calls = 0;
+        status = hidstack_usage_name(9, 300, text, sizeof text, &told);
+        if (calls <= fails)
+            return status != HIDSTACK_OK || told != 10;
+        if (status != HIDSTACK_OK && (status != HIDSTACK_MEMORY || told != 0))
+            return 1;
+    }
+}
+
 static int feeds(struct hidstack *device)
 {
     uint64_t count;
@@ -100,7 +118,7 @@ int main(void)
     struct hidstack device = HIDSTACK_INIT;
     pthread_t thread;
     void *answer;
-    if (openings(&device) || tables() || texts())
+    if (openings(&device) || tables() || texts() || names())
         return 1;
     fails = -1;
     if (feeds(&device) || pthread_create(&thread, NULL, elsewhere, &device) || pthread_join(thread, &answer))

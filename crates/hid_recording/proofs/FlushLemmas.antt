@@ -14,9 +14,14 @@ use Rattle.hid_recording.specs.declared.fault.RecordingFault.{RecordingFault}
 use Rattle.hid_recording.specs.declared.fault.Summary.{Summary}
 use Rattle.hid_recording.specs.Output.{IsFront}
 use Rattle.hid_recording.specs.Session.{Session, Member, Outcome, accepted, refused, at_first}
-use Rattle.hid_recording.specs.Records.{Said, Nothing, Device, Descriptor, Report, record_of}
-use Rattle.hid_recording.specs.Telling.{goes_on, refuses, reads_named, reads_of, known_at, SaidTells, Means, TellsUnless, advanced, LineTells, LineBegins}
-use Rattle.hid_recording.specs.Runs.{Ending, Refusal, Want, Cut, Silence, ending_of, EndsAs, FirstTells, FirstBegins, RunsTo, Stops, line_of, AppendsRecording}
+use Rattle.hid_recording.specs.Records.{Said, Nothing, Blank, Device, Descriptor, Report, Begins, Bytes, record_of}
+use Rattle.hid_recording.specs.Words.{time_of}
+use Rattle.hid_recording.specs.Dumps.{numbered}
+use Rattle.hid_recording.specs.declared.dump.Address.{Address}
+use Rattle.hid_recording.specs.declared.dump.Content.{Content}
+use Rattle.hid_recording.specs.declared.dump.Content.TheVariants as contents
+use Rattle.hid_recording.specs.Telling.{goes_on, refuses, reads_named, reads_of, known_at, begins_behind, begins_of, gathers, ended, stream_told, EndTells, SaidTells, Means, TellsUnless, advanced, LineTells, LineBegins}
+use Rattle.hid_recording.specs.Runs.{Ending, Refusal, Want, Cut, Silence, Never, ending_of, EndsAs, FirstTells, FirstBegins, RunsTo, Stops, line_of, AppendsRecording}
 use Rattle.hid_recording.specs.Place.{Place, Advances, RunsFrom, lines_at}
 use Rattle.hid_recording.proofs.PlaceLemmas.{start, first_begins, broken_run}
 
@@ -48,8 +53,37 @@ no_slot_text : (session : Session) (time bytes text : List ℕ) (cause : Cause) 
 no_slot_text session time bytes text cause None e = no_refusal_text session _ text cause e
 no_slot_text session time bytes text cause (Some member) e = no_report_text session time bytes text cause member (report_named member.layout bytes) e
 
+no_begun_text : (content : Option Content) (next : Session) (text : List ℕ) (cause : Cause) → ended_with text cause ≡ begins_behind content next → text ≡ []
+no_begun_text None next text cause e = not_accepted text _ cause _ e
+no_begun_text (Some content) next text cause e = no_refusal_text next _ text cause e
+
+no_begin_text : (session : Session) (address : Address) (content : Content) (time : List ℕ) (device : Option ℕ) (text : List ℕ) (cause : Cause) → ended_with text cause ≡ begins_of session address content time device → text ≡ []
+no_begin_text session address content time None text cause e = no_refusal_text _ _ text cause e
+no_begin_text session address content time (Some device) text cause e = no_begun_text session.gathered.content _ text cause e
+
+room_text : (long : Bool) (session next : Session) (why : Why) (text : List ℕ) (cause : Cause) → ended_with text cause ≡ cond long (refuses session why) (accepted [] next) → text ≡ []
+room_text true session next why text cause e = no_refusal_text session why text cause e
+room_text false session next why text cause e = not_accepted text _ cause _ e
+
+no_gathered_text : (session : Session) (bytes : List ℕ) (content : Option Content) (text : List ℕ) (cause : Cause) → ended_with text cause ≡ gathers session bytes content → text ≡ []
+no_gathered_text session bytes None text cause e = no_refusal_text session _ text cause e
+no_gathered_text session bytes (Some content) text cause e = room_text (nat_lt 4096 (length session.gathered.bytes + length bytes)) _ _ _ text cause e
+
+no_told_text : (session : Session) (time : Option (List ℕ)) (bytes text : List ℕ) (cause : Cause) → ended_with text cause ≡ stream_told time bytes session → text ≡ []
+no_told_text session None bytes text cause e = no_refusal_text session _ text cause e
+no_told_text session (Some time) bytes text cause e = no_slot_text session time bytes text cause (known_at (slice_get session.devices session.current)) e
+
+no_end_text : (session : Session) (content : Option Content) (text : List ℕ) (cause : Cause) → EndTells session content (ended_with text cause) → text ≡ []
+no_end_text session None text cause e = not_accepted text _ cause _ e
+no_end_text session (Some contents.Descriptor) text cause (inl h) = not_accepted text _ cause _ h.2
+no_end_text session (Some contents.Descriptor) text cause (inr h) = no_refusal_text _ _ text cause h.2
+no_end_text session (Some contents.Stream) text cause e = no_told_text (ended session) (time_of session.gathered.time) session.gathered.bytes text cause e
+
 no_said_text : (session : Session) (said : Said) (text : List ℕ) (cause : Cause) → SaidTells session said (ended_with text cause) → text ≡ []
 no_said_text session Nothing text cause e = not_accepted text _ cause _ e
+no_said_text session Blank text cause h = no_end_text session session.gathered.content text cause h
+no_said_text session (Begins address content time) text cause e = no_begin_text session address content time (numbered session.addresses address) text cause e
+no_said_text session (Bytes bytes) text cause e = no_gathered_text session bytes session.gathered.content text cause e
 no_said_text session (Device device) text cause e = not_accepted text _ cause _ e
 no_said_text session (Descriptor bytes) text cause (inl h) = not_accepted text _ cause _ h.2
 no_said_text session (Descriptor bytes) text cause (inr h) = no_refusal_text _ _ text cause h.2
@@ -76,6 +110,7 @@ cut_there Refusal session (bytes ∷ more) part cause h = (part, line_begins ses
 cut_there Want session recording part cause h = (part, h, ([], sym (append-nil part)))
 cut_there Cut session recording part cause h = h
 cut_there Silence session recording part cause h = ([], first_begins session recording, rw h ([], refl))
+cut_there Never session recording part cause h = absurd h
 
 cut_stops : (session : Session) (recording : List (List ℕ)) (before : ℕ) (written : List ℕ) (first fault : RecordingFault) → fault.line ≡ first.line → fault.cause ≡ causes.Write
     → Stops session recording before written first → Stops session recording before written fault
@@ -97,7 +132,19 @@ cut_stops session recording before written first fault at is h = record {
 cut_at_end : (session : Session) (recording : List (List ℕ)) (written : List ℕ) (result : Result Summary RecordingFault) (fault : RecordingFault) → fault.line ≡ line_of result → fault.cause ≡ causes.Write
     → RunsTo session recording 0 written result → Stops session recording 0 written fault
 unfolding ending_of
-cut_at_end session recording written (Err first) fault at is h = cut_stops session recording 0 written first fault at is h
+cut_at_end session recording written (Err first) fault at is (inl h) = cut_stops session recording 0 written first fault at is h
+cut_at_end session recording written (Err first) fault at is (inr h) = record {
+  first = recording;
+  others = [];
+  split = sym (append-nil recording);
+  line = omega (arith, at, h.line);
+  text = written;
+  now = h.last;
+  all = h.all;
+  part = [];
+  ends = subst (λ c. EndsAs (ending_of c) (FirstTells h.last []) (FirstBegins h.last []) [] c) (sym is) ([], refl, ([], refl));
+  whole = sym (append-nil written);
+}
 cut_at_end session recording written (Ok summary) fault at is h = record {
   first = recording;
   others = [];
@@ -127,12 +174,12 @@ flushed_run options (Some recording) c d e result h k = (h.0, kept_written c d e
 pub never_flushed : (options : Options) (a c d e : Option (List ℕ)) (result : Result Summary RecordingFault) (fault : RecordingFault) → fault.line ≡ line_of result → fault.cause ≡ causes.Write
     → AppendsRecording options a c d result → Keeps d e → AppendsRecording options a c e (Err fault)
 never_flushed options None c d e result fault at is h k = tt
-never_flushed options (Some recording) c d e result fault at is h k = (h.0, kept_written c d e h.0 h.1 k, cut_at_end (at_first options) (lines recording) h.0 result fault at is h.2)
+never_flushed options (Some recording) c d e result fault at is h k = (h.0, kept_written c d e h.0 h.1 k, inl (cut_at_end (at_first options) (lines recording) h.0 result fault at is h.2))
 
 -- one before a read did
 cut_here : (place : Place) (more : List ℕ) (fault : RecordingFault) → fault.cause ≡ causes.Write → fault.line ≡ place.lines + 1 → RunsFrom place more [] (Err fault)
 unfolding ending_of
-cut_here place more fault is at = record {
+cut_here place more fault is at = inl (record {
   first = [];
   others = lines_at place more;
   split = refl;
@@ -143,7 +190,7 @@ cut_here place more fault is at = record {
   part = [];
   ends = subst (λ c. EndsAs (ending_of c) (FirstTells place.session (lines_at place more)) (FirstBegins place.session (lines_at place more)) [] c) (sym is) ([], first_begins place.session (lines_at place more), ([], refl));
   whole = refl;
-}
+})
 
 pub cut_run : (options : Options) (a b c d e : Option (List ℕ)) (read written : List ℕ) (now : Place) (fault : RecordingFault) → Consumes a b read → Appends c d written → Advances (start options) read written now
     → Keeps d e → fault.cause ≡ causes.Write → fault.line ≡ now.lines + 1 → AppendsRecording options a c e (Err fault)

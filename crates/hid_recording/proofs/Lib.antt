@@ -3,3 +3,4 @@ pub mod PlaceLemmas
 pub mod FlushLemmas
 pub mod WordLemmas
 pub mod PlayerLemmas
+pub mod JsonLemmas

@@ -1,5 +1,5 @@
 -- Lines of a recording that comes in pieces, and what a run of them wrote.
-use Rattle.std.proofs.Common.{◌≡◌, ℕ, ◌+◌, ◌-◌, ◌<◌, ◌≤◌, Bool, true, false, List, [], ◌∷◌, ◌++◌, length, length-append, take, drop, take-append-drop, refl, sym, ap, inl, ◌∙◌, arith, append-nil, append_assoc, subst, Result, Ok, Err, Option, None, Some, IfSome, IsErrAnd, cond, nat_eq, get_or}
+use Rattle.std.proofs.Common.{◌≡◌, ℕ, ◌+◌, ◌-◌, ◌<◌, ◌≤◌, Bool, true, false, List, [], ◌∷◌, ◌++◌, length, length-append, take, drop, take-append-drop, refl, sym, ap, inl, ◌∙◌, arith, append-nil, append_assoc, subst, inr, Result, Ok, Err, Option, None, Some, IfSome, IsErrAnd, cond, nat_eq, get_or}
 use Rattle.std.specs.List.{slice_split, onto_first, All}
 use Rattle.std.specs.Str.Lines.{lines, lines_of_parts, strip_carriage_return}
 use Rattle.std.specs.Io.KnownBytes.{Appends, Consumes, IsAtEnd}
@@ -17,7 +17,7 @@ use Rattle.hid_recording.specs.Session.{Session, accepted, refused, at_first}
 use Rattle.hid_recording.specs.Telling.{LineTells, LineBegins, TellsUnless}
 use Rattle.hid_recording.specs.Player.{summary_of}
 use Rattle.hid_recording.specs.Runs.{Silence, ending_of, EndsAs, Ends, FirstTells, FirstBegins, AllTell, RunsTo, AppendsRecording}
-use Rattle.hid_recording.specs.Place.{Place, IsUnbroken, lines_at, Writes, Advances, RunsFrom, Takes}
+use Rattle.hid_recording.specs.Place.{Place, IsUnbroken, lines_at, Writes, Advances, RunsFrom, Takes, EndsAt}
 
 -- ---- lines
 
@@ -112,7 +112,7 @@ advances_line session next begun line n written whole same told = record {
 -- a run that ended in its first line
 line_stops : (session : Session) (recording others : List (List ℕ)) (before : ℕ) (line part : List ℕ) (cause : Cause) (fault : RecordingFault) → recording ≡ line ∷ others → fault.line ≡ before + 1 → fault.cause ≡ cause
     → Ends (LineTells session line) (LineBegins session line) part cause → RunsTo session recording before part (Err fault)
-line_stops session recording others before line part cause fault e at is h = record {
+line_stops session recording others before line part cause fault e at is h = inl (record {
   first = [];
   others = line ∷ others;
   split = e;
@@ -123,7 +123,7 @@ line_stops session recording others before line part cause fault e at is h = rec
   part = part;
   ends = subst (λ c. Ends (FirstTells session (line ∷ others)) (FirstBegins session (line ∷ others)) part c) (sym is) h;
   whole = refl;
-}
+})
 
 -- what runs on behind lines that were told
 runs_more : (session middle : Session) (first others : List (List ℕ)) (before after : ℕ) (text rest : List ℕ) (result : Result Summary RecordingFault) → AllTell session first text middle → after ≡ before + length first
@@ -131,10 +131,11 @@ runs_more : (session middle : Session) (first others : List (List ℕ)) (before 
 runs_more session middle first others before after text rest (Ok summary) h at k = record {
   last = k.last;
   all = all_more session middle k.last first others text rest h k.all;
+  closed = k.closed;
   lines = omega (arith, k.lines, length-append first others);
   counts = k.counts;
 }
-runs_more session middle first others before after text rest (Err fault) h at k = record {
+runs_more session middle first others before after text rest (Err fault) h at (inl k) = inl (record {
   first = first ++ k.first;
   others = k.others;
   split = ap (λ l. first ++ l) k.split ∙ sym (append_assoc first k.first k.others);
@@ -145,7 +146,14 @@ runs_more session middle first others before after text rest (Err fault) h at k 
   part = k.part;
   ends = k.ends;
   whole = ap (λ l. text ++ l) k.whole ∙ sym (append_assoc text k.text k.part);
-}
+})
+runs_more session middle first others before after text rest (Err fault) h at (inr k) = inr (record {
+  last = k.last;
+  all = all_more session middle k.last first others text rest h k.all;
+  unended = k.unended;
+  line = omega (arith, k.line, length-append first others);
+  cause = k.cause;
+})
 
 -- what runs on from a place that was advanced to
 pub runs_after : (p q : Place) (bytes more written text : List ℕ) (result : Result Summary RecordingFault) → Advances p bytes written q → RunsFrom q more text result → RunsFrom p (bytes ++ more) (written ++ text) result
@@ -188,7 +196,7 @@ stops_at_byte p q r bytes v w i fault (Err e) below h k is = λ more.
 
 -- a fault that comes before any text of a line may come at any time
 pub outside_stops : (place : Place) (more : List ℕ) (fault : RecordingFault) → ending_of fault.cause ≡ Silence → fault.line ≡ place.lines + 1 → RunsFrom place more [] (Err fault)
-outside_stops place more fault is at = record {
+outside_stops place more fault is at = inl (record {
   first = [];
   others = lines_at place more;
   split = refl;
@@ -199,7 +207,7 @@ outside_stops place more fault is at = record {
   part = [];
   ends = subst (λ e. EndsAs e (FirstTells place.session (lines_at place more)) (FirstBegins place.session (lines_at place more)) [] fault.cause) (sym is) refl;
   whole = refl;
-}
+})
 
 -- what holds whatever comes holds of what is known
 known_rest : (a b : Option (List ℕ)) (read : List ℕ) (P : List ℕ → Type 0) → Consumes a b read → ((more : List ℕ) → P (read ++ more)) → IfSome a P
@@ -211,20 +219,26 @@ known_rest (Some xs) (Some ys) read P h f = subst P (sym h) (f ys)
 last_line : (place : Place) → IsUnbroken place.begun → 0 < length place.begun → lines_at place [] ≡ place.begun ∷ []
 last_line place whole some = ap lines (append-nil place.begun) ∙ lines_last place.begun whole ∙ cond-false _ _ _ (ne_eqb (length place.begun) 0 (λ none. omega arith))
 
-pub last_line_told : (place : Place) (next : Session) (written : List ℕ) (summary : Summary) → IsUnbroken place.begun → 0 < length place.begun → LineTells place.session place.begun (accepted written next)
-    → summary.lines ≡ place.lines + 1 → summary ≡ summary_of next summary.lines → RunsFrom place [] written (Ok summary)
-last_line_told place next written summary whole some told lines' counts' =
-    rw (last_line place whole some) (record { last = next; all = one_tells place.session next place.begun written told; lines = omega (arith, lines'); counts = counts' })
+-- nothing more comes
+ends_at : (session : Session) (before : ℕ) (result : Result Summary RecordingFault) → EndsAt session before result → RunsTo session [] before [] result
+ends_at session before (Ok summary) h = record { last = session; all = (refl, refl); closed = h.0; lines = omega (arith, h.1); counts = h.2 }
+ends_at session before (Err fault) h = inr (record { last = session; all = (refl, refl); unended = h.0; line = omega (arith, h.2); cause = h.1 })
+
+pub last_line_told : (place : Place) (next : Session) (written : List ℕ) (result : Result Summary RecordingFault) → IsUnbroken place.begun → 0 < length place.begun → LineTells place.session place.begun (accepted written next)
+    → EndsAt next (place.lines + 1) result → RunsFrom place [] written result
+last_line_told place next written result whole some told ends =
+    let runs = runs_more place.session next (place.begun ∷ []) [] place.lines (place.lines + 1) written [] result (one_tells place.session next place.begun written told) (omega arith) (ends_at next (place.lines + 1) result ends) in
+    subst (λ recording. RunsTo place.session recording place.lines written result) (sym (last_line place whole some)) (subst (λ text. RunsTo place.session (place.begun ∷ []) place.lines text result) (append-nil written) runs)
 
 pub last_line_stops : (place : Place) (next : Session) (written : List ℕ) (cause : Cause) (fault : RecordingFault) → IsUnbroken place.begun → 0 < length place.begun → Writes (LineTells place.session place.begun) (LineBegins place.session place.begun) written (Err cause) next
     → fault.line ≡ place.lines + 1 → fault.cause ≡ cause → RunsFrom place [] written (Err fault)
 last_line_stops place next written cause fault whole some told at is =
     line_stops place.session (lines_at place []) [] place.lines place.begun written cause fault (last_line place whole some) at is told
 
-pub no_last_line : (place : Place) (summary : Summary) → place.begun ≡ [] → summary.lines ≡ place.lines → summary ≡ summary_of place.session summary.lines → RunsFrom place [] [] (Ok summary)
-no_last_line place summary none lines' counts' =
+pub no_last_line : (place : Place) (result : Result Summary RecordingFault) → place.begun ≡ [] → EndsAt place.session place.lines result → RunsFrom place [] [] result
+no_last_line place result none ends =
     let all : lines_at place [] ≡ [] = ap (λ bytes. lines (bytes ++ [])) none in
-    rw all (record { last = place.session; all = (refl, refl); lines = omega (arith, lines'); counts = counts' })
+    subst (λ recording. RunsTo place.session recording place.lines [] result) (sym all) (ends_at place.session place.lines result ends)
 
 -- nothing has come
 abbrev pub start : Options → Place
@@ -276,7 +290,7 @@ first_begins session (line ∷ more) = begins_nothing session line
 
 no_line_run : (options : Options) (recording : List ℕ) (fault : RecordingFault) → fault.line ≡ 1 → fault.cause ≡ causes.Memory → RunsTo (at_first options) (lines recording) 0 [] (Err fault)
 unfolding ending_of
-no_line_run options recording fault at is = record {
+no_line_run options recording fault at is = inl (record {
   first = [];
   others = lines recording;
   split = refl;
@@ -287,7 +301,7 @@ no_line_run options recording fault at is = record {
   part = [];
   ends = subst (λ c. Ends (FirstTells (at_first options) (lines recording)) (FirstBegins (at_first options) (lines recording)) [] c) (sym is) (first_begins (at_first options) (lines recording));
   whole = refl;
-}
+})
 
 -- memory for the devices was wanting before the first read
 pub never_begun : (options : Options) (a c : Option (List ℕ)) (fault : RecordingFault) → fault.line ≡ 1 → fault.cause ≡ causes.Memory → AppendsRecording options a c c (Err fault)

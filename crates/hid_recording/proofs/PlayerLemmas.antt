@@ -19,12 +19,14 @@ use Rattle.hid_recording.specs.declared.fault.Cause.TheVariants as causes
 use Rattle.hid_recording.specs.declared.fault.Options.{Options}
 use Rattle.hid_recording.specs.declared.fault.Refusal.{Refusal as Why}
 use Rattle.hid_recording.specs.declared.fault.Refusal.TheVariants as refusals
+use Rattle.hid_recording.specs.declared.dump.Content.{Content}
+use Rattle.hid_recording.specs.declared.dump.Content.TheVariants as contents
 use Rattle.hid_recording.specs.Output.{AppendsFront}
 use Rattle.hid_recording.specs.Refusals.{is_memory}
 use Rattle.hid_recording.specs.Session.{Session, Member, Outcome, accepted, refused, counted}
-use Rattle.hid_recording.specs.Records.{Said, Descriptor, record_of}
+use Rattle.hid_recording.specs.Records.{Said, record_of}
 use Rattle.hid_recording.specs.EventLines.{event_lines}
-use Rattle.hid_recording.specs.Telling.{refuses, with_device, TellsDescriptor, values_asked, report_text, reads_named, reads_of, known_at, report_told, Means, TellsUnless, LineTells, LineBegins}
+use Rattle.hid_recording.specs.Telling.{refuses, with_device, TellsDescriptor, SaidTells, values_asked, report_text, reads_named, reads_of, known_at, report_told, ended, EndTells, Means, TellsUnless, LineTells, LineBegins}
 use Rattle.hid_recording.specs.Gathering.{EndsIn, Gathers}
 use Rattle.hid_recording.specs.Playing.{TakesOne, SlotTakesNone, PlaysAt}
 use Rattle.hid_recording.specs.Runs.{ending_of, Ends}
@@ -40,6 +42,7 @@ ends_so P Q causes.LineTooLong f h = absurd h
 ends_so P Q causes.Read f h = absurd h
 ends_so P Q causes.Write f h = absurd h
 ends_so P Q causes.TooManyReads f h = absurd h
+ends_so P Q causes.Unended f h = absurd h
 
 pub gathers_so : (P Q : Outcome → Type 0) (r : Result (Unit {0}) Cause) (text : List ℕ) (next : Session) → ((o : Outcome) → P o → Q o) → Gathers P r text next → Gathers Q r text next
 gathers_so P Q (Ok u) text next f h = f (accepted text next) h
@@ -57,22 +60,29 @@ pub descriptor_refused : (session : Session) (bytes : List ℕ) (fault : LayoutF
 descriptor_refused session bytes fault r text next other told h =
     gathers_so (λ o. o ≡ refuses (with_device session None) (refusals.Layout fault)) (TellsDescriptor bytes session) r text next (λ o e. inr (fault, explained fault.cause bytes fault.at other told, e)) h
 
--- a line that has a descriptor
-pub descriptor_meant : (session : Session) (meant : Result Said Why) (bytes : List ℕ) (r : Result (Unit {0}) Cause) (text : List ℕ) (next : Session) → meant ≡ Ok (Descriptor bytes)
-    → Gathers (TellsDescriptor bytes session) r text next → Gathers (Means session meant) r text next
-descriptor_meant session meant bytes r text next e h = subst (λ m. Gathers (Means session m) r text next) (sym e) h
+-- a dump of a descriptor, told in the session that its end leaves
+pub dump_described : (session : Session) (content : Option Content) (bytes : List ℕ) (now : Session) (r : Result (Unit {0}) Cause) (text : List ℕ) (next : Session) → Gathers (TellsDescriptor bytes now) r text next
+    → content ≡ Some contents.Descriptor → bytes ≡ session.gathered.bytes → now ≡ ended session → Gathers (EndTells session content) r text next
+dump_described session content bytes now r text next h is same after =
+    subst (λ c. Gathers (EndTells session c) r text next) (sym is)
+    (subst (λ (s : Session). Gathers (TellsDescriptor session.gathered.bytes s) r text next) after (subst (λ b. Gathers (TellsDescriptor b now) r text next) same h))
+
+-- a line that is a record
+pub said_meant : (session : Session) (meant : Result Said Why) (said : Said) (r : Result (Unit {0}) Cause) (text : List ℕ) (next : Session) → meant ≡ Ok said
+    → Gathers (SaidTells session said) r text next → Gathers (Means session meant) r text next
+said_meant session meant said r text next e h = subst (λ m. Gathers (Means session m) r text next) (sym e) h
 
 -- ---- reports
 
 -- a report that was read, with what it tells
 pub report_taken : (options : Options) (time : List ℕ) (device : ℕ) (bytes : List ℕ) (layout : Contents) (cells after : List Cell) (old asked more : List ℕ) (none told : List Event) (events report : ℕ) → report_named layout bytes ≡ Ok report
     → after ≡ read_view layout report bytes cells → none ≡ [] → told ≡ none ++ read_events layout report bytes cells → events ≡ length told
-    → asked ≡ old ++ values_asked options.values time device layout (report_named layout bytes) bytes → more ≡ asked ++ event_lines time device options.names told
+    → asked ≡ old ++ values_asked options.values time device layout (report_named layout bytes) bytes → more ≡ asked ++ event_lines time device options told
     → TakesOne options time device bytes (record { layout = layout; cells = cells }) old events (record { layout = layout; cells = after }) more
 unfolding report_text
 report_taken options time device bytes layout cells after old asked more none told events report named read nothing gives count values lines =
     let asked_of = λ (n : Result ℕ ReportFault). values_asked options.values time device layout n bytes in
-    let shown = λ (l : List Event). event_lines time device options.names l in
+    let shown = λ (l : List Event). event_lines time device options l in
     let all : told ≡ read_events layout report bytes cells = gives ∙ ap (λ l. l ++ read_events layout report bytes cells) nothing in
     record {
       report = report;
@@ -123,6 +133,7 @@ gathered_ends session line lines' causes.LineTooLong short count h = absurd h
 gathered_ends session line lines' causes.Read short count h = absurd h
 gathered_ends session line lines' causes.Write short count h = absurd h
 gathered_ends session line lines' causes.TooManyReads short count h = absurd h
+gathered_ends session line lines' causes.Unended short count h = absurd h
 
 -- nothing was gathered
 pub line_ends : (old : Option (List ℕ)) (session : Session) (line : List ℕ) (lines' : ℕ) (cause : Cause) (r : Result (Unit {0}) Cause) (next : Session) → length line ≤ 16384 → lines' ≡ counted session.lines 1

@@ -1,6 +1,8 @@
 pub mod Words
+pub mod Dumps
 pub mod Records
 pub mod Refusals
+pub mod EventJson
 pub mod EventLines
 pub mod Session
 pub mod Taking
@@ -9,6 +11,7 @@ pub mod Gathering
 pub mod Playing
 pub mod Player
 pub mod Output
+pub mod Binary
 pub mod Runs
 pub mod Place
 pub mod Recording

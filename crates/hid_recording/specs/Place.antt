@@ -1,13 +1,15 @@
 -- A recording of which some bytes have come: for proofs (our choice).
-use Rattle.std.specs.Prelude.{◌≡◌, ◌⊎◌, ◌==◌, ℕ, ◌+◌, false, List, [], ◌++◌, length, All, Option, Result, Ok, Err}
+use Rattle.std.specs.Prelude.{◌≡◌, ◌⊎◌, ◌==◌, ℕ, ◌+◌, false, true, List, [], ◌++◌, length, All, Option, None, is_some, Result, Ok, Err}
 use Rattle.std.specs.Str.Lines.{lines}
 use Rattle.std.specs.Io.KnownBytes.{Appends}
 use Rattle.hid_recording.specs.declared.fault.Cause.{Cause}
+use Rattle.hid_recording.specs.declared.fault.Cause.TheVariants.{Unended}
 use Rattle.hid_recording.specs.declared.fault.RecordingFault.{RecordingFault}
 use Rattle.hid_recording.specs.declared.fault.Summary.{Summary}
 use Rattle.hid_recording.specs.Session.{Session, Outcome, accepted}
+use Rattle.hid_recording.specs.Player.{summary_of}
 use Rattle.hid_recording.specs.Output.{IsFront}
-use Rattle.hid_recording.specs.Runs.{Ending, Refusal, Want, Cut, Silence, ending_of, AllTell, Ends, RunsTo}
+use Rattle.hid_recording.specs.Runs.{Ending, Refusal, Want, Cut, Silence, Never, ending_of, AllTell, Ends, RunsTo}
 
 -- what was written of a line: all that it tells, or what its end leaves of that
 abbrev pub Writes : (Outcome → Type 0) → (List ℕ → Type 0) → List ℕ → Result (Unit {0}) Cause → Session → Type 0
@@ -30,6 +32,7 @@ OnceEndsAs Refusal Tells written cause = Tells (record { text = written; end = E
 OnceEndsAs Want Tells written cause = IsBegun Tells written
 OnceEndsAs Cut Tells written cause = (text : List ℕ) × IsBegun Tells text × IsFront written text
 OnceEndsAs Silence Tells written cause = ⊥
+OnceEndsAs Never Tells written cause = ⊥
 
 -- what was written of a part that is told once
 abbrev pub WritesOnce : (Outcome → Type 0) → List ℕ → Result (Unit {0}) Cause → Session → Type 0
@@ -77,6 +80,13 @@ abbrev pub AppendsTaken : Option (List ℕ) → Option (List ℕ) → Place → 
     → Result (Unit {0}) RecordingFault → Place → Type 0
 AppendsTaken before after old bytes result new =
     (written : List ℕ) × Appends before after written × Takes old bytes written result new
+
+-- a run that ends behind so many lines; a dump that is open there is a fault
+abbrev pub EndsAt : Session → ℕ → Result Summary RecordingFault → Type 0
+EndsAt session lines' (Ok summary) =
+    (session.gathered.content ≡ None) × (summary.lines ≡ lines') × (summary ≡ summary_of session summary.lines)
+EndsAt session lines' (Err fault) =
+    (is_some session.gathered.content ≡ true) × (fault.cause ≡ Unended) × (fault.line ≡ lines' + 1)
 
 -- known bytes grew by what was written to the end of a recording that ended here
 abbrev pub AppendsRun : Option (List ℕ) → Option (List ℕ) → Place → Result Summary RecordingFault → Type 0

@@ -1,8 +1,15 @@
 -- The player, seen as the session that it is in: for proofs (our choice).
 use Rattle.std.specs.Prelude.{ℕ}
 use Rattle.hid_recording.specs.declared.player.Player.{Player}
+use Rattle.hid_recording.specs.declared.dump.Dump.{Dump}
+use Rattle.hid_recording.specs.Dumps.{Gathered}
 use Rattle.hid_recording.specs.declared.fault.Summary.{Summary}
 use Rattle.hid_recording.specs.Session.{Session}
+
+-- what came of a dump
+abbrev pub gathered_of : Dump → Gathered
+gathered_of dump =
+    record { content = dump.content; device = dump.device; time = dump.time.items; bytes = dump.bytes.items }
 
 -- the session of a player
 abbrev pub session_of : Player → Session
@@ -10,6 +17,8 @@ session_of p = record {
   options = p.options;
   current = p.devices.current;
   devices = p.devices.slots.items;
+  addresses = p.addresses.known.items;
+  gathered = gathered_of p.dump;
   lines = p.lines;
   descriptors = p.descriptors;
   reports = p.reports;

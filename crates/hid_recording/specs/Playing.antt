@@ -4,7 +4,7 @@ use Rattle.hid_cells.specs.declared.fault.ReportFault.{ReportFault}
 use Rattle.hid_usages.specs.Reading.{report_named}
 use Rattle.hid_recording.specs.declared.fault.Options.{Options}
 use Rattle.hid_recording.specs.declared.fault.Cause.{Cause}
-use Rattle.hid_recording.specs.declared.fault.Cause.TheVariants.{Refused, LineTooLong, Read, Write, Memory, TooManyReads}
+use Rattle.hid_recording.specs.declared.fault.Cause.TheVariants.{Refused, LineTooLong, Read, Write, Memory, TooManyReads, Unended}
 use Rattle.hid_recording.specs.declared.fault.Refusal.TheVariants.{NoLayout, Report}
 use Rattle.hid_recording.specs.declared.event_line.Source.{Source}
 use Rattle.hid_recording.specs.Session.{Member}
@@ -20,6 +20,7 @@ TakesNone member bytes LineTooLong after = ⊥
 TakesNone member bytes Read after = ⊥
 TakesNone member bytes Write after = ⊥
 TakesNone member bytes TooManyReads after = ⊥
+TakesNone member bytes Unended after = ⊥
 
 -- a report was read, and what it tells was added
 pub record TakesOne (options : Options) (time : List ℕ) (device : ℕ) (bytes : List ℕ) (member : Member)
@@ -47,6 +48,7 @@ SlotTakesNone slot bytes LineTooLong after = ⊥
 SlotTakesNone slot bytes Read after = ⊥
 SlotTakesNone slot bytes Write after = ⊥
 SlotTakesNone slot bytes TooManyReads after = ⊥
+SlotTakesNone slot bytes Unended after = ⊥
 
 -- a report was played of a slot
 pub record SlotTakesOne (options : Options) (time : List ℕ) (device : ℕ) (bytes : List ℕ) (slot : Option Member)

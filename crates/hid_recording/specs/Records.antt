@@ -1,27 +1,37 @@
 -- What a line of a recording says (our choice: docs/RECORDINGS.md; the letters are those of hid-recorder).
-use Rattle.std.specs.Prelude.{⊤, ◌≡◌, ℕ, ◌==◌, ◌||◌, List, [], ◌∷◌, length, if◌then◌else◌, Option, None, Some, Result, Ok, Err, MatchResult}
+use Rattle.std.specs.Prelude.{⊤, ◌≡◌, ℕ, ◌==◌, Bool, ◌&&◌, ◌||◌, nat_le, List, [], ◌∷◌, length, if◌then◌else◌, Option, None, Some, Result, Ok, Err, MatchResult}
+use Rattle.std.specs.List.{slice_split}
 use Rattle.hid_lines.specs.Words.{Word, words_of}
+use Rattle.hid_recording.specs.declared.dump.Address.{Address}
+use Rattle.hid_recording.specs.declared.dump.Content.{Content}
 use Rattle.hid_recording.specs.declared.fault.Cause.{Cause}
-use Rattle.hid_recording.specs.declared.fault.Cause.TheVariants.{Refused, LineTooLong, Read, Write, Memory, TooManyReads}
+use Rattle.hid_recording.specs.declared.fault.Cause.TheVariants.{Refused, LineTooLong, Read, Write, Memory, TooManyReads, Unended}
 use Rattle.hid_recording.specs.declared.fault.Refusal.{Refusal}
 use Rattle.hid_recording.specs.declared.fault.Refusal.TheVariants.{Syntax, BadHex, BadCount, BadDevice, BadTime}
 use Rattle.hid_recording.specs.declared.record.Record.{Record}
 use Rattle.hid_recording.specs.declared.record.Record.TheVariants as records
-use Rattle.hid_recording.specs.Words.{bytes_of, is_count, device_of, time_of}
+use Rattle.hid_recording.specs.Words.{bytes_of, is_count, device_of, time_of, is_colon, address_of, content_of}
 
--- what a line says: nothing; which device the next lines are of; its report descriptor; or a report and when it came
+-- what a line says: nothing, or nothing but the end of a dump; which device the next lines are of; its report descriptor;
+-- a report and when it came; that a dump begins; or bytes of one
 pub data Said : Type 0 where
   Nothing : Said
+  Blank : Said
   Device : ℕ → Said
   Descriptor : List ℕ → Said
   Report : List ℕ → List ℕ → Said
+  Begins : Address → Content → List ℕ → Said
+  Bytes : List ℕ → Said
 
 -- what a record says
 abbrev pub said_in : Record → Said
 said_in records.Nothing = Nothing
+said_in records.Blank = Blank
 said_in (records.Device device) = Device device.number
 said_in (records.Descriptor bytes) = Descriptor bytes.items
 said_in (records.Report time bytes) = Report time.now bytes.items
+said_in (records.Begins address content time) = Begins address content time.now
+said_in (records.Bytes bytes) = Bytes bytes.items
 
 -- bytes that are so many
 abbrev pub if_so_many : Word → Option (List ℕ) → Result (List ℕ) Refusal
@@ -76,10 +86,46 @@ abbrev pub lettered : ℕ → List ℕ → Result Said Refusal
 lettered letter [] = Err Syntax
 lettered letter (colon ∷ rest) = if colon == 58 then said_by letter (words_of rest) else Err Syntax
 
--- an empty line says nothing, nor does one that begins with `#`
+-- bytes of a dump
+abbrev pub or_no_bytes : Option (List ℕ) → Result Said Refusal
+or_no_bytes None = Err BadHex
+or_no_bytes (Some bytes) = Ok (Bytes bytes)
+
+-- HEX, of a dump
+abbrev pub dumped : List Word → Result Said Refusal
+dumped hex = or_no_bytes (bytes_of hex)
+
+-- a dump of what there may be, at a time that there may be
+abbrev pub begun : Option Address → Option Content → Option (List ℕ) → Result Said Refusal
+begun None content time = Err Syntax
+begun (Some address) None time = Err Syntax
+begun (Some address) (Some content) None = Err BadTime
+begun (Some address) (Some content) (Some time) = Ok (Begins address content time)
+
+-- the parts of an address, and TIME
+abbrev pub begins_at : List Word → Word → Result Said Refusal
+begins_at (bus ∷ device ∷ interface ∷ content ∷ []) time =
+    begun (address_of bus device interface) (content_of content) (time_of time)
+begins_at _ time = Err Syntax
+
+-- BUS:DEVICE:INTERFACE:CONTENT TIME
+abbrev pub header_said : List Word → Result Said Refusal
+header_said (address ∷ time ∷ []) = begins_at (slice_split is_colon address) time
+header_said _ = Err Syntax
+
+-- a digit
+abbrev pub is_digit : ℕ → Bool
+is_digit b = nat_le 48 b && nat_le b 57
+
+-- An empty line ends a dump, and one that begins with `#` says nothing; a space stands before the bytes of a dump, and a
+-- digit begins its head.
 unfoldable pub record_of : List ℕ → Result Said Refusal
-record_of [] = Ok Nothing
-record_of (first ∷ rest) = if first == 35 then Ok Nothing else lettered first rest
+record_of [] = Ok Blank
+record_of (first ∷ rest) =
+    if first == 35 then Ok Nothing
+    else if first == 32 then dumped (words_of rest)
+    else if is_digit first then header_said (words_of (first ∷ rest))
+    else lettered first rest
 
 -- why nothing was read: want of memory, or the one refusal
 abbrev pub IsNone : {X : Type 0} → Cause → Result X Refusal → Type 0
@@ -89,6 +135,7 @@ IsNone LineTooLong meant = ⊥
 IsNone Read meant = ⊥
 IsNone Write meant = ⊥
 IsNone TooManyReads meant = ⊥
+IsNone Unended meant = ⊥
 
 -- what was read is what was meant
 abbrev pub ReadsRecord : Result Record Cause → Result Said Refusal → Type 0

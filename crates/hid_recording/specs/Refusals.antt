@@ -1,5 +1,5 @@
 -- Refusals as they are printed (our choice: docs/RECORDINGS.md).
-use Rattle.std.specs.Prelude.{ℕ, Bool, true, false, List, [], ◌∷◌, ◌++◌, codes}
+use Rattle.std.specs.Prelude.{ℕ, Bool, true, false, List, [], ◌∷◌, ◌++◌, if◌then◌else◌, codes}
 use Rattle.std.specs.Fmt.{decimal}
 use Rattle.hid_descriptor.specs.declared.fault.Cause as layouts
 use Rattle.hid_descriptor.specs.declared.fault.Cause.TheVariants.{Memory}
@@ -8,8 +8,9 @@ use Rattle.hid_cells.specs.declared.fault.ReportFault.{ReportFault}
 use Rattle.hid_cells.specs.declared.fault.ReportFault.TheVariants.{Short, UnknownReport}
 use Rattle.hid_notation.specs.Causes.{layout_words}
 use Rattle.hid_usages.specs.Faults.{report_code}
+use Rattle.hid_recording.specs.EventJson.{refusal_tokens, json_text}
 use Rattle.hid_recording.specs.declared.fault.Refusal.{Refusal}
-use Rattle.hid_recording.specs.declared.fault.Refusal.TheVariants.{Syntax, BadHex, BadCount, BadDevice, BadTime, NoLayout, Layout, Report}
+use Rattle.hid_recording.specs.declared.fault.Refusal.TheVariants.{Syntax, BadHex, BadCount, BadDevice, BadTime, NoLayout, Unended, DumpTooLong, TooManyDevices, Layout, Report}
 use Rattle.hid_recording.specs.declared.fault.Cause.{Cause}
 use Rattle.hid_recording.specs.declared.fault.Cause.TheVariants as causes
 
@@ -31,6 +32,9 @@ refusal_text BadCount = codes "R4: the count isn't that of the bytes"
 refusal_text BadDevice = codes "R5: the device isn't a number from 0 to 15"
 refusal_text BadTime = codes "R6: the time isn't digits and points"
 refusal_text NoLayout = codes "R7: the device has no descriptor"
+refusal_text Unended = codes "R12: no empty line ends the dump before"
+refusal_text DumpTooLong = codes "R13: a dump of over 4096 bytes"
+refusal_text TooManyDevices = codes "R14: dumps of over 16 interfaces"
 refusal_text (Layout fault) = layout_fault_text fault ++ codes ": " ++ layout_words fault.cause
 refusal_text (Report fault) = report_code fault ++ codes ": " ++ report_words fault
 
@@ -41,8 +45,11 @@ cause_text causes.LineTooLong = codes "R2: a line of over 16384 bytes"
 cause_text causes.Read = codes "R8: the recording can't be read"
 cause_text causes.Write = codes "R9: what it tells can't be written"
 cause_text causes.Memory = codes "R10: memory was wanting"
-cause_text causes.TooManyReads = codes "R11: the end didn't come in 1000000 reads"
+cause_text causes.TooManyReads = codes "R11: the end didn't come in 1000000000000 reads"
+cause_text causes.Unended = codes "R12: no empty line ends the last dump"
 
--- line N: CODE: WORDS
-abbrev pub refusal_line : ℕ → Refusal → List ℕ
-refusal_line line refusal = codes "line " ++ decimal line ++ codes ": " ++ refusal_text refusal ++ 10 ∷ []
+-- line N: CODE: WORDS; with --json the same as members
+abbrev pub refusal_line : Bool → ℕ → Refusal → List ℕ
+refusal_line json line refusal =
+    if json then json_text (refusal_tokens line (refusal_text refusal))
+    else codes "line " ++ decimal line ++ codes ": " ++ refusal_text refusal ++ 10 ∷ []

@@ -1,9 +1,9 @@
 -- What a run wrote and answered, of what a recording tells (our choice: docs/SCRIPT.md).
-use Rattle.std.specs.Prelude.{◌≡◌, ℕ, ◌+◌, List, [], ◌∷◌, ◌++◌, length, Result, Ok, Err, Option, IfSome}
+use Rattle.std.specs.Prelude.{◌≡◌, ◌⊎◌, ℕ, ◌+◌, true, List, [], ◌∷◌, ◌++◌, length, Result, Ok, Err, Option, None, is_some, IfSome}
 use Rattle.std.specs.Str.Lines.{lines}
 use Rattle.std.specs.Io.KnownBytes.{Appends}
 use Rattle.hid_recording.specs.declared.fault.Cause.{Cause}
-use Rattle.hid_recording.specs.declared.fault.Cause.TheVariants.{Refused, LineTooLong, Read, Write, Memory, TooManyReads}
+use Rattle.hid_recording.specs.declared.fault.Cause.TheVariants.{Refused, LineTooLong, Read, Write, Memory, TooManyReads, Unended}
 use Rattle.hid_recording.specs.declared.fault.Options.{Options}
 use Rattle.hid_recording.specs.declared.fault.RecordingFault.{RecordingFault}
 use Rattle.hid_recording.specs.declared.fault.Summary.{Summary}
@@ -12,13 +12,14 @@ use Rattle.hid_recording.specs.Player.{summary_of}
 use Rattle.hid_recording.specs.Session.{Session, Outcome, accepted, at_first}
 use Rattle.hid_recording.specs.Telling.{LineTells, LineBegins}
 
--- How a run ends early: its line is refused; memory was wanting in it; the writer cut its text off; or it wasn't run
--- at all.
+-- How a run ends early at a line: it is refused; memory was wanting in it; the writer cut its text off; it wasn't run at
+-- all; or no line ends so.
 pub data Ending : Type 0 where
   Refusal : Ending
   Want : Ending
   Cut : Ending
   Silence : Ending
+  Never : Ending
 
 -- the way in which a cause ends a run
 unfoldable pub ending_of : Cause → Ending
@@ -28,14 +29,16 @@ ending_of Memory = Want
 ending_of Write = Cut
 ending_of Read = Silence
 ending_of TooManyReads = Silence
+ending_of Unended = Never
 
--- What was written of the line at which the run ended: what it tells up to its refusal; what its first times tell; a
--- front of that; or nothing.
+-- What was written of the line at which the run ended: what it tells up to its refusal; nothing or all; a front of that;
+-- or nothing.
 abbrev pub EndsAs : Ending → (Outcome → Type 0) → (List ℕ → Type 0) → List ℕ → Cause → Type 0
 EndsAs Refusal Tells Begun written cause = Tells (record { text = written; end = Err cause })
 EndsAs Want Tells Begun written cause = Begun written
 EndsAs Cut Tells Begun written cause = (text : List ℕ) × Begun text × IsFront written text
 EndsAs Silence Tells Begun written cause = written ≡ []
+EndsAs Never Tells Begun written cause = ⊥
 
 -- the same, by the cause
 abbrev pub Ends : (Outcome → Type 0) → (List ℕ → Type 0) → List ℕ → Cause → Type 0
@@ -60,11 +63,13 @@ AllTell session (line ∷ more) text last =
     × AllTell next more rest last
     × (text ≡ first ++ rest)
 
--- All these lines were run. So many lines came before them. The counts are those of the session behind them.
+-- All these lines were run, and no dump is open behind them. So many lines came before them. The counts are those of the
+-- session behind them.
 pub record Finishes (session : Session) (recording : List (List ℕ)) (before : ℕ) (written : List ℕ)
     (summary : Summary) : Type 0 where
   pub last : Session
   pub all : AllTell session recording written last
+  pub closed : last.gathered.content ≡ None
   pub lines : summary.lines ≡ before + length recording
   pub counts : summary ≡ summary_of last summary.lines
 
@@ -83,10 +88,20 @@ pub record Stops (session : Session) (recording : List (List ℕ)) (before : ℕ
   pub ends : Ends (FirstTells now others) (FirstBegins now others) part fault.cause
   pub whole : written ≡ text ++ part
 
+-- All these lines were run, and a dump is open behind them: the recording broke off in it.
+pub record BreaksOff (session : Session) (recording : List (List ℕ)) (before : ℕ) (written : List ℕ)
+    (fault : RecordingFault) : Type 0 where
+  pub last : Session
+  pub all : AllTell session recording written last
+  pub unended : is_some last.gathered.content ≡ true
+  pub line : fault.line ≡ before + length recording + 1
+  pub cause : fault.cause ≡ Unended
+
 -- what a run of these lines wrote and answered
 abbrev pub RunsTo : Session → List (List ℕ) → ℕ → List ℕ → Result Summary RecordingFault → Type 0
 RunsTo session recording before written (Ok summary) = Finishes session recording before written summary
-RunsTo session recording before written (Err fault) = Stops session recording before written fault
+RunsTo session recording before written (Err fault) =
+    Stops session recording before written fault ⊎ BreaksOff session recording before written fault
 
 -- the line at which a run ended: behind the last one, where all were run
 abbrev pub line_of : Result Summary RecordingFault → ℕ

@@ -5,6 +5,8 @@ use Rattle.hid_layout.specs.Layout.{Contents}
 use Rattle.hid_layout.specs.Controls.{items_of}
 use Rattle.hid_cells.specs.declared.cell.Cell.{Cell}
 use Rattle.hid_usages.specs.Cells.{blank}
+use Rattle.hid_recording.specs.declared.dump.Address.{Address}
+use Rattle.hid_recording.specs.Dumps.{Gathered, nothing}
 use Rattle.hid_recording.specs.declared.fault.Options.{Options}
 use Rattle.hid_recording.specs.declared.fault.Cause.{Cause}
 
@@ -17,12 +19,15 @@ pub record Member : Type 0 where
 abbrev pub fresh_member : Contents → Member
 fresh_member layout = record { layout = layout; cells = blank (items_of layout) }
 
--- The options, the device of the next lines, the descriptors that were accepted last with what their reports made, and
--- counts: of lines, of descriptors, of reports, of events, and of lines that were refused.
+-- The options, the device of the next lines, the descriptors that were accepted last with what their reports made, the
+-- interfaces of which dumps came, what came of a dump that isn't ended, and counts: of lines, of descriptors, of reports,
+-- of events, and of lines that were refused.
 pub record Session : Type 0 where
   pub options : Options
   pub current : ℕ
   pub devices : List (Option Member)
+  pub addresses : List Address
+  pub gathered : Gathered
   pub lines : ℕ
   pub descriptors : ℕ
   pub reports : ℕ
@@ -41,6 +46,8 @@ at_first options = record {
   options = options;
   current = 0;
   devices = no_devices;
+  addresses = [];
+  gathered = nothing;
   lines = 0;
   descriptors = 0;
   reports = 0;

@@ -1,5 +1,5 @@
 -- What a line of a recording tells (our choice: docs/RECORDINGS.md).
-use Rattle.std.specs.Prelude.{◌≡◌, ◌⊎◌, ℕ, nat_lt, Bool, true, false, List, [], ◌∷◌, ◌++◌, length, if◌then◌else◌, Option, None, Some, Result, Ok, Err, slice_get, set, codes}
+use Rattle.std.specs.Prelude.{◌≡◌, ◌⊎◌, ℕ, ◌+◌, nat_lt, Bool, true, false, List, [], ◌∷◌, ◌++◌, length, if◌then◌else◌, Option, None, Some, Result, Ok, Err, slice_get, set, codes}
 use Rattle.std.specs.Fmt.{decimal}
 use Rattle.hid_descriptor.specs.Items.{Spelled}
 use Rattle.hid_descriptor.specs.Faults.{Accepts, Refuses}
@@ -9,6 +9,9 @@ use Rattle.hid_cells.specs.declared.fault.ReportFault.{ReportFault}
 use Rattle.hid_usages.specs.Reading.{report_named}
 use Rattle.hid_text.specs.LayoutText.{layout_text}
 use Rattle.hid_text.specs.ValuesText.{values_text}
+use Rattle.hid_recording.specs.declared.dump.Address.{Address}
+use Rattle.hid_recording.specs.declared.dump.Content.{Content}
+use Rattle.hid_recording.specs.declared.dump.Content.TheVariants as contents
 use Rattle.hid_recording.specs.declared.fault.Cause.TheVariants.{Refused, LineTooLong}
 use Rattle.hid_recording.specs.declared.fault.Options.{Options}
 use Rattle.hid_recording.specs.declared.fault.Refusal.{Refusal}
@@ -17,14 +20,16 @@ use Rattle.hid_recording.specs.Session.{Session, Member, Outcome, accepted, refu
 use Rattle.hid_recording.specs.Taking.{read_member, member_events}
 use Rattle.hid_recording.specs.EventLines.{event_lines}
 use Rattle.hid_recording.specs.Refusals.{refusal_line}
-use Rattle.hid_recording.specs.Records.{Said, Nothing, Device, Descriptor, Report, record_of}
+use Rattle.hid_recording.specs.Records.{Said, Nothing, Blank, Device, Descriptor, Report, Begins, Bytes, record_of}
+use Rattle.hid_recording.specs.Words.{time_of}
+use Rattle.hid_recording.specs.Dumps.{nothing, opened, numbered, with_address}
 
 -- ---- refusals
 
 -- a line that is refused tells its place and why, and is counted
 abbrev pub goes_on : Session → Refusal → Outcome
 goes_on session refusal =
-    accepted (refusal_line session.lines refusal) (record session { refused = counted session.refused 1 })
+    accepted (refusal_line session.options.json session.lines refusal) (record session { refused = counted session.refused 1 })
 
 -- of a strict run it is the end
 abbrev pub refuses : Session → Refusal → Outcome
@@ -73,7 +78,7 @@ values_asked asked time device layout named bytes = if asked then values_in time
 unfoldable pub report_text : Options → List ℕ → ℕ → Member → ℕ → List ℕ → List ℕ
 report_text options time device member report bytes =
     values_asked options.values time device member.layout (Ok report) bytes
-    ++ event_lines time device options.names (member_events member report bytes)
+    ++ event_lines time device options (member_events member report bytes)
 
 -- a report is read
 abbrev pub reads : Session → List ℕ → List ℕ → Member → ℕ → Outcome
@@ -104,11 +109,75 @@ known_at (Some member) = member
 abbrev pub report_told : List ℕ → List ℕ → Session → Outcome
 report_told time bytes session = reads_of session time bytes (known_at (slice_get session.devices session.current))
 
+-- ---- dumps
+
+-- no dump is open
+abbrev pub closed : Session → Session
+closed session = record session { gathered = nothing }
+
+-- a dump is open, of which no byte came yet
+abbrev pub with_dump : Session → Address → Content → List ℕ → ℕ → Session
+with_dump session address content time device =
+    record session { addresses = with_address session.addresses address; gathered = opened content device time }
+
+-- the dump before it should have been ended
+abbrev pub begins_behind : Option Content → Session → Outcome
+begins_behind None next = accepted [] next
+begins_behind (Some content) next = refuses next refusals.Unended
+
+-- a dump of a device that may have a number
+abbrev pub begins_of : Session → Address → Content → List ℕ → Option ℕ → Outcome
+begins_of session address content time None = refuses (closed session) refusals.TooManyDevices
+begins_of session address content time (Some device) =
+    begins_behind session.gathered.content (with_dump session address content time device)
+
+-- a dump begins
+abbrev pub begins : Session → Address → Content → List ℕ → Outcome
+begins session address content time =
+    begins_of session address content time (numbered session.addresses address)
+
+-- bytes of a dump
+abbrev pub with_bytes : Session → List ℕ → Session
+with_bytes session bytes = record session {
+  gathered = record {
+    content = session.gathered.content;
+    device = session.gathered.device;
+    time = session.gathered.time;
+    bytes = session.gathered.bytes ++ bytes;
+  };
+}
+
+-- bytes, where a dump is open; it has 4,096 at most
+abbrev pub gathers : Session → List ℕ → Option Content → Outcome
+gathers session bytes None = refuses session refusals.Syntax
+gathers session bytes (Some content) =
+    if nat_lt 4096 (length session.gathered.bytes + length bytes)
+    then refuses (closed session) refusals.DumpTooLong else accepted [] (with_bytes session bytes)
+
+-- a dump is ended, and the next lines are of its device
+abbrev pub ended : Session → Session
+ended session = record session { current = session.gathered.device; gathered = nothing }
+
+-- the report of a dump
+abbrev pub stream_told : Option (List ℕ) → List ℕ → Session → Outcome
+stream_told None bytes session = refuses session refusals.BadTime
+stream_told (Some time) bytes session = report_told time bytes session
+
+-- an empty line tells the dump that is open, if one is
+abbrev pub EndTells : Session → Option Content → Outcome → Type 0
+EndTells session None o = o ≡ accepted [] session
+EndTells session (Some contents.Descriptor) o = TellsDescriptor session.gathered.bytes (ended session) o
+EndTells session (Some contents.Stream) o =
+    o ≡ stream_told (time_of session.gathered.time) session.gathered.bytes (ended session)
+
 -- ---- lines
 
 -- what a record tells
 abbrev pub SaidTells : Session → Said → Outcome → Type 0
 SaidTells session Nothing o = o ≡ accepted [] session
+SaidTells session Blank o = EndTells session session.gathered.content o
+SaidTells session (Begins address content time) o = o ≡ begins session address content time
+SaidTells session (Bytes bytes) o = o ≡ gathers session bytes session.gathered.content
 SaidTells session (Device device) o = o ≡ accepted [] (record session { current = device })
 SaidTells session (Descriptor bytes) o = TellsDescriptor bytes session o
 SaidTells session (Report time bytes) o = o ≡ report_told time bytes session

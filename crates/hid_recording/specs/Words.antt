@@ -1,10 +1,14 @@
 -- What the words of a recording's lines say (our choice: docs/RECORDINGS.md).
-use Rattle.std.specs.Prelude.{⊤, ◌≡◌, ℕ, ◌==◌, ◌-◌, ◌+◌, ◌*◌, ◌^◌, Bool, false, ◌&&◌, ◌||◌, nat_le, nat_lt, List, [], ◌∷◌, map, min, is_some, if◌then◌else◌, Option, None, Some}
+use Rattle.std.specs.Prelude.{⊤, ◌≡◌, ℕ, ◌==◌, ◌-◌, ◌+◌, ◌*◌, ◌^◌, Bool, false, ◌&&◌, ◌||◌, nat_le, nat_lt, List, [], ◌∷◌, map, min, is_some, if◌then◌else◌, Option, None, Some, codes}
 use Rattle.std.specs.List.{list_all}
 use Rattle.std.specs.Option.{option_map}
+use Rattle.std.specs.Str.{bytes_eq}
 use Rattle.std.specs.Char.{digit_value}
 use Rattle.hid_lines.specs.Words.{Word}
 use Rattle.hid_lines.specs.Numbers.{number_of}
+use Rattle.hid_recording.specs.declared.dump.Address.{Address}
+use Rattle.hid_recording.specs.declared.dump.Content.{Content}
+use Rattle.hid_recording.specs.declared.dump.Content.TheVariants as contents
 use Rattle.hid_recording.specs.declared.fault.Cause.{Cause}
 use Rattle.hid_recording.specs.declared.fault.Cause.TheVariants.{Refused, Memory}
 use Rattle.hid_recording.specs.declared.fault.Refusal.TheVariants.{BadHex}
@@ -65,3 +69,24 @@ is_time word = list_all is_time_byte word
 -- a time, as it stands
 abbrev pub time_of : Word → Option (List ℕ)
 time_of word = if is_time word then Some word else None
+
+-- what parts the numbers of an address
+abbrev pub is_colon : ℕ → Bool
+is_colon b = b == 58
+
+-- three numbers that there are
+abbrev pub joined : Option ℕ → Option ℕ → Option ℕ → Option Address
+joined None device interface = None
+joined (Some bus) None interface = None
+joined (Some bus) (Some device) None = None
+joined (Some bus) (Some device) (Some interface) = Some (record { bus = bus; device = device; interface = interface })
+
+-- an interface of a device on a bus
+abbrev pub address_of : Word → Word → Word → Option Address
+address_of bus device interface = joined (decimal_of bus) (decimal_of device) (decimal_of interface)
+
+-- what a dump is of
+abbrev pub content_of : Word → Option Content
+content_of word =
+    if bytes_eq word (codes "DESCRIPTOR") then Some contents.Descriptor
+    else if bytes_eq word (codes "STREAM") then Some contents.Stream else None

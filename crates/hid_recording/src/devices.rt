@@ -61,6 +61,7 @@ impl Devices {
     /// Plays a report of the device, and answers how many events it told.
     pub fn play(
         &mut self,
+        alloc: Global,
         text: &mut String,
         time: &str,
         options: Options,
@@ -71,6 +72,7 @@ impl Devices {
         ensures current { self.new.current ≡ self.old.current }
     {
         let source = Source {
+            alloc,
             time,
             device: self.current,
             options,

@@ -1,34 +1,23 @@
 //! Events of a report, as they are printed.
 
 ghost use Rattle.std.specs.Prelude.{◌≡◌, ◌++◌, OnOk, string_bytes};
-ghost use Rattle.hid_recording.specs.EventLines.{usage_in, name_words, event_line, event_lines};
+ghost use Rattle.hid_recording.specs.EventLines.{name_words, plain_line, event_line, event_lines};
 
+use super::event_json::{print_json, usage_in};
 use super::fault::Options;
 use hid_layout::Usage;
 use hid_names::usage_name;
 use hid_text::EventText;
 use hid_usages::Event;
-use std::alloc::AllocError;
+use std::alloc::{AllocError, Global};
 
 /// When and of which device a report came, and what is asked for.
 #[derive(Clone, Copy)]
 pub struct Source<'a> {
+    pub alloc: Global,
     pub time: &'a str,
     pub device: u8,
     pub options: Options,
-}
-
-fn usage_in(event: &Event) -> Usage
-    ensures { result ≡ usage_in event.now }
-{
-    match event {
-        Event::Down { usage, .. }
-        | Event::Up { usage, .. }
-        | Event::Value { usage, .. }
-        | Event::Null { usage, .. }
-        | Event::Motion { usage, .. }
-        | Event::Dropped { usage, .. } => *usage,
-    }
 }
 
 /// Adds the name of a usage behind a space, where it has one.
@@ -41,15 +30,16 @@ fn print_name(text: &mut String, usage: Usage) -> Result<(), AllocError>
     }
 }
 
-/// Adds the line of an event.
-fn print_event(text: &mut String, source: &Source<'_>, event: &Event) -> Result<(), AllocError>
+/// Adds an event as a line for people.
+fn print_plain(text: &mut String, source: &Source<'_>, event: &Event) -> Result<(), AllocError>
     ensures { OnOk result (string_bytes text.new
-        ≡ string_bytes text.old ++ event_line source.now.time.now source.now.device source.now.options.names event.now) }
+        ≡ string_bytes text.old ++ plain_line source.now.time.now source.now.device source.now.options.names event.now) }
 {
     let Source {
         time,
         device,
         options,
+        ..
     } = *source;
     let shown = EventText {
         dev: device,
@@ -62,6 +52,19 @@ fn print_event(text: &mut String, source: &Source<'_>, event: &Event) -> Result<
     text.push_str("\n")
 }
 
+/// Adds the line of an event.
+#[tactic(auto, unfolding(crate::specs::EventLines::event_line))]
+fn print_event(text: &mut String, source: &Source<'_>, event: &Event) -> Result<(), AllocError>
+    ensures { OnOk result (string_bytes text.new
+        ≡ string_bytes text.old ++ event_line source.now.time.now source.now.device source.now.options event.now) }
+{
+    if source.options.json {
+        print_json(text, source, event)
+    } else {
+        print_plain(text, source, event)
+    }
+}
+
 /// Adds a line for each event.
 pub fn print_events(
     text: &mut String,
@@ -69,7 +72,7 @@ pub fn print_events(
     events: &[Event],
 ) -> Result<(), AllocError>
     ensures { OnOk result (string_bytes text.new
-        ≡ string_bytes text.old ++ event_lines source.now.time.now source.now.device source.now.options.names events.now) }
+        ≡ string_bytes text.old ++ event_lines source.now.time.now source.now.device source.now.options events.now) }
 {
     for event in events {
         print_event(text, source, event)?;

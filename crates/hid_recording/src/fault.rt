@@ -18,6 +18,8 @@ pub struct Options {
     pub names: bool,
     /// The first refusal ends the run.
     pub strict: bool,
+    /// Events and refusals are told as JSON.
+    pub json: bool,
 }
 
 /// What was played. Counts stop at the greatest `u64`.
@@ -49,6 +51,12 @@ pub enum Refusal {
     BadTime,
     /// R7: a report, where the device has no descriptor that was accepted.
     NoLayout,
+    /// R12: a dump begins, and no empty line has ended the one before.
+    Unended,
+    /// R13: a dump of over 4,096 bytes.
+    DumpTooLong,
+    /// R14: a dump of a seventeenth interface.
+    TooManyDevices,
     /// L1 to L16: the descriptor is refused.
     Layout(LayoutFault),
     /// U8, U9: the bytes are no Input report of the device.
@@ -68,8 +76,10 @@ pub enum Cause {
     Write,
     /// R10: memory was wanting.
     Memory,
-    /// R11: the recording wasn't at its end after 1,000,000 reads.
+    /// R11: the recording wasn't at its end after 1,000,000,000,000 reads.
     TooManyReads,
+    /// R12: no empty line has ended the last dump.
+    Unended,
 }
 
 impl From<AllocError> for Cause {

@@ -29,6 +29,9 @@ impl fmt::Display for Refusal {
             Refusal::BadDevice => write!(f, "R5: the device isn't a number from 0 to 15"),
             Refusal::BadTime => write!(f, "R6: the time isn't digits and points"),
             Refusal::NoLayout => write!(f, "R7: the device has no descriptor"),
+            Refusal::Unended => write!(f, "R12: no empty line ends the dump before"),
+            Refusal::DumpTooLong => write!(f, "R13: a dump of over 4096 bytes"),
+            Refusal::TooManyDevices => write!(f, "R14: dumps of over 16 interfaces"),
             Refusal::Layout(fault) => {
                 let words = layout_words(fault.cause);
                 write!(f, "{fault}: {words}")
@@ -51,7 +54,8 @@ impl fmt::Display for Cause {
             Cause::Read => write!(f, "R8: the recording can't be read"),
             Cause::Write => write!(f, "R9: what it tells can't be written"),
             Cause::Memory => write!(f, "R10: memory was wanting"),
-            Cause::TooManyReads => write!(f, "R11: the end didn't come in 1000000 reads"),
+            Cause::TooManyReads => write!(f, "R11: the end didn't come in 1000000000000 reads"),
+            Cause::Unended => write!(f, "R12: no empty line ends the last dump"),
         }
     }
 }

@@ -1,4 +1,4 @@
-//! Recordings of devices, as hid-recorder writes them, and what a host makes of their reports.
+//! Recordings of devices, as hid-recorder and usbhid-dump write them, and what a host makes of their reports.
 //! ```text
 //!   reader --> pieces --> lines --read_record--> Record --played--> text --> writer
 //!
@@ -8,6 +8,10 @@
 //!   E: 000000.010000 4 01 05 00 00             000000.010000 0 down 09:01
 //!                                              000000.010000 0 motion 01:30 5
 //!   E: 000000.020000 4 01                      line 5: R4: the count isn't that of the bytes
+//!
+//!   001:003:000:STREAM      1263214174.456     a dump of usbhid-dump, of the interface that came first
+//!    01 05 00 00                               its bytes
+//!                                              1263214174.456 0 down 09:01, at the empty line that ends it
 //! ```
 //! A line is read whole and played, and its text is written at once. A line that is refused tells its place and why, and
 //! the next ones go on; of a strict run it is the end.
@@ -16,7 +20,10 @@
 //! `play` writes exactly the text that the recording tells: the clause on [`play`].
 #![tactic(auto)]
 
+mod binary;
 mod devices;
+mod dump;
+mod event_json;
 mod event_line;
 mod fault;
 mod fault_text;
@@ -30,5 +37,6 @@ mod runs;
 mod tests;
 mod words;
 
+pub use binary::descriptor_line;
 pub use fault::{Cause, Options, RecordingFault, Refusal, Summary};
-pub use runs::play;
+pub use runs::{Watch, play};

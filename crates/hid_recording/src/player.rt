@@ -1,24 +1,29 @@
 //! A session: what stands between two lines, and how a line is played.
 
-ghost use Rattle.std.specs.Prelude.{◌≡◌, ◌++◌, None, IfOk, IfErr, OnOk, string_bytes};
+ghost use Rattle.std.specs.Prelude.{◌≡◌, ◌++◌, None, IfOk, IfErr, OnOk, is_some, string_bytes};
 ghost use Rattle.hid_recording.specs.Session.{at_first};
 ghost use Rattle.hid_recording.specs.Records.{record_of};
-ghost use Rattle.hid_recording.specs.Telling.{described_text, LineTells, LineBegins, Means, TellsDescriptor, advanced, with_device, installs, refuses, report_told};
+ghost use Rattle.hid_recording.specs.Telling.{described_text, LineTells, LineBegins, Means, TellsDescriptor, EndTells, advanced, with_device, installs, refuses, begins, gathers, stream_told, report_told};
+ghost use Rattle.hid_recording.specs.Words.{time_of};
 ghost use Rattle.hid_recording.specs.Player.{summary_of};
-ghost use Rattle.hid_recording.specs.Refusals.{is_memory};
+ghost use Rattle.hid_recording.specs.Refusals.{is_memory, refusal_line};
 ghost use Rattle.hid_recording.specs.Gathering.{Gathers};
 ghost use Rattle.hid_recording.specs.declared.fault.Refusal.TheVariants as refusals;
 ghost use Rattle.hid_recording.specs.Place.{AppendsTold};
 
 use super::devices::Devices;
+use super::dump::{Address, Addresses, Content, DUMP_LIMIT, Dump};
+use super::event_json::print_refusal_json;
 use super::fault::{Cause, Options, Refusal, Summary};
 use super::output::write_text;
 use super::record::{Record, read_record};
 use super::recorded::Recorded;
+use super::words::read_time;
 use hid_layout::{Layout, LayoutFault};
 use hid_text::print_layout;
 use std::alloc::{AllocError, Global};
 use std::io::Write;
+use std::mem;
 
 /// The longest line, without its end (our choice): a descriptor of 4,096 bytes has 12,296.
 pub const LINE_LIMIT: usize = 16_384;
@@ -29,6 +34,8 @@ pub struct Player {
     alloc: Global,
     options: Options,
     devices: Devices,
+    addresses: Addresses,
+    dump: Dump,
     lines: u64,
     descriptors: u64,
     reports: u64,
@@ -64,6 +71,24 @@ fn print_described(
     print_layout(text, layout)
 }
 
+/// Adds the line of a refusal.
+fn print_refusal(
+    text: &mut String,
+    alloc: Global,
+    options: Options,
+    line: u64,
+    refusal: Refusal,
+) -> Result<(), AllocError>
+    ensures { OnOk result (string_bytes text.new
+        ≡ string_bytes text.old ++ refusal_line options.json line refusal) }
+{
+    if options.json {
+        print_refusal_json(text, alloc, line, refusal)
+    } else {
+        writeln!(text, "line {line}: {refusal}")
+    }
+}
+
 impl Player {
     ghost use Rattle.std.specs.Prelude.{IfOk, IfErr, string_bytes};
     ghost use Rattle.hid_recording.specs.Player.{session_of};
@@ -77,6 +102,8 @@ impl Player {
             alloc,
             options,
             devices,
+            addresses: Addresses::new(alloc),
+            dump: Dump::none(alloc),
             lines: 0,
             descriptors: 0,
             reports: 0,
@@ -123,6 +150,7 @@ impl Player {
                 self.text.clear();
                 Ok(())
             }
+            Ok(Record::Blank) => self.end_dump(),
             Ok(Record::Device(device)) => {
                 self.text.clear();
                 self.devices.select(device.number);
@@ -130,6 +158,14 @@ impl Player {
             }
             Ok(Record::Descriptor(bytes)) => self.describe(bytes.as_slice()),
             Ok(Record::Report { time, bytes }) => self.report(time, bytes.as_slice()),
+            Ok(
+                Record::Begins {
+                    address,
+                    content,
+                    time,
+                },
+            ) => self.begin_dump(address, content, time),
+            Ok(Record::Bytes(bytes)) => self.gather(bytes.as_slice()),
             Err(Cause::Refused(refusal)) => self.refuse(refusal),
             Err(cause) => Err(cause),
         }
@@ -146,7 +182,7 @@ impl Player {
         let line = self.lines;
         self.refused = self.refused.saturating_add(1);
         self.text.clear();
-        writeln!(self.text, "line {line}: {refusal}")?;
+        print_refusal(&mut self.text, self.alloc, self.options, line, refusal)?;
         Ok(())
     }
 
@@ -194,7 +230,9 @@ impl Player {
             (string_bytes self.new.text) (session_of self.new) }
     {
         self.text.clear();
-        match self.devices.play(&mut self.text, time, self.options, bytes) {
+        match self
+            .devices
+            .play(self.alloc, &mut self.text, time, self.options, bytes) {
             Ok(events) => {
                 self.reports = self.reports.saturating_add(1);
                 self.events = self.events.saturating_add(events);
@@ -203,5 +241,75 @@ impl Player {
             Err(Cause::Refused(refusal)) => self.refuse(refusal),
             Err(cause) => Err(cause),
         }
+    }
+
+    /// A dump begins.
+    fn begin_dump(&mut self, address: Address, content: Content, time: &str) -> Result<(), Cause>
+        ensures { Gathers (λ o. o ≡ begins (session_of self.old) address content time.now) result
+            (string_bytes self.new.text) (session_of self.new) }
+    {
+        let behind = self.dump.content.is_some();
+        self.dump = Dump::none(self.alloc);
+        let Some(device) = self.addresses.number(address)? else {
+            return self.refuse(Refusal::TooManyDevices);
+        };
+        self.dump = Dump::begin(self.alloc, content, device, time)?;
+        if behind {
+            return self.refuse(Refusal::Unended);
+        }
+        self.text.clear();
+        Ok(())
+    }
+
+    /// Bytes of the dump that is open.
+    fn gather(&mut self, bytes: &[u8]) -> Result<(), Cause>
+        ensures { Gathers (λ o. o ≡ gathers (session_of self.old) bytes.now self.old.dump.content) result
+            (string_bytes self.new.text) (session_of self.new) }
+    {
+        if self.dump.content.is_none() {
+            return self.refuse(Refusal::Syntax);
+        }
+        if self.dump.bytes.len().saturating_add(bytes.len()) > DUMP_LIMIT {
+            self.dump = Dump::none(self.alloc);
+            return self.refuse(Refusal::DumpTooLong);
+        }
+        self.dump.bytes.extend_from_slice(bytes)?;
+        self.text.clear();
+        Ok(())
+    }
+
+    /// An empty line: it ends the dump that is open.
+    fn end_dump(&mut self) -> Result<(), Cause>
+        ensures { Gathers (EndTells (session_of self.old) self.old.dump.content) result
+            (string_bytes self.new.text) (session_of self.new) }
+    {
+        let Some(content) = self.dump.content else {
+            self.text.clear();
+            return Ok(());
+        };
+        let dump = mem::replace(&mut self.dump, Dump::none(self.alloc));
+        self.devices.select(dump.device);
+        match content {
+            Content::Descriptor => self.describe(dump.bytes.as_slice()),
+            Content::Stream => self.stream(dump.time.as_slice(), dump.bytes.as_slice()),
+        }
+    }
+
+    /// The report of a dump.
+    fn stream(&mut self, time: &[u8], bytes: &[u8]) -> Result<(), Cause>
+        ensures { Gathers (λ o. o ≡ stream_told (time_of time.now) bytes.now (session_of self.old)) result
+            (string_bytes self.new.text) (session_of self.new) }
+    {
+        match read_time(time) {
+            Some(time) => self.report(time, bytes),
+            None => self.refuse(Refusal::BadTime),
+        }
+    }
+
+    /// Whether a dump is open.
+    pub fn is_open(&self) -> bool
+        ensures { result ≡ is_some (session_of self.now).gathered.content }
+    {
+        self.dump.content.is_some()
     }
 }

@@ -1,24 +1,41 @@
 //! What a line of a recording says.
 
 ghost use Rattle.std.specs.Prelude.{◌≡◌, Ok, MatchResult, map};
-ghost use Rattle.hid_recording.specs.Records.{record_of, said_by, device_said, descriptor_said, report_said, counted_bytes, ReadsRecord, IsNone};
+ghost use Rattle.hid_recording.specs.Records.{record_of, said_by, device_said, descriptor_said, report_said, counted_bytes, dumped, header_said, begins_at, ReadsRecord, IsNone};
 
+use super::dump::{Address, Content};
 use super::fault::{Cause, Refusal};
-use super::words::{DeviceNumber, is_count, read_bytes, read_device, read_time};
+use super::words::{
+    DeviceNumber, is_count, parts_of_word, read_address, read_bytes, read_content, read_device,
+    read_time,
+};
 use hid_lines::words_of_line;
 use std::alloc::Global;
 
 /// What a line says.
 #[derive(Drop)]
 pub enum Record<'a> {
-    /// An empty line, `#`, and `N:`, `P:` and `I:`, which name a device.
+    /// `#`, and `N:`, `P:` and `I:`, which name a device.
     Nothing,
+    /// An empty line, which ends a dump.
+    Blank,
     /// `D: DEVICE`: what follows is of this device.
     Device(DeviceNumber),
     /// `R: COUNT HEX`: the report descriptor of the device.
     Descriptor(Vec<u8>),
     /// `E: TIME COUNT HEX`: a report of the device.
-    Report { time: &'a str, bytes: Vec<u8> },
+    Report {
+        time: &'a str,
+        bytes: Vec<u8>,
+    },
+    /// `BUS:DEVICE:INTERFACE:CONTENT TIME`: a dump begins.
+    Begins {
+        address: Address,
+        content: Content,
+        time: &'a str,
+    },
+    /// A space and HEX: bytes of a dump.
+    Bytes(Vec<u8>),
 }
 
 /// Reads one line, without its end.
@@ -27,7 +44,16 @@ pub fn read_record(alloc: Global, line: &[u8]) -> Result<Record<'_>, Cause>
     ensures { ReadsRecord result (record_of line.now) }
 {
     match line {
-        [] | [b'#', ..] => Ok(Record::Nothing),
+        [] => Ok(Record::Blank),
+        [b'#', ..] => Ok(Record::Nothing),
+        [b' ', rest @ ..] => {
+            let words = words_of_line(alloc, rest)?;
+            read_dumped(alloc, words.as_slice())
+        }
+        [b'0'..=b'9', ..] => {
+            let words = words_of_line(alloc, line)?;
+            read_header(alloc, words.as_slice())
+        }
         [letter, b':', rest @ ..] => {
             let words = words_of_line(alloc, rest)?;
             read_words(alloc, *letter, words.as_slice())
@@ -99,4 +125,46 @@ fn read_report<'a>(alloc: Global, words: &[&'a [u8]]) -> Result<Record<'a>, Caus
     };
     let bytes = read_counted(alloc, count, hex)?;
     Ok(Record::Report { time, bytes })
+}
+
+/// HEX, of a dump.
+fn read_dumped<'a>(alloc: Global, words: &[&'a [u8]]) -> Result<Record<'a>, Cause>
+    ensures { ReadsRecord result (dumped (map (λ word. word.now) words.now)) }
+{
+    let bytes = read_bytes(alloc, words)?;
+    Ok(Record::Bytes(bytes))
+}
+
+/// `BUS:DEVICE:INTERFACE:CONTENT TIME`
+fn read_header<'a>(alloc: Global, words: &[&'a [u8]]) -> Result<Record<'a>, Cause>
+    ensures { ReadsRecord result (header_said (map (λ word. word.now) words.now)) }
+{
+    let [address, time] = words else {
+        return Err(Cause::Refused(Refusal::Syntax));
+    };
+    let parts = parts_of_word(alloc, address)?;
+    read_begin(parts.as_slice(), time)
+}
+
+/// The parts of an address, and TIME.
+fn read_begin<'a>(parts: &[&[u8]], time: &'a [u8]) -> Result<Record<'a>, Cause>
+    ensures { ReadsRecord result (begins_at (map (λ part. part.now) parts.now) time.now) }
+{
+    let [bus, device, interface, content] = parts else {
+        return Err(Cause::Refused(Refusal::Syntax));
+    };
+    let Some(address) = read_address(bus, device, interface) else {
+        return Err(Cause::Refused(Refusal::Syntax));
+    };
+    let Some(content) = read_content(content) else {
+        return Err(Cause::Refused(Refusal::Syntax));
+    };
+    match read_time(time) {
+        Some(time) => Ok(Record::Begins {
+            address,
+            content,
+            time,
+        }),
+        None => Err(Cause::Refused(Refusal::BadTime)),
+    }
 }

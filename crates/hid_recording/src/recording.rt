@@ -2,7 +2,7 @@
 
 ghost use Rattle.std.specs.Prelude.{◌≡◌, ◌+◌, ◌-◌, ◌^◌, ◌<◌, ◌≤◌, [], ◌∷◌, length, IfOk};
 ghost use Rattle.std.specs.Str.Lines.{strip_carriage_return};
-ghost use Rattle.hid_recording.specs.Place.{IsUnbroken, AppendsTaken, AppendsRun};
+ghost use Rattle.hid_recording.specs.Place.{IsUnbroken, AppendsTaken, AppendsRun, EndsAt};
 
 use super::fault::{Cause, RecordingFault, Summary};
 use super::player::Player;
@@ -83,25 +83,37 @@ impl Recording {
         Ok(())
     }
 
-    /// Runs the line that has begun, if it has a byte: the recording is at its end.
+    /// Runs the line that has begun, if it has a byte: the recording is at its end. A dump that is open then is a fault.
     pub fn finish<W: Write>(&mut self, writer: &mut W) -> Result<Summary, RecordingFault>
-        requires { self.old.lines < 2 ^ 64 - 1 }
+        requires { self.old.lines < 2 ^ 64 - 2 }
         ensures ran { AppendsRun (W.contents writer.old) (W.contents writer.new)
             (place_of self.old) result }
         ensures counted { IfOk result (λ summary. summary.lines ≡ self.new.lines) }
         ensures count { self.new.lines ≤ self.old.lines + 1 }
     {
         if self.begun.is_empty() {
-            return Ok(self.summary());
+            return self.end();
         }
         if let Err(cause) = self.player.line(self.begun.as_slice(), writer) {
             return Err(self.fault(cause));
         }
         self.lines += 1;
+        self.end()
+    }
+
+    /// What was played, where no dump is open.
+    fn end(&self) -> Result<Summary, RecordingFault>
+        requires { self.now.lines < 2 ^ 64 - 1 }
+        ensures { EndsAt (session_of self.now.player) self.now.lines result }
+    {
+        if self.player.is_open() {
+            return Err(self.fault(Cause::Unended));
+        }
         Ok(self.summary())
     }
 
-    fn summary(&self) -> Summary
+    /// What was played so far.
+    pub fn summary(&self) -> Summary
         ensures lines { result.lines ≡ self.now.lines }
         ensures counts { result ≡ summary_of (session_of self.now.player) result.lines }
     {

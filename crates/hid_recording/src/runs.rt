@@ -10,10 +10,21 @@ use std::alloc::Global;
 use std::io::{ErrorKind, Read, Write};
 
 /// How often the reader is asked at most.
-const READS: u32 = 1_000_000;
+const READS: u64 = 1_000_000_000_000;
 
 /// For how many bytes the reader is asked at most.
 const PIECE: usize = 4096;
+
+/// Sees how far a run has come.
+pub trait Watch {
+    /// So many bytes were read, and this was played of them.
+    fn see(&mut self, bytes: u64, summary: &Summary);
+}
+
+/// Nobody looks.
+impl Watch for () {
+    fn see(&mut self, _bytes: u64, _summary: &Summary) {}
+}
 
 /// Runs the recording that the reader gives, and writes what it tells. A read of 0 bytes ends the recording, and so does
 /// the first line that is refused. A read that is interrupted is tried again. What was told is flushed before each read
@@ -22,16 +33,17 @@ const PIECE: usize = 4096;
 /// # Errors
 /// The first fault, at its line. Where the last flush fails, R9 at that line, whatever the fault was: what was told would
 /// else be lost without a word. Of a recording that is accepted the line is the one behind the last.
-pub fn play<R: Read, W: Write>(
+pub fn play<R: Read, W: Write, H: Watch>(
     alloc: Global,
     reader: &mut R,
     writer: &mut W,
     options: Options,
+    watch: &mut H,
 ) -> Result<Summary, RecordingFault>
     ensures { AppendsRecording options (R.remaining reader.old) (W.contents writer.old)
         (W.contents writer.new) result }
 {
-    let end = play_lines(alloc, reader, writer, options);
+    let end = play_lines(alloc, reader, writer, options, watch);
     match writer.flush() {
         Ok(()) => end,
         Err(_) => Err(RecordingFault {
@@ -43,7 +55,7 @@ pub fn play<R: Read, W: Write>(
 
 /// The line at which a run ended: behind the last one, where all were run.
 fn line_of(end: &Result<Summary, RecordingFault>) -> u64
-    requires { IfOk end.now (λ summary. summary.lines ≤ 4096 * 1000000) }
+    requires { IfOk end.now (λ summary. summary.lines ≤ 4096 * 1000000000000) }
     ensures { result ≡ line_of end.now }
 {
     match end {
@@ -53,15 +65,16 @@ fn line_of(end: &Result<Summary, RecordingFault>) -> u64
 }
 
 /// The same, without the last flush.
-fn play_lines<R: Read, W: Write>(
+fn play_lines<R: Read, W: Write, H: Watch>(
     alloc: Global,
     reader: &mut R,
     writer: &mut W,
     options: Options,
+    watch: &mut H,
 ) -> Result<Summary, RecordingFault>
     ensures ran { AppendsRecording options (R.remaining reader.old) (W.contents writer.old)
         (W.contents writer.new) result }
-    ensures count { IfOk result (λ summary. summary.lines ≤ 4096 * 1000000) }
+    ensures count { IfOk result (λ summary. summary.lines ≤ 4096 * 1000000000000) }
 {
     let player = match Player::new(alloc, options) {
         Ok(player) => player,
@@ -69,13 +82,18 @@ fn play_lines<R: Read, W: Write>(
     };
     let mut recording = Recording::new(player);
     let mut piece = [0u8; PIECE];
+    let mut bytes: u64 = 0;
     for _ in 0..READS {
         if writer.flush().is_err() {
             return Err(recording.fault(Cause::Write));
         }
         match reader.read(&mut piece) {
             Ok(0) => return recording.finish(writer),
-            Ok(n) => recording.feed(&piece[..n], writer)?,
+            Ok(n) => {
+                recording.feed(&piece[..n], writer)?;
+                bytes = bytes.saturating_add(n as u64);
+                watch.see(bytes, &recording.summary());
+            }
             Err(error) if error.kind() == ErrorKind::Interrupted => {}
             Err(_) => return Err(recording.fault(Cause::Read)),
         }

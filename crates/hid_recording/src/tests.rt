@@ -2,8 +2,8 @@
 //! The mouse is that of HID 1.11, appendix E.10; its reports were worked out by hand from appendix B.2, and every expected
 //! text from docs/RECORDINGS.md.
 
-use crate::{Options, RecordingFault, Summary, play};
-use std::alloc::Global;
+use crate::{Cause, Options, RecordingFault, Summary, play};
+use std::alloc::{AllocError, Global};
 use std::test::Fail;
 
 const PLAIN: Options = Options {
@@ -11,6 +11,7 @@ const PLAIN: Options = Options {
     values: false,
     names: false,
     strict: false,
+    json: false,
 };
 
 const ALL: Options = Options {
@@ -18,6 +19,7 @@ const ALL: Options = Options {
     values: true,
     names: true,
     strict: false,
+    json: false,
 };
 
 const STRICT: Options = Options {
@@ -25,11 +27,28 @@ const STRICT: Options = Options {
     values: false,
     names: false,
     strict: true,
+    json: false,
+};
+
+const JSON: Options = Options {
+    layout: false,
+    values: false,
+    names: true,
+    strict: false,
+    json: true,
+};
+
+const NO_NAMES: Options = Options {
+    layout: false,
+    values: false,
+    names: false,
+    strict: false,
+    json: true,
 };
 
 /// Recordings with what they tell.
 #[rattlefmt::skip]
-const TOLD: [(&str, Options, &str, &str); 8] = [
+const TOLD: [(&str, Options, &str, &str); 14] = [
     ("a mouse that clicks and moves", PLAIN,
         "# a mouse\nD: 0\nR: 50 05 01 09 02 A1 01 09 01 A1 00 05 09 19 01 29 03 15 00 25 01 95 03 75 01 81 02 95 01 75 05 81 01 05 01 09 30 09 31 15 81 25 7F 75 08 95 02 81 06 C0 C0\nN: mouse\nI: 3 046d c077\nE: 000000.000000 3 01 05 00\nE: 000000.010000 3 00 00 FF\n",
         "000000.000000 0 down 09:01\n000000.000000 0 motion 01:30 5\n000000.010000 0 up 09:01\n000000.010000 0 motion 01:31 -1\n"),
@@ -49,6 +68,24 @@ const TOLD: [(&str, Options, &str, &str); 8] = [
         "R: 14 05 09 09 01 15 00 25 01 75 01 95 09 81 02\nE: 1 2 01 00\nE: 2 1 00\nE: 3 2 00 00",
         "1 0 down 09:01\nline 3: U8: the report is too short\n3 0 up 09:01\n"),
     ("no lines", PLAIN, "", ""),
+    ("dumps of two interfaces", PLAIN,
+        "001:003:000:DESCRIPTOR 1.1\n 05 09 09 01 15 00 25 01 75 01 95 01 81 02\n\n001:003:001:DESCRIPTOR 1.2\n 05 09 09 02\n 15 00 25 01 75 01 95 01 81 02\n\n001:003:001:STREAM 2.1\n 01\n\n001:003:000:STREAM 2.2\r\n 01\r\n\r\n001:003:001:STREAM 2.3\n 00\n\n",
+        "2.1 1 down 09:02\n2.2 0 down 09:01\n2.3 1 up 09:02\n"),
+    ("dumps that are none", PLAIN,
+        "001:003:STREAM 1\n001:003:000:NOISE 1\n001:003:000:STREAM x\n001:003:000:STREAM\n 00\n001:003:000:STREAM 1\n 0g\n001:003:000:STREAM 2\n 00\n\n",
+        "line 1: R1: no line of a recording\nline 2: R1: no line of a recording\nline 3: R6: the time isn't digits and points\nline 4: R1: no line of a recording\nline 5: R1: no line of a recording\nline 7: R3: a byte isn't two hex digits\nline 8: R12: no empty line ends the dump before\nline 10: R7: the device has no descriptor\n"),
+    ("events and refusals as JSON", JSON,
+        "R: 14 05 09 09 01 15 00 25 01 75 01 95 01 81 02\nE: 1.5 1 01\nE: 2 1\n",
+        "{\"time\":\"1.5\",\"device\":0,\"event\":\"down\",\"page\":9,\"id\":1,\"name\":\"Button 1\"}\n{\"line\":3,\"refused\":\"R4: the count isn't that of the bytes\"}\n"),
+    ("values and motions as JSON", NO_NAMES,
+        "R: 33 05 01 09 30 15 00 26 FF 00 75 08 95 01 81 02 09 31 15 81 25 7F 81 06 09 39 15 01 25 08 75 08 81 42 C0\nR: 31 05 01 09 30 15 00 26 FF 00 75 08 95 01 81 02 09 31 15 81 25 7F 81 06 09 39 15 01 25 08 81 42\nE: .1 3 09 FF 01\nE: .2 3 09 00 00\n",
+        "{\"line\":1,\"refused\":\"R4: the count isn't that of the bytes\"}\n{\"time\":\".1\",\"device\":0,\"event\":\"value\",\"page\":1,\"id\":48,\"value\":9}\n{\"time\":\".1\",\"device\":0,\"event\":\"motion\",\"page\":1,\"id\":49,\"value\":-1}\n{\"time\":\".1\",\"device\":0,\"event\":\"value\",\"page\":1,\"id\":57,\"value\":1}\n{\"time\":\".2\",\"device\":0,\"event\":\"null\",\"page\":1,\"id\":57}\n"),
+    ("dumps of seventeen interfaces", PLAIN,
+        "1:1:0:DESCRIPTOR 1\n\n1:1:1:DESCRIPTOR 1\n\n1:1:2:DESCRIPTOR 1\n\n1:1:3:DESCRIPTOR 1\n\n1:1:4:DESCRIPTOR 1\n\n1:1:5:DESCRIPTOR 1\n\n1:1:6:DESCRIPTOR 1\n\n1:1:7:DESCRIPTOR 1\n\n1:1:8:DESCRIPTOR 1\n\n1:1:9:DESCRIPTOR 1\n\n1:1:10:DESCRIPTOR 1\n\n1:1:11:DESCRIPTOR 1\n\n1:1:12:DESCRIPTOR 1\n\n1:1:13:DESCRIPTOR 1\n\n1:1:14:DESCRIPTOR 1\n\n1:1:15:DESCRIPTOR 1\n\n1:1:16:DESCRIPTOR 1\n\n",
+        "line 33: R14: dumps of over 16 interfaces\n"),
+    ("a device that a dump is of is that of the next lines", PLAIN,
+        "D: 5\n1:1:0:DESCRIPTOR 1\n 05 09 09 01 15 00 25 01 75 01 95 01 81 02\n\nE: 2 1 01\nD: 1\nE: 3 1 01\n",
+        "2 0 down 09:01\nline 7: R7: the device has no descriptor\n"),
     ("a strict run of what isn't refused", STRICT,
         "R: 14 05 09 09 01 15 00 25 01 75 01 95 01 81 02\nE: 1 1 01",
         "1 0 down 09:01\n"),
@@ -61,7 +98,7 @@ fn played(
     text: &mut Vec<u8>,
 ) -> Result<Summary, RecordingFault> {
     let mut reader = recording.as_bytes();
-    play(alloc, &mut reader, text, options)
+    play(alloc, &mut reader, text, options, &mut ())
 }
 
 #[test]
@@ -72,6 +109,58 @@ fn recordings_tell_their_events(rt: HostRuntime) -> Result<(), Fail> {
         assert!(rt; result.is_ok(), "{name}");
         let text = String::from_utf8(text)?;
         assert_eq!(rt; text.as_str(), want, "{name}");
+    }
+    Ok(())
+}
+
+#[test]
+fn a_dump_that_is_cut_off_is_a_fault(rt: HostRuntime) {
+    let mut text = Vec::new(rt.alloc());
+    let end = played(rt.alloc(), PLAIN, "001:003:000:STREAM 1\n 00\n", &mut text);
+    let want = RecordingFault {
+        line: 3,
+        cause: Cause::Unended,
+    };
+    assert_eq!(rt; end, Err(want));
+}
+
+/// Recordings of a head, a piece that is repeated, and a tail, with what they tell and the line at which they end, if they
+/// end early.
+#[rattlefmt::skip]
+const LONG: [(&str, &str, &str, u32, &str, &str, Option<u64>); 4] = [
+    ("a dump of 4,096 bytes", "1:1:0:STREAM 1\n", " 00\n", 4096, "\n", "line 4098: R7: the device has no descriptor\n", None),
+    ("a byte more",           "1:1:0:STREAM 1\n", " 00\n", 4097, "\n", "line 4098: R13: a dump of over 4096 bytes\n", None),
+    ("a line of 16,384 bytes", "#", "x", 16383, "\r\nX\n", "line 2: R1: no line of a recording\n", None),
+    ("a byte more",            "#", "x", 16384, "\r\nX\n", "", Some(1)),
+];
+
+fn long_recording(
+    alloc: Global,
+    head: &str,
+    piece: &str,
+    times: u32,
+    tail: &str,
+) -> Result<String, AllocError> {
+    let mut text = String::from_str(alloc, head)?;
+    for _ in 0..times {
+        text.push_str(piece)?;
+    }
+    text.push_str(tail)?;
+    Ok(text)
+}
+
+#[test]
+fn long_recordings_tell_their_limits(rt: HostRuntime) -> Result<(), Fail> {
+    for (name, head, piece, times, tail, want, line) in LONG {
+        let recording = long_recording(rt.alloc(), head, piece, times, tail)?;
+        let mut text = Vec::new(rt.alloc());
+        let early = match played(rt.alloc(), PLAIN, recording.as_str(), &mut text) {
+            Ok(_) => None,
+            Err(fault) => Some(fault.line),
+        };
+        let text = String::from_utf8(text)?;
+        assert_eq!(rt; text.as_str(), want, "{name}");
+        assert_eq!(rt; early, line, "{name}");
     }
     Ok(())
 }

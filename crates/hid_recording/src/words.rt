@@ -1,13 +1,15 @@
-//! What a word says by itself: a byte, a count, a device, a time.
+//! What a word says by itself: a byte, a count, a device, a time, whose dump it is.
 
-ghost use Rattle.std.specs.Prelude.{◌≡◌, ◌+◌, ◌*◌, ◌<◌, Some, MatchResult, map};
+ghost use Rattle.std.specs.Prelude.{◌≡◌, ◌+◌, ◌*◌, ◌<◌, Some, IfOk, MatchResult, map};
+ghost use Rattle.std.specs.List.{slice_split};
 ghost use Rattle.std.specs.Option.{option_map};
 ghost use Rattle.hid_recording.specs.declared.words.TheConstants.{MAX_DEVICES};
-ghost use Rattle.hid_recording.specs.Words.{byte_of, bytes_of, IsNoBytes, is_count, device_of, is_time, time_of};
+ghost use Rattle.hid_recording.specs.Words.{byte_of, bytes_of, IsNoBytes, is_count, device_of, is_time, time_of, is_colon, address_of, content_of};
 
+use super::dump::{Address, Content};
 use super::fault::{Cause, Refusal};
 use hid_lines::read_number;
-use std::alloc::Global;
+use std::alloc::{AllocError, Global};
 
 /// How many devices a recording has room for (our choice).
 pub const MAX_DEVICES: usize = 16;
@@ -88,4 +90,38 @@ pub fn read_time(word: &[u8]) -> Option<&str>
         return None;
     }
     std::str::from_utf8(word).ok()
+}
+
+/// What stands between the colons of a word.
+pub fn parts_of_word(alloc: Global, word: &[u8]) -> Result<Vec<&[u8]>, AllocError>
+    ensures { IfOk result (λ parts. map (λ part. part.now) parts.items ≡ slice_split is_colon word.now) }
+{
+    word.split(|byte| *byte == b':').collect(alloc)
+}
+
+/// Three numbers: of a bus, of a device on it, and of an interface.
+pub fn read_address(bus: &[u8], device: &[u8], interface: &[u8]) -> Option<Address>
+    ensures { result ≡ address_of bus.now device.now interface.now }
+{
+    let bus = read_number(10, bus)?;
+    let device = read_number(10, device)?;
+    let interface = read_number(10, interface)?;
+    Some(Address {
+        bus,
+        device,
+        interface,
+    })
+}
+
+/// What a dump is of.
+pub fn read_content(word: &[u8]) -> Option<Content>
+    ensures { result ≡ content_of word.now }
+{
+    if word == b"DESCRIPTOR".as_slice() {
+        Some(Content::Descriptor)
+    } else if word == b"STREAM".as_slice() {
+        Some(Content::Stream)
+    } else {
+        None
+    }
 }

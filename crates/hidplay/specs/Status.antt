@@ -3,7 +3,7 @@ use Rattle.std.specs.Prelude.{ℕ, nat_lt, if◌then◌else◌, Result, Ok, Err}
 use Rattle.hid_recording.specs.declared.fault.Summary.{Summary}
 use Rattle.hid_recording.specs.declared.fault.RecordingFault.{RecordingFault}
 use Rattle.hid_recording.specs.declared.fault.Cause.{Cause}
-use Rattle.hid_recording.specs.declared.fault.Cause.TheVariants.{Refused, LineTooLong, Read, Write, Memory, TooManyReads}
+use Rattle.hid_recording.specs.declared.fault.Cause.TheVariants.{Refused, LineTooLong, Read, Write, Memory, TooManyReads, Unended}
 
 -- 1 where a line is refused, 3 where the cause lies outside of the recording
 abbrev pub cause_status : Cause → ℕ
@@ -13,6 +13,7 @@ cause_status Read = 3
 cause_status Write = 3
 cause_status Memory = 3
 cause_status TooManyReads = 3
+cause_status Unended = 1
 
 -- 0 where nothing was refused
 abbrev pub status_of : Result Summary RecordingFault → ℕ

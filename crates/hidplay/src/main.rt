@@ -2,14 +2,17 @@
 //! ```text
 //!   hidplay [OPTIONS] [FILE]...
 //!
-//!   each FILE, or standard input --> hid_recording::play --> a buffer --> standard output
-//!                                        |
-//!                                        +-- a summary, and what ended a run --> standard error
+//!   each FILE, or standard input --> text, or a binary descriptor --> hid_recording::play --> a buffer --> standard output
+//!                                                                          |
+//!                                           progress, what ended a run, a summary --> standard error
 //! ```
 //! The exit status is 0; 1 where a line was refused; 2 for a wrong command line; 3 where a file can't be read, standard
 //! output can't be written, or memory was wanting.
 #![tactic(auto)]
 
+mod file_line;
+mod progress;
+mod source;
 mod status;
 #[cfg(test)]
 mod tests;
@@ -17,9 +20,13 @@ mod total;
 mod words;
 
 use clap::error::ErrorKind;
-use hid_recording::{Cause, Options, RecordingFault, Summary, play};
+use file_line::file_line;
+use hid_recording::{Cause, RecordingFault, Summary};
+use progress::Progress;
+use source::{before_all, play_source};
 use status::{FINE, OUTSIDE, WRONG_USAGE, exit_of, worse};
-use std::io::{BufWriter, Write};
+use std::alloc::Global;
+use std::io::{BufWriter, IsTerminal, Stderr, Write};
 use std::process::ExitCode;
 use std::{env, fs};
 use total::Total;
@@ -66,13 +73,10 @@ fn play_all(rt: &HostRuntime, asked: &Asked<'_>) -> u8 {
     let mut total = Total::default();
     let mut status = FINE;
     if asked.files.is_empty() {
-        status = play_one(rt, asked.options, "-", &mut out, &mut total);
+        status = play_one(rt, asked, "-", &mut out, &mut total);
     }
     for name in &asked.files {
-        if asked.files.len() > 1 && writeln!(out, "file {name}").is_err() {
-            return OUTSIDE;
-        }
-        let one = play_one(rt, asked.options, *name, &mut out, &mut total);
+        let one = play_one(rt, asked, *name, &mut out, &mut total);
         status = worse(status, one);
     }
     let _ = eprintln!(rt; "{total}");
@@ -82,38 +86,87 @@ fn play_all(rt: &HostRuntime, asked: &Asked<'_>) -> u8 {
 /// Plays one file, tells what ended it early, and adds up what was played.
 fn play_one<W: Write>(
     rt: &HostRuntime,
-    options: Options,
+    asked: &Asked<'_>,
     name: &str,
     out: &mut W,
     total: &mut Total,
 ) -> u8 {
-    match play_named(rt, options, name, out) {
-        Ok(summary) => {
-            total.add(&summary);
-            exit_of(&Ok(summary))
-        }
+    let end = match print_file(rt.alloc(), asked, name, out) {
+        Ok(()) => play_named(rt, asked, name, out),
+        Err(cause) => Err(before_all(cause)),
+    };
+    match &end {
+        Ok(summary) => total.add(summary),
         Err(fault) => {
             let _ = eprintln!(rt; "{name}: {fault}");
-            exit_of(&Err(fault))
         }
+    }
+    exit_of(&end)
+}
+
+/// Of several files the name stands before what each tells.
+fn print_file<W: Write>(
+    alloc: Global,
+    asked: &Asked<'_>,
+    name: &str,
+    out: &mut W,
+) -> Result<(), Cause> {
+    if asked.files.len() < 2 {
+        return Ok(());
+    }
+    let told = if asked.options.json {
+        let Ok(line) = file_line(alloc, name) else {
+            return Err(Cause::Memory);
+        };
+        out.write_all(line.as_slice())
+    } else {
+        writeln!(out, "file {name}")
+    };
+    told.map_err(|_| Cause::Write)
+}
+
+/// Where the progress is told: on standard error, if it is a terminal and events go elsewhere.
+fn terminal(rt: &HostRuntime) -> Option<Stderr> {
+    if rt.stderr().is_terminal() && !rt.stdout().is_terminal() {
+        Some(rt.stderr())
+    } else {
+        None
     }
 }
 
 /// Plays a file, or standard input where the name is `-`.
 fn play_named<W: Write>(
     rt: &HostRuntime,
-    options: Options,
+    asked: &Asked<'_>,
     name: &str,
     out: &mut W,
 ) -> Result<Summary, RecordingFault> {
     if name == "-" {
-        return play(rt.alloc(), &mut rt.stdin(), out, options);
+        let mut progress = Progress::new(terminal(rt), None);
+        let end = play_source(
+            rt.alloc(),
+            rt.stdin(),
+            asked.kind,
+            out,
+            asked.options,
+            &mut progress,
+        );
+        progress.clear();
+        return end;
     }
-    match fs::open(rt, name) {
-        Ok(mut file) => play(rt.alloc(), &mut file, out, options),
-        Err(_) => Err(RecordingFault {
-            line: 1,
-            cause: Cause::Read,
-        }),
-    }
+    let Ok(file) = fs::open(rt, name) else {
+        return Err(before_all(Cause::Read));
+    };
+    let size = file.metadata().ok().map(|metadata| metadata.len());
+    let mut progress = Progress::new(terminal(rt), size);
+    let end = play_source(
+        rt.alloc(),
+        file,
+        asked.kind,
+        out,
+        asked.options,
+        &mut progress,
+    );
+    progress.clear();
+    end
 }

@@ -25,7 +25,7 @@ pub fn exit_of(end: &Result<Summary, RecordingFault>) -> u8
         Ok(summary) if summary.refused > 0 => REFUSED,
         Ok(_) => FINE,
         Err(fault) => match fault.cause {
-            Cause::Refused(_) | Cause::LineTooLong => REFUSED,
+            Cause::Refused(_) | Cause::LineTooLong | Cause::Unended => REFUSED,
             Cause::Read | Cause::Write | Cause::Memory | Cause::TooManyReads => OUTSIDE,
         },
     }

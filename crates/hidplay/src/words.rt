@@ -1,5 +1,6 @@
 //! The words of the command line.
 
+use super::source::Kind;
 use clap::{Arg, ArgAction, Command, Error};
 use hid_recording::Options;
 use std::alloc::Global;
@@ -8,12 +9,14 @@ use std::alloc::Global;
 #[derive(Drop)]
 pub struct Asked<'a> {
     pub options: Options,
+    /// What the files are taken for.
+    pub kind: Kind,
     /// The files in their order; `-` is standard input.
     pub files: Vec<&'a str>,
 }
 
 const CODES: &str =
-    "What is refused is told in its place, with its line, a code and words; the rest goes on.\nR1 to R7 are of a line, L1 to L16 of a report descriptor, U8 and U9 of a report: docs/RECORDINGS.md.";
+    "What is refused is told in its place, with its line, a code and words; the rest goes on.\nR1 to R7 and R12 to R14 are of a line, L1 to L16 of a report descriptor, U8 and U9 of a report: docs/RECORDINGS.md.";
 
 fn flag<'a>(alloc: Global, name: &'a str, help: &'a str) -> Arg<'a> {
     Arg::new(alloc, name)
@@ -26,7 +29,21 @@ fn command<'a>(alloc: Global) -> Result<Command<'a>, Error> {
     let files = Arg::new(alloc, "FILE")
         .action(ArgAction::Append)
         .num_args(0..)
-        .help("Text of hid-recorder; - and no FILE are standard input");
+        .help(
+            "Text of hid-recorder or usbhid-dump, or a binary report descriptor; - and no FILE are standard input",
+        );
+    let json = flag(
+        alloc,
+        "json",
+        "Print each event and refusal as a line of JSON",
+    )
+    .conflicts_with_all(&["layout", "values"])?;
+    let text = flag(
+        alloc,
+        "text",
+        "Take each file for text, whatever its first byte is",
+    )
+    .conflicts_with("binary")?;
     let command = Command::new(alloc, "hidplay")
         .version("0.2.0")
         .about("Plays recordings of USB HID devices: prints the events that a host sees")
@@ -38,9 +55,27 @@ fn command<'a>(alloc: Global) -> Result<Command<'a>, Error> {
         ))?
         .arg(flag(alloc, "values", "Print the values of each report"))?
         .arg(flag(alloc, "names", "Print the name of each event's usage"))?
+        .arg(json)?
         .arg(flag(alloc, "strict", "End at the first line that is refused"))?
+        .arg(text)?
+        .arg(flag(
+            alloc,
+            "binary",
+            "Take each file for a binary report descriptor",
+        ))?
         .arg(files)?;
     Ok(command)
+}
+
+/// What files are taken for; one of the two at most is asked for.
+fn kind_of(is_text: bool, is_binary: bool) -> Kind {
+    if is_text {
+        Kind::Text
+    } else if is_binary {
+        Kind::Binary
+    } else {
+        Kind::Told
+    }
 }
 
 /// What the words behind the first ask for, which is the program's name.
@@ -58,7 +93,9 @@ pub fn asked_by<'a>(alloc: Global, words: &'a [String]) -> Result<Asked<'a>, Err
             values: matches.get_flag("values"),
             names: matches.get_flag("names"),
             strict: matches.get_flag("strict"),
+            json: matches.get_flag("json"),
         },
+        kind: kind_of(matches.get_flag("text"), matches.get_flag("binary")),
         files,
     })
 }

@@ -1,7 +1,9 @@
 -- Texts in the caller's room (our choice).
-use Rattle.std.specs.Prelude.{◌≡◌, ℕ, ◌<◌, ◌≤◌, ◌⊎◌, List, ◌++◌, length, drop}
+use Rattle.std.specs.Prelude.{◌≡◌, ℕ, ◌<◌, ◌≤◌, ◌⊎◌, List, ◌++◌, length, drop, Option, None, Some}
 use Rattle.hid_descriptor.specs.declared.fault.Cause.{Cause}
 use Rattle.hid_descriptor.specs.Codes.{code_of}
+use Rattle.hid_names.specs.Names.{Name, name_text}
+use Rattle.hid_notation.specs.Causes.{layout_words}
 use Rattle.hid_session.specs.Causes.{cause_number}
 use Rattle.hidstack.specs.declared.status.TheConstants.{OK, NO_ROOM, NONE, MEMORY}
 
@@ -29,3 +31,14 @@ TellsCause number out status out' told =
 -- the text of a usage, or memory was wanting
 abbrev pub TellsUsage : List ℕ → List ℕ → ℕ → List ℕ → ℕ → Type 0
 TellsUsage text out status out' told = Tells text out status out' told ⊎ Leaves MEMORY out status out' told
+
+-- the words of the cause with this number; or none has it
+abbrev pub TellsWords : ℕ → List ℕ → ℕ → List ℕ → ℕ → Type 0
+TellsWords number out status out' told =
+    ((cause : Cause) × (cause_number cause ≡ number) × Tells (layout_words cause) out status out' told)
+    ⊎ (((cause : Cause) → cause_number cause ≡ number → ⊥) × Leaves NONE out status out' told)
+
+-- a name, where there is one, or memory was wanting
+abbrev pub TellsName : Option Name → List ℕ → ℕ → List ℕ → ℕ → Type 0
+TellsName (Some name) out status out' told = Tells (name_text name) out status out' told ⊎ Leaves MEMORY out status out' told
+TellsName None out status out' told = Leaves NONE out status out' told

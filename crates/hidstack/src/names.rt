@@ -1,12 +1,14 @@
-//! Causes and usages as text.
+//! Causes and usages as text: codes, and words.
 
 ghost use Rattle.std.specs.Prelude.{◌≡◌, ◌≤◌, ◌++◌, length, drop};
+ghost use Rattle.hid_names.specs.Names.{name_of};
 ghost use Rattle.hid_notation.specs.Text.{usage_text};
-ghost use Rattle.hidstack.specs.Texts.{Tells, TellsCause, TellsUsage};
+ghost use Rattle.hidstack.specs.Texts.{Tells, TellsCause, TellsName, TellsUsage, TellsWords};
 
 use crate::status::{MEMORY, NO_ROOM, NONE, OK};
 use hid_layout::Usage;
-use hid_notation::UsageText;
+use hid_names::usage_name;
+use hid_notation::{UsageText, layout_words};
 use hid_session::cause_with;
 use std::alloc::Global;
 
@@ -65,6 +67,39 @@ pub extern "C" fn hidstack_usage_text(
 {
     *told = 0;
     match UsageText(Usage { page, id }).to_string(alloc) {
+        Ok(text) => tell(text.as_bytes(), out, told),
+        Err(_) => MEMORY,
+    }
+}
+
+/// A cause in words: `a Pop without a Push` of 3.
+#[unsafe(no_mangle)]
+pub extern "C" fn hidstack_cause_words(cause: u32, out: &mut [u8], told: &mut u64) -> u32
+    ensures { TellsWords cause out.old result out.new told.new }
+{
+    *told = 0;
+    match cause_with(cause) {
+        Some(found) => tell(layout_words(found).as_bytes(), out, told),
+        None => NONE,
+    }
+}
+
+/// The name of a usage in the HID Usage Tables: `X`, `Button 1`.
+#[unsafe(no_mangle)]
+pub extern "C" fn hidstack_usage_name(
+    alloc: Global,
+    page: u16,
+    id: u16,
+    out: &mut [u8],
+    told: &mut u64,
+) -> u32
+    ensures { TellsName (name_of page id) out.old result out.new told.new }
+{
+    *told = 0;
+    let Some(name) = usage_name(page, id) else {
+        return NONE;
+    };
+    match name.to_string(alloc) {
         Ok(text) => tell(text.as_bytes(), out, told),
         Err(_) => MEMORY,
     }

@@ -1,7 +1,7 @@
 use Rattle.std.proofs.Common.{rules}
 use Rattle.hid_recording.specs.Player.{session_of}
-use Rattle.hid_recording.specs.Records.{record_of}
-use Rattle.hid_recording.proofs.PlayerLemmas.{descriptor_meant}
+use Rattle.hid_recording.specs.Records.{record_of, Descriptor}
+use Rattle.hid_recording.proofs.PlayerLemmas.{said_meant}
 use Rattle.hid_recording.proofs.player.Player.tell.Goals as goal
 
 pub select-requires : goal.select-requires
@@ -9,4 +9,4 @@ select-requires c = c.in-Ok-Device.device.small
 
 pub returns-in-Ok-Descriptor : goal.returns-in-Ok-Descriptor
 returns-in-Ok-Descriptor c =
-    descriptor_meant (session_of c.args.self.now) (record_of c.args.line.now) c.in-Ok-Descriptor.bytes.items _ _ _ (search rules) (rw c.as_slice.ensures.value at c.describe.ensures)
+    said_meant (session_of c.args.self.now) (record_of c.args.line.now) (Descriptor c.in-Ok-Descriptor.bytes.items) _ _ _ (search rules) (rw c.as_slice.ensures.value at c.describe.ensures)

@@ -8,7 +8,7 @@ use Rattle.hid_recording.proofs.PlaceLemmas.{last_line_told, last_line_stops, no
 use Rattle.hid_recording.proofs.recording.Recording.finish.Goals as goal
 
 pub returns-then-is_empty-clause-ran : goal.returns-then-is_empty-clause-ran
-returns-then-is_empty-clause-ran g c = ([], Appends-nil _, no_last_line (place_of c.args.self.now) c.summary.result (nil_from_length c.args.self.now.begun.items (eqb-true _ _ (sym c.if-is_empty.ensures))) c.summary.ensures.lines c.summary.ensures.counts)
+returns-then-is_empty-clause-ran g c = ([], Appends-nil _, no_last_line (place_of c.args.self.now) c.end.result (nil_from_length c.args.self.now.begun.items (eqb-true _ _ (sym c.if-is_empty.ensures))) c.end.ensures)
 
 pub returns-in-Err-clause-ran : goal.returns-in-Err-clause-ran
 returns-in-Err-clause-ran g c =
@@ -18,4 +18,4 @@ returns-in-Err-clause-ran g c =
 pub returns-clause-ran : goal.returns-clause-ran
 returns-clause-ran g c =
     let told = rw c.as_slice.ensures.value at c.in_default.ensures in
-    (told.0, told.1, last_line_told (place_of c.args.self.now) (session_of c.line.new.self) told.0 c.summary-2.result c.args.self.now.unbroken (omega (arith, eqb-false _ _ (sym c.if-is_empty.ensures))) told.2 c.summary-2.ensures.lines c.summary-2.ensures.counts)
+    (told.0, told.1, last_line_told (place_of c.args.self.now) (session_of c.line.new.self) told.0 c.end-2.result c.args.self.now.unbroken (omega (arith, eqb-false _ _ (sym c.if-is_empty.ensures))) told.2 c.end-2.ensures)

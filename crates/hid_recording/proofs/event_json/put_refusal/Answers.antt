@@ -1,0 +1,8 @@
+use Rattle.std.proofs.lemmas.Result.{on_ok_weaker}
+use Rattle.hid_recording.specs.EventJson.{refusal_tokens}
+use Rattle.hid_recording.proofs.JsonLemmas.{after_three}
+use Rattle.hid_recording.proofs.event_json.put_refusal.Goals as goal
+
+pub returns-clause-tokens : goal.returns-clause-tokens
+unfolding refusal_tokens
+returns-clause-tokens c = on_ok_weaker c.end_object.result (λ e. after_three _ _ _ _ _ _ _ c.in_ok-begin_object.ensures.ok c.in_ok-put_refusal_members.ensures.tokens e) c.end_object.ensures.ok

@@ -1,0 +1,41 @@
+-- What came of a dump, and the numbers of devices that dumps are of (our choice: docs/RECORDINGS.md).
+use Rattle.std.specs.Prelude.{ℕ, ◌==◌, Bool, ◌&&◌, nat_lt, List, [], ◌∷◌, ◌++◌, length, position, if◌then◌else◌, Option, None, Some}
+use Rattle.hid_recording.specs.declared.dump.Address.{Address}
+use Rattle.hid_recording.specs.declared.dump.Content.{Content}
+
+-- what came of a dump: of what it is, if one is open, of which device, when it came, and its bytes so far
+pub record Gathered : Type 0 where
+  pub content : Option Content
+  pub device : ℕ
+  pub time : List ℕ
+  pub bytes : List ℕ
+
+-- no dump is open
+abbrev pub nothing : Gathered
+nothing = record { content = None; device = 0; time = []; bytes = [] }
+
+-- a dump of which no byte came yet
+abbrev pub opened : Content → ℕ → List ℕ → Gathered
+opened content device time = record { content = Some content; device = device; time = time; bytes = [] }
+
+-- the same interface of the same device
+abbrev pub is_same : Address → Address → Bool
+is_same a b = (a.bus == b.bus) && ((a.device == b.device) && (a.interface == b.interface))
+
+-- the place at which an interface came first, or the next one of sixteen
+abbrev pub or_next : Option ℕ → ℕ → Option ℕ
+or_next (Some place) count = Some place
+or_next None count = if nat_lt count 16 then Some count else None
+
+-- the number of the device of an interface
+abbrev pub numbered : List Address → Address → Option ℕ
+numbered known address = or_next (position (is_same address) known) (length known)
+
+-- a new interface is the next one, where there is a place for it
+abbrev pub or_added : Option ℕ → List Address → Address → List Address
+or_added (Some place) known address = known
+or_added None known address = if nat_lt (length known) 16 then known ++ address ∷ [] else known
+
+-- the interfaces that came, with this one
+abbrev pub with_address : List Address → Address → List Address
+with_address known address = or_added (position (is_same address) known) known address

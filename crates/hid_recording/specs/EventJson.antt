@@ -1,0 +1,86 @@
+-- Events and refusals as JSON (RFC 8259; the members: our choice, docs/RECORDINGS.md).
+use Rattle.std.specs.Prelude.{ℕ, ℤ, Bool, List, [], ◌∷◌, ◌++◌, if◌then◌else◌, Option, None, Some, codes}
+use Rattle.std.specs.Fmt.{decimal, signed_decimal}
+use Rattle.json.specs.Token.{Token, begin_object, end_object, key, string, number}
+use Rattle.json.specs.Print.{print}
+use Rattle.hid_descriptor.specs.declared.usage.Usage.{Usage}
+use Rattle.hid_cells.specs.declared.event.Event.{Event}
+use Rattle.hid_cells.specs.declared.event.Event.TheVariants.{Down, Up, Value, Null, Motion, Dropped}
+use Rattle.hid_names.specs.Names.{Name, name_of, name_text}
+
+-- the usage of an event's control
+abbrev pub usage_in : Event → Usage
+usage_in (Down control usage) = usage
+usage_in (Up control usage) = usage
+usage_in (Value control usage value) = usage
+usage_in (Null control usage) = usage
+usage_in (Motion control usage by) = usage
+usage_in (Dropped control usage by) = usage
+
+-- what an event is called
+abbrev pub event_word : Event → List ℕ
+event_word (Down control usage) = codes "down"
+event_word (Up control usage) = codes "up"
+event_word (Value control usage value) = codes "value"
+event_word (Null control usage) = codes "null"
+event_word (Motion control usage by) = codes "motion"
+event_word (Dropped control usage by) = codes "dropped"
+
+-- "time":"T","device":D
+abbrev pub source_tokens : List ℕ → ℕ → List Token
+source_tokens time device = key (codes "time") ∷ string time ∷ key (codes "device") ∷ number (decimal device) ∷ []
+
+-- "event":"WORD","page":P,"id":I
+abbrev pub usage_tokens : List ℕ → Usage → List Token
+usage_tokens word usage =
+    key (codes "event") ∷ string word ∷ key (codes "page") ∷ number (decimal usage.page)
+    ∷ key (codes "id") ∷ number (decimal usage.id) ∷ []
+
+-- "value":N
+abbrev pub number_tokens : ℤ → List Token
+number_tokens value = key (codes "value") ∷ number (signed_decimal value) ∷ []
+
+-- the value that an event has
+abbrev pub value_tokens : Event → List Token
+value_tokens (Down control usage) = []
+value_tokens (Up control usage) = []
+value_tokens (Value control usage value) = number_tokens value
+value_tokens (Null control usage) = []
+value_tokens (Motion control usage by) = number_tokens by
+value_tokens (Dropped control usage by) = number_tokens by
+
+-- "name":"NAME", where there is one
+abbrev pub named_tokens : Option Name → List Token
+named_tokens None = []
+named_tokens (Some name) = key (codes "name") ∷ string (name_text name) ∷ []
+
+-- the same, where it is asked for
+abbrev pub name_tokens : Bool → Option Name → List Token
+name_tokens is_asked name = if is_asked then named_tokens name else []
+
+-- an object of these members
+abbrev pub object : List Token → List Token
+object members = begin_object ∷ members ++ end_object ∷ []
+
+-- "time":"T","device":D,"event":"WORD","page":P,"id":I,"value":N,"name":"NAME"
+abbrev pub event_members : List ℕ → ℕ → Bool → Event → List Token
+event_members time device names event =
+    source_tokens time device ++ usage_tokens (event_word event) (usage_in event)
+    ++ value_tokens event ++ name_tokens names (name_of (usage_in event).page (usage_in event).id)
+
+-- an event
+unfoldable pub event_tokens : List ℕ → ℕ → Bool → Event → List Token
+event_tokens time device names event = object (event_members time device names event)
+
+-- "line":N,"refused":"CODE: WORDS"
+abbrev pub refusal_members : ℕ → List ℕ → List Token
+refusal_members line words =
+    key (codes "line") ∷ number (decimal line) ∷ key (codes "refused") ∷ string words ∷ []
+
+-- a refusal
+unfoldable pub refusal_tokens : ℕ → List ℕ → List Token
+refusal_tokens line words = object (refusal_members line words)
+
+-- a line of JSON
+abbrev pub json_text : List Token → List ℕ
+json_text tokens = print tokens ++ 10 ∷ []

@@ -1,0 +1,199 @@
+//! Events and refusals as lines of JSON.
+
+ghost use Rattle.std.specs.Prelude.{◌≡◌, ◌++◌, [], Some, OnOk, string_bytes};
+ghost use Rattle.hid_names.specs.Names.{named, name_of};
+ghost use Rattle.hid_recording.specs.EventJson.{usage_in, event_word, source_tokens, usage_tokens, number_tokens, value_tokens, named_tokens, name_tokens, event_members, event_tokens, refusal_members, refusal_tokens, json_text};
+ghost use Rattle.hid_recording.specs.Refusals.{refusal_text};
+
+use super::event_line::Source;
+use super::fault::Refusal;
+use hid_layout::Usage;
+use hid_names::{UsageName, usage_name};
+use hid_usages::Event;
+use json::Writer;
+use std::alloc::{AllocError, Global};
+
+pub fn usage_in(event: &Event) -> Usage
+    ensures { result ≡ usage_in event.now }
+{
+    match event {
+        Event::Down { usage, .. }
+        | Event::Up { usage, .. }
+        | Event::Value { usage, .. }
+        | Event::Null { usage, .. }
+        | Event::Motion { usage, .. }
+        | Event::Dropped { usage, .. } => *usage,
+    }
+}
+
+fn event_word(event: &Event) -> &'static str
+    ensures { result.now ≡ event_word event.now }
+{
+    match event {
+        Event::Down { .. } => "down",
+        Event::Up { .. } => "up",
+        Event::Value { .. } => "value",
+        Event::Null { .. } => "null",
+        Event::Motion { .. } => "motion",
+        Event::Dropped { .. } => "dropped",
+    }
+}
+
+/// When and of which device an event is.
+fn put_source(json: &mut Writer, time: &str, device: u8) -> Result<(), AllocError>
+    ensures tokens { OnOk result (json.new.tokens ≡ json.old.tokens ++ source_tokens time.now device) }
+    ensures before { json.new.before ≡ json.old.before }
+{
+    json.key("time")?;
+    json.string(time)?;
+    json.key("device")?;
+    json.u64(u64::from(device))
+}
+
+/// What an event is called, and its usage.
+fn put_usage(json: &mut Writer, word: &str, usage: Usage) -> Result<(), AllocError>
+    ensures tokens { OnOk result (json.new.tokens ≡ json.old.tokens ++ usage_tokens word.now usage) }
+    ensures before { json.new.before ≡ json.old.before }
+{
+    json.key("event")?;
+    json.string(word)?;
+    json.key("page")?;
+    json.u64(u64::from(usage.page))?;
+    json.key("id")?;
+    json.u64(u64::from(usage.id))
+}
+
+/// A value.
+fn put_number(json: &mut Writer, value: i64) -> Result<(), AllocError>
+    ensures tokens { OnOk result (json.new.tokens ≡ json.old.tokens ++ number_tokens value) }
+    ensures before { json.new.before ≡ json.old.before }
+{
+    json.key("value")?;
+    json.i64(value)
+}
+
+/// The value of an event that has one.
+fn put_value(json: &mut Writer, event: &Event) -> Result<(), AllocError>
+    ensures tokens { OnOk result (json.new.tokens ≡ json.old.tokens ++ value_tokens event.now) }
+    ensures before { json.new.before ≡ json.old.before }
+{
+    match event {
+        Event::Value { value, .. } => put_number(json, *value),
+        Event::Motion { by, .. } | Event::Dropped { by, .. } => put_number(json, *by),
+        Event::Down { .. } | Event::Up { .. } | Event::Null { .. } => Ok(()),
+    }
+}
+
+/// A name.
+fn put_words(json: &mut Writer, alloc: Global, name: UsageName) -> Result<(), AllocError>
+    ensures tokens { OnOk result (json.new.tokens ≡ json.old.tokens ++ named_tokens (Some (named name))) }
+    ensures before { json.new.before ≡ json.old.before }
+{
+    let words = format!(in alloc; "{name}")?;
+    json.key("name")?;
+    json.string(words.as_str())
+}
+
+/// The name of a usage, where it is asked for and there is one.
+fn put_name(json: &mut Writer, source: &Source<'_>, usage: Usage) -> Result<(), AllocError>
+    ensures tokens { OnOk result (json.new.tokens
+        ≡ json.old.tokens ++ name_tokens source.now.options.names (name_of usage.page usage.id)) }
+    ensures before { json.new.before ≡ json.old.before }
+{
+    if !source.options.names {
+        return Ok(());
+    }
+    match usage_name(usage.page, usage.id) {
+        Some(name) => put_words(json, source.alloc, name),
+        None => Ok(()),
+    }
+}
+
+/// The members of an event.
+fn put_event_members(
+    json: &mut Writer,
+    source: &Source<'_>,
+    event: &Event,
+) -> Result<(), AllocError>
+    ensures tokens { OnOk result (json.new.tokens ≡ json.old.tokens
+        ++ event_members source.now.time.now source.now.device source.now.options.names event.now) }
+    ensures before { json.new.before ≡ json.old.before }
+{
+    let usage = usage_in(event);
+    put_source(json, source.time, source.device)?;
+    put_usage(json, event_word(event), usage)?;
+    put_value(json, event)?;
+    put_name(json, source, usage)
+}
+
+/// An event, as an object.
+fn put_event(json: &mut Writer, source: &Source<'_>, event: &Event) -> Result<(), AllocError>
+    ensures tokens { OnOk result (json.new.tokens ≡ json.old.tokens
+        ++ event_tokens source.now.time.now source.now.device source.now.options.names event.now) }
+    ensures before { json.new.before ≡ json.old.before }
+{
+    json.begin_object()?;
+    put_event_members(json, source, event)?;
+    json.end_object()
+}
+
+/// The members of a refusal.
+fn put_refusal_members(json: &mut Writer, line: u64, words: &str) -> Result<(), AllocError>
+    ensures tokens { OnOk result (json.new.tokens ≡ json.old.tokens ++ refusal_members line words.now) }
+    ensures before { json.new.before ≡ json.old.before }
+{
+    json.key("line")?;
+    json.u64(line)?;
+    json.key("refused")?;
+    json.string(words)
+}
+
+/// A refusal of a line, as an object.
+fn put_refusal(json: &mut Writer, line: u64, words: &str) -> Result<(), AllocError>
+    ensures tokens { OnOk result (json.new.tokens ≡ json.old.tokens ++ refusal_tokens line words.now) }
+    ensures before { json.new.before ≡ json.old.before }
+{
+    json.begin_object()?;
+    put_refusal_members(json, line, words)?;
+    json.end_object()
+}
+
+/// Adds what was written, and the end of the line.
+fn push_line(text: &mut String, json: Writer) -> Result<(), AllocError>
+    requires { json.before ≡ [] }
+    ensures { OnOk result (string_bytes text.new ≡ string_bytes text.old ++ json_text json.tokens) }
+{
+    let line = String::from_utf8(json.into_inner()).unwrap();
+    text.push_str(line.as_str())?;
+    text.push_str("\n")
+}
+
+/// Adds an event as a line of JSON.
+pub fn print_json(text: &mut String, source: &Source<'_>, event: &Event) -> Result<(), AllocError>
+    ensures { OnOk result (string_bytes text.new ≡ string_bytes text.old
+        ++ json_text (event_tokens source.now.time.now source.now.device source.now.options.names event.now)) }
+{
+    let mut json = Writer::new(Vec::new(source.alloc));
+    match put_event(&mut json, source, event) {
+        Ok(()) => push_line(text, json),
+        Err(error) => Err(error),
+    }
+}
+
+/// Adds a refusal as a line of JSON.
+pub fn print_refusal_json(
+    text: &mut String,
+    alloc: Global,
+    line: u64,
+    refusal: Refusal,
+) -> Result<(), AllocError>
+    ensures { OnOk result (string_bytes text.new ≡ string_bytes text.old
+        ++ json_text (refusal_tokens line (refusal_text refusal))) }
+{
+    let words = format!(in alloc; "{refusal}")?;
+    let mut json = Writer::new(Vec::new(alloc));
+    match put_refusal(&mut json, line, words.as_str()) {
+        Ok(()) => push_line(text, json),
+        Err(error) => Err(error),
+    }
+}

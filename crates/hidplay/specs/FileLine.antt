@@ -1,0 +1,7 @@
+-- The line of JSON that names a file (RFC 8259; the member: our choice, docs/RECORDINGS.md).
+use Rattle.std.specs.Prelude.{ℕ, List, [], ◌∷◌, codes}
+use Rattle.json.specs.Token.{Token, begin_object, end_object, key, string}
+
+-- {"file":"NAME"}
+abbrev pub file_tokens : List ℕ → List Token
+file_tokens name = begin_object ∷ key (codes "file") ∷ string name ∷ end_object ∷ []
