@@ -36,7 +36,7 @@ fn tell_cut(device: &Device, host: &HostDevice, events: &mut Vec<Event>)
     rounds_suit_their_hosts();
     is_sound(device);
     events.clear();
-    host.tell_cut(device.open_round(), device.fixed(), events);
+    host.tell_cut(device.open_round(), device.piece(), device.fixed(), events);
 }
 
 /// A device halts its endpoint by itself. The motion of an open round that hasn't crossed is dropped.

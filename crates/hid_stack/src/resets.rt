@@ -33,7 +33,7 @@ pub(crate) fn reset_pair(device: &mut Device, host: &mut HostDevice, events: &mu
     rounds_suit_their_hosts();
     is_sound(device);
     events.clear();
-    host.reset(device.open_round(), device.fixed(), events);
+    host.reset(device.open_round(), device.piece(), device.fixed(), events);
     device.reset();
     is_sound(device);
 }

@@ -14,6 +14,7 @@ use usb_transact::{Fate, Took};
 
 mod devices;
 mod memory;
+mod pieces;
 mod resets;
 
 fn config(boot: Boot) -> Config {
