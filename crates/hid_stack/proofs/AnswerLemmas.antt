@@ -32,36 +32,17 @@ use Rattle.hid_stack.specs.Members.{Member}
 use Rattle.hid_stack.specs.Rig.{member_at}
 use Rattle.hid_host.specs.declared.host.Transfer.{Transfer}
 use Rattle.hid_host.specs.Host.{running}
-use Rattle.hid_lives.specs.Stations.{Station, Open, opened}
-use Rattle.hid_stack.specs.Tells.{ShowsRound, TellsOpened, TellsPoll, TellsTry, told_by}
+use Rattle.hid_lives.specs.Stations.{Station}
+use Rattle.hid_stack.specs.Tells.{TellsPoll, TellsTry}
 use Rattle.hid_host.proofs.ReadyLemmas.{refused_unless}
 
 -- ---- polls
 
--- one list of bytes shows the part of an open round
-one_report : (layout : Contents) (s : Station) (report other : List ℕ) → ShowsRound layout s report → ShowsRound layout s other → report ≡ other
-one_report layout s report other h k = by_round s.current refl
-  where
-    by_round : (current : Option Open) → s.current ≡ current → report ≡ other
-    by_round None e =
-        let P : Option Open → List ℕ → Type 0 = λ o bytes. ShowsRound layout (record s { current = o }) bytes in
-        let first : report ≡ [] = subst (λ o. P o report) e h in
-        let second : other ≡ [] = subst (λ o. P o other) e k in
-        first ∙ sym second
-    by_round (Some round) e =
-        let P : Option Open → List ℕ → Type 0 = λ o bytes. ShowsRound layout (record s { current = o }) bytes in
-        let first = subst (λ o. P o report) e h in
-        let second = subst (λ o. P o other) e k in
-        second.only report first.are_bytes first.shows
-
-one_opened : (layout : Contents) (s : Station) (fate : Fate) (told other : Told) → TellsOpened layout s fate told → TellsOpened layout s fate other → told ≡ other
-one_opened layout s fate told other h k = h.2 ∙ ap (told_by s fate) (one_report layout s h.0 k.0 h.1 k.1) ∙ sym k.2
-
 one_poll : (layout : Contents) (s : Station) (fate : Fate) (told other : Told) → TellsPoll layout s fate told → TellsPoll layout s fate other → told ≡ other
 one_poll layout s TokenLost told other h k = h ∙ sym k
-one_poll layout s ReplyLost told other h k = one_opened layout (opened (items_of layout) s) ReplyLost told other h k
-one_poll layout s Clean told other h k = one_opened layout (opened (items_of layout) s) Clean told other h k
-one_poll layout s AckLost told other h k = one_opened layout (opened (items_of layout) s) AckLost told other h k
+one_poll layout s ReplyLost told other h k = h ∙ sym k
+one_poll layout s Clean told other h k = h ∙ sym k
+one_poll layout s AckLost told other h k = h ∙ sym k
 
 -- a poll of the device that a number names, if it names one
 abbrev PollTells : Option Member → Fate → Told → Type 0

@@ -1,6 +1,6 @@
 -- What a halt of a device, or the end of one, tells: as the station of the device and its host says.
 use Rattle.std.proofs.Common.{◌≡◌, ◌∙◌, ℕ, Bool, true, false, List, [], Option, Some, None, refl, ap, sym, subst, not}
-use Rattle.std.specs.Prelude.{if◌then◌else◌, is_some, Result}
+use Rattle.std.specs.Prelude.{if◌then◌else◌, is_some, Result, ◌&&◌, ◌||◌}
 use Rattle.std.specs.Bool.{beq}
 use Rattle.hid_layout.specs.Controls.{Item, items_of}
 use Rattle.hid_layout.specs.Layout.{Contents}
@@ -9,8 +9,8 @@ use Rattle.hid_cells.specs.declared.event.Event.{Event}
 use Rattle.hid_cells.specs.Views.{drops_between}
 use Rattle.hid_lives.specs.Lives.{Deed, Own, Idles, Configures, cut_events}
 use Rattle.hid_lives.specs.Lives as lives
-use Rattle.hid_lives.specs.Stations.{Station}
-use Rattle.hid_device.specs.Core.{CoreState, IsSound, halted_core, round_of}
+use Rattle.hid_lives.specs.Stations.{Station, is_whole}
+use Rattle.hid_device.specs.Core.{CoreState, IsSound, halted_core, is_last_piece, piece_at, round_of}
 use Rattle.hid_device.specs.Device.{DeviceState, core_of, halted_device}
 use Rattle.usb_transact.specs.declared.transaction.Fate.{Fate}
 use Rattle.usb_control.specs.declared.host.Progress.{Progress}
@@ -34,47 +34,58 @@ use Rattle.hid_stack.proofs.TryLemmas.{IsOpenBehind, Steps, expects_so, host_by}
 
 -- ---- what is told
 
-abbrev round_cut_told : List Item → List Cell → List Cell → Bool → Bool → Option ℕ → List Event
-round_cut_told items view parts toggle expects current = elim (round_between toggle expects current) as (λ _. List Event) [
+abbrev round_cut_told : List Item → List Cell → List Cell → Bool → Bool → Option ℕ → ℕ → List Event
+round_cut_told items view parts toggle expects current piece = elim (round_between items toggle expects current piece) as (λ _. List Event) [
   | None ↦ []
-  | Some round ↦ (if round.crossed then [] else drops_between items round.report view view parts)
+  | Some round ↦ (if is_whole round then [] else drops_between items round.report view view parts)
 ]
 
--- a ready host awaits the round that hasn't crossed
-by_round : (items : List Item) (view parts : List Cell) (toggle expects : Bool) (current : Option ℕ)
-    → told_cut items view parts (awaited expects (elim current as (λ _. Option (ℕ × Bool)) [ None ↦ None | Some r ↦ Some (r, toggle) ]))
-    ≡ round_cut_told items view parts toggle expects current
-by_round items view parts toggle expects None = refl
-by_round items view parts toggle expects (Some r) = by_toggles (beq toggle expects)
-  where
-    by_toggles : (b : Bool) → told_cut items view parts (if b then Some r else None) ≡ (if not b then [] else drops_between items r view view parts)
-    by_toggles true = refl
-    by_toggles false = refl
+-- what a device shows of its open round
+abbrev round_shown : Bool → Option ℕ → Option (ℕ × Bool)
+round_shown toggle current = elim current [ None ↦ None | Some r ↦ Some (r, toggle) ]
 
-unready_tells : (core : CoreState) → IsUntouched core → [] ≡ round_cut_told (items_of core.layout) (station_of core Cold).view core.standing.fixed core.toggle core.toggle core.current
+abbrev piece_shown_of : Option ℕ → ℕ → Option ℕ
+piece_shown_of current piece = elim current [ None ↦ None | Some r ↦ Some piece ]
+
+-- a ready host awaits the round that hasn't crossed
+by_round : (items : List Item) (view parts : List Cell) (toggle expects : Bool) (current : Option ℕ) (piece : ℕ)
+    → told_cut items view parts (awaited items expects (round_shown toggle current) (piece_shown_of current piece))
+    ≡ round_cut_told items view parts toggle expects current piece
+by_round items view parts toggle expects None piece = refl
+by_round items view parts toggle expects (Some r) piece = by_toggles (beq toggle expects) (is_last_piece items r piece)
+  where
+    by_toggles : (b last : Bool) → told_cut items view parts (if b || not last then Some r else None) ≡ (if not b && last then [] else drops_between items r view view parts)
+    by_toggles true last = refl
+    by_toggles false true = refl
+    by_toggles false false = refl
+
+unready_tells : (core : CoreState) → IsUntouched core → [] ≡ round_cut_told (items_of core.layout) (station_of core Cold).view core.standing.fixed core.toggle core.toggle core.current core.piece
 unready_tells core untouched =
-    sym (ap (round_cut_told (items_of core.layout) (station_of core Cold).view core.standing.fixed core.toggle core.toggle) untouched.no_round)
+    sym (ap (λ (o : Option ℕ). round_cut_told (items_of core.layout) (station_of core Cold).view core.standing.fixed core.toggle core.toggle o core.piece) untouched.no_round)
 
 pub told_at_cut : (device : DeviceState) (clearing : Bool) (phase : HostPhase) → StandTogether device clearing phase
-    → cut_told phase (round_of (core_of device)) (core_of device).standing.fixed ≡ cut_events (items_of (core_of device).layout) (station_of (core_of device) phase)
+    → cut_told phase (round_of (core_of device)) (piece_at (core_of device)) (core_of device).standing.fixed ≡ cut_events (items_of (core_of device).layout) (station_of (core_of device) phase)
 told_at_cut device clearing Cold together = unready_tells (core_of device) together
 told_at_cut device clearing (Described info) together = unready_tells (core_of device) together
 told_at_cut device clearing (Parsed info layout) together = unready_tells (core_of device) together
 told_at_cut device clearing (Ready known) together =
     let core = core_of device in
-    ap (λ (l : Contents). told_cut (items_of l) known.view core.standing.fixed (awaited known.pipe.expects (round_of core))) together.layout
-    ∙ by_round (items_of core.layout) known.view core.standing.fixed core.toggle known.pipe.expects core.current
+    ap (λ (l : Contents). told_cut (items_of l) known.view core.standing.fixed (awaited (items_of l) known.pipe.expects (round_of core) (piece_at core))) together.layout
+    ∙ by_round (items_of core.layout) known.view core.standing.fixed core.toggle known.pipe.expects core.current core.piece
 
 -- where no round is open nothing is
 pub cut_nothing : (items : List Item) (s : Station) → s.current ≡ None → cut_events items s ≡ []
 cut_nothing items s none =
-    ap (λ o. elim o as (λ _. List Event) [ None ↦ [] | Some round ↦ (if round.crossed then [] else drops_between items round.report s.view s.view s.standing.fixed) ]) none
+    ap (λ o. elim o as (λ _. List Event) [ None ↦ [] | Some round ↦ (if is_whole round then [] else drops_between items round.report s.view s.view s.standing.fixed) ]) none
+
+none_between : (core : CoreState) (expects : Bool) → core.current ≡ None → round_between (items_of core.layout) core.toggle expects core.current core.piece ≡ None
+none_between core expects none = ap (λ (o : Option ℕ). round_between (items_of core.layout) core.toggle expects o core.piece) none
 
 pub unready_open : (device : DeviceState) (clearing : Bool) (phase : HostPhase) → StandTogether device clearing phase → (core_of device).current ≡ None → (station_of (core_of device) phase).current ≡ None
-unready_open device clearing Cold together none = ap (round_between (core_of device).toggle (core_of device).toggle) none
-unready_open device clearing (Described info) together none = ap (round_between (core_of device).toggle (core_of device).toggle) none
-unready_open device clearing (Parsed info layout) together none = ap (round_between (core_of device).toggle (core_of device).toggle) none
-unready_open device clearing (Ready known) together none = ap (round_between (core_of device).toggle known.pipe.expects) none
+unready_open device clearing Cold together none = none_between (core_of device) (core_of device).toggle none
+unready_open device clearing (Described info) together none = none_between (core_of device) (core_of device).toggle none
+unready_open device clearing (Parsed info layout) together none = none_between (core_of device) (core_of device).toggle none
+unready_open device clearing (Ready known) together none = none_between (core_of device) known.pipe.expects none
 
 -- ---- a halt by the device itself
 
@@ -113,6 +124,7 @@ halted_together device clearing (Ready known) sound pair = record {
   addr = pair.addr;
   endp = pair.endp;
   even = tt;
+  got = tt;
   sound = sound;
   laid = pair.laid;
   fits = pair.fits;

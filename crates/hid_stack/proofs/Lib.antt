@@ -1,5 +1,6 @@
 pub mod MemberLemmas
 pub mod Isolation
+pub mod PieceLemmas
 pub mod PollLemmas
 pub mod StepLemmas
 pub mod SlotLemmas
@@ -15,6 +16,7 @@ pub mod ResetLemmas
 pub mod HaltLemmas
 pub mod BeginLemmas
 pub mod AttachLemmas
+pub mod ReportLemmas
 pub mod StoryLemmas
 pub mod AnswerLemmas
 pub mod NamedLemmas

@@ -1,16 +1,14 @@
--- A poll at the two ends is a poll of their station (USB 2.0, 8.5.4 and 8.6).
-use Rattle.std.proofs.Common.{◌≡◌, ◌∙◌, ℕ, Bool, true, false, not, List, [], Option, Some, None, Result, Ok, Err, refl, ap, sym, subst, cond, inl, inr}
+-- A poll at the two ends is a poll of their station (USB 2.0, 5.7.3, 8.5.4 and 8.6).
+use Rattle.std.proofs.Common.{◌≡◌, ◌∙◌, ◌+◌, ◌*◌, ◌<◌, ℕ, Bool, true, false, not, ◌&&◌, List, [], take, Option, Some, None, Result, Ok, Err, refl, ap, sym, subst, cond, inl, inr}
 use Rattle.std.specs.Bool.{beq}
 use Rattle.std.proofs.lemmas.Bool.{cases_Bool}
-use Rattle.arrayvec.specs.declared.array_vec.ArrayVec.{ArrayVec}
 use Rattle.hid_layout.specs.Controls.{items_of}
 use Rattle.hid_layout.specs.Reports.{IsLayout}
 use Rattle.hid_cells.specs.declared.cell.Cell.{Cell}
 use Rattle.hid_cells.specs.declared.event.Event.{Event}
-use Rattle.hid_cells.specs.declared.fault.ReportFault.{ReportFault}
+use Rattle.hid_cells.specs.Pieces.{piece_of, pieces_of}
+use Rattle.hid_parts.specs.Encoded.{part_bytes}
 use Rattle.hid_usages.specs.Cells.{FitsView}
-use Rattle.hid_usages.specs.Taking.{read_view, read_events}
-use Rattle.hid_usages.specs.Crossing.{ReadsAsShown}
 use Rattle.hid_usages.specs.Views.{seen}
 use Rattle.hid_views.proofs.CrossingLemmas.{seen_is_view}
 use Rattle.usb_packet.specs.declared.packet.Packet.{Packet}
@@ -29,37 +27,40 @@ use Rattle.usb_transact.specs.Exchange.{took_where}
 use Rattle.usb_transact.proofs.TableLemmas.{read_whole, read_lost, took_answer}
 use Rattle.hid_device.specs.declared.device.TheConstants.{ENDPOINT}
 use Rattle.hid_lives.specs.Standing.{due_where}
-use Rattle.hid_device.specs.Core.{CoreState, IsSound, IsArmed, AreBytesOf, opened_core_if, opening_of, closed_core}
+use Rattle.std.specs.Prelude.{unwrap_or}
+use Rattle.hid_device.specs.Core.{CoreState, IsSound, opened_core_if, opening_of, closed_core, is_last_piece, left_open, piece_armed}
 use Rattle.hid_device.specs.Device.{DeviceState, passed, polled_device}
+use Rattle.hid_device.proofs.AckLemmas.{sound_at_piece, sound_closed}
 use Rattle.hid_host.specs.declared.fault.StackFault.{StackFault}
 use Rattle.hid_stack.specs.declared.step.Told.{Told}
 use Rattle.hid_stack.specs.declared.step.Told.TheVariants.{Polled}
 use Rattle.hid_host.specs.declared.phase.HostPhase.TheVariants.{Ready}
 use Rattle.hid_host.specs.Host.{HostEnd, ready_after}
 use Rattle.hid_host.specs.declared.phase.HostState.TheVariants as states
-use Rattle.hid_stack.specs.Members.{Member}
-use Rattle.hid_stack.specs.Slot.{joined, joint, IsEven, ArePaired, IsPair}
-use Rattle.hid_host.specs.Ready.{Known, told_of, view_read, events_behind, read_or_refused}
+use Rattle.hid_stack.specs.Members.{Member, got_in, got_of}
+use Rattle.hid_stack.specs.Slot.{joined, joint, round_between, IsEven, ArePaired, IsPair}
+use Rattle.hid_host.specs.Ready.{Known, known_behind, told_of, events_behind}
 use Rattle.hid_stack.specs.Polls.{Hears, HearsAck, Ends, spelled, told_with}
 use Rattle.hid_lives.specs.Rounds.{part_events}
-use Rattle.hid_lives.specs.Stations.{Station, Open, opened, opened_by, answered, round_events, after}
-use Rattle.hid_stack.specs.Tells.{ShowsRound, told_by}
+use Rattle.hid_lives.specs.Stations.{Station, Open, opened, opened_by, answered, round_events}
+use Rattle.hid_stack.specs.Tells.{piece_shown, told_by}
+use Rattle.hid_stack.proofs.PieceLemmas.{Reads, TakesPiece, more_so, payload, taking, takes_piece, up_to}
 
 -- toggles that are the same
 beq_same : (t : Bool) → beq t t ≡ true
 beq_same true = refl
 beq_same false = refl
 
--- a round that opens hasn't crossed
-abbrev uncrossed : ℕ → Option Open
-uncrossed r = Some (record { report = r; crossed = false })
+-- the round of a report whose piece at this place is at hand, and is awaited or not
+abbrev round_at : CoreState → ℕ → ℕ → Bool → Open
+round_at c r piece awaits = record { report = r; pieces = pieces_of (items_of c.layout) r; piece = piece; crossed = not awaits }
 
 -- opening a round at the device opens it at the station
 opens_if : (c : CoreState) (known : Known) (due : Option ℕ) → c.toggle ≡ known.pipe.expects
     → joined (opened_core_if (record c { current = None }) due) known ≡ opened_by (items_of c.layout) (joined (record c { current = None }) known) due
 opens_if c known None even = refl
 opens_if c known (Some r) even =
-    ap (λ (b : Bool). let s : Station = joined (opened_core_if (record c { current = None }) (Some r)) known in record s { current = Some (record { report = r; crossed = not b }) })
+    ap (λ (b : Bool). let s : Station = joined (opened_core_if (record c { current = None }) (Some r)) known in record s { current = Some (round_at c r 0 b) })
     (ap (λ (t : Bool). beq c.toggle t) (sym even) ∙ beq_same c.toggle)
 
 opens_at : (c : CoreState) (known : Known) (current : Option ℕ) → IsEven c.toggle known.pipe.expects current
@@ -69,6 +70,27 @@ opens_at c known (Some r) even = refl
 
 pub opens : (c : CoreState) (known : Known) → IsEven c.toggle known.pipe.expects c.current → joined (opening_of c) known ≡ opened (items_of c.layout) (joined c known)
 opens c known even = opens_at c known c.current even
+
+-- what its host has of the open round of a device
+abbrev pub got_by : CoreState → Known → List ℕ
+got_by c known = got_of c.layout c.standing.fixed (joined c known).current
+
+-- of a round that opens it has nothing
+got_if : (c : CoreState) (known : Known) (due : Option ℕ) → c.toggle ≡ known.pipe.expects → known.collected ≡ []
+    → known.collected ≡ got_by (opened_core_if (record c { current = None }) due) known
+got_if c known None even none = none
+got_if c known (Some r) even none =
+    let opened = opened_core_if (record c { current = None }) (Some r) in
+    subst (λ (b : Bool). known.collected ≡ got_in (part_bytes c.layout r opened.standing.fixed) (round_at c r 0 b))
+    (sym (ap (λ (t : Bool). beq c.toggle t) (sym even) ∙ beq_same c.toggle)) none
+
+got_at : (c : CoreState) (known : Known) (current : Option ℕ) → IsEven c.toggle known.pipe.expects current → known.collected ≡ got_by (record c { current = current }) known
+    → known.collected ≡ got_by (opening_of (record c { current = current })) known
+got_at c known None even got = got_if c known (due_where (items_of c.layout) c.halted c.standing) even got
+got_at c known (Some r) even got = got
+
+pub got_open : (c : CoreState) (known : Known) → IsEven c.toggle known.pipe.expects c.current → known.collected ≡ got_by c known → known.collected ≡ got_by (opening_of c) known
+got_open c known even got = got_at c known c.current even got
 
 -- toggles, and one that changes
 other_differs : (t e : Bool) → beq t e ≡ true → beq t (not e) ≡ false
@@ -83,15 +105,39 @@ both_change false false h = refl
 both_change true false h = absurd (cc)
 both_change false true h = absurd (cc)
 
+both_same : (t e : Bool) → beq t e ≡ true → beq (not t) (not e) ≡ true
+both_same true true h = refl
+both_same false false h = refl
+both_same true false h = absurd (cc)
+both_same false true h = absurd (cc)
+
 one_changes : (t e : Bool) → beq t e ≡ false → not t ≡ e
 one_changes true false h = refl
 one_changes false true h = refl
 one_changes true true h = absurd (cc)
 one_changes false false h = absurd (cc)
 
+one_same : (t e : Bool) → beq t e ≡ false → beq (not t) e ≡ true
+one_same true false h = refl
+one_same false true h = refl
+one_same true true h = absurd (cc)
+one_same false false h = absurd (cc)
+
+and_true : (b : Bool) → b && true ≡ b
+and_true true = refl
+and_true false = refl
+
+and_false : (b : Bool) → b && false ≡ false
+and_false true = refl
+and_false false = refl
+
 -- a device that isn't halted
 abbrev pub going : CoreState → Option ℕ → CoreState
 going c current = record c { current = current; halted = false }
+
+-- the bytes of the part that was fixed
+abbrev pub bytes_of : CoreState → ℕ → List ℕ
+bytes_of c r = part_bytes c.layout r c.standing.fixed
 
 -- what holds of a device and its host beside their toggles
 pub record Meets (addr : ℕ) (c : CoreState) (known : Known) : Type 0 where
@@ -115,10 +161,10 @@ pub record Arrives (fate : Fate) (c : CoreState) (known : Known) (d : DeviceStat
     (result : Result Told StackFault) (device_then : DeviceState) (host_then : HostEnd) (events : List Event) : Type 0 where
   pub reply : Option Packet
   pub replied : Carries (arrives_under fate) Reply packet reply
-  pub told : result ≡ told_with (Some packet) (told_of c.layout (taken known.pipe.expects reply))
+  pub told : result ≡ told_with (Some packet) (told_of (sharing c known) (taken known.pipe.expects reply))
   pub host_moved : host_then ≡ ready_after (unpending home) (sharing c known) (taken known.pipe.expects reply)
   pub delivers : events ≡ events_behind (sharing c known) (taken known.pipe.expects reply)
-  pub ended : Ends (arrives_under fate) (told_of c.layout (taken known.pipe.expects reply)) (polled_device d c) device_then
+  pub ended : Ends (arrives_under fate) (told_of (sharing c known) (taken known.pipe.expects reply)) (polled_device d c) device_then
 
 -- the member of a device with this inside and of its ready host, by the toggle that is held and its station
 abbrev pub ready_member : DeviceState → HostEnd → CoreState → Option Bool → Station → Member
@@ -147,7 +193,7 @@ pub record Lands (fate : Fate) (of : Station → Member) (s : Station)
     (result : Result Told StackFault) (device_then : DeviceState) (host_then : HostEnd) (events : List Event) : Type 0 where
   pub member : joint device_then host_then ≡ of (answered (items_of (of s).layout) s fate)
   pub delivered : events ≡ round_events (items_of (of s).layout) s fate
-  pub told : (report : List ℕ) × ShowsRound (of s).layout s report × (result ≡ Ok (told_by s fate report))
+  pub told : result ≡ Ok (told_by s fate (piece_shown (of s).layout s))
   pub pair : IsPair device_then host_then.clearing host_then.phase
 
 -- the two ends after a poll, put together
@@ -165,36 +211,36 @@ pair_of d e h home known device_is host_is pair =
 abbrev waiting : DeviceState → CoreState → ℕ → DeviceState
 waiting d c r = polled_device d (going c (Some r))
 
-abbrev closed_device : DeviceState → CoreState → ℕ → DeviceState
-closed_device d c r = passed d (closed_core (going c (Some r))) false
-
--- what holds of a device holds once its round is closed
-closed_sound : (c : CoreState) (r : ℕ) → IsSound (going c (Some r)) → IsSound (closed_core (going c (Some r)))
-closed_sound c r s = record {
-  lays = s.lays;
-  empty_codes = s.empty_codes;
-  zeros = s.zeros;
-  inputs_first = s.inputs_first;
-  snapshot = s.snapshot;
-  fixed = s.fixed;
-  each_frames = s.each_frames;
-  each_idle = s.each_idle;
-  each_cut = s.each_cut;
-  of_input = tt;
-  quiet = tt;
-  outputs = s.outputs;
+-- its inside once the piece at hand is closed, by whether that was the last
+abbrev closed_with : CoreState → ℕ → Bool → CoreState
+closed_with c r last = record (going c (Some r)) {
+  toggle = not c.toggle;
+  current = left_open (Some r) (cond last None (Some (c.piece + 1)));
+  piece = unwrap_or (cond last None (Some (c.piece + 1))) 0;
 }
 
--- an ACK that arrives closes the round
-ack_closes : (arrivals : Arrivals) (d : DeviceState) (c : CoreState) (r : ℕ) (after : DeviceState)
-    → arrivals Acknowledgement (spelling packets.Ack) ≡ Some (spelling packets.Ack) → HearsAck arrivals (waiting d c r) after
-    → after ≡ closed_device d c r
-ack_closes arrivals d c r after whole h =
+abbrev closed_device : DeviceState → CoreState → ℕ → Bool → DeviceState
+closed_device d c r last = passed d (closed_with c r last) false
+
+closed_as : (d : DeviceState) (c : CoreState) (r : ℕ) (last : Bool) → is_last_piece (items_of c.layout) r c.piece ≡ last → passed d (closed_core (going c (Some r))) false ≡ closed_device d c r last
+closed_as d c r last is = ap (closed_device d c r) is
+
+-- what holds of a device holds then
+closed_sound : (c : CoreState) (r : ℕ) (last : Bool) → is_last_piece (items_of c.layout) r c.piece ≡ last → IsSound (going c (Some r)) → IsSound (closed_with c r last)
+closed_sound c r true is sound = sound_closed (going c (Some r)) (not c.toggle) sound
+closed_sound c r false is sound =
+    sound_at_piece (going c (Some r)) (not c.toggle) (c.piece + 1) sound (more_so (pieces_of (items_of c.layout) r) (pieces_of (items_of c.layout) r) (c.piece + 1) refl is)
+
+-- an ACK that arrives closes the piece
+ack_closes : (arrivals : Arrivals) (d : DeviceState) (c : CoreState) (r : ℕ) (last : Bool) (after : DeviceState)
+    → arrivals Acknowledgement (spelling packets.Ack) ≡ Some (spelling packets.Ack) → is_last_piece (items_of c.layout) r c.piece ≡ last → HearsAck arrivals (waiting d c r) after
+    → after ≡ closed_device d c r last
+ack_closes arrivals d c r last after whole is h =
     let came = read_whole arrivals Acknowledgement packets.Ack h.came whole h.carried in
     let heard : Hears (waiting d c r) (Some packets.Ack) h.answer after = subst (λ (o : Option Packet). Hears (waiting d c r) o h.answer after) came h.heard in
-    heard.1
+    heard.1 ∙ closed_as d c r last is
 
--- one that is lost leaves it open
+-- one that is lost leaves it
 ack_lost : (arrivals : Arrivals) (d : DeviceState) (c : CoreState) (r : ℕ) (after : DeviceState)
     → arrivals Acknowledgement (spelling packets.Ack) ≡ None → HearsAck arrivals (waiting d c r) after → after ≡ waiting d c r
 ack_lost arrivals d c r after lost h =
@@ -202,187 +248,264 @@ ack_lost arrivals d c r after lost h =
     let heard : Hears (waiting d c r) None h.answer after = subst (λ (o : Option Packet). Hears (waiting d c r) o h.answer after) came h.heard in
     heard.1
 
--- what a host makes of fresh data that show a part
-abbrev payload : List ℕ → ArrayVec ℕ 64 (Unit {0})
-payload bytes = record { items = bytes }
+-- the host behind fresh data
+fresh_host : (known : Known) (home : HostEnd) (r : ℕ) (parts : List Cell) (bytes : List ℕ) (piece : ℕ) (last : Bool) → TakesPiece known r parts bytes piece last
+    → ready_after (unpending home) known (Fresh (payload (piece_of bytes piece))) ≡ ready_with home (taking known r parts bytes piece last)
+fresh_host known home r parts bytes piece last takes = ap (ready_with home) takes.behind
 
-abbrev seeing : Known → ℕ → List Cell → Known
-seeing known r parts = record known { pipe = record known.pipe { expects = not known.pipe.expects }; view = seen (items_of known.layout) r known.view parts }
+taken_fits : (addr : ℕ) (c : CoreState) (known : Known) (r : ℕ) (last : Bool) → Meets addr (going c (Some r)) known → FitsView (items_of c.layout) (cond last (seen (items_of c.layout) r known.view c.standing.fixed) known.view)
+taken_fits addr c known r true meets = seen_is_view (items_of c.layout) r known.view c.standing.fixed meets.fits meets.sound.fixed
+taken_fits addr c known r false meets = meets.fits
 
-fresh_told : (known : Known) (r : ℕ) (parts : List Cell) (bytes : List ℕ) → ReadsAsShown known.layout r parts bytes known.view → told_of known.layout (Fresh (payload bytes)) ≡ Ok (Fresh (payload bytes))
-fresh_told known r parts bytes reads = ap (read_or_refused (Fresh (payload bytes))) reads.report
+-- the station of a device with an open round, by whether its piece at hand is awaited
+abbrev station_with : CoreState → Option Open → Bool → List Cell → Station
+station_with c current odd view = record { standing = c.standing; current = current; odd = odd; view = view; halted = false }
 
-fresh_host : (known : Known) (home : HostEnd) (r : ℕ) (parts : List Cell) (bytes : List ℕ) → ReadsAsShown known.layout r parts bytes known.view → ready_after (unpending home) known (Fresh (payload bytes)) ≡ ready_with home (seeing known r parts)
-fresh_host known home r parts bytes reads =
-    let read : view_read known.layout bytes known.view ≡ seen (items_of known.layout) r known.view parts
-    = ap (λ (o : Result ℕ ReportFault). elim o as (λ _. List Cell) [ Ok n ↦ read_view known.layout n bytes known.view | Err fault ↦ known.view ]) reads.report ∙ reads.view in
-    ap (λ (v : List Cell). ready_with home (record known { pipe = record known.pipe { expects = not known.pipe.expects }; view = v })) read
-
-fresh_events : (known : Known) (r : ℕ) (parts : List Cell) (bytes : List ℕ) → ReadsAsShown known.layout r parts bytes known.view
-    → events_behind known (Fresh (payload bytes)) ≡ part_events (items_of known.layout) r known.view parts
-fresh_events known r parts bytes reads =
-    ap (λ (o : Result ℕ ReportFault). elim o as (λ _. List Event) [ Ok n ↦ read_events known.layout n bytes known.view | Err fault ↦ [] ]) reads.report ∙ reads.events
-
--- the station of a device with an open round, by whether the toggles are the same
 abbrev open_station : CoreState → Known → ℕ → Bool → Station
-open_station c known r same = record { standing = c.standing; current = Some (record { report = r; crossed = not same }); odd = c.toggle; view = known.view; halted = false }
+open_station c known r awaits = station_with c (Some (round_at c r c.piece awaits)) c.toggle known.view
 
--- data that reach a host which expects them, where the ACK arrives
-fresh_clean : (c : CoreState) (known : Known) (d : DeviceState) (home : HostEnd) (r : ℕ) (bytes : List ℕ) (result : Result Told StackFault) (device_then : DeviceState) (host_then : HostEnd) (events : List Event)
-    → Meets d.addr (going c (Some r)) known → ReadsAsShown c.layout r c.standing.fixed bytes known.view → AreBytesOf c.layout c.standing.fixed r bytes
-    → beq c.toggle known.pipe.expects ≡ true
-    → result ≡ told_with (Some (packets.Data c.toggle (payload bytes))) (told_of c.layout (Fresh (payload bytes)))
-    → host_then ≡ ready_after (unpending home) (sharing c known) (Fresh (payload bytes)) → events ≡ events_behind (sharing c known) (Fresh (payload bytes))
-    → HearsAck (arrives_under Clean) (waiting d c r) device_then
+-- the part that a view sees, where it sees it
+abbrev seen_if : CoreState → Known → ℕ → Bool → List Cell
+seen_if c known r sees = cond sees (seen (items_of c.layout) r known.view c.standing.fixed) known.view
+
+-- the station behind a poll of which nothing is lost, by whether the piece is the last one
+abbrev clean_station : CoreState → Known → ℕ → Bool → Bool → Station
+clean_station c known r awaits last =
+    station_with c (cond last None (Some (round_at c r (c.piece + 1) true))) (not c.toggle) (seen_if c known r (last && not (not awaits)))
+
+clean_as : (c : CoreState) (known : Known) (r : ℕ) (awaits last : Bool) (d : DeviceState) (home : HostEnd) → is_last_piece (items_of c.layout) r c.piece ≡ last
+    → ready_member d home c None (clean_station c known r awaits last) ≡ ready_member d home c None (answered (items_of c.layout) (open_station c known r awaits) Clean)
+clean_as c known r awaits last d home is = ap (λ (b : Bool). ready_member d home c None (clean_station c known r awaits b)) (sym is)
+
+-- and behind one whose ACK is lost
+abbrev lost_station : CoreState → Known → ℕ → Bool → Bool → Station
+lost_station c known r awaits last =
+    station_with c (Some (round_at c r c.piece false)) c.toggle (seen_if c known r (last && not (not awaits)))
+
+lost_as : (c : CoreState) (known : Known) (r : ℕ) (awaits last : Bool) (d : DeviceState) (home : HostEnd) → is_last_piece (items_of c.layout) r c.piece ≡ last
+    → ready_member d home c None (lost_station c known r awaits last) ≡ ready_member d home c None (answered (items_of c.layout) (open_station c known r awaits) AckLost)
+lost_as c known r awaits last d home is = ap (λ (b : Bool). ready_member d home c None (lost_station c known r awaits b)) (sym is)
+
+-- what either tells
+abbrev part_if : CoreState → Known → ℕ → Bool → List Event
+part_if c known r tells = cond tells (part_events (items_of c.layout) r known.view c.standing.fixed) []
+
+fresh_delivers : (c : CoreState) (known : Known) (r : ℕ) (last : Bool) → is_last_piece (items_of c.layout) r c.piece ≡ last
+    → part_if c known r last ≡ part_if c known r (is_last_piece (items_of c.layout) r c.piece && true)
+fresh_delivers c known r last is = ap (part_if c known r) (sym (and_true last) ∙ ap (λ (b : Bool). b && true) (sym is))
+
+again_delivers : (c : CoreState) (known : Known) (r : ℕ) (last : Bool) → [] ≡ part_if c known r (last && false)
+again_delivers c known r last = ap (part_if c known r) (sym (and_false last))
+
+-- data that reach a host which awaits them
+record IsTaken (d : DeviceState) (home : HostEnd) (c : CoreState) (known : Known) (r : ℕ) (last : Bool)
+    (result : Result Told StackFault) (host_then : HostEnd) (events : List Event) : Type 0 where
+  meets : Meets d.addr (going c (Some r)) known
+  is : is_last_piece (items_of c.layout) r c.piece ≡ last
+  same : beq c.toggle known.pipe.expects ≡ true
+  told : result ≡ Ok (Polled (spelled (Some (packets.Data c.toggle (payload (piece_of (bytes_of c r) c.piece))))) (Fresh (payload (piece_of (bytes_of c r) c.piece))))
+  moved : host_then ≡ ready_with home (taking (sharing c known) r c.standing.fixed (bytes_of c r) c.piece last)
+  delivers : events ≡ part_if c known r last
+
+-- where the ACK arrives
+fresh_clean : (d : DeviceState) (home : HostEnd) (c : CoreState) (known : Known) (r : ℕ) (last : Bool) (result : Result Told StackFault) (device_then : DeviceState) (host_then : HostEnd) (events : List Event)
+    → IsTaken d home c known r last result host_then events → HearsAck (arrives_under Clean) (waiting d c r) device_then
     → Lands Clean (ready_member d home c None) (open_station c known r true) result device_then host_then events
-fresh_clean c known d home r bytes result device_then host_then events meets reads shows same told moved delivers hears =
-    let closes = ack_closes (arrives_under Clean) d c r device_then refl hears in
-    let host_is = moved ∙ fresh_host (sharing c known) home r c.standing.fixed bytes reads in
+fresh_clean d home c known r true result device_then host_then events t hears =
+    let closes = ack_closes (arrives_under Clean) d c r true device_then refl t.is hears in
+    let knows = taking (sharing c known) r c.standing.fixed (bytes_of c r) c.piece true in
     record {
-      member = member_of device_then (closed_device d c r) host_then home (seeing (sharing c known) r c.standing.fixed) closes host_is;
-      delivered = delivers ∙ fresh_events (sharing c known) r c.standing.fixed bytes reads;
-      told = (bytes, shows, told ∙ ap (told_with (Some (packets.Data c.toggle (payload bytes)))) (fresh_told (sharing c known) r c.standing.fixed bytes reads));
-      pair = pair_of device_then (closed_device d c r) host_then home (seeing (sharing c known) r c.standing.fixed) closes host_is (record {
-        configured = meets.configured;
+      member = member_of device_then (closed_device d c r true) host_then home knows closes t.moved ∙ clean_as c known r true true d home t.is;
+      delivered = t.delivers ∙ fresh_delivers c known r true t.is;
+      told = t.told;
+      pair = pair_of device_then (closed_device d c r true) host_then home knows closes t.moved (record {
+        configured = t.meets.configured;
         layout = refl;
-        addr = meets.to_device;
-        endp = meets.endp;
-        even = both_change c.toggle known.pipe.expects same;
-        sound = closed_sound c r meets.sound;
-        laid = meets.laid;
-        fits = seen_is_view (items_of c.layout) r known.view c.standing.fixed meets.fits meets.sound.fixed;
+        addr = t.meets.to_device;
+        endp = t.meets.endp;
+        even = both_change c.toggle known.pipe.expects t.same;
+        got = refl;
+        sound = closed_sound c r true t.is t.meets.sound;
+        laid = t.meets.laid;
+        fits = taken_fits d.addr c known r true t.meets;
+      });
+    }
+fresh_clean d home c known r false result device_then host_then events t hears =
+    let closes = ack_closes (arrives_under Clean) d c r false device_then refl t.is hears in
+    let knows = taking (sharing c known) r c.standing.fixed (bytes_of c r) c.piece false in
+    let next = both_same c.toggle known.pipe.expects t.same in
+    record {
+      member = member_of device_then (closed_device d c r false) host_then home knows closes t.moved
+          ∙ ap (λ (b : Bool). ready_member d home c None (station_with c (Some (round_at c r (c.piece + 1) b)) (not c.toggle) known.view)) next
+          ∙ clean_as c known r true false d home t.is;
+      delivered = t.delivers ∙ fresh_delivers c known r false t.is;
+      told = t.told;
+      pair = pair_of device_then (closed_device d c r false) host_then home knows closes t.moved (record {
+        configured = t.meets.configured;
+        layout = refl;
+        addr = t.meets.to_device;
+        endp = t.meets.endp;
+        even = tt;
+        got = subst (λ (b : Bool). up_to (bytes_of c r) c.piece ≡ got_in (bytes_of c r) (round_at c r (c.piece + 1) b)) (sym next) refl;
+        sound = closed_sound c r false t.is t.meets.sound;
+        laid = t.meets.laid;
+        fits = taken_fits d.addr c known r false t.meets;
       });
     }
 
 -- where it is lost
-fresh_ack_lost : (c : CoreState) (known : Known) (d : DeviceState) (home : HostEnd) (r : ℕ) (bytes : List ℕ) (result : Result Told StackFault) (device_then : DeviceState) (host_then : HostEnd) (events : List Event)
-    → Meets d.addr (going c (Some r)) known → ReadsAsShown c.layout r c.standing.fixed bytes known.view → AreBytesOf c.layout c.standing.fixed r bytes
-    → beq c.toggle known.pipe.expects ≡ true
-    → result ≡ told_with (Some (packets.Data c.toggle (payload bytes))) (told_of c.layout (Fresh (payload bytes)))
-    → host_then ≡ ready_after (unpending home) (sharing c known) (Fresh (payload bytes)) → events ≡ events_behind (sharing c known) (Fresh (payload bytes))
-    → HearsAck (arrives_under AckLost) (waiting d c r) device_then
+fresh_ack_lost : (d : DeviceState) (home : HostEnd) (c : CoreState) (known : Known) (r : ℕ) (last : Bool) (result : Result Told StackFault) (device_then : DeviceState) (host_then : HostEnd) (events : List Event)
+    → IsTaken d home c known r last result host_then events → HearsAck (arrives_under AckLost) (waiting d c r) device_then
     → Lands AckLost (ready_member d home c None) (open_station c known r true) result device_then host_then events
-fresh_ack_lost c known d home r bytes result device_then host_then events meets reads shows same told moved delivers hears =
+fresh_ack_lost d home c known r last result device_then host_then events t hears =
     let stays = ack_lost (arrives_under AckLost) d c r device_then refl hears in
-    let host_is = moved ∙ fresh_host (sharing c known) home r c.standing.fixed bytes reads in
-    let crossed = other_differs c.toggle known.pipe.expects same in
+    let knows = taking (sharing c known) r c.standing.fixed (bytes_of c r) c.piece last in
+    let crossed = other_differs c.toggle known.pipe.expects t.same in
     record {
-      member = member_of device_then (waiting d c r) host_then home (seeing (sharing c known) r c.standing.fixed) stays host_is
-          ∙ ap (λ (b : Bool). ready_member d home c None (record {
-            standing = c.standing;
-            current = Some (record { report = r; crossed = not b });
-            odd = c.toggle;
-            view = seen (items_of c.layout) r known.view c.standing.fixed;
-            halted = false;
-          })) crossed;
-      delivered = delivers ∙ fresh_events (sharing c known) r c.standing.fixed bytes reads;
-      told = (bytes, shows, told ∙ ap (told_with (Some (packets.Data c.toggle (payload bytes)))) (fresh_told (sharing c known) r c.standing.fixed bytes reads));
-      pair = pair_of device_then (waiting d c r) host_then home (seeing (sharing c known) r c.standing.fixed) stays host_is (record {
-        configured = meets.configured;
+      member = member_of device_then (waiting d c r) host_then home knows stays t.moved
+          ∙ ap (λ (b : Bool). ready_member d home c None (station_with c (Some (round_at c r c.piece b)) c.toggle (seen_if c known r last))) crossed
+          ∙ ap (λ (b : Bool). ready_member d home c None (station_with c (Some (round_at c r c.piece false)) c.toggle (seen_if c known r b))) (sym (and_true last))
+          ∙ lost_as c known r true last d home t.is;
+      delivered = t.delivers ∙ fresh_delivers c known r last t.is;
+      told = t.told;
+      pair = pair_of device_then (waiting d c r) host_then home knows stays t.moved (record {
+        configured = t.meets.configured;
         layout = refl;
-        addr = meets.to_device;
-        endp = meets.endp;
+        addr = t.meets.to_device;
+        endp = t.meets.endp;
         even = tt;
-        sound = meets.sound;
-        laid = meets.laid;
-        fits = seen_is_view (items_of c.layout) r known.view c.standing.fixed meets.fits meets.sound.fixed;
+        got = subst (λ (b : Bool). cond last [] (up_to (bytes_of c r) c.piece) ≡ got_in (bytes_of c r) (round_at c r c.piece b)) (sym crossed)
+            (ap (λ (b : Bool). cond b [] (up_to (bytes_of c r) c.piece)) (sym t.is));
+        sound = t.meets.sound;
+        laid = t.meets.laid;
+        fits = taken_fits d.addr c known r last t.meets;
       });
     }
 
--- data that a host took before: where the ACK arrives, and where it is lost
-again_clean : (c : CoreState) (known : Known) (d : DeviceState) (home : HostEnd) (r : ℕ) (bytes : List ℕ) (result : Result Told StackFault) (device_then : DeviceState) (host_then : HostEnd) (events : List Event)
-    → Meets d.addr (going c (Some r)) known → AreBytesOf c.layout c.standing.fixed r bytes
-    → beq c.toggle known.pipe.expects ≡ false
-    → result ≡ Ok (Polled (spelled (Some (packets.Data c.toggle (payload bytes)))) Again)
-    → host_then ≡ ready_with home (sharing c known) → events ≡ []
-    → HearsAck (arrives_under Clean) (waiting d c r) device_then
+-- data that a host took before
+record IsRepeated (d : DeviceState) (home : HostEnd) (c : CoreState) (known : Known) (r : ℕ) (last : Bool)
+    (result : Result Told StackFault) (host_then : HostEnd) (events : List Event) : Type 0 where
+  meets : Meets d.addr (going c (Some r)) known
+  is : is_last_piece (items_of c.layout) r c.piece ≡ last
+  differ : beq c.toggle known.pipe.expects ≡ false
+  got : known.collected ≡ cond last [] (up_to (bytes_of c r) c.piece)
+  told : result ≡ Ok (Polled (spelled (Some (packets.Data c.toggle (payload (piece_of (bytes_of c r) c.piece))))) Again)
+  moved : host_then ≡ ready_with home (sharing c known)
+  delivers : events ≡ []
+
+-- where the ACK arrives
+again_clean : (d : DeviceState) (home : HostEnd) (c : CoreState) (known : Known) (r : ℕ) (last : Bool) (result : Result Told StackFault) (device_then : DeviceState) (host_then : HostEnd) (events : List Event)
+    → IsRepeated d home c known r last result host_then events → HearsAck (arrives_under Clean) (waiting d c r) device_then
     → Lands Clean (ready_member d home c None) (open_station c known r false) result device_then host_then events
-again_clean c known d home r bytes result device_then host_then events meets shows differ told moved delivers hears =
-    let closes = ack_closes (arrives_under Clean) d c r device_then refl hears in
+again_clean d home c known r true result device_then host_then events t hears =
+    let closes = ack_closes (arrives_under Clean) d c r true device_then refl t.is hears in
     record {
-      member = member_of device_then (closed_device d c r) host_then home (sharing c known) closes moved;
-      delivered = delivers;
-      told = (bytes, shows, told);
-      pair = pair_of device_then (closed_device d c r) host_then home (sharing c known) closes moved (record {
-        configured = meets.configured;
+      member = member_of device_then (closed_device d c r true) host_then home (sharing c known) closes t.moved ∙ clean_as c known r false true d home t.is;
+      delivered = t.delivers ∙ again_delivers c known r (is_last_piece (items_of c.layout) r c.piece);
+      told = t.told;
+      pair = pair_of device_then (closed_device d c r true) host_then home (sharing c known) closes t.moved (record {
+        configured = t.meets.configured;
         layout = refl;
-        addr = meets.to_device;
-        endp = meets.endp;
-        even = one_changes c.toggle known.pipe.expects differ;
-        sound = closed_sound c r meets.sound;
-        laid = meets.laid;
-        fits = meets.fits;
+        addr = t.meets.to_device;
+        endp = t.meets.endp;
+        even = one_changes c.toggle known.pipe.expects t.differ;
+        got = t.got;
+        sound = closed_sound c r true t.is t.meets.sound;
+        laid = t.meets.laid;
+        fits = t.meets.fits;
       });
     }
-
-again_ack_lost : (c : CoreState) (known : Known) (d : DeviceState) (home : HostEnd) (r : ℕ) (bytes : List ℕ) (result : Result Told StackFault) (device_then : DeviceState) (host_then : HostEnd) (events : List Event)
-    → Meets d.addr (going c (Some r)) known → AreBytesOf c.layout c.standing.fixed r bytes
-    → beq c.toggle known.pipe.expects ≡ false
-    → result ≡ Ok (Polled (spelled (Some (packets.Data c.toggle (payload bytes)))) Again)
-    → host_then ≡ ready_with home (sharing c known) → events ≡ []
-    → HearsAck (arrives_under AckLost) (waiting d c r) device_then
-    → Lands AckLost (ready_member d home c None) (open_station c known r false) result device_then host_then events
-again_ack_lost c known d home r bytes result device_then host_then events meets shows differ told moved delivers hears =
-    let stays = ack_lost (arrives_under AckLost) d c r device_then refl hears in
+again_clean d home c known r false result device_then host_then events t hears =
+    let closes = ack_closes (arrives_under Clean) d c r false device_then refl t.is hears in
+    let next = one_same c.toggle known.pipe.expects t.differ in
     record {
-      member = member_of device_then (waiting d c r) host_then home (sharing c known) stays moved
-          ∙ ap (λ (b : Bool). ready_member d home c None (open_station c known r b)) differ;
-      delivered = delivers;
-      told = (bytes, shows, told);
-      pair = pair_of device_then (waiting d c r) host_then home (sharing c known) stays moved (record {
-        configured = meets.configured;
+      member = member_of device_then (closed_device d c r false) host_then home (sharing c known) closes t.moved
+          ∙ ap (λ (b : Bool). ready_member d home c None (station_with c (Some (round_at c r (c.piece + 1) b)) (not c.toggle) known.view)) next
+          ∙ clean_as c known r false false d home t.is;
+      delivered = t.delivers ∙ again_delivers c known r (is_last_piece (items_of c.layout) r c.piece);
+      told = t.told;
+      pair = pair_of device_then (closed_device d c r false) host_then home (sharing c known) closes t.moved (record {
+        configured = t.meets.configured;
         layout = refl;
-        addr = meets.to_device;
-        endp = meets.endp;
+        addr = t.meets.to_device;
+        endp = t.meets.endp;
         even = tt;
-        sound = meets.sound;
-        laid = meets.laid;
-        fits = meets.fits;
+        got = subst (λ (b : Bool). known.collected ≡ got_in (bytes_of c r) (round_at c r (c.piece + 1) b)) (sym next) t.got;
+        sound = closed_sound c r false t.is t.meets.sound;
+        laid = t.meets.laid;
+        fits = t.meets.fits;
       });
     }
 
-either_none : (b : Bool) → [] ≡ cond {A = List Event} b [] []
-either_none true = refl
-either_none false = refl
+-- and where it is lost
+again_ack_lost : (d : DeviceState) (home : HostEnd) (c : CoreState) (known : Known) (r : ℕ) (last : Bool) (result : Result Told StackFault) (device_then : DeviceState) (host_then : HostEnd) (events : List Event)
+    → IsRepeated d home c known r last result host_then events → HearsAck (arrives_under AckLost) (waiting d c r) device_then
+    → Lands AckLost (ready_member d home c None) (open_station c known r false) result device_then host_then events
+again_ack_lost d home c known r last result device_then host_then events t hears =
+    let stays = ack_lost (arrives_under AckLost) d c r device_then refl hears in
+    let here = is_last_piece (items_of c.layout) r c.piece in
+    record {
+      member = member_of device_then (waiting d c r) host_then home (sharing c known) stays t.moved
+          ∙ ap (λ (b : Bool). ready_member d home c None (station_with c (Some (round_at c r c.piece b)) c.toggle known.view)) t.differ
+          ∙ ap (λ (b : Bool). ready_member d home c None (station_with c (Some (round_at c r c.piece false)) c.toggle (seen_if c known r b))) (sym (and_false here));
+      delivered = t.delivers ∙ again_delivers c known r here;
+      told = t.told;
+      pair = pair_of device_then (waiting d c r) host_then home (sharing c known) stays t.moved (record {
+        configured = t.meets.configured;
+        layout = refl;
+        addr = t.meets.to_device;
+        endp = t.meets.endp;
+        even = tt;
+        got = subst (λ (b : Bool). known.collected ≡ got_in (bytes_of c r) (round_at c r c.piece b)) (sym t.differ)
+            (t.got ∙ ap (λ (b : Bool). cond b [] (up_to (bytes_of c r) c.piece)) (sym t.is));
+        sound = t.meets.sound;
+        laid = t.meets.laid;
+        fits = t.meets.fits;
+      });
+    }
 
--- a reply that is lost tells nothing
-unread : (known : Known) (c : CoreState) (r : ℕ) → [] ≡ round_events (items_of c.layout) (joined (going c (Some r)) known) ReplyLost
-unread known c r = either_none (not (beq c.toggle known.pipe.expects))
+-- what is armed
+abbrev pub armed_at : CoreState → Option ℕ → Option (List ℕ)
+armed_at c current = piece_armed c.layout c.standing.fixed current c.piece
 
--- where nothing is taken and no round closes, the station stays
-stays : (c : CoreState) (known : Known) (d : DeviceState) (home : HostEnd) (current : Option ℕ) (armed : Option (List ℕ))
+-- the host has the pieces that crossed
+abbrev pub HasGot : CoreState → Option ℕ → Known → Type 0
+HasGot c current known = known.collected ≡ got_by (going c current) known
+
+-- where nothing is taken and no piece closes, the station stays
+stays : (c : CoreState) (known : Known) (d : DeviceState) (home : HostEnd) (current : Option ℕ)
     (result : Result Told StackFault) (device_then : DeviceState) (host_then : HostEnd) (events : List Event)
-    → IsEven c.toggle known.pipe.expects current → Meets d.addr (going c current) known → IsArmed c.layout c.standing.fixed current armed
-    → result ≡ Ok (Polled (spelled (Some (answer_with false c.toggle armed))) Silent)
+    → IsEven c.toggle known.pipe.expects current → HasGot c current known → Meets d.addr (going c current) known
+    → result ≡ Ok (Polled (spelled (Some (answer_with false c.toggle (armed_at c current)))) Silent)
     → device_then ≡ polled_device d (going c current) → host_then ≡ ready_with home (sharing c known) → events ≡ []
     → Lands ReplyLost (ready_member d home c None) (joined (going c current) known) result device_then host_then events
-stays c known d home None None result device_then host_then events even meets arms told device_is host_is none = record {
+stays c known d home None result device_then host_then events even got meets told device_is host_is none = record {
   member = member_of device_then (polled_device d (going c None)) host_then home (sharing c known) device_is host_is;
   delivered = none;
-  told = ([], refl, told);
+  told = told;
   pair = pair_of device_then (polled_device d (going c None)) host_then home (sharing c known) device_is host_is (record {
     configured = meets.configured;
     layout = refl;
     addr = meets.to_device;
     endp = meets.endp;
     even = even;
+    got = got;
     sound = meets.sound;
     laid = meets.laid;
     fits = meets.fits;
   });
 }
-stays c known d home None (Some bytes) result device_then host_then events even meets arms told device_is host_is none = absurd arms
-stays c known d home (Some r) None result device_then host_then events even meets arms told device_is host_is none = absurd arms
-stays c known d home (Some r) (Some bytes) result device_then host_then events even meets arms told device_is host_is none = record {
+stays c known d home (Some r) result device_then host_then events even got meets told device_is host_is none = record {
   member = member_of device_then (waiting d c r) host_then home (sharing c known) device_is host_is;
-  delivered = none ∙ unread known c r;
-  told = (bytes, arms, told);
+  delivered = none;
+  told = told;
   pair = pair_of device_then (waiting d c r) host_then home (sharing c known) device_is host_is (record {
     configured = meets.configured;
     layout = refl;
     addr = meets.to_device;
     endp = meets.endp;
     even = tt;
+    got = got;
     sound = meets.sound;
     laid = meets.laid;
     fits = meets.fits;
@@ -390,29 +513,30 @@ stays c known d home (Some r) (Some bytes) result device_then host_then events e
 }
 
 -- a reply that is lost
-pub reply_lost : (c : CoreState) (known : Known) (d : DeviceState) (home : HostEnd) (current : Option ℕ) (armed : Option (List ℕ)) (packet : Packet)
+pub reply_lost : (c : CoreState) (known : Known) (d : DeviceState) (home : HostEnd) (current : Option ℕ) (packet : Packet)
     (result : Result Told StackFault) (device_then : DeviceState) (host_then : HostEnd) (events : List Event)
-    → IsEven c.toggle known.pipe.expects current → Meets d.addr (going c current) known
-    → IsArmed c.layout c.standing.fixed current armed → packet ≡ answer_with false c.toggle armed
+    → IsEven c.toggle known.pipe.expects current → HasGot c current known → Meets d.addr (going c current) known
+    → packet ≡ answer_with false c.toggle (armed_at c current)
     → Arrives ReplyLost (going c current) known d home packet result device_then host_then events
     → Lands ReplyLost (ready_member d home c None) (joined (going c current) known) result device_then host_then events
-reply_lost c known d home current armed packet result device_then host_then events even meets arms packet_is t =
+reply_lost c known d home current packet result device_then host_then events even got meets packet_is t =
+    let shared = sharing (going c current) known in
     let lost = read_lost (arrives_under ReplyLost) Reply packet t.reply refl t.replied in
     let took : taken known.pipe.expects t.reply ≡ Silent = ap (taken known.pipe.expects) lost in
-    let host_is : host_then ≡ ready_with home (sharing c known) = t.host_moved ∙ ap (ready_after (unpending home) (sharing c known)) took in
-    let told : result ≡ Ok (Polled (spelled (Some (answer_with false c.toggle armed))) Silent)
-    = t.told ∙ ap (λ (x : Took). told_with (Some packet) (told_of c.layout x)) took ∙ ap (λ (x : Packet). Ok (Polled (spelled (Some x)) Silent)) packet_is in
+    let host_is : host_then ≡ ready_with home (sharing c known) = t.host_moved ∙ ap (ready_after (unpending home) shared) took in
+    let told : result ≡ Ok (Polled (spelled (Some (answer_with false c.toggle (armed_at c current)))) Silent)
+    = t.told ∙ ap (λ (x : Took). told_with (Some packet) (told_of shared x)) took ∙ ap (λ (x : Packet). Ok (Polled (spelled (Some x)) Silent)) packet_is in
     let device_is : device_then ≡ polled_device d (going c current)
-    = subst (λ (x : Took). Ends (arrives_under ReplyLost) (told_of c.layout x) (polled_device d (going c current)) device_then) took t.ended in
-    stays c known d home current armed result device_then host_then events even meets arms told device_is host_is (t.delivers ∙ ap (events_behind (sharing c known)) took)
+    = subst (λ (x : Took). Ends (arrives_under ReplyLost) (told_of shared x) (polled_device d (going c current)) device_then) took t.ended in
+    stays c known d home current result device_then host_then events even got meets told device_is host_is (t.delivers ∙ ap (events_behind shared) took)
 
 -- what a poll whose answer reaches the host comes to, by what the host takes
 pub record Comes (fate : Fate) (c : CoreState) (known : Known) (d : DeviceState) (home : HostEnd) (packet : Packet) (took : Took)
     (result : Result Told StackFault) (device_then : DeviceState) (host_then : HostEnd) (events : List Event) : Type 0 where
-  pub told : result ≡ told_with (Some packet) (told_of c.layout took)
+  pub told : result ≡ told_with (Some packet) (told_of (sharing c known) took)
   pub host_moved : host_then ≡ ready_after (unpending home) (sharing c known) took
   pub delivers : events ≡ events_behind (sharing c known) took
-  pub ended : Ends (arrives_under fate) (told_of c.layout took) (polled_device d c) device_then
+  pub ended : Ends (arrives_under fate) (told_of (sharing c known) took) (polled_device d c) device_then
 
 -- an answer that reaches the host is taken by its row
 pub comes : (fate : Fate) (c : CoreState) (known : Known) (d : DeviceState) (home : HostEnd) (armed : Option (List ℕ)) (packet : Packet)
@@ -421,15 +545,16 @@ pub comes : (fate : Fate) (c : CoreState) (known : Known) (d : DeviceState) (hom
     → Arrives fate c known d home packet result device_then host_then events
     → Comes fate c known d home (answer_with c.halted c.toggle armed) (took_where known.pipe.expects c.halted c.toggle armed) result device_then host_then events
 comes fate c known d home armed packet result device_then host_then events whole packet_is t =
+    let shared = sharing c known in
     let came = read_whole (arrives_under fate) Reply packet t.reply (whole (spelling packet)) t.replied in
     let took : taken known.pipe.expects t.reply ≡ took_where known.pipe.expects c.halted c.toggle armed
     = ap (taken known.pipe.expects) (came ∙ ap (λ (x : Packet). Some x) packet_is) ∙ took_answer known.pipe.expects c.halted c.toggle armed in
     record {
-      told = t.told ∙ ap (λ (x : Took). told_with (Some packet) (told_of c.layout x)) took
-          ∙ ap (λ (x : Packet). told_with (Some x) (told_of c.layout (took_where known.pipe.expects c.halted c.toggle armed))) packet_is;
-      host_moved = t.host_moved ∙ ap (ready_after (unpending home) (sharing c known)) took;
-      delivers = t.delivers ∙ ap (events_behind (sharing c known)) took;
-      ended = subst (λ (x : Took). Ends (arrives_under fate) (told_of c.layout x) (polled_device d c) device_then) took t.ended;
+      told = t.told ∙ ap (λ (x : Took). told_with (Some packet) (told_of shared x)) took
+          ∙ ap (λ (x : Packet). told_with (Some x) (told_of shared (took_where known.pipe.expects c.halted c.toggle armed))) packet_is;
+      host_moved = t.host_moved ∙ ap (ready_after (unpending home) shared) took;
+      delivers = t.delivers ∙ ap (events_behind shared) took;
+      ended = subst (λ (x : Took). Ends (arrives_under fate) (told_of shared x) (polled_device d c) device_then) took t.ended;
     }
 
 -- the same where it is known what the host takes
@@ -443,11 +568,11 @@ comes_as fate c known d home packet took other result device_then host_then even
 -- a poll at which no round is open and none opens
 nak : (fate : Fate) (c : CoreState) (known : Known) (d : DeviceState) (home : HostEnd)
     (result : Result Told StackFault) (device_then : DeviceState) (host_then : HostEnd) (events : List Event)
-    → IsEven c.toggle known.pipe.expects None → Meets d.addr (going c None) known
+    → IsEven c.toggle known.pipe.expects None → HasGot c None known → Meets d.addr (going c None) known
     → Comes fate (going c None) known d home packets.Nak Nak result device_then host_then events
     → (joint device_then host_then ≡ ready_member d home c None (joined (going c None) known))
     × (events ≡ []) × (result ≡ Ok (Polled (spelled (Some packets.Nak)) Nak)) × IsPair device_then host_then.clearing host_then.phase
-nak fate c known d home result device_then host_then events even meets t = (
+nak fate c known d home result device_then host_then events even got meets t = (
   member_of device_then (polled_device d (going c None)) host_then home (sharing c known) t.ended t.host_moved,
   t.delivers,
   t.told,
@@ -457,6 +582,7 @@ nak fate c known d home result device_then host_then events even meets t = (
     addr = meets.to_device;
     endp = meets.endp;
     even = even;
+    got = got;
     sound = meets.sound;
     laid = meets.laid;
     fits = meets.fits;
@@ -475,60 +601,103 @@ opens_station fate d home c known r b result device_then host_then events is lan
 abbrev row : Bool → List ℕ → Took
 row b bytes = cond b (Fresh (payload bytes)) Again
 
-pub clean : (c : CoreState) (known : Known) (d : DeviceState) (home : HostEnd) (current : Option ℕ) (armed : Option (List ℕ))
+-- what a host has of the open round, by the toggles
+got_as : (c : CoreState) (known : Known) (r : ℕ) (b : Bool) → beq c.toggle known.pipe.expects ≡ b → HasGot c (Some r) known → known.collected ≡ got_in (bytes_of c r) (round_at c r c.piece b)
+got_as c known r b is got = subst (λ (x : Bool). known.collected ≡ got_in (bytes_of c r) (round_at c r c.piece x)) is got
+
+-- data that a host takes
+is_taken : (fate : Fate) (d : DeviceState) (home : HostEnd) (c : CoreState) (known : Known) (r : ℕ)
     (result : Result Told StackFault) (device_then : DeviceState) (host_then : HostEnd) (events : List Event)
-    → IsEven c.toggle known.pipe.expects current → Meets d.addr (going c current) known → IsArmed c.layout c.standing.fixed current armed
-    → ((r : ℕ) (bytes : List ℕ) → current ≡ Some r → armed ≡ Some bytes → ReadsAsShown c.layout r c.standing.fixed bytes known.view)
-    → Comes Clean (going c current) known d home (answer_with false c.toggle armed) (took_where known.pipe.expects false c.toggle armed) result device_then host_then events
+    → Meets d.addr (going c (Some r)) known → HasGot c (Some r) known → Reads c.layout r c.standing.fixed (bytes_of c r) known.view → beq c.toggle known.pipe.expects ≡ true
+    → Comes fate (going c (Some r)) known d home (packets.Data c.toggle (payload (piece_of (bytes_of c r) c.piece))) (Fresh (payload (piece_of (bytes_of c r) c.piece))) result device_then host_then events
+    → IsTaken d home c known r (is_last_piece (items_of c.layout) r c.piece) result host_then events
+    × Ends (arrives_under fate) (Ok (Fresh (payload (piece_of (bytes_of c r) c.piece)))) (waiting d c r) device_then
+is_taken fate d home c known r result device_then host_then events meets got reads same t =
+    let bytes = bytes_of c r in
+    let data = packets.Data c.toggle (payload (piece_of bytes c.piece)) in
+    let last = is_last_piece (items_of c.layout) r c.piece in
+    let shared = sharing c known in
+    let takes : TakesPiece shared r c.standing.fixed bytes c.piece last = takes_piece shared r c.standing.fixed bytes c.piece last reads refl (got_as c known r true same got) in (
+      record {
+        meets = meets;
+        is = refl;
+        same = same;
+        told = t.told ∙ ap (told_with (Some data)) takes.told;
+        moved = t.host_moved ∙ fresh_host shared home r c.standing.fixed bytes c.piece last takes;
+        delivers = t.delivers ∙ takes.events;
+      },
+      subst (λ (x : Result Took StackFault). Ends (arrives_under fate) x (waiting d c r) device_then) takes.told t.ended,
+    )
+
+-- data that it took before
+is_repeated : (fate : Fate) (d : DeviceState) (home : HostEnd) (c : CoreState) (known : Known) (r : ℕ)
+    (result : Result Told StackFault) (device_then : DeviceState) (host_then : HostEnd) (events : List Event)
+    → Meets d.addr (going c (Some r)) known → HasGot c (Some r) known → beq c.toggle known.pipe.expects ≡ false
+    → Comes fate (going c (Some r)) known d home (packets.Data c.toggle (payload (piece_of (bytes_of c r) c.piece))) Again result device_then host_then events
+    → IsRepeated d home c known r (is_last_piece (items_of c.layout) r c.piece) result host_then events
+is_repeated fate d home c known r result device_then host_then events meets got differ t = record {
+  meets = meets;
+  is = refl;
+  differ = differ;
+  got = got_as c known r false differ got;
+  told = t.told;
+  moved = t.host_moved;
+  delivers = t.delivers;
+}
+
+-- a poll whose answer reaches the host
+abbrev ComesTo : Fate → DeviceState → HostEnd → CoreState → Known → Option ℕ → Result Told StackFault → DeviceState → HostEnd → List Event → Type 0
+ComesTo fate d home c known current result device_then host_then events =
+    Comes fate (going c current) known d home (answer_with false c.toggle (armed_at c current)) (took_where known.pipe.expects false c.toggle (armed_at c current)) result device_then host_then events
+
+comes_row : (fate : Fate) (d : DeviceState) (home : HostEnd) (c : CoreState) (known : Known) (r : ℕ) (b : Bool)
+    (result : Result Told StackFault) (device_then : DeviceState) (host_then : HostEnd) (events : List Event)
+    → beq c.toggle known.pipe.expects ≡ b → ComesTo fate d home c known (Some r) result device_then host_then events
+    → Comes fate (going c (Some r)) known d home (packets.Data c.toggle (payload (piece_of (bytes_of c r) c.piece))) (row b (piece_of (bytes_of c r) c.piece)) result device_then host_then events
+comes_row fate d home c known r b result device_then host_then events is t =
+    comes_as fate (going c (Some r)) known d home (answer_with false c.toggle (armed_at c (Some r))) (took_where known.pipe.expects false c.toggle (armed_at c (Some r))) (row b (piece_of (bytes_of c r) c.piece))
+    result device_then host_then events (ap (λ (x : Bool). row x (piece_of (bytes_of c r) c.piece)) is) t
+
+pub clean : (c : CoreState) (known : Known) (d : DeviceState) (home : HostEnd) (current : Option ℕ)
+    (result : Result Told StackFault) (device_then : DeviceState) (host_then : HostEnd) (events : List Event)
+    → IsEven c.toggle known.pipe.expects current → HasGot c current known → Meets d.addr (going c current) known
+    → ((r : ℕ) → current ≡ Some r → Reads c.layout r c.standing.fixed (bytes_of c r) known.view)
+    → ComesTo Clean d home c known current result device_then host_then events
     → Lands Clean (ready_member d home c None) (joined (going c current) known) result device_then host_then events
-clean c known d home None None result device_then host_then events even meets arms reads t =
-    let done = nak Clean c known d home result device_then host_then events even meets t in
-    record { member = done.0; delivered = done.1; told = ([], refl, done.2); pair = done.3 }
-clean c known d home None (Some bytes) result device_then host_then events even meets arms reads t = absurd arms
-clean c known d home (Some r) None result device_then host_then events even meets arms reads t = absurd arms
-clean c known d home (Some r) (Some bytes) result device_then host_then events even meets arms reads t =
-    let shown = reads r bytes refl refl in
+clean c known d home None result device_then host_then events even got meets reads t =
+    let done = nak Clean c known d home result device_then host_then events even got meets t in
+    record { member = done.0; delivered = done.1; told = done.2; pair = done.3 }
+clean c known d home (Some r) result device_then host_then events even got meets reads t =
+    let last = is_last_piece (items_of c.layout) r c.piece in
     elim (cases_Bool (beq c.toggle known.pipe.expects)) [
       | inl same ↦
-          let f = comes_as Clean (going c (Some r)) known d home (answer_with false c.toggle (Some bytes)) (took_where known.pipe.expects false c.toggle (Some bytes)) (Fresh (payload bytes))
-          result device_then host_then events (ap (λ (b : Bool). row b bytes) same) t in
-          let acked : Ends (arrives_under Clean) (Ok (Fresh (payload bytes))) (waiting d c r) device_then
-          = subst (λ (x : Result Took StackFault). Ends (arrives_under Clean) x (waiting d c r) device_then) (fresh_told (sharing c known) r c.standing.fixed bytes shown) f.ended in
-          opens_station Clean d home c known r true result device_then host_then events same
-          (fresh_clean c known d home r bytes result device_then host_then events meets shown arms same f.told f.host_moved f.delivers acked)
+          let f = is_taken Clean d home c known r result device_then host_then events meets got (reads r refl) same (comes_row Clean d home c known r true result device_then host_then events same t) in
+          opens_station Clean d home c known r true result device_then host_then events same (fresh_clean d home c known r last result device_then host_then events f.0 f.1)
       | inr differ ↦
-          let f = comes_as Clean (going c (Some r)) known d home (answer_with false c.toggle (Some bytes)) (took_where known.pipe.expects false c.toggle (Some bytes)) Again
-          result device_then host_then events (ap (λ (b : Bool). row b bytes) differ) t in
-          opens_station Clean d home c known r false result device_then host_then events differ
-          (again_clean c known d home r bytes result device_then host_then events meets arms differ f.told f.host_moved f.delivers f.ended)
+          let row = comes_row Clean d home c known r false result device_then host_then events differ t in
+          let f = is_repeated Clean d home c known r result device_then host_then events meets got differ row in
+          opens_station Clean d home c known r false result device_then host_then events differ (again_clean d home c known r last result device_then host_then events f row.ended)
     ]
 
-pub ack_lost_poll : (c : CoreState) (known : Known) (d : DeviceState) (home : HostEnd) (current : Option ℕ) (armed : Option (List ℕ))
+pub ack_lost_poll : (c : CoreState) (known : Known) (d : DeviceState) (home : HostEnd) (current : Option ℕ)
     (result : Result Told StackFault) (device_then : DeviceState) (host_then : HostEnd) (events : List Event)
-    → IsEven c.toggle known.pipe.expects current → Meets d.addr (going c current) known → IsArmed c.layout c.standing.fixed current armed
-    → ((r : ℕ) (bytes : List ℕ) → current ≡ Some r → armed ≡ Some bytes → ReadsAsShown c.layout r c.standing.fixed bytes known.view)
-    → Comes AckLost (going c current) known d home (answer_with false c.toggle armed) (took_where known.pipe.expects false c.toggle armed) result device_then host_then events
+    → IsEven c.toggle known.pipe.expects current → HasGot c current known → Meets d.addr (going c current) known
+    → ((r : ℕ) → current ≡ Some r → Reads c.layout r c.standing.fixed (bytes_of c r) known.view)
+    → ComesTo AckLost d home c known current result device_then host_then events
     → Lands AckLost (ready_member d home c None) (joined (going c current) known) result device_then host_then events
-ack_lost_poll c known d home None None result device_then host_then events even meets arms reads t =
-    let done = nak AckLost c known d home result device_then host_then events even meets t in
-    record { member = done.0; delivered = done.1; told = ([], refl, done.2); pair = done.3 }
-ack_lost_poll c known d home None (Some bytes) result device_then host_then events even meets arms reads t = absurd arms
-ack_lost_poll c known d home (Some r) None result device_then host_then events even meets arms reads t = absurd arms
-ack_lost_poll c known d home (Some r) (Some bytes) result device_then host_then events even meets arms reads t =
-    let shown = reads r bytes refl refl in
+ack_lost_poll c known d home None result device_then host_then events even got meets reads t =
+    let done = nak AckLost c known d home result device_then host_then events even got meets t in
+    record { member = done.0; delivered = done.1; told = done.2; pair = done.3 }
+ack_lost_poll c known d home (Some r) result device_then host_then events even got meets reads t =
+    let last = is_last_piece (items_of c.layout) r c.piece in
     elim (cases_Bool (beq c.toggle known.pipe.expects)) [
       | inl same ↦
-          let f = comes_as AckLost (going c (Some r)) known d home (answer_with false c.toggle (Some bytes)) (took_where known.pipe.expects false c.toggle (Some bytes)) (Fresh (payload bytes))
-          result device_then host_then events (ap (λ (b : Bool). row b bytes) same) t in
-          let acked : Ends (arrives_under AckLost) (Ok (Fresh (payload bytes))) (waiting d c r) device_then
-          = subst (λ (x : Result Took StackFault). Ends (arrives_under AckLost) x (waiting d c r) device_then) (fresh_told (sharing c known) r c.standing.fixed bytes shown) f.ended in
-          opens_station AckLost d home c known r true result device_then host_then events same
-          (fresh_ack_lost c known d home r bytes result device_then host_then events meets shown arms same f.told f.host_moved f.delivers acked)
+          let f = is_taken AckLost d home c known r result device_then host_then events meets got (reads r refl) same (comes_row AckLost d home c known r true result device_then host_then events same t) in
+          opens_station AckLost d home c known r true result device_then host_then events same (fresh_ack_lost d home c known r last result device_then host_then events f.0 f.1)
       | inr differ ↦
-          let f = comes_as AckLost (going c (Some r)) known d home (answer_with false c.toggle (Some bytes)) (took_where known.pipe.expects false c.toggle (Some bytes)) Again
-          result device_then host_then events (ap (λ (b : Bool). row b bytes) differ) t in
-          opens_station AckLost d home c known r false result device_then host_then events differ
-          (again_ack_lost c known d home r bytes result device_then host_then events meets arms differ f.told f.host_moved f.delivers f.ended)
+          let row = comes_row AckLost d home c known r false result device_then host_then events differ t in
+          let f = is_repeated AckLost d home c known r result device_then host_then events meets got differ row in
+          opens_station AckLost d home c known r false result device_then host_then events differ (again_ack_lost d home c known r last result device_then host_then events f row.ended)
     ]
 
 -- ---- an endpoint that is halted
@@ -540,7 +709,7 @@ stalled c = record c { current = None; halted = true }
 stall_stays : (fate : Fate) (c : CoreState) (known : Known) (d : DeviceState) (home : HostEnd)
     (result : Result Told StackFault) (device_then : DeviceState) (host_then : HostEnd) (events : List Event)
     → Meets d.addr (stalled c) known → device_then ≡ polled_device d (stalled c) → host_then ≡ ready_with home (sharing c known) → events ≡ []
-    → ((report : List ℕ) × ShowsRound c.layout (joined (stalled c) known) report × (result ≡ Ok (told_by (joined (stalled c) known) fate report)))
+    → result ≡ Ok (told_by (joined (stalled c) known) fate [])
     → Lands fate (ready_member d home c (Some known.pipe.expects)) (joined (stalled c) known) result device_then host_then events
 stall_stays fate c known d home result device_then host_then events meets device_is host_is none told = record {
   member = member_of device_then (polled_device d (stalled c)) host_then home (sharing c known) device_is host_is;
@@ -552,6 +721,7 @@ stall_stays fate c known d home result device_then host_then events meets device
     addr = meets.to_device;
     endp = meets.endp;
     even = tt;
+    got = tt;
     sound = meets.sound;
     laid = meets.laid;
     fits = meets.fits;
@@ -563,25 +733,26 @@ pub stall_clean : (c : CoreState) (known : Known) (d : DeviceState) (home : Host
     → Meets d.addr (stalled c) known → Comes Clean (stalled c) known d home packets.Stall Stall result device_then host_then events
     → Lands Clean (ready_member d home c (Some known.pipe.expects)) (joined (stalled c) known) result device_then host_then events
 stall_clean c known d home result device_then host_then events meets t =
-    stall_stays Clean c known d home result device_then host_then events meets t.ended t.host_moved t.delivers ([], refl, t.told)
+    stall_stays Clean c known d home result device_then host_then events meets t.ended t.host_moved t.delivers t.told
 
 pub stall_ack_lost : (c : CoreState) (known : Known) (d : DeviceState) (home : HostEnd)
     (result : Result Told StackFault) (device_then : DeviceState) (host_then : HostEnd) (events : List Event)
     → Meets d.addr (stalled c) known → Comes AckLost (stalled c) known d home packets.Stall Stall result device_then host_then events
     → Lands AckLost (ready_member d home c (Some known.pipe.expects)) (joined (stalled c) known) result device_then host_then events
 stall_ack_lost c known d home result device_then host_then events meets t =
-    stall_stays AckLost c known d home result device_then host_then events meets t.ended t.host_moved t.delivers ([], refl, t.told)
+    stall_stays AckLost c known d home result device_then host_then events meets t.ended t.host_moved t.delivers t.told
 
 pub stall_lost : (c : CoreState) (known : Known) (d : DeviceState) (home : HostEnd) (packet : Packet)
     (result : Result Told StackFault) (device_then : DeviceState) (host_then : HostEnd) (events : List Event)
     → Meets d.addr (stalled c) known → packet ≡ packets.Stall → Arrives ReplyLost (stalled c) known d home packet result device_then host_then events
     → Lands ReplyLost (ready_member d home c (Some known.pipe.expects)) (joined (stalled c) known) result device_then host_then events
 stall_lost c known d home packet result device_then host_then events meets packet_is t =
+    let shared = sharing (stalled c) known in
     let lost = read_lost (arrives_under ReplyLost) Reply packet t.reply refl t.replied in
     let took : taken known.pipe.expects t.reply ≡ Silent = ap (taken known.pipe.expects) lost in
-    let host_is : host_then ≡ ready_with home (sharing c known) = t.host_moved ∙ ap (ready_after (unpending home) (sharing c known)) took in
+    let host_is : host_then ≡ ready_with home (sharing c known) = t.host_moved ∙ ap (ready_after (unpending home) shared) took in
     let told : result ≡ Ok (Polled (spelled (Some packets.Stall)) Silent)
-    = t.told ∙ ap (λ (x : Took). told_with (Some packet) (told_of c.layout x)) took ∙ ap (λ (x : Packet). Ok (Polled (spelled (Some x)) Silent)) packet_is in
+    = t.told ∙ ap (λ (x : Took). told_with (Some packet) (told_of shared x)) took ∙ ap (λ (x : Packet). Ok (Polled (spelled (Some x)) Silent)) packet_is in
     let device_is : device_then ≡ polled_device d (stalled c)
-    = subst (λ (x : Took). Ends (arrives_under ReplyLost) (told_of c.layout x) (polled_device d (stalled c)) device_then) took t.ended in
-    stall_stays ReplyLost c known d home result device_then host_then events meets device_is host_is (t.delivers ∙ ap (events_behind (sharing c known)) took) ([], refl, told)
+    = subst (λ (x : Took). Ends (arrives_under ReplyLost) (told_of shared x) (polled_device d (stalled c)) device_then) took t.ended in
+    stall_stays ReplyLost c known d home result device_then host_then events meets device_is host_is (t.delivers ∙ ap (events_behind shared) took) told

@@ -1,6 +1,6 @@
 -- What a reset of a device and its host tells: as the station of the two says.
 use Rattle.std.proofs.Common.{◌≡◌, ◌∙◌, ◌+◌, ◌++◌, ℕ, Bool, true, false, List, [], ◌∷◌, Option, Some, None, refl, ap, sym, not}
-use Rattle.std.specs.Prelude.{if◌then◌else◌}
+use Rattle.std.specs.Prelude.{if◌then◌else◌, ◌&&◌, ◌||◌}
 use Rattle.std.specs.Bool.{beq}
 use Rattle.hid_layout.specs.Controls.{Item, items_of}
 use Rattle.hid_cells.specs.Cells.{blank}
@@ -9,7 +9,8 @@ use Rattle.hid_cells.specs.declared.event.Event.{Event}
 use Rattle.hid_cells.specs.Views.{changes_between, changes_from, drops_between}
 use Rattle.hid_views.proofs.CrossingLemmas.{same_cell}
 use Rattle.hid_lives.specs.Lives.{reset_events}
-use Rattle.hid_device.specs.Core.{CoreState, round_of}
+use Rattle.hid_lives.specs.Stations.{is_whole}
+use Rattle.hid_device.specs.Core.{CoreState, is_last_piece, piece_at, round_of}
 use Rattle.hid_device.specs.Device.{DeviceState, core_of}
 use Rattle.hid_host.specs.declared.phase.HostPhase.{HostPhase}
 use Rattle.hid_host.specs.declared.phase.HostPhase.TheVariants.{Cold, Described, Parsed, Ready}
@@ -24,36 +25,38 @@ same_view i (item ∷ items) (cell ∷ cells) =
     ap (λ (es : List Event). es ++ changes_from (i + 1) items cells cells) (same_cell i item.form cell) ∙ same_view (i + 1) items cells
 
 -- what is told of an open round
-abbrev round_told_back : List Item → List Cell → List Cell → Bool → Bool → Option ℕ → List Event
-round_told_back items view parts toggle expects current = elim (round_between toggle expects current) as (λ _. List Event) [
+abbrev round_told_back : List Item → List Cell → List Cell → Bool → Bool → Option ℕ → ℕ → List Event
+round_told_back items view parts toggle expects current piece = elim (round_between items toggle expects current piece) as (λ _. List Event) [
   | None ↦ changes_between items view (blank items)
-  | Some round ↦ (if round.crossed then changes_between items view (blank items)
+  | Some round ↦ (if is_whole round then changes_between items view (blank items)
       else drops_between items round.report view (blank items) parts)
 ]
 
 -- a ready host awaits the round that hasn't crossed
-by_round : (items : List Item) (view parts : List Cell) (toggle expects : Bool) (current : Option ℕ)
-    → told_back items view parts (awaited expects (elim current as (λ _. Option (ℕ × Bool)) [ None ↦ None | Some r ↦ Some (r, toggle) ]))
-    ≡ round_told_back items view parts toggle expects current
-by_round items view parts toggle expects None = refl
-by_round items view parts toggle expects (Some r) = by_toggles (beq toggle expects)
+by_round : (items : List Item) (view parts : List Cell) (toggle expects : Bool) (current : Option ℕ) (piece : ℕ)
+    → told_back items view parts (awaited items expects (elim current as (λ _. Option (ℕ × Bool)) [ None ↦ None | Some r ↦ Some (r, toggle) ])
+    (elim current as (λ _. Option ℕ) [ None ↦ None | Some r ↦ Some piece ]))
+    ≡ round_told_back items view parts toggle expects current piece
+by_round items view parts toggle expects None piece = refl
+by_round items view parts toggle expects (Some r) piece = by_toggles (beq toggle expects) (is_last_piece items r piece)
   where
-    by_toggles : (b : Bool) → told_back items view parts (if b then Some r else None)
-        ≡ (if not b then changes_between items view (blank items) else drops_between items r view (blank items) parts)
-    by_toggles true = refl
-    by_toggles false = refl
+    by_toggles : (b last : Bool) → told_back items view parts (if b || not last then Some r else None)
+        ≡ (if not b && last then changes_between items view (blank items) else drops_between items r view (blank items) parts)
+    by_toggles true last = refl
+    by_toggles false true = refl
+    by_toggles false false = refl
 
-unready_tells : (core : CoreState) → IsUntouched core → [] ≡ round_told_back (items_of core.layout) (blank (items_of core.layout)) core.standing.fixed core.toggle core.toggle core.current
+unready_tells : (core : CoreState) → IsUntouched core → [] ≡ round_told_back (items_of core.layout) (blank (items_of core.layout)) core.standing.fixed core.toggle core.toggle core.current core.piece
 unready_tells core untouched =
     let items = items_of core.layout in
-    sym (ap (round_told_back items (blank items) core.standing.fixed core.toggle core.toggle) untouched.no_round ∙ same_view 0 items (blank items))
+    sym (ap (λ (o : Option ℕ). round_told_back items (blank items) core.standing.fixed core.toggle core.toggle o core.piece) untouched.no_round ∙ same_view 0 items (blank items))
 
 pub told_at_reset : (device : DeviceState) (clearing : Bool) (phase : HostPhase) → StandTogether device clearing phase
-    → reset_told phase (round_of (core_of device)) (core_of device).standing.fixed ≡ reset_events (items_of (core_of device).layout) (station_of (core_of device) phase)
+    → reset_told phase (round_of (core_of device)) (piece_at (core_of device)) (core_of device).standing.fixed ≡ reset_events (items_of (core_of device).layout) (station_of (core_of device) phase)
 told_at_reset device clearing Cold together = unready_tells (core_of device) together
 told_at_reset device clearing (Described info) together = unready_tells (core_of device) together
 told_at_reset device clearing (Parsed info layout) together = unready_tells (core_of device) together
 told_at_reset device clearing (Ready known) together =
     let core = core_of device in
-    ap (λ l. told_back (items_of l) known.view core.standing.fixed (awaited known.pipe.expects (round_of core))) together.layout
-    ∙ by_round (items_of core.layout) known.view core.standing.fixed core.toggle known.pipe.expects core.current
+    ap (λ l. told_back (items_of l) known.view core.standing.fixed (awaited (items_of l) known.pipe.expects (round_of core) (piece_at core))) together.layout
+    ∙ by_round (items_of core.layout) known.view core.standing.fixed core.toggle known.pipe.expects core.current core.piece

@@ -6,8 +6,13 @@ use Rattle.usb_transact.specs.declared.transaction.Fate.{Fate}
 use Rattle.usb_control.specs.declared.host.Progress.{Progress}
 use Rattle.hid_requests.specs.declared.request.Request.{Request}
 use Rattle.hid_requests.specs.declared.request.Request.TheVariants as requests
+use Rattle.hid_cells.specs.declared.cell.Cell.{Cell}
 use Rattle.hid_cells.specs.declared.event.Event.{Event}
-use Rattle.hid_layout.specs.Controls.{items_of, max_events}
+use Rattle.hid_layout.specs.Controls.{Item, items_of, max_events}
+use Rattle.hid_cells.specs.declared.change.Change.{Change}
+use Rattle.hid_cells.specs.declared.change.ChangeFault.{ChangeFault}
+use Rattle.hid_cells.specs.Snapshots.{changed}
+use Rattle.hid_lives.specs.Standing.{Standing, after_change}
 use Rattle.hid_descriptor.specs.Laws.{HasOneReading, AcceptsNoRefused}
 use Rattle.hid_layout.specs.Layout.{Contents, layout_of}
 use Rattle.hid_layout.specs.Reports.{IsLayout}
@@ -37,7 +42,7 @@ use Rattle.hid_host.specs.declared.phase.HostPhase.TheVariants.{Cold, Described,
 use Rattle.hid_stack.specs.declared.step.Delivered.{Delivered}
 use Rattle.hid_stack.specs.Members.{Member, tried_to}
 use Rattle.hid_stack.specs.Rig.{HasRoomToTry, tagged}
-use Rattle.hid_stack.specs.Slot.{joint, IsEvenUnless, IsPair, IsUntouched, StandTogether, TriesOnPair, TriesTransfer}
+use Rattle.hid_stack.specs.Slot.{joint, round_between, HasGotUnless, IsEvenUnless, IsPair, IsUntouched, StandTogether, TriesOnPair, TriesTransfer}
 
 -- where the device accepts the descriptor, its host lacks nothing but memory
 pub no_pair : (addr : ℕ) (config : Config) (descriptor : List ℕ) (fault : StackFault) (made : DeviceState)
@@ -93,6 +98,7 @@ makes_ready addr config descriptor made device host law begins (fits, (layout, s
         addr = refl;
         endp = refl;
         even = refl;
+        got = refl;
         sound = subst (λ (d : DeviceState). IsSound (core_of d)) device_is sound;
         laid = laid;
         fits = initial_fits layout laid;
@@ -128,6 +134,8 @@ pub record Leaves (device device_then : DeviceState) : Type 0 where
   pub layout : (core_of device_then).layout ≡ (core_of device).layout
   pub configured : (core_of device_then).is_configured ≡ (core_of device).is_configured
   pub current : (core_of device_then).current ≡ (core_of device).current
+  pub piece : (core_of device_then).piece ≡ (core_of device).piece
+  pub fixed : (core_of device_then).standing.fixed ≡ (core_of device).standing.fixed
   pub toggle : (core_of device_then).toggle ≡ (core_of device).toggle
   pub halted : (core_of device_then).halted ≡ (core_of device).halted
   pub sound : IsSound (core_of device_then)
@@ -140,6 +148,21 @@ even_on known clearing h t i u o p halted toggle current even =
     subst (λ (b : Bool). IsEvenUnless (b || clearing) u known.pipe.expects p) (sym halted)
     (subst (λ (b : Bool). IsEvenUnless (h || clearing) b known.pipe.expects p) (sym toggle) (subst (λ (x : Option ℕ). IsEvenUnless (h || clearing) t known.pipe.expects x) (sym current) even))
 
+-- what a host has of the open round
+abbrev Got : Known → Bool → Contents → Bool → Bool → List Cell → Option ℕ → ℕ → Type 0
+Got known clearing layout h t parts o n =
+    HasGotUnless (h || clearing) layout parts (round_between (items_of layout) t known.pipe.expects o n) known.collected
+
+got_on : (known : Known) (clearing h t i u : Bool) (l k : Contents) (parts others : List Cell) (o p : Option ℕ) (n m : ℕ) → i ≡ h → u ≡ t → k ≡ l → others ≡ parts → p ≡ o → m ≡ n
+    → Got known clearing l h t parts o n → Got known clearing k i u others p m
+got_on known clearing h t i u l k parts others o p n m halted toggle layout fixed current piece got =
+    subst (λ (b : Bool). Got known clearing k b u others p m) (sym halted)
+    (subst (λ (b : Bool). Got known clearing k h b others p m) (sym toggle)
+    (subst (λ (x : Contents). Got known clearing x h t others p m) (sym layout)
+    (subst (λ (x : List Cell). Got known clearing l h t x p m) (sym fixed)
+    (subst (λ (x : Option ℕ). Got known clearing l h t parts x m) (sym current)
+    (subst (λ (x : ℕ). Got known clearing l h t parts o x) (sym piece) got)))))
+
 pub stays_together : (clearing : Bool) (phase : HostPhase) (device device_then : DeviceState) → Leaves device device_then → StandTogether device clearing phase → StandTogether device_then clearing phase
 stays_together clearing Cold device device_then l u = untouched_on device device_then l u
 stays_together clearing (Described info) device device_then l u = untouched_on device device_then l u
@@ -150,6 +173,9 @@ stays_together clearing (Ready known) device device_then l pair = record {
   addr = pair.addr ∙ sym l.addr;
   endp = pair.endp;
   even = even_on known clearing (core_of device).halted (core_of device).toggle (core_of device_then).halted (core_of device_then).toggle (core_of device).current (core_of device_then).current l.halted l.toggle l.current pair.even;
+  got = got_on known clearing (core_of device).halted (core_of device).toggle (core_of device_then).halted (core_of device_then).toggle (core_of device).layout (core_of device_then).layout
+      (core_of device).standing.fixed (core_of device_then).standing.fixed (core_of device).current (core_of device_then).current (core_of device).piece (core_of device_then).piece
+      l.halted l.toggle l.layout l.fixed l.current l.piece pair.got;
   sound = l.sound;
   laid = pair.laid;
   fits = pair.fits;
@@ -171,14 +197,22 @@ holds_on device device_then host capacity others transfers l (together, knows, h
   subst (λ (x : Contents). max_events (items_of x) ≤ capacity) (sym l.layout) room,
 )
 
+-- a change leaves the part that was fixed
+pub fixed_stays : (items : List Item) (d : Standing) (change : Change) → (after_change items d change).fixed ≡ d.fixed
+fixed_stays items d change =
+    elim (changed items d.snapshot change) as (λ (x : Result (List Cell) ChangeFault). (elim x as (λ _. Standing) [ Ok cells ↦ record { snapshot = cells; fixed = d.fixed; frames = d.frames; idle = d.idle; cut = d.cut } | Err fault ↦ d ]).fixed ≡ d.fixed)
+    [ Ok cells ↦ refl | Err fault ↦ refl ]
+
 -- a device that such a step leaves so
 pub leaves_as : (device other device_then : DeviceState) → device_then ≡ other → other.addr ≡ device.addr → (core_of other).layout ≡ (core_of device).layout → (core_of other).is_configured ≡ (core_of device).is_configured
-    → (core_of other).current ≡ (core_of device).current → (core_of other).toggle ≡ (core_of device).toggle → (core_of other).halted ≡ (core_of device).halted → IsSound (core_of device_then) → Leaves device device_then
-leaves_as device other device_then is addr layout configured current toggle halted sound = record {
+    → (core_of other).current ≡ (core_of device).current → (core_of other).piece ≡ (core_of device).piece → (core_of other).standing.fixed ≡ (core_of device).standing.fixed → (core_of other).toggle ≡ (core_of device).toggle → (core_of other).halted ≡ (core_of device).halted → IsSound (core_of device_then) → Leaves device device_then
+leaves_as device other device_then is addr layout configured current piece fixed toggle halted sound = record {
   addr = ap (λ (d : DeviceState). d.addr) is ∙ addr;
   layout = ap (λ (d : DeviceState). (core_of d).layout) is ∙ layout;
   configured = ap (λ (d : DeviceState). (core_of d).is_configured) is ∙ configured;
   current = ap (λ (d : DeviceState). (core_of d).current) is ∙ current;
+  piece = ap (λ (d : DeviceState). (core_of d).piece) is ∙ piece;
+  fixed = ap (λ (d : DeviceState). (core_of d).standing.fixed) is ∙ fixed;
   toggle = ap (λ (d : DeviceState). (core_of d).toggle) is ∙ toggle;
   halted = ap (λ (d : DeviceState). (core_of d).halted) is ∙ halted;
   sound = sound;

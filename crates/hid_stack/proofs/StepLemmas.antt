@@ -8,7 +8,8 @@ use Rattle.hid_layout.specs.Controls.{items_of, max_events}
 use Rattle.hid_layout.specs.Reports.{IsLayout}
 use Rattle.hid_cells.specs.declared.event.Event.{Event}
 use Rattle.hid_usages.specs.Cells.{FitsView}
-use Rattle.hid_usages.specs.Crossing.{ReadsAsShown}
+use Rattle.hid_cells.specs.Pieces.{pieces_for}
+use Rattle.hid_cells.proofs.PieceLemmas.{pieces_are}
 use Rattle.hid_views.proofs.CrossingLemmas.{parts_back}
 use Rattle.usb_packet.specs.declared.packet.Packet.{Packet}
 use Rattle.usb_packet.specs.declared.packet.Packet.TheVariants as packets
@@ -27,8 +28,8 @@ use Rattle.usb_transact.proofs.TableLemmas.{read_whole, read_lost}
 use Rattle.hid_device.specs.declared.device.TheConstants.{ENDPOINT}
 use Rattle.hid_device.specs.Inputs.{input_count}
 use Rattle.hid_lives.specs.Standing.{due_where}
-use Rattle.hid_device.specs.Core.{CoreState, IsSound, IsArmed, IsBelow, IsQuiet, opened_core_if, opening_of}
-use Rattle.hid_device.specs.Device.{DeviceState, is_poll, polled_device, AnswersPoll, AnswersIf, control_answer, heard, core_of}
+use Rattle.hid_device.specs.Core.{CoreState, IsSound, IsBelow, IsQuiet, SendsPart, opened_core_if, opening_of, poll_answer}
+use Rattle.hid_device.specs.Device.{DeviceState, is_poll, polled_device, control_answer, heard, core_of}
 use Rattle.hid_lives.specs.Rounds.{Polls}
 use Rattle.hid_host.specs.declared.fault.StackFault.{StackFault}
 use Rattle.hid_host.specs.declared.phase.HostPhase.{HostPhase}
@@ -37,17 +38,18 @@ use Rattle.hid_stack.specs.declared.step.Told.{Told}
 use Rattle.hid_stack.specs.declared.step.Told.TheVariants.{Polled}
 use Rattle.hid_host.specs.Host.{HostEnd, ready_after}
 use Rattle.hid_host.specs.Phase.{IfReady}
-use Rattle.hid_stack.specs.Slot.{joined, station_of, joint, held_of, IsEven, IsEvenUnless, ArePaired, IsPair}
+use Rattle.hid_stack.specs.Slot.{joined, station_of, joint, held_of, HasGotUnless, IsEven, IsEvenUnless, ArePaired, IsPair}
 use Rattle.hid_host.specs.Ready.{Known, told_of, events_behind}
-use Rattle.hid_stack.specs.Polls.{Hears, Ends, PollsOver, GoesByPackets, HasBytes, spelled, told_with}
+use Rattle.hid_stack.specs.Polls.{Hears, Ends, PollsOver, GoesByPackets, spelled, told_with}
 use Rattle.hid_lives.specs.Stations.{Station, opened, answered, round_events, after, events_at}
 use Rattle.hid_stack.specs.Laws.{PacketsMakePolls}
 use Rattle.usb_control.specs.Device.{DevControlState}
 use Rattle.hid_host.specs.declared.host.Transfer.{Transfer}
 use Rattle.hid_host.specs.Knowing.{Knows, LeavesTransfers}
 use Rattle.hid_stack.specs.Members.{Member, Scheduled, held_if, member_after}
-use Rattle.hid_stack.specs.Tells.{ShowsRound, TellsOpened, TellsPoll, told_by}
-use Rattle.hid_stack.proofs.PollLemmas.{opens, Meets, Arrives, Lands, going, stalled, unpending, ready_member, sharing, ready_with, member_of, pair_of, comes, clean, ack_lost_poll, reply_lost, stall_clean, stall_ack_lost, stall_lost}
+use Rattle.hid_stack.specs.Tells.{TellsPoll, piece_shown, told_by}
+use Rattle.hid_stack.proofs.PieceLemmas.{Reads}
+use Rattle.hid_stack.proofs.PollLemmas.{opens, got_by, got_open, HasGot, Meets, Arrives, Lands, armed_at, bytes_of, going, stalled, unpending, ready_member, sharing, ready_with, member_of, pair_of, comes, clean, ack_lost_poll, reply_lost, stall_clean, stall_ack_lost, stall_lost}
 
 -- opening a round keeps the layout, the configuration and the toggle
 pub record Keeps (c d : CoreState) : Type 0 where
@@ -99,21 +101,25 @@ polls_it device known pair =
     ∙ ap (λ (b : Bool). true && (b && eqb known.pipe.endp ENDPOINT)) addr
     ∙ ap (λ (b : Bool). true && (true && b)) endp
 
--- the bytes that a device sends show its part
-reads_at : (c : CoreState) (known : Known) (packet : Packet) (armed : Option (List ℕ)) → IsSound c → IsLayout c.layout → FitsView (items_of c.layout) known.view
-    → IsArmed c.layout c.standing.fixed c.current armed → HasBytes packet → packet ≡ answer_with false c.toggle armed
-    → (r : ℕ) (bytes : List ℕ) → c.current ≡ Some r → armed ≡ Some bytes → ReadsAsShown c.layout r c.standing.fixed bytes known.view
-reads_at c known packet armed sound laid fits arms has packet_is r bytes current_is armed_is =
-    let shows = subst (λ (o : Option (List ℕ)). IsArmed c.layout c.standing.fixed (Some r) o) armed_is (subst (λ (o : Option ℕ). IsArmed c.layout c.standing.fixed o armed) current_is arms) in
-    let below = subst (λ (o : Option ℕ). IsBelow (input_count c.layout.reports) o) current_is sound.of_input in
-    parts_back c.layout r c.standing.fixed bytes known.view (record {
-      laid = laid;
-      input = sound.inputs_first.first r below;
-      fits = sound.fixed;
-      empty_codes = sound.empty_codes;
-      are_bytes = subst (λ (o : Option (List ℕ)). HasBytes (answer_with false c.toggle o)) armed_is (subst HasBytes packet_is has);
-      encoding = shows.shows;
-    }) fits
+-- the bytes that a device sends in pieces show its part
+reads_at : (c : CoreState) (known : Known) → IsSound c → IsLayout c.layout → FitsView (items_of c.layout) known.view
+    → (r : ℕ) → c.current ≡ Some r → Reads c.layout r c.standing.fixed (bytes_of c r) known.view
+reads_at c known sound laid fits r is =
+    let shows = subst (SendsPart c.layout c.standing.fixed) is sound.sends in
+    let below = subst (λ (o : Option ℕ). IsBelow (input_count c.layout.reports) o) is sound.of_input in
+    let input = sound.inputs_first.first r below in
+    record {
+      shown = parts_back c.layout r c.standing.fixed (bytes_of c r) known.view (record {
+        laid = laid;
+        input = input;
+        fits = sound.fixed;
+        empty_codes = sound.empty_codes;
+        are_bytes = shows.are_bytes;
+        encoding = shows.shows;
+      }) fits;
+      long = sym shows.shows.whole;
+      pieces = pieces_are c.layout r laid input ∙ ap pieces_for (sym shows.shows.whole);
+    }
 
 -- what a poll comes to at the two ends
 pub record PollsAs (fate : Fate) (device : DeviceState) (home : HostEnd) (held : Option Bool) (s : Station)
@@ -128,13 +134,9 @@ stays_closed : (layout : Contents) (c : CoreState) (known : Known) (current : Op
 stays_closed layout c known None = refl
 stays_closed layout c known (Some r) = refl
 
-either_none : (b : Bool) → [] ≡ cond {A = List Event} b [] []
-either_none true = refl
-either_none false = refl
-
 tells_none : (layout : Contents) (c : CoreState) (known : Known) (current : Option ℕ) → [] ≡ round_events (items_of layout) (joined (record c { current = current }) known) TokenLost
 tells_none layout c known None = refl
-tells_none layout c known (Some r) = either_none _
+tells_none layout c known (Some r) = refl
 
 token_lost : (device : DeviceState) (known : Known) (home : HostEnd) (result : Result Told StackFault) (device_then : DeviceState) (host_then : HostEnd) (events : List Event)
     → ArePaired device known false → PollsOver (arrives_under TokenLost) device (unpending home) known result device_then host_then [] events
@@ -144,61 +146,58 @@ token_lost device known home result device_then host_then events pair t =
     let heard : Hears device None t.answer t.between = subst (λ (o : Option Packet). Hears device o t.answer t.between) lost t.heard in
     let none : t.reply ≡ None = subst (λ (o : Option Packet). Replies (arrives_under TokenLost) Reply o t.reply) heard.0 t.replied in
     let took : taken known.pipe.expects t.reply ≡ Silent = ap (taken known.pipe.expects) none in
-    let device_is : device_then ≡ device = subst (λ (x : Took). Ends (arrives_under TokenLost) (told_of known.layout x) t.between device_then) took t.ended ∙ heard.1 in
+    let device_is : device_then ≡ device = subst (λ (x : Took). Ends (arrives_under TokenLost) (told_of known x) t.between device_then) took t.ended ∙ heard.1 in
     let host_is : host_then ≡ ready_with home known = t.host_moved ∙ ap (ready_after (unpending home) known) took in
     record {
       member = member_of device_then device host_then home known device_is host_is
           ∙ ap (ready_member device home (core_of device) (held_of (core_of device) false (Ready known))) (stays_closed (core_of device).layout (core_of device) known (core_of device).current);
       delivered = t.delivers ∙ ap (events_behind known) took ∙ tells_none (core_of device).layout (core_of device) known (core_of device).current;
-      told = (Polled None Silent, t.told ∙ ap (λ (x : Took). told_with t.answer (told_of known.layout x)) took ∙ ap (λ (o : Option Packet). Ok (Polled (spelled o) Silent)) heard.0, refl);
+      told = (Polled None Silent, t.told ∙ ap (λ (x : Took). told_with t.answer (told_of known x)) took ∙ ap (λ (o : Option Packet). Ok (Polled (spelled o) Silent)) heard.0, refl);
       pair = pair_of device_then device host_then home known device_is host_is pair;
     }
 
 -- a token that arrives is answered, once a round was opened where one is due
-pub record Answered (device : DeviceState) (known : Known) (answer : Option Packet) (between : DeviceState) : Type 0 where
-  pub packet : Packet
-  pub armed : Option (List ℕ)
-  pub is : answer ≡ Some packet
-  pub arms : IsArmed (opening_of (core_of device)).layout (opening_of (core_of device)).standing.fixed (opening_of (core_of device)).current armed
-  pub packet_is : packet ≡ answer_with (opening_of (core_of device)).halted (opening_of (core_of device)).toggle armed
+pub record Answered (device : DeviceState) (answer : Option Packet) (between : DeviceState) : Type 0 where
+  pub is : answer ≡ Some (poll_answer (opening_of (core_of device)))
   pub stands : between ≡ polled_device device (opening_of (core_of device))
   pub sound : IsSound (opening_of (core_of device))
 
-answered_by : (device : DeviceState) (known : Known) (answer : Option Packet) (between : DeviceState) → AnswersPoll (opening_of (core_of device)) answer
-    → between ≡ polled_device device (opening_of (core_of device)) → IfSome answer (λ _. IsSound (opening_of (core_of device))) → Answered device known answer between
-answered_by device known None between h stands sound = absurd h
-answered_by device known (Some packet) between (armed, arms, packet_is) stands sound =
-    record { packet = packet; armed = armed; is = refl; arms = arms; packet_is = packet_is; stands = stands; sound = sound }
-
 token_came : (fate : Fate) (device : DeviceState) (known : Known) (home : HostEnd) (result : Result Told StackFault) (device_then : DeviceState) (host_then : HostEnd) (events : List Event)
     → ((bytes : List ℕ) → arrives_under fate Token bytes ≡ Some bytes) → ArePaired device known false
-    → (t : PollsOver (arrives_under fate) device (unpending home) known result device_then host_then [] events) → Answered device known t.answer t.between
+    → (t : PollsOver (arrives_under fate) device (unpending home) known result device_then host_then [] events) → Answered device t.answer t.between
 token_came fate device known home result device_then host_then events whole pair t =
-    let came = read_whole (arrives_under fate) Token (token_to known.pipe) t.token (whole (spelling (token_to known.pipe))) t.polled in
-    let h : Hears device (Some (token_to known.pipe)) t.answer t.between = subst (λ (o : Option Packet). Hears device o t.answer t.between) came t.heard in
-    let stands : t.between ≡ polled_device device (opening_of (core_of device))
-    = h.1 ∙ ap (λ (b : Bool). cond b (polled_device device (opening_of (core_of device))) (heard device (token_to known.pipe))) (polls_it device known pair) in
-    answered_by device known t.answer t.between
-    (subst (λ (b : Bool). AnswersIf b (opening_of (core_of device)) (control_answer device (token_to known.pipe)) t.answer) (polls_it device known pair) h.0)
-    stands (subst (λ (d : DeviceState). IfSome t.answer (λ _. IsSound (core_of d))) stands h.2)
+    let c = opening_of (core_of device) in
+    let token = token_to known.pipe in
+    let polls = polls_it device known pair in
+    let came = read_whole (arrives_under fate) Token token t.token (whole (spelling token)) t.polled in
+    let h : Hears device (Some token) t.answer t.between = subst (λ (o : Option Packet). Hears device o t.answer t.between) came t.heard in
+    let answer : t.answer ≡ Some (poll_answer c) = h.0 ∙ ap (λ (b : Bool). cond b (Some (poll_answer c)) (control_answer device token)) polls in
+    let stands : t.between ≡ polled_device device c = h.1 ∙ ap (λ (b : Bool). cond b (polled_device device c) (heard device token)) polls in
+    record {
+      is = answer;
+      stands = stands;
+      sound = subst (λ (d : DeviceState). IsSound (core_of d)) stands (subst (λ (o : Option Packet). IfSome o (λ _. IsSound (core_of t.between))) answer h.2);
+    }
 
 -- from there on
 arrives : (fate : Fate) (device : DeviceState) (known : Known) (home : HostEnd) (result : Result Told StackFault) (device_then : DeviceState) (host_then : HostEnd) (events : List Event)
     → ArePaired device known false
-    → (t : PollsOver (arrives_under fate) device (unpending home) known result device_then host_then [] events) → (a : Answered device known t.answer t.between)
-    → Arrives fate (opening_of (core_of device)) known device home a.packet result device_then host_then events
+    → (t : PollsOver (arrives_under fate) device (unpending home) known result device_then host_then [] events) → (a : Answered device t.answer t.between)
+    → Arrives fate (opening_of (core_of device)) known device home (poll_answer (opening_of (core_of device))) result device_then host_then events
 arrives fate device known home result device_then host_then events pair t a =
-    let layout : known.layout ≡ (opening_of (core_of device)).layout = pair.layout ∙ sym (keeps (core_of device)).layout in
-    let shared : known ≡ sharing (opening_of (core_of device)) known = ap (λ (l : Contents). record known { layout = l }) layout in
+    let c = opening_of (core_of device) in
+    let layout : known.layout ≡ c.layout = pair.layout ∙ sym (keeps (core_of device)).layout in
+    let shared : known ≡ sharing c known = ap (λ (l : Contents). record known { layout = l }) layout in
+    let took = taken known.pipe.expects t.reply in
     record {
       reply = t.reply;
       replied = subst (λ (o : Option Packet). Replies (arrives_under fate) Reply o t.reply) a.is t.replied;
-      told = t.told ∙ ap (λ (o : Option Packet). told_with o (told_of known.layout (taken known.pipe.expects t.reply))) a.is
-          ∙ ap (λ (l : Contents). told_with (Some a.packet) (told_of l (taken known.pipe.expects t.reply))) layout;
-      host_moved = t.host_moved ∙ ap (λ (k : Known). ready_after (unpending home) k (taken known.pipe.expects t.reply)) shared;
-      delivers = t.delivers ∙ ap (λ (k : Known). events_behind k (taken known.pipe.expects t.reply)) shared;
-      ended = subst (λ (d : DeviceState). Ends (arrives_under fate) (told_of (opening_of (core_of device)).layout (taken known.pipe.expects t.reply)) d device_then) a.stands
-          (subst (λ (l : Contents). Ends (arrives_under fate) (told_of l (taken known.pipe.expects t.reply)) t.between device_then) layout t.ended);
+      told = t.told ∙ ap (λ (o : Option Packet). told_with o (told_of known took)) a.is
+          ∙ ap (λ (k : Known). told_with (Some (poll_answer c)) (told_of k took)) shared;
+      host_moved = t.host_moved ∙ ap (λ (k : Known). ready_after (unpending home) k took) shared;
+      delivers = t.delivers ∙ ap (λ (k : Known). events_behind k took) shared;
+      ended = subst (λ (d : DeviceState). Ends (arrives_under fate) (told_of (sharing c known) took) d device_then) a.stands
+          (subst (λ (k : Known). Ends (arrives_under fate) (told_of k took) t.between device_then) shared t.ended);
     }
 
 meets : (device : DeviceState) (known : Known) → ArePaired device known false → IsSound (opening_of (core_of device)) → Meets device.addr (opening_of (core_of device)) known
@@ -222,50 +221,57 @@ landed fate device known home result device_then host_then events even lands =
     subst (λ (s : Station). Lands fate (ready_member device home (core_of device) None) s result device_then host_then events) (opens (core_of device) known even)
     (subst (λ (of : Station → Member). Lands fate of (joined (opening_of (core_of device)) known) result device_then host_then events) (member_kept device home None (core_of device)) lands)
 
--- what is told, by the bytes that show the part
+-- what is told, by the piece at hand
 abbrev TellsSome : Contents → Station → Fate → Result Told StackFault → Type 0
-TellsSome layout s fate result = (told : Told) × (result ≡ Ok told) × TellsOpened layout s fate told
+TellsSome layout s fate result = (told : Told) × (result ≡ Ok told) × (told ≡ told_by s fate (piece_shown layout s))
 
-told_by_report : (layout : Contents) (s : Station) (fate : Fate) (result : Result Told StackFault)
-    → (report : List ℕ) × ShowsRound layout s report × (result ≡ Ok (told_by s fate report)) → TellsSome layout s fate result
-told_by_report layout s fate result (report, shows, is) = (told_by s fate report, is, (report, shows, refl))
+tells_some : (layout : Contents) (s : Station) (fate : Fate) (result : Result Told StackFault) → result ≡ Ok (told_by s fate (piece_shown layout s)) → TellsSome layout s fate result
+tells_some layout s fate result is = (told_by s fate (piece_shown layout s), is, refl)
 
 -- ---- a poll of a device that isn't halted
 
 -- the two ends with a round that was opened where one is due
-record Going (fate : Fate) (device : DeviceState) (known : Known) (home : HostEnd) (packet : Packet) (armed : Option (List ℕ))
+record Going (fate : Fate) (device : DeviceState) (known : Known) (home : HostEnd)
     (result : Result Told StackFault) (device_then : DeviceState) (host_then : HostEnd) (events : List Event) : Type 0 where
   even : IsEven (core_of device).toggle known.pipe.expects (core_of device).current
   even_then : IsEven (opening_of (core_of device)).toggle known.pipe.expects (opening_of (core_of device)).current
   same : opening_of (core_of device) ≡ going (opening_of (core_of device)) (opening_of (core_of device)).current
+  got : HasGot (opening_of (core_of device)) (opening_of (core_of device)).current known
   meets : Meets device.addr (going (opening_of (core_of device)) (opening_of (core_of device)).current) known
-  packet_is : packet ≡ answer_with false (opening_of (core_of device)).toggle armed
-  arrives : Arrives fate (going (opening_of (core_of device)) (opening_of (core_of device)).current) known device home packet result device_then host_then events
+  packet_is : poll_answer (opening_of (core_of device)) ≡ answer_with false (opening_of (core_of device)).toggle (armed_at (opening_of (core_of device)) (opening_of (core_of device)).current)
+  arrives : Arrives fate (going (opening_of (core_of device)) (opening_of (core_of device)).current) known device home (poll_answer (opening_of (core_of device))) result device_then host_then events
+  reads : (r : ℕ) → (opening_of (core_of device)).current ≡ Some r
+      → Reads (opening_of (core_of device)).layout r (opening_of (core_of device)).standing.fixed (bytes_of (opening_of (core_of device)) r) known.view
 
 goes : (fate : Fate) (device : DeviceState) (known : Known) (home : HostEnd) (result : Result Told StackFault) (device_then : DeviceState) (host_then : HostEnd) (events : List Event)
     → (core_of device).halted ≡ false → ArePaired device known false → (t : PollsOver (arrives_under fate) device (unpending home) known result device_then host_then [] events)
-    → (a : Answered device known t.answer t.between) → Going fate device known home a.packet a.armed result device_then host_then events
+    → (a : Answered device t.answer t.between) → Going fate device known home result device_then host_then events
 goes fate device known home result device_then host_then events is pair t a =
-    let c = opening_of (core_of device) in
-    let halted : c.halted ≡ false = (keeps (core_of device)).halted ∙ is in
+    let before = core_of device in
+    let c = opening_of before in
+    let halted : c.halted ≡ false = (keeps before).halted ∙ is in
     let same : c ≡ going c c.current = ap (λ (b : Bool). record c { halted = b }) halted in
-    let even = subst (λ (b : Bool). IsEvenUnless (b || false) (core_of device).toggle known.pipe.expects (core_of device).current) is pair.even in
+    let even = subst (λ (b : Bool). IsEvenUnless (b || false) before.toggle known.pipe.expects before.current) is pair.even in
+    let got = subst (λ (b : Bool). HasGotUnless (b || false) before.layout before.standing.fixed (joined before known).current known.collected) is pair.got in
+    let m = meets device known pair a.sound in
     record {
       even = even;
-      even_then = even_at (core_of device) known.pipe.expects (core_of device).current even;
+      even_then = even_at before known.pipe.expects before.current even;
       same = same;
-      meets = subst (λ (x : CoreState). Meets device.addr x known) same (meets device known pair a.sound);
-      packet_is = a.packet_is ∙ ap (λ (b : Bool). answer_with b c.toggle a.armed) halted;
-      arrives = subst (λ (x : CoreState). Arrives fate x known device home a.packet result device_then host_then events) same
+      got = got_open before known even got ∙ ap (λ (x : CoreState). got_by x known) same;
+      meets = subst (λ (x : CoreState). Meets device.addr x known) same m;
+      packet_is = ap (λ (b : Bool). answer_with b c.toggle (armed_at c c.current)) halted;
+      arrives = subst (λ (x : CoreState). Arrives fate x known device home (poll_answer c) result device_then host_then events) same
           (arrives fate device known home result device_then host_then events pair t a);
+      reads = reads_at c known a.sound m.laid m.fits;
     }
 
 -- what it comes to
-going_as : (fate : Fate) (device : DeviceState) (known : Known) (home : HostEnd) (packet : Packet) (armed : Option (List ℕ)) (result : Result Told StackFault) (device_then : DeviceState) (host_then : HostEnd) (events : List Event)
-    → (core_of device).halted ≡ false → Going fate device known home packet armed result device_then host_then events
+going_as : (fate : Fate) (device : DeviceState) (known : Known) (home : HostEnd) (result : Result Told StackFault) (device_then : DeviceState) (host_then : HostEnd) (events : List Event)
+    → (core_of device).halted ≡ false → Going fate device known home result device_then host_then events
     → Lands fate (ready_member device home (opening_of (core_of device)) None) (joined (going (opening_of (core_of device)) (opening_of (core_of device)).current) known) result device_then host_then events
     → Lands fate (ready_member device home (core_of device) (held_of (core_of device) false (Ready known))) (opened (items_of (core_of device).layout) (joined (core_of device) known)) result device_then host_then events
-going_as fate device known home packet armed result device_then host_then events is g lands =
+going_as fate device known home result device_then host_then events is g lands =
     let c = opening_of (core_of device) in
     let here = landed fate device known home result device_then host_then events g.even
     (subst (λ (x : CoreState). Lands fate (ready_member device home c None) (joined x known) result device_then host_then events) (sym g.same) lands) in
@@ -280,29 +286,25 @@ polls_going ReplyLost device known home result device_then host_then events is p
     let a = token_came ReplyLost device known home result device_then host_then events (λ bytes. refl) pair t in
     let c = opening_of (core_of device) in
     let g = goes ReplyLost device known home result device_then host_then events is pair t a in
-    let lands = going_as ReplyLost device known home a.packet a.armed result device_then host_then events is g
-    (reply_lost c known device home c.current a.armed a.packet result device_then host_then events g.even_then g.meets a.arms g.packet_is g.arrives) in
-    record { member = lands.member; delivered = lands.delivered; told = told_by_report (core_of device).layout (opened (items_of (core_of device).layout) (joined (core_of device) known)) ReplyLost result lands.told; pair = lands.pair }
+    let lands = going_as ReplyLost device known home result device_then host_then events is g
+    (reply_lost c known device home c.current (poll_answer c) result device_then host_then events g.even_then g.got g.meets g.packet_is g.arrives) in
+    record { member = lands.member; delivered = lands.delivered; told = tells_some (core_of device).layout (opened (items_of (core_of device).layout) (joined (core_of device) known)) ReplyLost result lands.told; pair = lands.pair }
 polls_going Clean device known home result device_then host_then events is pair t =
     let a = token_came Clean device known home result device_then host_then events (λ bytes. refl) pair t in
     let c = opening_of (core_of device) in
     let g = goes Clean device known home result device_then host_then events is pair t a in
-    let has = subst (λ (o : Option Packet). IfSome o HasBytes) a.is t.bytes in
-    let lands = going_as Clean device known home a.packet a.armed result device_then host_then events is g
-    (clean c known device home c.current a.armed result device_then host_then events g.even_then g.meets a.arms
-    (reads_at c known a.packet a.armed a.sound g.meets.laid g.meets.fits a.arms has g.packet_is)
-    (comes Clean (going c c.current) known device home a.armed a.packet result device_then host_then events (λ bytes. refl) g.packet_is g.arrives)) in
-    record { member = lands.member; delivered = lands.delivered; told = told_by_report (core_of device).layout (opened (items_of (core_of device).layout) (joined (core_of device) known)) Clean result lands.told; pair = lands.pair }
+    let lands = going_as Clean device known home result device_then host_then events is g
+    (clean c known device home c.current result device_then host_then events g.even_then g.got g.meets g.reads
+    (comes Clean (going c c.current) known device home (armed_at c c.current) (poll_answer c) result device_then host_then events (λ bytes. refl) g.packet_is g.arrives)) in
+    record { member = lands.member; delivered = lands.delivered; told = tells_some (core_of device).layout (opened (items_of (core_of device).layout) (joined (core_of device) known)) Clean result lands.told; pair = lands.pair }
 polls_going AckLost device known home result device_then host_then events is pair t =
     let a = token_came AckLost device known home result device_then host_then events (λ bytes. refl) pair t in
     let c = opening_of (core_of device) in
     let g = goes AckLost device known home result device_then host_then events is pair t a in
-    let has = subst (λ (o : Option Packet). IfSome o HasBytes) a.is t.bytes in
-    let lands = going_as AckLost device known home a.packet a.armed result device_then host_then events is g
-    (ack_lost_poll c known device home c.current a.armed result device_then host_then events g.even_then g.meets a.arms
-    (reads_at c known a.packet a.armed a.sound g.meets.laid g.meets.fits a.arms has g.packet_is)
-    (comes AckLost (going c c.current) known device home a.armed a.packet result device_then host_then events (λ bytes. refl) g.packet_is g.arrives)) in
-    record { member = lands.member; delivered = lands.delivered; told = told_by_report (core_of device).layout (opened (items_of (core_of device).layout) (joined (core_of device) known)) AckLost result lands.told; pair = lands.pair }
+    let lands = going_as AckLost device known home result device_then host_then events is g
+    (ack_lost_poll c known device home c.current result device_then host_then events g.even_then g.got g.meets g.reads
+    (comes AckLost (going c c.current) known device home (armed_at c c.current) (poll_answer c) result device_then host_then events (λ bytes. refl) g.packet_is g.arrives)) in
+    record { member = lands.member; delivered = lands.delivered; told = tells_some (core_of device).layout (opened (items_of (core_of device).layout) (joined (core_of device) known)) AckLost result lands.told; pair = lands.pair }
 
 -- ---- a poll of one that is
 
@@ -314,24 +316,25 @@ is_stalled : (c : CoreState) → IsSound c → c.halted ≡ true → c ≡ stall
 is_stalled c sound is = ap (λ (o : Option ℕ). record c { current = o }) (no_round c.current c.halted sound.quiet is) ∙ ap (λ (b : Bool). record c { current = None; halted = b }) is
 
 -- no round is opened for it
-record Stalling (fate : Fate) (device : DeviceState) (known : Known) (home : HostEnd) (packet : Packet) (armed : Option (List ℕ))
+record Stalling (fate : Fate) (device : DeviceState) (known : Known) (home : HostEnd)
     (result : Result Told StackFault) (device_then : DeviceState) (host_then : HostEnd) (events : List Event) : Type 0 where
   same : core_of device ≡ stalled (core_of device)
   meets : Meets device.addr (stalled (core_of device)) known
-  packet_is : packet ≡ packets.Stall
-  arrives : Arrives fate (stalled (core_of device)) known device home packet result device_then host_then events
+  packet_is : poll_answer (opening_of (core_of device)) ≡ packets.Stall
+  arrives : Arrives fate (stalled (core_of device)) known device home (poll_answer (opening_of (core_of device))) result device_then host_then events
 
 stalls : (fate : Fate) (device : DeviceState) (known : Known) (home : HostEnd) (result : Result Told StackFault) (device_then : DeviceState) (host_then : HostEnd) (events : List Event)
     → (core_of device).halted ≡ true → ArePaired device known false → (t : PollsOver (arrives_under fate) device (unpending home) known result device_then host_then [] events)
-    → (a : Answered device known t.answer t.between) → Stalling fate device known home a.packet a.armed result device_then host_then events
+    → (a : Answered device t.answer t.between) → Stalling fate device known home result device_then host_then events
 stalls fate device known home result device_then host_then events is pair t a =
+    let c = opening_of (core_of device) in
     let same = is_stalled (core_of device) pair.sound is in
-    let there : opening_of (core_of device) ≡ stalled (core_of device) = ap opening_of same in
+    let there : c ≡ stalled (core_of device) = ap opening_of same in
     record {
       same = same;
       meets = subst (λ (x : CoreState). Meets device.addr x known) there (meets device known pair a.sound);
-      packet_is = a.packet_is ∙ ap (λ (x : CoreState). answer_with x.halted x.toggle a.armed) there;
-      arrives = subst (λ (x : CoreState). Arrives fate x known device home a.packet result device_then host_then events) there
+      packet_is = ap poll_answer there;
+      arrives = subst (λ (x : CoreState). Arrives fate x known device home (poll_answer c) result device_then host_then events) there
           (arrives fate device known home result device_then host_then events pair t a);
     }
 
@@ -352,23 +355,23 @@ polls_stalled TokenLost device known home result device_then host_then events is
 polls_stalled ReplyLost device known home result device_then host_then events is pair t =
     let a = token_came ReplyLost device known home result device_then host_then events (λ bytes. refl) pair t in
     let g = stalls ReplyLost device known home result device_then host_then events is pair t a in
-    let lands = stall_lost (core_of device) known device home a.packet result device_then host_then events g.meets g.packet_is g.arrives in
+    let lands = stall_lost (core_of device) known device home (poll_answer (opening_of (core_of device))) result device_then host_then events g.meets g.packet_is g.arrives in
     stalled_as ReplyLost device known home result device_then host_then events is g.same
-    (record { member = lands.member; delivered = lands.delivered; told = told_by_report (core_of device).layout (joined (stalled (core_of device)) known) ReplyLost result lands.told; pair = lands.pair })
+    (record { member = lands.member; delivered = lands.delivered; told = tells_some (core_of device).layout (joined (stalled (core_of device)) known) ReplyLost result lands.told; pair = lands.pair })
 polls_stalled Clean device known home result device_then host_then events is pair t =
     let a = token_came Clean device known home result device_then host_then events (λ bytes. refl) pair t in
     let g = stalls Clean device known home result device_then host_then events is pair t a in
     let lands = stall_clean (core_of device) known device home result device_then host_then events g.meets
-    (comes Clean (stalled (core_of device)) known device home a.armed a.packet result device_then host_then events (λ bytes. refl) g.packet_is g.arrives) in
+    (comes Clean (stalled (core_of device)) known device home (armed_at (core_of device) None) (poll_answer (opening_of (core_of device))) result device_then host_then events (λ bytes. refl) g.packet_is g.arrives) in
     stalled_as Clean device known home result device_then host_then events is g.same
-    (record { member = lands.member; delivered = lands.delivered; told = told_by_report (core_of device).layout (joined (stalled (core_of device)) known) Clean result lands.told; pair = lands.pair })
+    (record { member = lands.member; delivered = lands.delivered; told = tells_some (core_of device).layout (joined (stalled (core_of device)) known) Clean result lands.told; pair = lands.pair })
 polls_stalled AckLost device known home result device_then host_then events is pair t =
     let a = token_came AckLost device known home result device_then host_then events (λ bytes. refl) pair t in
     let g = stalls AckLost device known home result device_then host_then events is pair t a in
     let lands = stall_ack_lost (core_of device) known device home result device_then host_then events g.meets
-    (comes AckLost (stalled (core_of device)) known device home a.armed a.packet result device_then host_then events (λ bytes. refl) g.packet_is g.arrives) in
+    (comes AckLost (stalled (core_of device)) known device home (armed_at (core_of device) None) (poll_answer (opening_of (core_of device))) result device_then host_then events (λ bytes. refl) g.packet_is g.arrives) in
     stalled_as AckLost device known home result device_then host_then events is g.same
-    (record { member = lands.member; delivered = lands.delivered; told = told_by_report (core_of device).layout (joined (stalled (core_of device)) known) AckLost result lands.told; pair = lands.pair })
+    (record { member = lands.member; delivered = lands.delivered; told = tells_some (core_of device).layout (joined (stalled (core_of device)) known) AckLost result lands.told; pair = lands.pair })
 
 -- of either
 pub polls : (fate : Fate) (device : DeviceState) (known : Known) (home : HostEnd) (result : Result Told StackFault) (device_then : DeviceState) (host_then : HostEnd) (events : List Event)

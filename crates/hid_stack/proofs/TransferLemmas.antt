@@ -1,9 +1,9 @@
 -- What a try of a transfer leaves of a device and its host, as their member (USB 2.0, 8.5.3 and 9.1.1).
-use Rattle.std.proofs.Common.{◌≡◌, ◌∙◌, ℕ, Bool, true, false, List, Option, Some, None, refl, ap, sym, subst}
+use Rattle.std.proofs.Common.{◌≡◌, ◌∙◌, ℕ, Bool, true, false, List, [], Option, Some, None, refl, ap, sym, subst}
 use Rattle.std.specs.Prelude.{◌||◌}
 use Rattle.hid_cells.specs.declared.cell.Cell.{Cell}
 use Rattle.std.specs.Option.{option_map}
-use Rattle.hid_layout.specs.Controls.{items_of}
+use Rattle.hid_layout.specs.Controls.{Item, items_of}
 use Rattle.hid_layout.specs.Layout.{Contents}
 use Rattle.hid_layout.specs.Reports.{IsLayout}
 use Rattle.hid_layout.proofs.WellFormed.{layout_of_accepted}
@@ -29,7 +29,7 @@ use Rattle.hid_lives.specs.Standing.{cut_at, with_idle}
 use Rattle.hid_device.specs.declared.decisions.Pending.{Pending}
 use Rattle.hid_device.specs.declared.decisions.Pending.TheVariants as pendings
 use Rattle.hid_device.specs.Apart.{carries_out, cuts}
-use Rattle.hid_device.specs.Core.{CoreState, IsSound, cleared_core, configured_core, halted_core}
+use Rattle.hid_device.specs.Core.{CoreState, IsPiece, IsSound, cleared_core, configured_core, halted_core}
 use Rattle.hid_device.specs.Outputs.{kept}
 use Rattle.hid_device.specs.Deciding.{core_table, effected, idle_set}
 use Rattle.hid_device.specs.Device.{DeviceState, core_of}
@@ -43,24 +43,39 @@ use Rattle.hid_host.specs.Host.{HostEnd, clearing_behind, is_clear}
 use Rattle.hid_host.specs.Knowing.{BeginsAnew, KnowsAt}
 use Rattle.hid_host.specs.Phase.{may_begin, state_of}
 use Rattle.hid_host.specs.Ready.{Known, known_at_start, known_cleared}
-use Rattle.hid_stack.specs.Members.{befallen_by, brought_deed, control_at, core_at, effect_deed, endpoint_of, ends_tried_at, state_at, state_behind, written_deed}
-use Rattle.hid_stack.specs.Slot.{ArePaired, IsEven, IsEvenUnless, IsUntouched, StandTogether, joined, joint, round_between, station_of}
+use Rattle.hid_stack.specs.Members.{befallen_by, brought_deed, control_at, core_at, effect_deed, endpoint_of, ends_tried_at, got_of, piece_open, state_at, state_behind, written_deed}
+use Rattle.hid_stack.specs.Slot.{ArePaired, HasGotUnless, IsEven, IsEvenUnless, IsUntouched, StandTogether, joined, joint, round_between, station_of}
 use Rattle.hid_stack.specs.Sums.{CutsNone}
 
 -- ---- the device of a member is its device, but for what it heard last
 
-round_report : (t e : Bool) (current : Option ℕ) → option_map (λ (round : Open). round.report) (round_between t e current) ≡ current
-round_report t e None = refl
-round_report t e (Some r) = refl
+-- the open round of a station with this inside, by the toggles
+abbrev between : CoreState → Bool → Bool → Option Open
+between core t e = round_between (items_of core.layout) t e core.current core.piece
 
-core_with : (device : DeviceState) (addr : ℕ) (transfer : Option Transfer) (clearing : Bool) (phase : HostPhase) → core_at (joint device (record { addr = addr; phase = phase; transfer = transfer; clearing = clearing })) ≡ core_of device
-core_with device addr transfer clearing Cold = ap (λ (o : Option ℕ). record (core_of device) { current = o }) (round_report (core_of device).toggle (core_of device).toggle (core_of device).current)
-core_with device addr transfer clearing (Described info) = ap (λ (o : Option ℕ). record (core_of device) { current = o }) (round_report (core_of device).toggle (core_of device).toggle (core_of device).current)
-core_with device addr transfer clearing (Parsed info layout) = ap (λ (o : Option ℕ). record (core_of device) { current = o }) (round_report (core_of device).toggle (core_of device).toggle (core_of device).current)
-core_with device addr transfer clearing (Ready known) = ap (λ (o : Option ℕ). record (core_of device) { current = o }) (round_report (core_of device).toggle known.pipe.expects (core_of device).current)
+round_report : (items : List Item) (t e : Bool) (current : Option ℕ) (piece : ℕ) → option_map (λ (round : Open). round.report) (round_between items t e current piece) ≡ current
+round_report items t e None piece = refl
+round_report items t e (Some r) piece = refl
 
-core_is : (device : DeviceState) (host : HostEnd) → core_at (joint device host) ≡ core_of device
-core_is device host = core_with device host.addr host.transfer host.clearing host.phase
+round_piece : (items : List Item) (t e : Bool) (current : Option ℕ) (piece : ℕ) → IsPiece items current piece → piece_open (round_between items t e current piece) ≡ piece
+round_piece items t e None piece is = sym is
+round_piece items t e (Some r) piece is = refl
+
+core_by : (core : CoreState) (t e : Bool) → IsSound core
+    → record core { current = option_map (λ (round : Open). round.report) (between core t e); piece = piece_open (between core t e) } ≡ core
+core_by core t e sound =
+    ap (λ (o : Option ℕ). record core { current = o; piece = piece_open (between core t e) }) (round_report (items_of core.layout) t e core.current core.piece)
+    ∙ ap (λ (n : ℕ). record core { piece = n }) (round_piece (items_of core.layout) t e core.current core.piece sound.piece)
+
+core_with : (device : DeviceState) (addr : ℕ) (transfer : Option Transfer) (clearing : Bool) (phase : HostPhase) → IsSound (core_of device)
+    → core_at (joint device (record { addr = addr; phase = phase; transfer = transfer; clearing = clearing })) ≡ core_of device
+core_with device addr transfer clearing Cold sound = core_by (core_of device) (core_of device).toggle (core_of device).toggle sound
+core_with device addr transfer clearing (Described info) sound = core_by (core_of device) (core_of device).toggle (core_of device).toggle sound
+core_with device addr transfer clearing (Parsed info layout) sound = core_by (core_of device) (core_of device).toggle (core_of device).toggle sound
+core_with device addr transfer clearing (Ready known) sound = core_by (core_of device) (core_of device).toggle known.pipe.expects sound
+
+core_is : (device : DeviceState) (host : HostEnd) → IsSound (core_of device) → core_at (joint device host) ≡ core_of device
+core_is device host sound = core_with device host.addr host.transfer host.clearing host.phase sound
 
 -- what was heard last doesn't count
 abbrev heard_as : CoreState → Stage → Heard → DevControlState CoreState
@@ -93,10 +108,10 @@ pub record SameTry (fate : Fate) (device : DeviceState) (host : HostEnd) (t : Tr
   pub ends : ends_after fate t device.control ≡ ends_tried_at fate (joint device host) t
   pub deed : brought_deed fate t.ends device.control ≡ brought_deed fate t.ends (control_at (joint device host))
 
-pub same_try : (fate : Fate) (device : DeviceState) (host : HostEnd) (t : Transfer) → SameTry fate device host t
-same_try fate device host t =
+pub same_try : (fate : Fate) (device : DeviceState) (host : HostEnd) (t : Transfer) → IsSound (core_of device) → SameTry fate device host t
+same_try fate device host t sound =
     let c = device.control in
-    let back : heard_as (core_of device) c.stage hears.Nothing ≡ control_at (joint device host) = sym (ap (λ (r : CoreState). heard_as r c.stage hears.Nothing) (core_is device host)) in
+    let back : heard_as (core_of device) c.stage hears.Nothing ≡ control_at (joint device host) = sym (ap (λ (r : CoreState). heard_as r c.stage hears.Nothing) (core_is device host sound)) in
     record {
       endpoint = heard_apart fate t.ends (core_of device) c.stage c.heard ∙ ap (λ (x : DevControlState CoreState). endpoint_of (control_tried core_table fate t.ends x)) back;
       ends = ends_apart fate t.ends (core_of device) c.stage c.heard ∙ ap (host_tried core_table fate t.ends) back;
@@ -123,6 +138,9 @@ pub record Leaves (core then : CoreState) (deed : Option Deed) : Type 0 where
   pub even : (known : Known) (clearing : Bool) → (deed ≡ Some Configures → ⊥) → (deed ≡ Some lives.Clears → clearing ≡ true)
       → IsEvenUnless (core.halted || clearing) core.toggle known.pipe.expects core.current
       → IsEvenUnless (then.halted || clearing) then.toggle known.pipe.expects then.current
+  pub got : (known : Known) (clearing : Bool) → (deed ≡ Some Configures → ⊥) → (deed ≡ Some lives.Clears → clearing ≡ true)
+      → HasGotUnless (core.halted || clearing) core.layout core.standing.fixed (joined core known).current known.collected
+      → HasGotUnless (then.halted || clearing) then.layout then.standing.fixed (joined then known).current known.collected
 
 -- the station but for what is kept at endpoint 0
 station_kept : (core other : CoreState) (protocol : Protocol) (outputs : List (List ℕ)) (phase : HostPhase)
@@ -154,16 +172,16 @@ abbrev view_at : CoreState → HostPhase → List Cell
 view_at core phase = (station_of core phase).view
 
 pub halted_with : (core other : CoreState) (phase : HostPhase) → station_of (answering (halted_core core) other) phase ≡ befallen (items_of core.layout) (station_of core phase) lives.Halts
-halted_with core other Cold = ap (cut_to core.toggle true core (view_at core Cold)) (sym (round_report core.toggle core.toggle core.current))
-halted_with core other (Described info) = ap (cut_to core.toggle true core (view_at core Cold)) (sym (round_report core.toggle core.toggle core.current))
-halted_with core other (Parsed info layout) = ap (cut_to core.toggle true core (view_at core Cold)) (sym (round_report core.toggle core.toggle core.current))
-halted_with core other (Ready known) = ap (cut_to core.toggle true core known.view) (sym (round_report core.toggle known.pipe.expects core.current))
+halted_with core other Cold = ap (cut_to core.toggle true core (view_at core Cold)) (sym (round_report (items_of core.layout) core.toggle core.toggle core.current core.piece))
+halted_with core other (Described info) = ap (cut_to core.toggle true core (view_at core Cold)) (sym (round_report (items_of core.layout) core.toggle core.toggle core.current core.piece))
+halted_with core other (Parsed info layout) = ap (cut_to core.toggle true core (view_at core Cold)) (sym (round_report (items_of core.layout) core.toggle core.toggle core.current core.piece))
+halted_with core other (Ready known) = ap (cut_to core.toggle true core known.view) (sym (round_report (items_of core.layout) core.toggle known.pipe.expects core.current core.piece))
 
 cleared_with : (core other : CoreState) (phase : HostPhase) → station_of (answering (cleared_core core) other) phase ≡ befallen (items_of core.layout) (station_of core phase) lives.Clears
-cleared_with core other Cold = ap (cut_to false false core (view_at core Cold)) (sym (round_report core.toggle core.toggle core.current))
-cleared_with core other (Described info) = ap (cut_to false false core (view_at core Cold)) (sym (round_report core.toggle core.toggle core.current))
-cleared_with core other (Parsed info layout) = ap (cut_to false false core (view_at core Cold)) (sym (round_report core.toggle core.toggle core.current))
-cleared_with core other (Ready known) = ap (cut_to false false core known.view) (sym (round_report core.toggle known.pipe.expects core.current))
+cleared_with core other Cold = ap (cut_to false false core (view_at core Cold)) (sym (round_report (items_of core.layout) core.toggle core.toggle core.current core.piece))
+cleared_with core other (Described info) = ap (cut_to false false core (view_at core Cold)) (sym (round_report (items_of core.layout) core.toggle core.toggle core.current core.piece))
+cleared_with core other (Parsed info layout) = ap (cut_to false false core (view_at core Cold)) (sym (round_report (items_of core.layout) core.toggle core.toggle core.current core.piece))
+cleared_with core other (Ready known) = ap (cut_to false false core known.view) (sym (round_report (items_of core.layout) core.toggle known.pipe.expects core.current core.piece))
 
 nothing_leaves : (core other : CoreState) (protocol : Protocol) (outputs : List (List ℕ)) → Leaves core (answering (record core { protocol = protocol; outputs = outputs }) other) None
 nothing_leaves core other protocol outputs = record {
@@ -174,11 +192,16 @@ nothing_leaves core other protocol outputs = record {
   station = λ phase parsed. station_kept core other protocol outputs phase;
   configured = λ apart. refl;
   even = λ known clearing apart clears even. even;
+  got = λ known clearing apart clears got. got;
 }
 
 -- where a clear is pending nothing is said of toggles
 clearing_even : (core : CoreState) (known : Known) (clearing : Bool) → clearing ≡ true → IsEvenUnless (false || clearing) false known.pipe.expects None
 clearing_even core known clearing is = subst (λ (b : Bool). IsEvenUnless (false || b) false known.pipe.expects None) (sym is) tt
+
+-- nor of what came
+clearing_got : (core : CoreState) (known : Known) (clearing : Bool) → clearing ≡ true → HasGotUnless (false || clearing) core.layout core.standing.fixed None known.collected
+clearing_got core known clearing is = subst (λ (b : Bool). HasGotUnless (false || b) core.layout core.standing.fixed None known.collected) (sym is) tt
 
 written_leaves : (core other : CoreState) (bytes : List ℕ) (pending : Pending) → Leaves core (answering (effected core bytes pending) other) (written_deed core pending)
 written_leaves core other bytes pendings.Nothing = nothing_leaves core other core.protocol core.outputs
@@ -192,6 +215,7 @@ written_leaves core other bytes (pendings.Idle report time) = record {
   station = λ phase parsed. idles_set core other (idle_set core.standing.idle report time) phase;
   configured = λ apart. refl;
   even = λ known clearing apart clears even. even;
+  got = λ known clearing apart clears got. got;
 }
 written_leaves core other bytes pendings.Configure = record {
   config = refl;
@@ -201,6 +225,7 @@ written_leaves core other bytes pendings.Configure = record {
   station = λ phase parsed. configured_with core other phase (parsed refl);
   configured = λ apart. absurd (apart refl);
   even = λ known clearing apart clears even. absurd (apart refl);
+  got = λ known clearing apart clears got. absurd (apart refl);
 }
 written_leaves core other bytes pendings.Halt = record {
   config = refl;
@@ -210,6 +235,7 @@ written_leaves core other bytes pendings.Halt = record {
   station = λ phase parsed. halted_with core other phase;
   configured = λ apart. refl;
   even = λ known clearing apart clears even. tt;
+  got = λ known clearing apart clears got. tt;
 }
 written_leaves core other bytes pendings.Clear = record {
   config = refl;
@@ -219,6 +245,7 @@ written_leaves core other bytes pendings.Clear = record {
   station = λ phase parsed. cleared_with core other phase;
   configured = λ apart. refl;
   even = λ known clearing apart clears even. clearing_even core known clearing (clears refl);
+  got = λ known clearing apart clears got. clearing_got core known clearing (clears refl);
 }
 
 effect_leaves : (effect : Effect) (core other : CoreState) → Leaves core (answering (carried_out effect core) other) (effect_deed effect core)
@@ -302,8 +329,8 @@ brought_cuts AckLost ends control none = effect_cuts (effect_reached core_table 
 -- where the host goes on, the station stays: it becomes ready with its initial view, and no round is open
 configured_at : (core : CoreState) (addr : ℕ) (phase : HostPhase) → core.current ≡ None → station_of core (Ready (known_at_start addr ENDPOINT core.layout)) ≡ station_of core Cold
 configured_at core addr phase none =
-    let between : Bool → Option ℕ → Station = λ expects current. record (station_of core Cold) { current = round_between core.toggle expects current } in
-    ap (between false) none ∙ sym (ap (between core.toggle) none)
+    let expecting : Bool → Option ℕ → Station = λ expects current. record (station_of core Cold) { current = round_between (items_of core.layout) core.toggle expects current core.piece } in
+    ap (expecting false) none ∙ sym (ap (expecting core.toggle) none)
 
 brought_station : (request : Request) (addr : ℕ) (core : CoreState) (phase : HostPhase) → may_begin request (state_of phase) ≡ true → (state_of phase ≡ states.Parsed → core.current ≡ None) → (is_clear request ≡ true → core.current ≡ None)
     → station_of core (brought request addr core phase) ≡ station_of core phase
@@ -322,8 +349,8 @@ brought_station requests.Clear addr core Cold needs none anew = refl
 brought_station requests.Clear addr core (Described info) needs none anew = refl
 brought_station requests.Clear addr core (Parsed info layout) needs none anew = refl
 brought_station requests.Clear addr core (Ready known) needs none anew =
-    let between : Bool → Option ℕ → Station = λ expects current. record (joined core known) { current = round_between core.toggle expects current } in
-    ap (between false) (anew refl) ∙ sym (ap (between known.pipe.expects) (anew refl))
+    let expecting : Bool → Option ℕ → Station = λ expects current. record (joined core known) { current = round_between (items_of core.layout) core.toggle expects current core.piece } in
+    ap (expecting false) (anew refl) ∙ sym (ap (expecting known.pipe.expects) (anew refl))
 brought_station requests.Config addr core Cold needs none anew = refl
 brought_station requests.Config addr core (Described info) needs none anew = absurd (cc)
 brought_station requests.Config addr core (Parsed info layout) needs none anew = absurd (cc)
@@ -408,6 +435,7 @@ still_together device device_then clearing phase deed parsed clears l home sound
       addr = pair.addr ∙ sym home;
       endp = pair.endp;
       even = l.even known clearing apart clears pair.even;
+      got = l.got known clearing apart clears pair.got;
       sound = sound;
       laid = pair.laid;
       fits = pair.fits;
@@ -428,6 +456,13 @@ even_anew : (b toggle : Bool) (current : Option ℕ) → toggle ≡ false → cu
 even_anew true toggle current even none = tt
 even_anew false toggle current even none = subst (λ (o : Option ℕ). IsEven toggle false o) (sym none) even
 
+-- and nothing has come where no round is open
+got_anew : (b : Bool) (core : CoreState) (known : Known) → known.collected ≡ [] → core.current ≡ None
+    → HasGotUnless b core.layout core.standing.fixed (joined core known).current known.collected
+got_anew true core known nothing none = tt
+got_anew false core known nothing none =
+    nothing ∙ sym (ap (λ (o : Option ℕ). got_of core.layout core.standing.fixed (round_between (items_of core.layout) core.toggle known.pipe.expects o core.piece)) none)
+
 starts_together : (device : DeviceState) (clearing : Bool) (addr : ℕ) → IsSound (core_of device) → KnowsAt (Ready (known_at_start addr ENDPOINT (core_of device).layout)) device.addr (core_of device) → NoRounds (core_of device)
     → StandTogether device clearing (Ready (known_at_start addr ENDPOINT (core_of device).layout))
 starts_together device clearing addr sound knows none =
@@ -438,6 +473,7 @@ starts_together device clearing addr sound knows none =
       addr = knows.2;
       endp = refl;
       even = even_anew ((core_of device).halted || clearing) (core_of device).toggle (core_of device).current none.even none.no_round;
+      got = got_anew ((core_of device).halted || clearing) (core_of device) (known_at_start addr ENDPOINT (core_of device).layout) refl none.no_round;
       sound = sound;
       laid = laid;
       fits = initial_fits (core_of device).layout laid;
@@ -450,6 +486,7 @@ clears_together device clearing known anew pair = record {
   addr = pair.addr;
   endp = pair.endp;
   even = even_anew ((core_of device).halted || false) (core_of device).toggle (core_of device).current anew.toggle anew.current;
+  got = got_anew ((core_of device).halted || false) (core_of device) (known_cleared known) refl anew.current;
   sound = pair.sound;
   laid = pair.laid;
   fits = pair.fits;

@@ -2,7 +2,7 @@
 -- and 9.1.1).
 use Rattle.std.proofs.Common.{◌≡◌, ◌∙◌, ℕ, Bool, true, false, cond, not, List, Option, Some, None, Result, Ok, Err, inl, inr, refl, ap, sym, subst}
 use Rattle.std.specs.Prelude.{◌||◌, IfSome}
-use Rattle.hid_layout.specs.Controls.{items_of}
+use Rattle.hid_layout.specs.Controls.{Item, items_of}
 use Rattle.hid_layout.specs.Layout.{Contents}
 use Rattle.usb_transact.specs.declared.transaction.Fate.{Fate}
 use Rattle.usb_transact.specs.declared.transaction.Fate.TheVariants.{Clean, TokenLost, ReplyLost, AckLost}
@@ -43,17 +43,18 @@ use Rattle.hid_stack.proofs.TransferLemmas.{Leaves, NoRounds, brought_at_station
 
 -- ---- the toggle that a host expects
 
-one_toggle : (t e : Bool) (current : Option ℕ) → IsEven t e current → (elim (round_between t e current) as (λ _. Bool) [ None ↦ t | Some round ↦ cond round.crossed (not t) t ]) ≡ e
-one_toggle t e None even = even
-one_toggle true true (Some r) even = refl
-one_toggle true false (Some r) even = refl
-one_toggle false true (Some r) even = refl
-one_toggle false false (Some r) even = refl
+one_toggle : (items : List Item) (t e : Bool) (current : Option ℕ) (piece : ℕ) → IsEven t e current
+    → (elim (round_between items t e current piece) as (λ _. Bool) [ None ↦ t | Some round ↦ cond round.crossed (not t) t ]) ≡ e
+one_toggle items t e None piece even = even
+one_toggle items true true (Some r) piece even = refl
+one_toggle items true false (Some r) piece even = refl
+one_toggle items false true (Some r) piece even = refl
+one_toggle items false false (Some r) piece even = refl
 
 expects_if : (b : Bool) (core : CoreState) (known : Known) → IsEvenUnless b core.toggle known.pipe.expects core.current
     → (elim (held_if b known.pipe.expects) as (λ _. Bool) [ Some expects ↦ expects | None ↦ expected (joined core known) ]) ≡ known.pipe.expects
 expects_if true core known even = refl
-expects_if false core known even = one_toggle core.toggle known.pipe.expects core.current even
+expects_if false core known even = one_toggle (items_of core.layout) core.toggle known.pipe.expects core.current core.piece even
 
 -- of a member that is a device and its ready host
 pub expects_so : (device : DeviceState) (addr : ℕ) (transfer : Option Transfer) (clearing : Bool) (known : Known) → ArePaired device known clearing
@@ -137,6 +138,12 @@ holds_none request device core addr transfer before now expects (Ready known) ne
 
 -- ---- a try
 
+sound_of : (device : DeviceState) (clearing : Bool) (phase : HostPhase) → StandTogether device clearing phase → IsSound (core_of device)
+sound_of device clearing Cold together = together.sound
+sound_of device clearing (Described info) together = together.sound
+sound_of device clearing (Parsed info layout) together = together.sound
+sound_of device clearing (Ready known) together = together.sound
+
 -- a member by its parts
 abbrev of_parts : Transfer → ℕ → Config → List ℕ → Contents → Station → Endpoint → HostState → HostTransferState → Bool → Option Bool → Member
 of_parts t addr config descriptor layout s e host ends clearing held = record {
@@ -179,16 +186,16 @@ parts_same m t addr config descriptor layout s s' e e' h h' ends ends' c c' held
     ∙ ap (λ (x : Option Bool). of_parts t m.addr m.config m.descriptor m.layout s' e' h' ends' c' x) p.holds
 
 -- the member behind a try, where the host's phase leaves the station
-joint_tried : (fate : Fate) (device device_then : DeviceState) (host : HostEnd) (t : Transfer) (phase : HostPhase) (next : HostState) → device_then.control ≡ control_tried core_table fate t.ends device.control
+joint_tried : (fate : Fate) (device device_then : DeviceState) (host : HostEnd) (t : Transfer) (phase : HostPhase) (next : HostState) → IsSound (core_of device) → device_then.control ≡ control_tried core_table fate t.ends device.control
     → Leaves (core_of device) (core_of device_then) (brought_deed fate t.ends device.control)
     → (brought_deed fate t.ends device.control ≡ Some Configures → state_of host.phase ≡ states.Parsed) → device_then.addr ≡ device.addr
     → station_of (core_of device_then) phase ≡ station_of (core_of device_then) host.phase → state_of phase ≡ next
     → (let stage = (ends_after fate t device.control).stage in let now = clearing_behind stage t.request host.clearing in
     held_of (core_of device_then) now phase ≡ held_at (state_of phase) ((core_of device_then).halted || now) (expects_behind stage t.request (expects_of (joint device host))))
     → joint device_then (host_after fate host t device.control phase) ≡ tried_to fate (joint device host) t next
-joint_tried fate device device_then host t phase next control_is l parsed home stays state holds =
+joint_tried fate device device_then host t phase next sound control_is l parsed home stays state holds =
     let m = joint device host in
-    let same = same_try fate device host t in
+    let same = same_try fate device host t sound in
     let core = core_of device_then in
     let s' = befallen_by (items_of m.layout) m.station (brought_deed fate t.ends (control_at m)) in
     let station : station_of core phase ≡ s' = stays ∙ l.station host.phase parsed ∙ ap (λ (x : Option Deed). befallen_by (items_of m.layout) m.station x) same.deed in
@@ -252,7 +259,8 @@ goes_on fate device device_then host host_then t progress c told moved pends kno
     let stage = (ends_after fate t device.control).stage in
     let now = clearing_behind stage t.request host.clearing in
     let phase = brought_at stage t.request host.addr core host.phase in
-    let same = same_try fate device host t in
+    let before = sound_of device host.clearing host.phase together in
+    let same = same_try fate device host t before in
     let stage_is : stage ≡ (ends_tried_at fate (joint device host) t).stage = ap (λ (e : HostTransferState). e.stage) same.ends in
     let l = leaves_by fate t.ends device.control core c.brings in
     let parsed : brought_deed fate t.ends device.control ≡ Some Configures → state_of host.phase ≡ states.Parsed = λ is. c.parsed (brought_configures fate t.ends device.control is) in
@@ -263,7 +271,7 @@ goes_on fate device device_then host host_then t progress c told moved pends kno
       tries = (
         told ∙ ap progress_of stage_is,
         ap (joint device_then) moved
-            ∙ joint_tried fate device device_then host t phase (state_at stage t.request (state_of host.phase)) c.device_then l parsed stays
+            ∙ joint_tried fate device device_then host t phase (state_at stage t.request (state_of host.phase)) before c.device_then l parsed stays
             (brought_at_station stage t.request host.addr core host.phase c.needs (λ is. (none is).no_round) (λ is done. (c.cleared (clear_is t.request is) done).current)) (state_brought_at stage t.request host.addr core host.phase)
             (holds_at stage t.request device core host.addr host.addr host.transfer host.clearing now host.phase c.needs together)
             ∙ ap (λ (x : HostStage). tried_to fate (joint device host) t (state_at x t.request (state_of host.phase))) stage_is,
@@ -275,7 +283,8 @@ finds_none : (fate : Fate) (device device_then : DeviceState) (host host_then : 
     → fault ≡ Memory → (ends_after fate t device.control).stage ≡ stages.Done → TakesMemory t.request → host_then ≡ host_after fate host t device.control host.phase
     → Pends fate device host t → StandTogether device host.clearing host.phase → device_then.addr ≡ device.addr → IsSound (core_of device_then) → Tried fate device device_then host host_then t (Err fault)
 finds_none fate device device_then host host_then t fault c memory done takes moved pends together stays sound =
-    let same = same_try fate device host t in
+    let before = sound_of device host.clearing host.phase together in
+    let same = same_try fate device host t before in
     let core = core_of device_then in
     let stage = (ends_after fate t device.control).stage in
     let now = clearing_behind stage t.request host.clearing in
@@ -287,7 +296,7 @@ finds_none fate device device_then host host_then t fault c memory done takes mo
         memory,
         (sym (ap (λ (e : HostTransferState). e.stage) same.ends) ∙ done, takes),
         ap (joint device_then) moved
-            ∙ joint_tried fate device device_then host t host.phase (state_of host.phase) c.device_then l parsed stays refl refl
+            ∙ joint_tried fate device device_then host t host.phase (state_of host.phase) before c.device_then l parsed stays refl refl
             (holds_none t.request device core host.addr host.transfer host.clearing now (expects_behind stage t.request (expects_of (joint device host))) host.phase c.needs takes),
       );
       together = subst (λ (h : HostEnd). StandTogether device_then h.clearing h.phase) (sym moved)
@@ -311,7 +320,8 @@ tried_by fate device device_then host host_then t (Err fault) c pends knows toge
 unready_current : (device : DeviceState) (clearing : Bool) (phase : HostPhase) → StandTogether device clearing phase → state_of phase ≡ states.Parsed → (station_of (core_of device) phase).current ≡ None
 unready_current device clearing Cold together is = absurd (cc)
 unready_current device clearing (Described info) together is = absurd (cc)
-unready_current device clearing (Parsed info layout) together is = ap (round_between (core_of device).toggle (core_of device).toggle) together.no_round
+unready_current device clearing (Parsed info layout) together is =
+    ap (λ (o : Option ℕ). round_between (items_of (core_of device).layout) (core_of device).toggle (core_of device).toggle o (core_of device).piece) together.no_round
 unready_current device clearing (Ready known) together is = absurd (cc)
 
 deed_between : (s : Station) (deed : Option Deed) → (deed ≡ Some Configures → s.current ≡ None) → IsBetween s deed
@@ -327,7 +337,7 @@ between_rounds : (fate : Fate) (device : DeviceState) (host : HostEnd) (t : Tran
     → StandTogether device host.clearing host.phase → IsBetween (joint device host).station (brought_deed fate t.ends (control_at (joint device host)))
 between_rounds fate device host t parsed together =
     deed_between (joint device host).station (brought_deed fate t.ends (control_at (joint device host)))
-    (λ is. unready_current device host.clearing host.phase together (parsed (brought_configures fate t.ends device.control ((same_try fate device host t).deed ∙ is))))
+    (λ is. unready_current device host.clearing host.phase together (parsed (brought_configures fate t.ends device.control ((same_try fate device host t (sound_of device host.clearing host.phase together)).deed ∙ is))))
 
 -- ---- the open round behind a try
 
@@ -395,12 +405,6 @@ abbrev StepsCompute : Type 0
 StepsCompute = (fate : Fate) (host after : HostEnd) (transfer : Transfer) (old new : DevControlState CoreState) (result : Result Progress StackFault) → IsSound old.requests → Knows host old
     → running host.transfer ≡ Some transfer → ControlStep fate host old result after new → IsComputed fate host transfer old result after new
 
-sound_of : (device : DeviceState) (clearing : Bool) (phase : HostPhase) → StandTogether device clearing phase → IsSound (core_of device)
-sound_of device clearing Cold together = together.sound
-sound_of device clearing (Described info) together = together.sound
-sound_of device clearing (Parsed info layout) together = together.sound
-sound_of device clearing (Ready known) together = together.sound
-
 waits_not : (device : DeviceState) (clearing : Bool) (phase : HostPhase) → StandTogether device clearing phase → StandTogether (controlled device device.control) clearing phase
 waits_not device clearing Cold together = record { sound = together.sound; no_round = together.no_round; even = together.even }
 waits_not device clearing (Described info) together = record { sound = together.sound; no_round = together.no_round; even = together.even }
@@ -411,6 +415,7 @@ waits_not device clearing (Ready known) pair = record {
   addr = pair.addr;
   endp = pair.endp;
   even = pair.even;
+  got = pair.got;
   sound = pair.sound;
   laid = pair.laid;
   fits = pair.fits;
@@ -465,7 +470,7 @@ steps_by fate device control host host_then (Some t) result know compute is step
     let k = know fate host host_then device.control control result before knows steps in
     let pends : Pends fate device host t = λ cleared. pends_at host t host.transfer refl is knows.clears (c.clears (brought_clears fate t.ends device.control cleared)) in
     let done = tried_by fate device (controlled device control) host host_then t result c pends k.0 together home refl sound in
-    let same = same_try fate device host t in
+    let same = same_try fate device host t before in
     record {
       tries = done.tries;
       between = between_rounds fate device host t c.parsed together;

@@ -10,4 +10,5 @@ pub mod Sums
 pub mod Headline
 pub mod Transfers
 pub mod Laws
+pub mod Reports
 pub mod Stories

@@ -1,11 +1,13 @@
 -- A device of a bus with its host, and what each step of the bus makes of the two (USB 2.0, 8.5, 9.1.1, 9.4.5 and 9.4.7;
 -- our choice).
-use Rattle.std.specs.Prelude.{ℕ, Bool, true, false, ◌||◌, if◌then◌else◌, List, [], ◌∷◌, replicate, Option, Some, None}
+use Rattle.std.specs.Prelude.{ℕ, ◌*◌, Bool, true, false, ◌||◌, if◌then◌else◌, List, [], ◌∷◌, replicate, take, Option, Some, None}
 use Rattle.std.specs.List.{cons_option}
 use Rattle.std.specs.Option.{option_map}
 use Rattle.hid_layout.specs.Layout.{Contents}
 use Rattle.hid_layout.specs.Controls.{Item, items_of}
+use Rattle.hid_cells.specs.declared.cell.Cell.{Cell}
 use Rattle.hid_cells.specs.declared.event.Event.{Event}
+use Rattle.hid_parts.specs.Encoded.{part_bytes}
 use Rattle.hid_usages.specs.Cells.{blank}
 use Rattle.usb_transact.specs.declared.transaction.Fate.{Fate}
 use Rattle.usb_transact.specs.declared.transaction.Fate.TheVariants.{TokenLost}
@@ -22,8 +24,8 @@ use Rattle.hid_requests.specs.declared.request.Request.TheVariants as requests
 use Rattle.hid_requests.specs.declared.class.Protocol.{Protocol}
 use Rattle.hid_lives.specs.Lives.{Deed, Own, Idles, Configures, befallen, events_on}
 use Rattle.hid_lives.specs.Lives as deeds
-use Rattle.hid_lives.specs.Rounds.{OwnStep, Changes, Frame, Polls}
-use Rattle.hid_lives.specs.Stations.{Station, expected, fresh}
+use Rattle.hid_lives.specs.Rounds.{OwnStep, Changes, Frame, Polls, crossed_with}
+use Rattle.hid_lives.specs.Stations.{Open, Station, expected, fresh, is_whole}
 use Rattle.hid_device.specs.declared.config.Config.{Config}
 use Rattle.hid_device.specs.declared.decisions.Pending.{Pending}
 use Rattle.hid_device.specs.declared.decisions.Pending.TheVariants as pendings
@@ -125,6 +127,23 @@ cold_member addr config descriptor layout = record {
   held = None;
 }
 
+-- ---- the open round
+
+-- which of its pieces is at hand, from 0, where one is open
+abbrev pub piece_open : Option Open → ℕ
+piece_open None = 0
+piece_open (Some round) = round.piece
+
+-- of the bytes of a report the pieces that crossed, until the last one has
+abbrev pub got_in : List ℕ → Open → List ℕ
+got_in bytes round = if is_whole round then [] else take (64 * crossed_with round.piece round.crossed) bytes
+
+-- What a host has of a report that isn't whole yet: of these parts, which were fixed as its round opened, the pieces that
+-- crossed.
+abbrev pub got_of : Contents → List Cell → Option Open → List ℕ
+got_of layout parts None = []
+got_of layout parts (Some round) = got_in (part_bytes layout round.report parts) round
+
 -- ---- the device's side of a transfer
 
 -- the inside of the device
@@ -136,6 +155,7 @@ core_at m = record {
   is_configured = m.endpoint.is_configured;
   standing = m.station.standing;
   current = option_map (λ round. round.report) m.station.current;
+  piece = piece_open m.station.current;
   toggle = m.station.odd;
   protocol = m.endpoint.protocol;
   outputs = m.endpoint.outputs;

@@ -14,7 +14,7 @@ use Rattle.usb_transact.specs.Bus.{Arrivals, Carries, Replies}
 use Rattle.usb_transact.specs.Host.{token_to}
 use Rattle.usb_transact.specs.Taken.{taken}
 use Rattle.hid_device.specs.Core.{IsSound}
-use Rattle.hid_device.specs.Device.{DeviceState, DeviceAnswers, device_after, core_of}
+use Rattle.hid_device.specs.Device.{DeviceState, device_after, device_answer, core_of}
 use Rattle.hid_host.specs.declared.fault.StackFault.{StackFault}
 use Rattle.hid_host.specs.declared.fault.StackFault.TheVariants.{NotReady}
 use Rattle.hid_host.specs.declared.phase.HostPhase.{HostPhase}
@@ -36,7 +36,7 @@ HasBytes packets.Stall = Unit {0}
 abbrev pub Hears : DeviceState → Option Packet → Option Packet → DeviceState → Type 0
 Hears device None answer after = (answer ≡ None) × (after ≡ device)
 Hears device (Some packet) answer after =
-    DeviceAnswers device packet answer × (after ≡ device_after device packet)
+    (answer ≡ device_answer device packet) × (after ≡ device_after device packet)
     × IfSome answer (λ _. IsSound (core_of after))
 
 -- an ACK is sent, and the device hears what arrives of it
@@ -79,10 +79,10 @@ pub record PollsOver (arrivals : Arrivals) (device : DeviceState) (host : HostEn
   pub heard : Hears device token answer between
   pub bytes : IfSome answer HasBytes
   pub replied : Replies arrivals Reply answer reply
-  pub told : result ≡ told_with answer (told_of known.layout (taken known.pipe.expects reply))
+  pub told : result ≡ told_with answer (told_of known (taken known.pipe.expects reply))
   pub host_moved : host_then ≡ ready_after host known (taken known.pipe.expects reply)
   pub delivers : events ≡ before ++ events_behind known (taken known.pipe.expects reply)
-  pub ended : Ends arrivals (told_of known.layout (taken known.pipe.expects reply)) between device_then
+  pub ended : Ends arrivals (told_of known (taken known.pipe.expects reply)) between device_then
 
 -- a host that isn't ready, or whose clear is pending, sends nothing, and nothing changes
 pub record SendsNothing (device : DeviceState) (host : HostEnd)

@@ -2,6 +2,7 @@
 use Rattle.std.specs.Prelude.{◌≡◌, ℕ, true, List, length, Option, Some, None, Result, Err}
 use Rattle.std.specs.Option.{option_map}
 use Rattle.hid_device.specs.declared.device.TheConstants.{ENDPOINT}
+use Rattle.hid_device.specs.Core.{piece_at}
 use Rattle.hid_device.specs.Device.{DeviceState, core_of}
 use Rattle.usb_control.specs.declared.host.Outcome.{Outcome}
 use Rattle.hid_host.specs.declared.fault.StackFault.{StackFault}
@@ -12,12 +13,12 @@ use Rattle.hid_host.specs.declared.phase.HostPhase.TheVariants.{Cold, Described,
 use Rattle.hid_host.specs.Phase.{IsReady, state_of}
 use Rattle.hid_host.specs.Ready.{Known}
 use Rattle.hid_device.specs.Deciding.{config_info}
-use Rattle.hid_stack.specs.Members.{Member, endpoint_of, expects_of}
+use Rattle.hid_stack.specs.Members.{Member, endpoint_of, expects_of, got_of}
 use Rattle.hid_stack.specs.Rig.{member_at}
 
 -- The device of a member: it was made as the member says and stands as its station does, the round that is open there is
--- open here, its toggle is set where the rounds closed are odd in number, it is halted where the station is, and its
--- endpoint 0 is the member's.
+-- open here, with the same piece at hand, its toggle is set where the pieces closed are odd in number, it is halted where the
+-- station is, and its endpoint 0 is the member's.
 pub record ShowsDevice (m : Member) (d : DeviceState) : Type 0 where
   pub home : d.addr ≡ m.addr
   pub config : (core_of d).config ≡ m.config
@@ -25,16 +26,19 @@ pub record ShowsDevice (m : Member) (d : DeviceState) : Type 0 where
   pub layout : (core_of d).layout ≡ m.layout
   pub standing : (core_of d).standing ≡ m.station.standing
   pub open_report : (core_of d).current ≡ option_map (λ round. round.report) m.station.current
+  pub open_piece : piece_at (core_of d) ≡ option_map (λ round. round.piece) m.station.current
   pub toggle : (core_of d).toggle ≡ m.station.odd
   pub halted : (core_of d).halted ≡ m.station.halted
   pub endpoint : endpoint_of d.control ≡ m.endpoint
 
--- what its ready host keeps: the toggle that it expects is the other one exactly while an open round has crossed, or the
--- one that is held
+-- What its ready host keeps: the toggle that it expects is the other one exactly while the piece at hand has crossed, or the
+-- one that is held. Where none is held it has got of the open round the pieces that crossed, while not all have, and nothing
+-- of any other.
 pub record ShowsKnown (m : Member) (known : Known) : Type 0 where
   pub layout : known.layout ≡ m.layout
   pub polls : known.pipe ≡ record { addr = m.addr; endp = ENDPOINT; expects = expects_of m }
   pub view : known.view ≡ m.station.view
+  pub got : m.held ≡ None → known.collected ≡ got_of m.layout m.station.standing.fixed m.station.current
 
 -- what a host knows that isn't ready yet: what the configuration says of the device, and then its layout
 abbrev pub ShowsPhase : Member → HostPhase → Type 0

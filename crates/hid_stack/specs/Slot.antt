@@ -1,8 +1,11 @@
 -- A device and its host as one member of the bus (USB 2.0, 8.6 and 9.4.5; our choice).
-use Rattle.std.specs.Prelude.{◌≡◌, ℕ, Bool, true, false, not, ◌||◌, Option, Some, None, Result, Ok, Err}
+use Rattle.std.specs.Prelude.{◌≡◌, ℕ, Bool, true, false, not, ◌||◌, List, Option, Some, None, Result, Ok, Err}
 use Rattle.std.specs.Bool.{beq}
+use Rattle.hid_layout.specs.Layout.{Contents}
 use Rattle.hid_layout.specs.Reports.{IsLayout}
-use Rattle.hid_layout.specs.Controls.{items_of}
+use Rattle.hid_layout.specs.Controls.{Item, items_of}
+use Rattle.hid_cells.specs.declared.cell.Cell.{Cell}
+use Rattle.hid_cells.specs.Pieces.{pieces_of}
 use Rattle.hid_usages.specs.Cells.{blank, FitsView}
 use Rattle.hid_device.specs.declared.device.TheConstants.{ENDPOINT}
 use Rattle.hid_device.specs.Core.{CoreState, IsSound}
@@ -20,19 +23,20 @@ use Rattle.usb_control.specs.Host.{progress_of}
 use Rattle.hid_host.specs.declared.fault.StackFault.{StackFault}
 use Rattle.hid_host.specs.declared.fault.StackFault.TheVariants.{Control, Memory}
 use Rattle.hid_host.specs.declared.host.Transfer.{Transfer}
-use Rattle.hid_stack.specs.Members.{Member, endpoint_of, ends_tried_at, held_if, tried_of, tried_to, unconcluded_of}
+use Rattle.hid_stack.specs.Members.{Member, endpoint_of, ends_tried_at, got_of, held_if, tried_of, tried_to, unconcluded_of}
 use Rattle.hid_stack.specs.Rig.{GivesMore, TriesWithMemory}
 
--- an open round has crossed exactly where the two toggles differ
-abbrev pub round_between : Bool → Bool → Option ℕ → Option Open
-round_between toggle expects None = None
-round_between toggle expects (Some r) = Some (record { report = r; crossed = not (beq toggle expects) })
+-- the piece at hand of an open round has crossed exactly where the two toggles differ
+abbrev pub round_between : List Item → Bool → Bool → Option ℕ → ℕ → Option Open
+round_between items toggle expects None piece = None
+round_between items toggle expects (Some r) piece =
+    Some (record { report = r; pieces = pieces_of items r; piece = piece; crossed = not (beq toggle expects) })
 
 -- what a device and its ready host keep together
 abbrev pub joined : CoreState → Known → Station
 joined core known = record {
   standing = core.standing;
-  current = round_between core.toggle known.pipe.expects core.current;
+  current = round_between (items_of core.layout) core.toggle known.pipe.expects core.current core.piece;
   odd = core.toggle;
   view = known.view;
   halted = core.halted;
@@ -43,7 +47,7 @@ abbrev pub station_of : CoreState → HostPhase → Station
 station_of core (Ready known) = joined core known
 station_of core _ = record {
   standing = core.standing;
-  current = round_between core.toggle core.toggle core.current;
+  current = round_between (items_of core.layout) core.toggle core.toggle core.current core.piece;
   odd = core.toggle;
   view = blank (items_of core.layout);
   halted = core.halted;
@@ -79,8 +83,14 @@ abbrev pub IsEvenUnless : Bool → Bool → Bool → Option ℕ → Type 0
 IsEvenUnless true toggle expects current = Unit {0}
 IsEvenUnless false toggle expects current = IsEven toggle expects current
 
+-- neither is anything said of what the host has got then: a halt may have ended the round that it was of
+abbrev pub HasGotUnless : Bool → Contents → List Cell → Option Open → List ℕ → Type 0
+HasGotUnless true layout parts current bytes = Unit {0}
+HasGotUnless false layout parts current bytes = bytes ≡ got_of layout parts current
+
 -- A device that is configured, and what its ready host keeps, with a clear that is pending or not: the host polls the
--- device, has its layout, and expects the device's toggle where no round is open.
+-- device, has its layout, expects the device's toggle where no round is open, and has got the pieces that crossed of the
+-- one that is open, and nothing else.
 pub record ArePaired (device : DeviceState) (known : Known) (clearing : Bool) : Type 0 where
   pub configured : (core_of device).is_configured ≡ true
   pub layout : known.layout ≡ (core_of device).layout
@@ -88,6 +98,8 @@ pub record ArePaired (device : DeviceState) (known : Known) (clearing : Bool) : 
   pub endp : known.pipe.endp ≡ ENDPOINT
   pub even : IsEvenUnless ((core_of device).halted || clearing)
       (core_of device).toggle known.pipe.expects (core_of device).current
+  pub got : HasGotUnless ((core_of device).halted || clearing) (core_of device).layout
+      (core_of device).standing.fixed (joined (core_of device) known).current known.collected
   pub sound : IsSound (core_of device)
   pub laid : IsLayout known.layout
   pub fits : FitsView (items_of known.layout) known.view

@@ -10,7 +10,8 @@ use Rattle.usb_transact.specs.declared.host.Took.{Took}
 use Rattle.usb_transact.specs.declared.host.Took.TheVariants.{Fresh, Again, Nak, Stall, Silent}
 use Rattle.usb_transact.specs.declared.transaction.Fate.{Fate}
 use Rattle.usb_transact.specs.declared.transaction.Fate.TheVariants.{Clean, TokenLost, ReplyLost, AckLost}
-use Rattle.hid_device.specs.Core.{AreBytesOf}
+use Rattle.hid_cells.specs.Pieces.{piece_of}
+use Rattle.hid_parts.specs.Encoded.{part_bytes}
 use Rattle.hid_stack.specs.declared.step.Step.{Step}
 use Rattle.hid_stack.specs.declared.step.Step.TheVariants.{Change, Frame, Poll, Begin, Control, Halt, Reset}
 use Rattle.hid_stack.specs.declared.step.Told.{Told}
@@ -23,46 +24,45 @@ use Rattle.hid_host.specs.Host.{running}
 use Rattle.hid_stack.specs.Members.{Member, ends_tried_at}
 use Rattle.hid_stack.specs.Rig.{member_at}
 
--- the bytes that show the part of the open round
-abbrev pub ShowsRound : Contents → Station → List ℕ → Type 0
-ShowsRound layout s report = elim s.current [
-  | None ↦ report ≡ []
-  | Some round ↦ AreBytesOf layout s.standing.fixed round.report report
+-- of the bytes that show the part of the open round the piece at hand
+abbrev pub piece_shown : Contents → Station → List ℕ
+piece_shown layout s = elim s.current [
+  | None ↦ []
+  | Some round ↦ piece_of (part_bytes layout round.report s.standing.fixed) round.piece
 ]
 
--- The device sends STALL where its endpoint is halted; else the data of the open round, DATA1 where the rounds closed are
--- odd in number; else NAK.
+-- The device sends STALL where its endpoint is halted; else the piece at hand of the open round, as DATA1 where the pieces
+-- closed are odd in number; else NAK.
 abbrev pub sent : Station → List ℕ → Packet
-sent s report =
+sent s piece =
     if s.halted then packets.Stall
     else elim s.current [
       | None ↦ packets.Nak
-      | Some round ↦ packets.Data s.odd (record { items = report })
+      | Some round ↦ packets.Data s.odd (record { items = piece })
     ]
 
--- The host takes each as it is, and data as fresh at the poll at which the round crosses.
+-- The host takes each as it is, and data as fresh at the poll at which their piece crosses.
 abbrev pub took_from : Station → List ℕ → Took
-took_from s report =
+took_from s piece =
     if s.halted then Stall
     else elim s.current [
       | None ↦ Nak
-      | Some round ↦ (if round.crossed then Again else Fresh (record { items = report }))
+      | Some round ↦ (if round.crossed then Again else Fresh (record { items = piece }))
     ]
 
 -- What a poll tells whose token arrives, once a round was opened for it.
 abbrev pub told_by : Station → Fate → List ℕ → Told
-told_by s TokenLost report = Polled None Silent
-told_by s ReplyLost report =
-    Polled (Some (record { items = spelling (sent s report) })) Silent
-told_by s Clean report =
-    Polled (Some (record { items = spelling (sent s report) })) (took_from s report)
-told_by s AckLost report =
-    Polled (Some (record { items = spelling (sent s report) })) (took_from s report)
+told_by s TokenLost piece = Polled None Silent
+told_by s ReplyLost piece =
+    Polled (Some (record { items = spelling (sent s piece) })) Silent
+told_by s Clean piece =
+    Polled (Some (record { items = spelling (sent s piece) })) (took_from s piece)
+told_by s AckLost piece =
+    Polled (Some (record { items = spelling (sent s piece) })) (took_from s piece)
 
--- what a poll tells whose token arrives, by the bytes that show the open round
+-- what a poll tells whose token arrives, by the piece at hand
 abbrev pub TellsOpened : Contents → Station → Fate → Told → Type 0
-TellsOpened layout s fate told =
-    (report : List ℕ) × ShowsRound layout s report × (told ≡ told_by s fate report)
+TellsOpened layout s fate told = told ≡ told_by s fate (piece_shown layout s)
 
 -- What a poll tells: of a token that is lost nothing is sent.
 abbrev pub TellsPoll : Contents → Station → Fate → Told → Type 0

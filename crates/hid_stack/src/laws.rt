@@ -1,6 +1,7 @@
 //! Laws of the definitions that contracts cite.
 
 ghost use Rattle.std.specs.Prelude.{◌≡◌, ◌++◌, List, None};
+ghost use Rattle.usb_transact.specs.declared.transaction.Fate.{Fate};
 ghost use Rattle.hid_requests.specs.declared.request.Request.{Request};
 ghost use Rattle.hid_requests.specs.declared.request.Request.TheVariants.{Clear};
 ghost use Rattle.hid_requests.specs.Asking.{FitsRequest};
@@ -11,6 +12,7 @@ ghost use Rattle.hid_stack.specs.Laws.{IsMadeAs, TellsOneThing, FindsOneControl,
 ghost use Rattle.hid_stack.specs.Headline.{DeliversChanges, DevicesLive, KeepsToRounds};
 ghost use Rattle.hid_stack.specs.Members.{Member, MemberStep, begin_refusal_at, member_after_all};
 ghost use Rattle.hid_stack.specs.Transfers.{BeginsNone, IsClearing, IsEndedByReset, IsUnconcludedOnce, IsWhole};
+ghost use Rattle.hid_stack.specs.Reports.{IsWholeOrNothing, KeepsToRound};
 ghost use Rattle.hid_stack.specs.Rig.{bus_after_all, delivered_in, IsIsolated};
 ghost use Rattle.hid_stack.specs.Stories.{Act, IsItsOwn};
 ghost use Rattle.hid_stack.specs.Sums.{AllHaveMotions, ConfiguresBetweenRounds, RefusedKeepMotion, SumsUp};
@@ -96,6 +98,15 @@ pub fn transfers_are_whole()
         → BeginsNone steps → BeginsNone later → IsEndedByReset m request steps later }
     ensures clears { (m : Member) (steps : List MemberStep)
         → Lays m.descriptor m.layout → begin_refusal_at m Clear ≡ None → BeginsNone steps → IsClearing m steps }
+{}
+
+/// A report is delivered whole or not at all, and never from two rounds: a poll delivers the part that was fixed as the open
+/// round opened, with the last of its pieces, or nothing; and whatever comes between two pieces, changes, frames, polls of
+/// which packets are lost, requests and their tries, halts, clears and resets, the open round ends with it, or it is of the
+/// same report and the same part.
+pub fn reports_are_delivered_whole()
+    ensures polls { (m : Member) (fate : Fate) → IsWholeOrNothing m fate }
+    ensures rounds { (m : Member) (x : MemberStep) → KeepsToRound m x }
 {}
 
 /// No step changes what a device was made with.

@@ -1,6 +1,6 @@
 use Rattle.std.proofs.Common.{◌++◌, ◌∙◌, List, ap}
 use Rattle.hid_cells.specs.declared.event.Event.{Event}
-use Rattle.hid_device.specs.Core.{round_of}
+use Rattle.hid_device.specs.Core.{piece_at, round_of}
 use Rattle.hid_device.specs.Device.{core_of}
 use Rattle.hid_host.specs.Resetting.{reset_told}
 use Rattle.hid_stack.proofs.ResetLemmas.{told_at_reset}
@@ -10,7 +10,8 @@ pub returns-clause-events : goal.returns-clause-events
 returns-clause-events c =
     let phase = c.args.host.now.phase in
     c.reset.ensures.events
-    ∙ ap (λ (es : List Event). es ++ reset_told phase c.open_round.result c.fixed.result.now) c.clear.ensures.items
-    ∙ ap (λ o. reset_told phase o c.fixed.result.now) c.open_round.ensures
-    ∙ ap (reset_told phase (round_of (core_of c.args.device.now))) c.fixed.ensures
+    ∙ ap (λ (es : List Event). es ++ reset_told phase c.open_round.result c.piece.result c.fixed.result.now) c.clear.ensures.items
+    ∙ ap (λ o. reset_told phase o c.piece.result c.fixed.result.now) c.open_round.ensures
+    ∙ ap (λ o. reset_told phase (round_of (core_of c.args.device.now)) o c.fixed.result.now) c.piece.ensures
+    ∙ ap (reset_told phase (round_of (core_of c.args.device.now)) (piece_at (core_of c.args.device.now))) c.fixed.ensures
     ∙ told_at_reset c.args.device.now c.args.host.now.clearing phase c.requires.together

@@ -1,0 +1,156 @@
+-- A poll delivers a whole part or nothing, and a step keeps the open round or ends it.
+use Rattle.std.proofs.Common.{◌≡◌, ◌∙◌, ◌⊎◌, ℕ, ◌+◌, Bool, true, false, cond, List, [], Option, Some, None, refl, ap, sym, subst, inl, inr}
+use Rattle.std.proofs.lemmas.Bool.{cases_Bool}
+use Rattle.hid_layout.specs.Controls.{Item, items_of}
+use Rattle.hid_cells.specs.declared.cell.Cell.{Cell}
+use Rattle.hid_cells.specs.declared.event.Event.{Event}
+use Rattle.hid_usages.specs.Views.{seen}
+use Rattle.usb_transact.specs.declared.transaction.Fate.{Fate}
+use Rattle.usb_transact.specs.declared.transaction.Fate.TheVariants.{Clean, TokenLost, ReplyLost, AckLost}
+use Rattle.hid_lives.specs.Lives.{Deed, Own, Idles, Configures, Halts, Clears, Resets, befallen}
+use Rattle.hid_lives.specs.Rounds.{OwnStep, Changes, Frame, Polls, part_events}
+use Rattle.hid_lives.specs.Standing.{due_where}
+use Rattle.hid_lives.specs.Stations.{Open, Station, answered, arrived, completes, is_last, next_piece, opened, opened_by, open_next, round_events}
+use Rattle.hid_stack.specs.Members.{Member, MemberStep, Scheduled, befallen_by, deed_at, events_by, member_after, polled_deed, polls_it}
+use Rattle.hid_stack.specs.Reports.{IsSameRound, IsWholeOrNothing, KeepsToRound, TellsNothing, TellsPart}
+use Rattle.hid_stack.proofs.MemberLemmas.{station_is}
+use Rattle.hid_stack.proofs.SlotLemmas.{fixed_stays}
+
+-- ---- polls
+
+-- of a station, once a round was opened for the poll
+record Nothing (items : List Item) (s : Station) (fate : Fate) : Type 0 where
+  events : round_events items s fate ≡ []
+  view : (answered items s fate).view ≡ s.view
+
+record Part (items : List Item) (s : Station) (fate : Fate) : Type 0 where
+  round : Open
+  is_open : s.current ≡ Some round
+  crosses : completes round ≡ true
+  events : round_events items s fate ≡ part_events items round.report s.view s.standing.fixed
+  view : (answered items s fate).view ≡ seen items round.report s.view s.standing.fixed
+
+abbrev with_open : Station → Option Open → Station
+with_open s current = record s { current = current }
+
+-- where the piece at hand reaches the host
+abbrev told_if : List Item → Station → Open → Bool → List Event
+told_if items s round b = cond b (part_events items round.report s.view s.standing.fixed) []
+
+abbrev seen_if : List Item → Station → Open → Bool → List Cell
+seen_if items s round b = cond b (seen items round.report s.view s.standing.fixed) s.view
+
+reaches : (items : List Item) (s : Station) (round : Open) (fate : Fate) → round_events items (with_open s (Some round)) fate ≡ told_if items s round (completes round)
+    → (answered items (with_open s (Some round)) fate).view ≡ seen_if items s round (completes round) → Nothing items (with_open s (Some round)) fate ⊎ Part items (with_open s (Some round)) fate
+reaches items s round fate told view = elim (cases_Bool (completes round)) [
+  | inl whole ↦ inr (record {
+    round = round;
+    is_open = refl;
+    crosses = whole;
+    events = told ∙ ap (told_if items s round) whole;
+    view = view ∙ ap (seen_if items s round) whole;
+  })
+  | inr more ↦ inl (record { events = told ∙ ap (told_if items s round) more; view = view ∙ ap (seen_if items s round) more })
+]
+
+answers : (items : List Item) (s : Station) (current : Option Open) (fate : Fate) → Nothing items (with_open s current) fate ⊎ Part items (with_open s current) fate
+answers items s None fate = inl (record { events = refl; view = refl })
+answers items s (Some round) TokenLost = inl (record { events = refl; view = refl })
+answers items s (Some round) ReplyLost = inl (record { events = refl; view = refl })
+answers items s (Some round) Clean = reaches items s round Clean refl refl
+answers items s (Some round) AckLost = reaches items s round AckLost refl refl
+
+-- opening a round leaves the view
+opened_if_view : (items : List Item) (s : Station) (due : Option ℕ) → (opened_by items s due).view ≡ s.view
+opened_if_view items s None = refl
+opened_if_view items s (Some r) = refl
+
+opened_view : (items : List Item) (s : Station) (current : Option Open) → (opened items (with_open s current)).view ≡ s.view
+opened_view items s None = opened_if_view items (with_open s None) (due_where items s.halted s.standing)
+opened_view items s (Some round) = refl
+
+arrived_view : (items : List Item) (s : Station) (fate : Fate) → (arrived items s fate).view ≡ s.view
+arrived_view items s TokenLost = refl
+arrived_view items s Clean = opened_view items s s.current
+arrived_view items s ReplyLost = opened_view items s s.current
+arrived_view items s AckLost = opened_view items s s.current
+
+-- a poll that is made
+polled_so : (m : Member) (fate : Fate) → polls_it m ≡ true → IsWholeOrNothing m fate
+polled_so m fate polls =
+    let items = items_of m.layout in
+    let s = arrived items m.station fate in
+    let stays = arrived_view items m.station fate in
+    let deed : deed_at m (Scheduled (Polls fate)) ≡ Some (Own (Polls fate)) = ap (λ (b : Bool). polled_deed b fate) polls in
+    let told : events_by items m.station (deed_at m (Scheduled (Polls fate))) ≡ round_events items s fate = ap (events_by items m.station) deed in
+    let view : (member_after m (Scheduled (Polls fate))).station.view ≡ (answered items s fate).view
+    = ap (λ (o : Option Deed). (befallen_by items m.station o).view) deed in
+    elim (answers items s s.current fate) [
+      | inl none ↦ inl (record { events = told ∙ none.events; view = view ∙ none.view ∙ stays })
+      | inr part ↦ inr (record {
+        round = part.round;
+        is_open = part.is_open;
+        crosses = part.crosses;
+        events = told ∙ part.events ∙ ap (λ (v : List Cell). part_events items part.round.report v s.standing.fixed) stays;
+        view = view ∙ part.view ∙ ap (λ (v : List Cell). seen items part.round.report v s.standing.fixed) stays;
+      })
+    ]
+
+pub whole_or_nothing : (m : Member) (fate : Fate) → IsWholeOrNothing m fate
+whole_or_nothing m fate = elim (cases_Bool (polls_it m)) [
+  | inl polls ↦ polled_so m fate polls
+  | inr silent ↦
+      let deed : deed_at m (Scheduled (Polls fate)) ≡ None = ap (λ (b : Bool). polled_deed b fate) silent in
+      inl (record {
+        events = ap (events_by (items_of m.layout) m.station) deed;
+        view = ap (λ (o : Option Deed). (befallen_by (items_of m.layout) m.station o).view) deed;
+      })
+]
+
+-- ---- the open round
+
+abbrev Stays : Open → Station → Station → Type 0
+Stays round s t = (t.current ≡ None) ⊎ IsSameRound round s t
+
+same_round : (round : Open) (s t : Station) (crossed : Bool) → t.current ≡ Some (record round { crossed = crossed }) → t.standing.fixed ≡ s.standing.fixed → Stays round s t
+same_round round s t crossed is part =
+    inr (record { now = record round { crossed = crossed }; is_open = is; report = refl; pieces = refl; piece = inl refl; part = part })
+
+-- a piece that closes
+closes : (items : List Item) (s : Station) (round : Open) → Stays round (with_open s (Some round)) (answered items (with_open s (Some round)) Clean)
+closes items s round = elim (cases_Bool (is_last round)) [
+  | inl last ↦ inl (ap (λ (b : Bool). cond b None (Some (next_piece round))) last)
+  | inr more ↦ inr (record {
+    now = next_piece round;
+    is_open = ap (λ (b : Bool). cond b None (Some (next_piece round))) more;
+    report = refl;
+    pieces = refl;
+    piece = inr refl;
+    part = refl;
+  })
+]
+
+deed_keeps : (items : List Item) (s : Station) (round : Open) (deed : Deed) → Stays round (with_open s (Some round)) (befallen items (with_open s (Some round)) deed)
+deed_keeps items s round (Own (Changes change)) = same_round round (with_open s (Some round)) (befallen items (with_open s (Some round)) (Own (Changes change))) round.crossed refl (fixed_stays items s.standing change)
+deed_keeps items s round (Own Frame) = same_round round (with_open s (Some round)) (befallen items (with_open s (Some round)) (Own Frame)) round.crossed refl refl
+deed_keeps items s round (Own (Polls Clean)) = closes items s round
+deed_keeps items s round (Own (Polls TokenLost)) = same_round round (with_open s (Some round)) (befallen items (with_open s (Some round)) (Own (Polls TokenLost))) round.crossed refl refl
+deed_keeps items s round (Own (Polls ReplyLost)) = same_round round (with_open s (Some round)) (befallen items (with_open s (Some round)) (Own (Polls ReplyLost))) round.crossed refl refl
+deed_keeps items s round (Own (Polls AckLost)) = same_round round (with_open s (Some round)) (befallen items (with_open s (Some round)) (Own (Polls AckLost))) true refl refl
+deed_keeps items s round (Idles idle) = same_round round (with_open s (Some round)) (befallen items (with_open s (Some round)) (Idles idle)) round.crossed refl refl
+deed_keeps items s round Configures = inl refl
+deed_keeps items s round Halts = inl refl
+deed_keeps items s round Clears = inl refl
+deed_keeps items s round Resets = inl refl
+
+by_deed : (items : List Item) (s : Station) (round : Open) (o : Option Deed) → Stays round (with_open s (Some round)) (befallen_by items (with_open s (Some round)) o)
+by_deed items s round None = same_round round (with_open s (Some round)) (with_open s (Some round)) round.crossed refl refl
+by_deed items s round (Some deed) = deed_keeps items s round deed
+
+pub keeps_to_round : (m : Member) (x : MemberStep) → KeepsToRound m x
+keeps_to_round m x round is =
+    let items = items_of m.layout in
+    let same : m.station ≡ with_open m.station (Some round) = ap (with_open m.station) is in
+    let there : Stays round m.station (befallen_by items m.station (deed_at m x))
+    = subst (λ (s : Station). Stays round s (befallen_by items s (deed_at m x))) (sym same) (by_deed items m.station round (deed_at m x)) in
+    subst (Stays round m.station) (sym (station_is m x)) there
