@@ -7,7 +7,7 @@ use std::test::Fail;
 
 /// Scripts that run to their end, with `--layout` and `--trace` or not.
 #[rattlefmt::skip]
-const ACCEPTED: [(&str, bool, bool, &str, &str); 13] = [
+const ACCEPTED: [(&str, bool, bool, &str, &str); 17] = [
     ("a pressed key", false, true,
         "device ready keyboard 05 01 09 06 A1 01 05 07 19 E0 29 E7 15 00 25 01 75 01 95 08 81 02 95 01 75 08 81 01 95 05 75 01 05 08 19 01 29 05 91 02 95 01 75 03 91 01 95 06 75 08 15 00 25 65 05 07 19 00 29 65 81 00 C0\npress 1 07:04\npoll 1\n",
         "1 poll DATA0 00 00 04 00 00 00 00 00 fresh\n1 down 07:04\n"),
@@ -47,6 +47,18 @@ const ACCEPTED: [(&str, bool, bool, &str, &str); 13] = [
     ("the last of 65,535 keys", false, true,
         "device ready plain 05 09 19 01 2A FF FF 15 00 27 FF FF 00 00 75 10 95 02 81 00\npress 1 09:FFFF\npoll 1\n",
         "1 poll DATA0 FE FF FF FF fresh\n1 down 09:FFFF\n"),
+    ("a report in two pieces, and an ACK that is lost", false, true,
+        "device ready plain 05 01 09 30 15 00 26 FF 00 75 08 95 64 81 02\nset 1 01:30 7\npoll 1 ack\nset 1 01:30 9\npoll 1 clean 2\npoll 1 clean 3\n",
+        "1 poll DATA0 07 00 00 00 00 00 00 00 00 00 00 00 00 00 00 00 00 00 00 00 00 00 00 00 00 00 00 00 00 00 00 00 00 00 00 00 00 00 00 00 00 00 00 00 00 00 00 00 00 00 00 00 00 00 00 00 00 00 00 00 00 00 00 00 fresh\n1 poll DATA0 07 00 00 00 00 00 00 00 00 00 00 00 00 00 00 00 00 00 00 00 00 00 00 00 00 00 00 00 00 00 00 00 00 00 00 00 00 00 00 00 00 00 00 00 00 00 00 00 00 00 00 00 00 00 00 00 00 00 00 00 00 00 00 00 again\n1 poll DATA1 00 00 00 00 00 00 00 00 00 00 00 00 00 00 00 00 00 00 00 00 00 00 00 00 00 00 00 00 00 00 00 00 00 00 00 00 fresh\n1 value 01:30 7\n1 poll DATA0 09 00 00 00 00 00 00 00 00 00 00 00 00 00 00 00 00 00 00 00 00 00 00 00 00 00 00 00 00 00 00 00 00 00 00 00 00 00 00 00 00 00 00 00 00 00 00 00 00 00 00 00 00 00 00 00 00 00 00 00 00 00 00 00 fresh\n1 poll DATA1 00 00 00 00 00 00 00 00 00 00 00 00 00 00 00 00 00 00 00 00 00 00 00 00 00 00 00 00 00 00 00 00 00 00 00 00 fresh\n1 value 01:30 9\n1 poll NAK nak\n"),
+    ("a reset between two pieces", false, false,
+        "device ready plain 05 01 09 30 15 81 25 7F 75 08 95 64 81 06\nmove 1 01:30 5\npoll 1\nreset 1\n",
+        "1 dropped 01:30 5\n"),
+    ("the longest report, in four full pieces", false, true,
+        "device ready plain 05 01 09 30 15 00 26 FF 00 75 08 96 00 01 81 02\nset 1 01:30 1\npoll 1 clean 4\npoll 1\nset 1 01:30 2\npoll 1\n",
+        "1 poll DATA0 01 00 00 00 00 00 00 00 00 00 00 00 00 00 00 00 00 00 00 00 00 00 00 00 00 00 00 00 00 00 00 00 00 00 00 00 00 00 00 00 00 00 00 00 00 00 00 00 00 00 00 00 00 00 00 00 00 00 00 00 00 00 00 00 fresh\n1 poll DATA1 00 00 00 00 00 00 00 00 00 00 00 00 00 00 00 00 00 00 00 00 00 00 00 00 00 00 00 00 00 00 00 00 00 00 00 00 00 00 00 00 00 00 00 00 00 00 00 00 00 00 00 00 00 00 00 00 00 00 00 00 00 00 00 00 fresh\n1 poll DATA0 00 00 00 00 00 00 00 00 00 00 00 00 00 00 00 00 00 00 00 00 00 00 00 00 00 00 00 00 00 00 00 00 00 00 00 00 00 00 00 00 00 00 00 00 00 00 00 00 00 00 00 00 00 00 00 00 00 00 00 00 00 00 00 00 fresh\n1 poll DATA1 00 00 00 00 00 00 00 00 00 00 00 00 00 00 00 00 00 00 00 00 00 00 00 00 00 00 00 00 00 00 00 00 00 00 00 00 00 00 00 00 00 00 00 00 00 00 00 00 00 00 00 00 00 00 00 00 00 00 00 00 00 00 00 00 fresh\n1 value 01:30 1\n1 poll NAK nak\n1 poll DATA0 02 00 00 00 00 00 00 00 00 00 00 00 00 00 00 00 00 00 00 00 00 00 00 00 00 00 00 00 00 00 00 00 00 00 00 00 00 00 00 00 00 00 00 00 00 00 00 00 00 00 00 00 00 00 00 00 00 00 00 00 00 00 00 00 fresh\n"),
+    ("a report of 65 bytes", true, false,
+        "device ready plain 75 08 95 41 81 01\n",
+        "report input 0 bytes 65\nitem 0 input 0 at 0 8x65 padding\n"),
 ];
 
 /// Scripts that are refused, with what they print before and the line that names the fault.
@@ -127,9 +139,9 @@ const REFUSED: [(&str, &str, &str, &str); 27] = [
     ("a delimiter",
         "device ready plain A9 01\n",
         "", "line 1: X4 S5 V14 at 0\n"),
-    ("a report of 65 bytes",
-        "device ready plain 75 08 95 41 81 01\n",
-        "", "line 1: X4 S5 V15 at 4\n"),
+    ("a report of 257 bytes",
+        "device ready plain 75 08 96 01 01 81 01\n",
+        "", "line 1: X4 S5 V15 at 5\n"),
     ("a 65th usage",
         "device ready plain 05 01 09 30 09 30 09 30 09 30 09 30 09 30 09 30 09 30 09 30 09 30 09 30 09 30 09 30 09 30 09 30 09 30 09 30 09 30 09 30 09 30 09 30 09 30 09 30 09 30 09 30 09 30 09 30 09 30 09 30 09 30 09 30 09 30 09 30 09 30 09 30 09 30 09 30 09 30 09 30 09 30 09 30 09 30 09 30 09 30 09 30 09 30 09 30 09 30 09 30 09 30 09 30 09 30 09 30 09 30 09 30 09 30 09 30 09 30 09 30 09 30 09 30 09 30 09 30 09 30 09 30 25 01 75 01 95 01 81 02\n",
         "", "line 1: X4 S5 V16 at 138\n"),

@@ -7,7 +7,7 @@ use std::test::Fail;
 
 /// Scripts that run to their end, with `--trace` or not.
 #[rattlefmt::skip]
-const ACCEPTED: [(&str, bool, &str, &str); 9] = [
+const ACCEPTED: [(&str, bool, &str, &str); 11] = [
     ("a halt of a mouse whose report was lost, and its end", true,
         "device ready mouse 05 01 09 02 A1 01 09 01 A1 00 05 09 19 01 29 03 15 00 25 01 95 03 75 01 81 02 95 01 75 05 81 01 05 01 09 30 09 31 15 81 25 7F 75 08 95 02 81 06 C0 C0\npress 1 09:01\nmove 1 01:30 5\npoll 1 reply\nhalt 1\npoll 1\nbegin 1 endpoint-status\ncontrol 1 clean 3\nbegin 1 clear\ncontrol 1 clean 2\npoll 1\n",
         "1 poll DATA0 01 05 00 silent\n1 dropped 01:30 5\n1 poll STALL stall\n1 control running\n1 control running\n1 control done 01 00\n1 control running\n1 control done\n1 poll DATA0 01 00 00 fresh\n1 down 09:01\n"),
@@ -35,6 +35,12 @@ const ACCEPTED: [(&str, bool, &str, &str); 9] = [
     ("a reset ends a halt, and a clear that is pending", false,
         "device ready mouse 05 01 09 02 A1 01 09 01 A1 00 05 09 19 01 29 03 15 00 25 01 95 03 75 01 81 02 95 01 75 05 81 01 05 01 09 30 09 31 15 81 25 7F 75 08 95 02 81 06 C0 C0\npress 1 09:02\npoll 1 ack\nhalt 1\nbegin 1 clear\ncontrol 1 token\nreset 1\nbegin 1 config\ncontrol 1 clean 7\nbegin 1 report\ncontrol 1 clean 9\nbegin 1 configure\ncontrol 1 clean 2\npoll 1\n",
         "1 down 09:02\n1 up 09:02\n1 control done 09 02 22 00 01 01 00 80 32 09 04 00 00 01 03 01 02 00 09 21 11 01 00 01 22 32 00 07 05 81 03 40 00 0A\n1 control done 05 01 09 02 A1 01 09 01 A1 00 05 09 19 01 29 03 15 00 25 01 95 03 75 01 81 02 95 01 75 05 81 01 05 01 09 30 09 31 15 81 25 7F 75 08 95 02 81 06 C0 C0\n1 control done\n1 down 09:02\n"),
+    ("a clear between two pieces", true,
+        "device ready plain 05 01 09 30 15 00 26 FF 00 75 08 95 64 81 02\nset 1 01:30 7\npoll 1\nbegin 1 clear\ncontrol 1 clean 2\nset 1 01:30 9\npoll 1 clean 3\n",
+        "1 poll DATA0 07 00 00 00 00 00 00 00 00 00 00 00 00 00 00 00 00 00 00 00 00 00 00 00 00 00 00 00 00 00 00 00 00 00 00 00 00 00 00 00 00 00 00 00 00 00 00 00 00 00 00 00 00 00 00 00 00 00 00 00 00 00 00 00 fresh\n1 control running\n1 control done\n1 poll DATA0 09 00 00 00 00 00 00 00 00 00 00 00 00 00 00 00 00 00 00 00 00 00 00 00 00 00 00 00 00 00 00 00 00 00 00 00 00 00 00 00 00 00 00 00 00 00 00 00 00 00 00 00 00 00 00 00 00 00 00 00 00 00 00 00 fresh\n1 poll DATA1 00 00 00 00 00 00 00 00 00 00 00 00 00 00 00 00 00 00 00 00 00 00 00 00 00 00 00 00 00 00 00 00 00 00 00 00 fresh\n1 value 01:30 9\n1 poll NAK nak\n"),
+    ("a halt between two pieces", true,
+        "device ready plain 05 01 09 30 15 81 25 7F 75 08 95 64 81 06\nmove 1 01:30 5\npoll 1\npoll 1 reply\nhalt 1\npoll 1\nbegin 1 clear\ncontrol 1 clean 2\nmove 1 01:30 6\npoll 1 ack\npoll 1 clean 2\n",
+        "1 poll DATA0 05 00 00 00 00 00 00 00 00 00 00 00 00 00 00 00 00 00 00 00 00 00 00 00 00 00 00 00 00 00 00 00 00 00 00 00 00 00 00 00 00 00 00 00 00 00 00 00 00 00 00 00 00 00 00 00 00 00 00 00 00 00 00 00 fresh\n1 poll DATA1 00 00 00 00 00 00 00 00 00 00 00 00 00 00 00 00 00 00 00 00 00 00 00 00 00 00 00 00 00 00 00 00 00 00 00 00 silent\n1 dropped 01:30 5\n1 poll STALL stall\n1 control running\n1 control done\n1 poll DATA0 06 00 00 00 00 00 00 00 00 00 00 00 00 00 00 00 00 00 00 00 00 00 00 00 00 00 00 00 00 00 00 00 00 00 00 00 00 00 00 00 00 00 00 00 00 00 00 00 00 00 00 00 00 00 00 00 00 00 00 00 00 00 00 00 fresh\n1 poll DATA0 06 00 00 00 00 00 00 00 00 00 00 00 00 00 00 00 00 00 00 00 00 00 00 00 00 00 00 00 00 00 00 00 00 00 00 00 00 00 00 00 00 00 00 00 00 00 00 00 00 00 00 00 00 00 00 00 00 00 00 00 00 00 00 00 again\n1 poll DATA1 00 00 00 00 00 00 00 00 00 00 00 00 00 00 00 00 00 00 00 00 00 00 00 00 00 00 00 00 00 00 00 00 00 00 00 00 fresh\n1 motion 01:30 6\n"),
 ];
 
 /// Scripts that are refused, with what they print before and the line that names the fault.
