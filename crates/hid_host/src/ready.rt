@@ -1,7 +1,8 @@
 //! What a ready host keeps: the layout of the reports, the pipe that it polls, its view of the controls, and what came of a
 //! report that isn't whole yet.
-ghost use Rattle.std.specs.Prelude.{◌≡◌, ◌≤◌, ◌+◌, ◌++◌, not, length, unwrap_or, vec_len, vec_capacity, IfSome};
+ghost use Rattle.std.specs.Prelude.{◌≡◌, ◌≤◌, ◌<◌, ◌+◌, ◌++◌, false, not, length, unwrap_or, vec_len, vec_capacity, IfSome};
 ghost use Rattle.std.specs.Option.{option_copied};
+ghost use Rattle.hid_descriptor.specs.declared.limits.TheConstants.{MAX_REPORT_BYTES};
 ghost use Rattle.hid_layout.specs.Controls.{items_of, max_events};
 ghost use Rattle.hid_layout.specs.Reports.{IsLayout};
 ghost use Rattle.hid_usages.specs.Cells.{FitsView, blank};
@@ -174,7 +175,8 @@ impl ReadyHost {
     /// Whether a report ends with these bytes, of which so many came last: it is as long as it should be, or the last packet
     /// isn't full (USB 2.0, 5.7.3).
     fn is_whole(&self, bytes: &[u8], last: usize) -> bool
-        ensures { result ≡ is_whole self.now.layout bytes.now last }
+        ensures whole { result ≡ is_whole self.now.layout bytes.now last }
+        ensures goes_on { result ≡ false → (MAX_PAYLOAD ≤ last) × (length bytes.now < MAX_REPORT_BYTES) }
     {
         last < MAX_PAYLOAD || bytes_awaited(&self.layout, bytes) <= bytes.len()
     }

@@ -12,7 +12,7 @@ const QUIET: Options = Options {
 
 /// Scripts that run to their end.
 #[rattlefmt::skip]
-const ACCEPTED: [(&str, &str, &str); 27] = [
+const ACCEPTED: [(&str, &str, &str); 28] = [
     ("a mouse with three buttons, and its report",
         "layout 05 01 09 02 A1 01 09 01 A1 00 05 09 19 01 29 03 15 00 25 01 95 03 75 01 81 02 95 01 75 05 81 01 05 01 09 30 09 31 15 81 25 7F 75 08 95 02 81 06 C0 C0\nvalues 05 7F 81\n",
         "report input 0 bytes 3\nitem 0 input 0 at 0 1x3 variable 0..1 09:01-09:03 in 1/01:02 0/01:01\nitem 1 input 0 at 3 5x1 padding in 1/01:02 0/01:01\nitem 2 input 0 at 8 8x2 relative -127..127 01:30 01:31 in 1/01:02 0/01:01\nvalue 0.0 1 09:01\nvalue 0.1 0 09:02\nvalue 0.2 1 09:03\nvalue 2.0 127 01:30\nvalue 2.1 -127 01:31\n"),
