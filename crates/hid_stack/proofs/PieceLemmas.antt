@@ -114,13 +114,19 @@ ends_by layout r parts bytes view piece false reads last =
 abbrev pub payload : List ℕ → ArrayVec ℕ 64 (Unit {0})
 payload bytes = record { items = bytes }
 
+-- its toggle changes with each
+abbrev pub known_as : Known → List Cell → List ℕ → Known
+known_as known view collected = record {
+  layout = known.layout;
+  pipe = record known.pipe { expects = not known.pipe.expects };
+  view = view;
+  collected = collected;
+}
+
 -- its view sees the part with the last piece, and before that it keeps what came
 abbrev pub taking : Known → ℕ → List Cell → List ℕ → ℕ → Bool → Known
-taking known r parts bytes piece last = record known {
-  pipe = record known.pipe { expects = not known.pipe.expects };
-  view = cond last (seen (items_of known.layout) r known.view parts) known.view;
-  collected = cond last [] (up_to bytes piece);
-}
+taking known r parts bytes piece last =
+    known_as known (cond last (seen (items_of known.layout) r known.view parts) known.view) (cond last [] (up_to bytes piece))
 
 -- what came joined with the piece, and whether the report ends so
 record Joins (known : Known) (bytes : List ℕ) (piece : ℕ) (last : Bool) : Type 0 where
@@ -176,11 +182,10 @@ takes_piece known r parts bytes piece last reads is got =
     let read : data_read known p ≡ Ok tt
     = ap (λ (b : Bool). cond {A = Result (Unit {0}) ReportFault} b (read_or_fault (report_named known.layout (bytes_with known p))) (Ok tt)) j.ends
     ∙ ap (λ (bs : List ℕ). cond {A = Result (Unit {0}) ReportFault} last (read_or_fault (report_named known.layout bs)) (Ok tt)) j.came ∙ told_then known r parts bytes piece last reads is in
-    let pipe = record known.pipe { expects = not known.pipe.expects } in
     record {
       told = ap (told_read (Fresh (payload p))) read;
-      behind = ap (λ (v : List Cell). record known { pipe = pipe; view = v; collected = collected_with known p }) view
-          ∙ ap (λ (bs : List ℕ). record known { pipe = pipe; view = cond last (seen (items_of known.layout) r known.view parts) known.view; collected = bs }) collected;
+      behind = ap (λ (v : List Cell). known_as known v (collected_with known p)) view
+          ∙ ap (known_as known (cond last (seen (items_of known.layout) r known.view parts) known.view)) collected;
       events = ap (λ (b : Bool). cond b (events_read known.layout (bytes_with known p) known.view) []) j.ends
           ∙ ap (λ (bs : List ℕ). cond last (events_read known.layout bs known.view) []) j.came ∙ events_then known r parts bytes piece last reads is;
     }

@@ -80,8 +80,8 @@ got_if : (c : CoreState) (known : Known) (due : Option ℕ) → c.toggle ≡ kno
     → known.collected ≡ got_by (opened_core_if (record c { current = None }) due) known
 got_if c known None even none = none
 got_if c known (Some r) even none =
-    let opened = opened_core_if (record c { current = None }) (Some r) in
-    subst (λ (b : Bool). known.collected ≡ got_in (part_bytes c.layout r opened.standing.fixed) (round_at c r 0 b))
+    let there = opened_core_if (record c { current = None }) (Some r) in
+    subst (λ (b : Bool). known.collected ≡ got_in (part_bytes c.layout r there.standing.fixed) (round_at c r 0 b))
     (sym (ap (λ (t : Bool). beq c.toggle t) (sym even) ∙ beq_same c.toggle)) none
 
 got_at : (c : CoreState) (known : Known) (current : Option ℕ) → IsEven c.toggle known.pipe.expects current → known.collected ≡ got_by (record c { current = current }) known
@@ -614,7 +614,7 @@ is_taken : (fate : Fate) (d : DeviceState) (home : HostEnd) (c : CoreState) (kno
     × Ends (arrives_under fate) (Ok (Fresh (payload (piece_of (bytes_of c r) c.piece)))) (waiting d c r) device_then
 is_taken fate d home c known r result device_then host_then events meets got reads same t =
     let bytes = bytes_of c r in
-    let data = packets.Data c.toggle (payload (piece_of bytes c.piece)) in
+    let sent = packets.Data c.toggle (payload (piece_of bytes c.piece)) in
     let last = is_last_piece (items_of c.layout) r c.piece in
     let shared = sharing c known in
     let takes : TakesPiece shared r c.standing.fixed bytes c.piece last = takes_piece shared r c.standing.fixed bytes c.piece last reads refl (got_as c known r true same got) in (
@@ -622,7 +622,7 @@ is_taken fate d home c known r result device_then host_then events meets got rea
         meets = meets;
         is = refl;
         same = same;
-        told = t.told ∙ ap (told_with (Some data)) takes.told;
+        told = t.told ∙ ap (told_with (Some sent)) takes.told;
         moved = t.host_moved ∙ fresh_host shared home r c.standing.fixed bytes c.piece last takes;
         delivers = t.delivers ∙ takes.events;
       },

@@ -1,5 +1,5 @@
 -- Worked polls of a boot keyboard, by the states that both ends keep: each is worked out by hand, and a wrong one fails the check.
-use Rattle.std.specs.Prelude.{◌≡◌, ℕ, List, [], ◌∷◌, Some, None, refl}
+use Rattle.std.specs.Prelude.{◌≡◌, ℕ, true, false, List, [], ◌∷◌, replicate, Some, None, refl}
 use Rattle.usb_transact.specs.declared.host.Took.TheVariants.{Fresh, Again, Nak, Silent}
 use Rattle.usb_transact.specs.declared.transaction.Fate.{Fate}
 use Rattle.usb_transact.specs.declared.transaction.Fate.TheVariants.{Clean, TokenLost, ReplyLost, AckLost}
@@ -8,8 +8,9 @@ use Rattle.hid_lives.specs.Rounds.{OwnStep, Polls}
 use Rattle.hid_stack.specs.declared.step.Told.{Told}
 use Rattle.hid_stack.specs.declared.step.Told.TheVariants.{Polled}
 use Rattle.hid_stack.specs.declared.rig.TheConstants.{MAX_DEVICES}
-use Rattle.hid_lives.specs.Rows.{press, stands_after}
+use Rattle.hid_lives.specs.Rows.{open_at, press, stands_after}
 use Rattle.hid_lives.specs.Stations.{opened}
+use Rattle.hid_stack.specs.Members.{got_in}
 use Rattle.hid_stack.specs.Tells.{told_by}
 
 -- what a poll tells behind these steps, where the part that is sent has these bytes
@@ -49,6 +50,19 @@ token_lost = refl
 -- a reply that is lost was sent, and the host hears nothing
 reply_lost : poll_after (press 4 4 ∷ []) ReplyLost one_key ≡ Polled (Some (record { items = 0xC3 ∷ one_key })) Silent
 reply_lost = refl
+
+-- of a report of 100 bytes the host has 64 behind the first piece, and none behind the last, with which it was read
+got_first : got_in (replicate 100 7) (open_at 2 0 true) ≡ replicate 64 7
+got_first = refl
+
+got_none : got_in (replicate 100 7) (open_at 2 0 false) ≡ []
+got_none = refl
+
+got_before_the_last : got_in (replicate 100 7) (open_at 2 1 false) ≡ replicate 64 7
+got_before_the_last = refl
+
+got_all : got_in (replicate 100 7) (open_at 2 1 true) ≡ []
+got_all = refl
 
 -- a bus has room for seven devices
 devices_at_most : MAX_DEVICES ≡ 7
