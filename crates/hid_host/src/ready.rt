@@ -52,6 +52,15 @@ impl Model for ReadyHost {
     ghost invariant = { λ h. AreViews h.layout h.view h.initial × ArePackets h.collected.items };
 }
 
+/// Whether a report ends with these bytes, of which so many came last: it is as long as it should be, or the last packet isn't
+/// full (USB 2.0, 5.7.3).
+fn is_whole(layout: &Layout, bytes: &[u8], last: usize) -> bool
+    ensures whole { result ≡ is_whole layout.now bytes.now last }
+    ensures goes_on { result ≡ false → (MAX_PAYLOAD ≤ last) × (length bytes.now < MAX_REPORT_BYTES) }
+{
+    last < MAX_PAYLOAD || bytes_awaited(layout, bytes) <= bytes.len()
+}
+
 /// Reads a report that has ended. One that is refused leaves the view.
 fn read_report(
     layout: &Layout,
@@ -172,15 +181,6 @@ impl ReadyHost {
         Ok(took)
     }
 
-    /// Whether a report ends with these bytes, of which so many came last: it is as long as it should be, or the last packet
-    /// isn't full (USB 2.0, 5.7.3).
-    fn is_whole(&self, bytes: &[u8], last: usize) -> bool
-        ensures whole { result ≡ is_whole self.now.layout bytes.now last }
-        ensures goes_on { result ≡ false → (MAX_PAYLOAD ≤ last) × (length bytes.now < MAX_REPORT_BYTES) }
-    {
-        last < MAX_PAYLOAD || bytes_awaited(&self.layout, bytes) <= bytes.len()
-    }
-
     /// Joins fresh data to what came of their report before, and reads the report where it ends with them. There is reserved
     /// room for `max_events` more.
     fn read(&mut self, payload: &[u8], out: &mut Vec<Event>) -> Result<(), ReportFault>
@@ -197,11 +197,11 @@ impl ReadyHost {
             ≤ length out.old.items + max_events (items_of self.old.layout) }
         ensures room { vec_capacity out.new ≡ vec_capacity out.old }
     {
-        if self.collected.is_empty() && self.is_whole(payload, payload.len()) {
+        if self.collected.is_empty() && is_whole(&self.layout, payload, payload.len()) {
             return read_report(&self.layout, payload, &mut self.view, out);
         }
         self.collected.try_extend_from_slice(payload).unwrap();
-        if !self.is_whole(&self.collected, payload.len()) {
+        if !is_whole(&self.layout, &self.collected, payload.len()) {
             return Ok(());
         }
         let told = read_report(&self.layout, &self.collected, &mut self.view, out);

@@ -9,10 +9,10 @@ pub returns-in-Some-clause-few : goal.returns-in-Some-clause-few
 returns-in-Some-clause-few c =
     let fits : FitsShown (items_of c.self.inside.layout) c.args.fixed.now = subst (λ (h : Known). FitsShown (items_of h.layout) c.args.fixed.now) (sym c.self.view_is) c.requires.suits.fits in
     subst (λ (h : Known). length c.changes_and_drops.new.out.items ≤ length c.args.out.now.items + max_events (items_of h.layout)) c.self.view_is
-    (dropped_few (items_of c.self.inside.layout) c.in-Some.report c.self.inside.view c.self.inside.initial c.args.fixed.now c.args.out.now.items c.changes_and_drops.new.out.items c.self.invariant.fits c.self.invariant.room fits
+    (dropped_few (items_of c.self.inside.layout) c.in-Some.report c.self.inside.view c.self.inside.initial c.args.fixed.now c.args.out.now.items c.changes_and_drops.new.out.items c.self.invariant.0.fits c.self.invariant.0.room fits
     c.changes_and_drops.ensures.events)
 
 pub returns-in-None-clause-few : goal.returns-in-None-clause-few
 returns-in-None-clause-few c =
     subst (λ (h : Known). length c.changes.new.out.items ≤ length c.args.out.now.items + max_events (items_of h.layout)) c.self.view_is
-    (changed_few (items_of c.self.inside.layout) c.self.inside.view c.self.inside.initial c.args.out.now.items c.changes.new.out.items c.self.invariant.fits c.self.invariant.room c.changes.ensures.events)
+    (changed_few (items_of c.self.inside.layout) c.self.inside.view c.self.inside.initial c.args.out.now.items c.changes.new.out.items c.self.invariant.0.fits c.self.invariant.0.room c.changes.ensures.events)
