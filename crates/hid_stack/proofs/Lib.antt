@@ -16,6 +16,7 @@ pub mod ResetLemmas
 pub mod HaltLemmas
 pub mod BeginLemmas
 pub mod AttachLemmas
+pub mod ShowLemmas
 pub mod ReportLemmas
 pub mod StoryLemmas
 pub mod AnswerLemmas
