@@ -200,8 +200,8 @@ clearing_even : (core : CoreState) (known : Known) (clearing : Bool) → clearin
 clearing_even core known clearing is = subst (λ (b : Bool). IsEvenUnless (false || b) false known.pipe.expects None) (sym is) tt
 
 -- nor of what came
-clearing_got : (core : CoreState) (known : Known) (clearing : Bool) → clearing ≡ true → HasGotUnless (false || clearing) core.layout core.standing.fixed None known.collected
-clearing_got core known clearing is = subst (λ (b : Bool). HasGotUnless (false || b) core.layout core.standing.fixed None known.collected) (sym is) tt
+clearing_got : (layout : Contents) (parts : List Cell) (bytes : List ℕ) (clearing : Bool) → clearing ≡ true → HasGotUnless (false || clearing) layout parts None bytes
+clearing_got layout parts bytes clearing is = subst (λ (b : Bool). HasGotUnless (false || b) layout parts None bytes) (sym is) tt
 
 written_leaves : (core other : CoreState) (bytes : List ℕ) (pending : Pending) → Leaves core (answering (effected core bytes pending) other) (written_deed core pending)
 written_leaves core other bytes pendings.Nothing = nothing_leaves core other core.protocol core.outputs
@@ -245,7 +245,7 @@ written_leaves core other bytes pendings.Clear = record {
   station = λ phase parsed. cleared_with core other phase;
   configured = λ apart. refl;
   even = λ known clearing apart clears even. clearing_even core known clearing (clears refl);
-  got = λ known clearing apart clears got. clearing_got core known clearing (clears refl);
+  got = λ known clearing apart clears got. clearing_got core.layout (cut_at core.current core.standing).fixed known.collected clearing (clears refl);
 }
 
 effect_leaves : (effect : Effect) (core other : CoreState) → Leaves core (answering (carried_out effect core) other) (effect_deed effect core)
