@@ -37,7 +37,8 @@ fn command<'a>(alloc: Global) -> Result<Command<'a>, Error> {
         "json",
         "Print each event and refusal as a line of JSON",
     )
-    .conflicts_with_all(&["layout", "values"])?;
+    .conflicts_with("layout")?
+    .conflicts_with("values")?;
     let text = flag(
         alloc,
         "text",
