@@ -5,6 +5,7 @@ use crate::session::{FeedFault, Session};
 use crate::table::list_elements;
 use hid_layout::ControlId;
 use hid_usages::ReportFault;
+use std::test::Fail;
 
 #[rattlefmt::skip]
 const MOUSE: [u8; 50] = [
@@ -24,9 +25,14 @@ const NO_EVENT: HidEvent = HidEvent {
     kind: 0,
 };
 
+/// A session of a device.
+fn opened(rt: &HostRuntime, descriptor: &[u8]) -> Result<Session, Fail> {
+    Ok(Session::open(rt.alloc(), descriptor)?)
+}
+
 #[test]
-fn reports_are_fed(rt: HostRuntime) {
-    let mut session = Session::open(rt.alloc(), &MOUSE).expect(&rt, "the mouse");
+fn reports_are_fed(rt: HostRuntime) -> Result<(), Fail> {
+    let mut session = opened(&rt, &MOUSE)?;
     let mut few = [NO_EVENT; 4];
     let mut events = [NO_EVENT; 5];
     assert_eq!(rt; session.room(), 5);
@@ -62,11 +68,12 @@ fn reports_are_fed(rt: HostRuntime) {
         session.held(ControlId { item: 0, index: 2 })
             && !session.held(ControlId { item: 0, index: 1 })
     );
+    Ok(())
 }
 
 #[test]
-fn elements_are_listed(rt: HostRuntime) {
-    let session = Session::open(rt.alloc(), &MOUSE).expect(&rt, "the mouse");
+fn elements_are_listed(rt: HostRuntime) -> Result<(), Fail> {
+    let session = opened(&rt, &MOUSE)?;
     let elements = list_elements(rt.alloc(), session.layout()).expect(&rt, "memory");
     assert_eq!(rt; elements.len(), 5);
     let y = HidElement {
@@ -90,4 +97,5 @@ fn elements_are_listed(rt: HostRuntime) {
     assert_eq!(rt; elements[4], y);
     assert_eq!(rt; number_in(&y, &REPORT), Ok(-127));
     assert_eq!(rt; number_in(&y, &REPORT[..2]), Err(ReportFault::Short));
+    Ok(())
 }
