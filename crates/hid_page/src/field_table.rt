@@ -12,8 +12,8 @@ use hid_items::Item;
 use hid_layout::{Collection, Layout, MainItem, Shape, Usage};
 use hid_picture::push_escaped;
 use hid_pieces::{
-    InForce, first_bit, in_force, item_at, main_at, makes, place_of, print_collection, print_count, print_entry,
-    print_flags,
+    InForce, first_bit, in_force, item_at, main_at, makes, place_of, print_collection, print_count,
+    print_entry, print_flags,
 };
 use std::alloc::{AllocError, Global};
 

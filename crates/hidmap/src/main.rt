@@ -187,7 +187,9 @@ fn draw_layout(rt: &HostRuntime, layout: &Layout, descriptor: &[u8], form: Form)
         Ok(None) => {
             let count = layout.reports().len();
             if count > 0 {
-                let _ = eprintln!(rt; "hidmap: there is no such report: of {count}, the first is 0");
+                let _ = eprintln!(rt;
+                    "hidmap: there is no such report: of {count}, the first is 0"
+                );
             }
             WRONG_USAGE
         }
