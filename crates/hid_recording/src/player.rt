@@ -232,7 +232,8 @@ impl Player {
         self.text.clear();
         match self
             .devices
-            .play(self.alloc, &mut self.text, time, self.options, bytes) {
+            .play(self.alloc, &mut self.text, time, self.options, bytes)
+        {
             Ok(events) => {
                 self.reports = self.reports.saturating_add(1);
                 self.events = self.events.saturating_add(events);

@@ -120,10 +120,16 @@ fn shown(text: &mut Vec<u8>, size: Option<u64>) {
 fn a_terminal_shows_how_far_a_file_is(rt: HostRuntime) {
     let mut text = Vec::new(rt.alloc());
     shown(&mut text, Some(2_000_000));
-    assert_eq!(rt; from_utf8(text.as_slice()), Ok("\r1048576 of 2000000 bytes, 8 reports\r\x1b[K"));
+    assert_eq!(rt;
+        from_utf8(text.as_slice()),
+        Ok("\r1048576 of 2000000 bytes, 8 reports\r\x1b[K")
+    );
     text.clear();
     shown(&mut text, None);
-    assert_eq!(rt; from_utf8(text.as_slice()), Ok("\r1048576 bytes, 8 reports\r\x1b[K"));
+    assert_eq!(rt;
+        from_utf8(text.as_slice()),
+        Ok("\r1048576 bytes, 8 reports\r\x1b[K")
+    );
 }
 
 const PLAIN: Options = Options {
