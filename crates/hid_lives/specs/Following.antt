@@ -22,9 +22,9 @@ open_of round = record {
 
 -- How a station stands behind what happened, from this view and this toggle on, and what was told: it stands as the
 -- course does, with the round that is open there, whose part is the one that was fixed last; the view took the parts
--- of the rounds that crossed, the device's toggle was changed once for each piece closed, and the one that the host
--- expects once for each piece crossed, all since both ends began anew, and of toggles since a clear. (Nothing is said of
--- what the host expects of a halted endpoint, which sends no data.)
+-- of the rounds that crossed, the device's toggle was changed once for each piece closed, and the expected one once for
+-- each piece crossed, all since both ends began anew, and of toggles since a clear. (Nothing is said of the expected
+-- toggle of a halted endpoint, which sends no data.)
 pub record FollowsLife (items : List Item) (before : List Cell) (odd : Bool) (happened : List Happening)
     (course : Course) (told : List Event) (s : Station) : Type 0 where
   pub events : told ≡ told_from items before happened

@@ -146,7 +146,8 @@ abbrev pub events_in : List Item → Station → List OwnStep → List Event
 events_in items s [] = []
 events_in items s (x ∷ steps) = events_at items s x ++ events_in items (after items s x) steps
 
--- The toggle that the host expects: the device's, or the other one where the piece at hand has crossed. (Where a halt
--- ended a round whose piece at hand had crossed this isn't the host's until the endpoint is cleared.)
+-- The toggle that a host expects which knows what became of its polls: the device's, or the other one where the piece at
+-- hand has crossed. (A host isn't told that its endpoint halted, nor that a clear took effect which isn't done: until it is
+-- done its host keeps the toggle that it had.)
 abbrev pub expected : Station → Bool
 expected s = elim s.current [ None ↦ s.odd | Some round ↦ (if round.crossed then not s.odd else s.odd) ]
