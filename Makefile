@@ -24,8 +24,6 @@ test:
 	rt ci
 	$(MAKE) --no-print-directory documents
 	$(MAKE) --no-print-directory hidrun hidplay hidmap examples memory
-	@if $(CC) --version > /dev/null 2>&1; then $(MAKE) --no-print-directory library-test; else \
-	  echo "library: the C library and its tests are left out, since there is no C compiler"; fi
 
 # Runs a script without a proof: make try SCRIPT=FILE ARGS=--trace
 try:
