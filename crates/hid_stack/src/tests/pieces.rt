@@ -2,7 +2,7 @@
 //! told whole or not at all, whatever comes between its pieces. What is wanted was worked out by hand from the definitions.
 
 use super::{Verdict, config, is_verdict};
-use crate::{Delivered, Request, Rig, Start, Step, Told};
+use crate::{Delivered, Request, Rig, StackFault, Start, Step, Told};
 use hid_device::Boot;
 use hid_layout::{ControlId, Usage};
 use hid_usages::{Change, Event};
@@ -193,17 +193,28 @@ const SCHEDULES: [(&str, &[u8], &[Row]); 8] = [
     ]),
 ];
 
-/// The first step of device 1 that tells, leaves or delivers anything else than its row says.
+/// Whether this piece of device 1 goes out.
+fn is_at(rig: &Rig, piece: Option<usize>) -> Result<bool, StackFault> {
+    Ok(rig.device(1)?.piece() == piece)
+}
+
+/// Whether a step of device 1 tells, leaves and delivers what its row says.
+fn goes(rt: &HostRuntime, rig: &mut Rig, row: &Row) -> Result<bool, Fail> {
+    let (does, wanted, piece, events) = row;
+    let mut out = Vec::new(rt.alloc());
+    let told = rig.step(&step_of(*does), &mut out)?;
+    let is_wanted = is_told(&told, *wanted) && are_delivered(&out, events);
+    Ok(is_at(rig, *piece)? && is_wanted)
+}
+
+/// The first row that doesn't go as it says.
 fn first_that_differs(
     rt: &HostRuntime,
     rig: &mut Rig,
     rows: &[Row],
 ) -> Result<Option<usize>, Fail> {
-    for (at, (does, wanted, piece, events)) in rows.iter().enumerate() {
-        let mut out = Vec::new(rt.alloc());
-        let told = rig.step(&step_of(*does), &mut out)?;
-        let is_wanted = is_told(&told, *wanted) && rig.device(1)?.piece() == *piece;
-        if !(is_wanted && are_delivered(&out, events)) {
+    for (at, row) in rows.iter().enumerate() {
+        if !goes(rt, rig, row)? {
             return Ok(Some(at));
         }
     }
