@@ -1,7 +1,7 @@
 //! Reports of more than a packet on the bus, which go in pieces of 64 bytes (USB 2.0, 5.7.3, 8.5.4, 8.6 and 9.4.5): each is
 //! told whole or not at all, whatever comes between its pieces. What is wanted was worked out by hand from the definitions.
 
-use super::{Verdict, config, is_verdict};
+use super::{Verdict, attach_to, is_verdict};
 use crate::{Delivered, Request, Rig, StackFault, Start, Step, Told};
 use hid_device::Boot;
 use hid_layout::{ControlId, Usage};
@@ -225,7 +225,7 @@ fn first_that_differs(
 fn a_report_is_told_whole_or_not_at_all(rt: HostRuntime) -> Result<(), Fail> {
     for (name, descriptor, rows) in SCHEDULES {
         let mut rig = Rig::new(rt.alloc())?;
-        rig.attach(&config(Boot::No), descriptor, Start::Ready)?;
+        attach_to(&mut rig, Boot::No, descriptor, Start::Ready)?;
         let wrong = first_that_differs(&rt, &mut rig, rows)?;
         assert!(rt; wrong.is_none(), "{name}: {wrong:?}");
     }
