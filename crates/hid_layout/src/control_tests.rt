@@ -1,7 +1,7 @@
 //! The controls and codes of the HID specification's keyboard and mouse (HID 1.11, B.1, B.2 and E.10), and of short
 //! descriptors with one rule each, worked out by hand.
 
-use crate::test_rows::{descriptor_of, numbers_of, parts};
+use crate::test_rows::{descriptor_of, numbers_of, parts, rows_of};
 use crate::{Codes, ControlId, Controls, Layout, Usage};
 use std::alloc::Global;
 use std::test::Fail;
@@ -62,7 +62,7 @@ fn item_told(alloc: Global, layout: &Layout, item: usize) -> Result<String, Fail
 
 #[test]
 fn items_have_their_controls_and_codes(rt: HostRuntime) -> Result<(), Fail> {
-    for row in ITEMS.trim().lines() {
+    for row in rows_of(ITEMS) {
         let (descriptor, item, wanted) = parts(row);
         let layout = layout_of(rt.alloc(), descriptor)?.expect(&rt, "accepted");
         let told = item_told(rt.alloc(), &layout, item.parse()?)?;
@@ -127,7 +127,7 @@ fn control_told(alloc: Global, layout: &Layout, id: ControlId) -> Result<String,
 
 #[test]
 fn places_have_their_controls(rt: HostRuntime) -> Result<(), Fail> {
-    for row in CONTROLS.trim().lines() {
+    for row in rows_of(CONTROLS) {
         let (descriptor, place, wanted) = parts(row);
         let layout = layout_of(rt.alloc(), descriptor)?.expect(&rt, "accepted");
         let (item, index) = numbers_of(place)?;
@@ -164,7 +164,7 @@ fn plan_told(alloc: Global, layout: &Layout, item: usize, report: usize) -> Resu
 
 #[test]
 fn reports_have_their_plan(rt: HostRuntime) -> Result<(), Fail> {
-    for row in PLANS.trim().lines() {
+    for row in rows_of(PLANS) {
         let (descriptor, asked, wanted) = parts(row);
         let layout = layout_of(rt.alloc(), descriptor)?.expect(&rt, "accepted");
         let (item, report) = numbers_of(asked)?;
@@ -216,7 +216,7 @@ fn least_told(alloc: Global, layout: &Layout, usage: &str) -> Result<String, Fai
 
 #[test]
 fn the_least_control_is_found(rt: HostRuntime) -> Result<(), Fail> {
-    for row in LEAST.trim().lines() {
+    for row in rows_of(LEAST) {
         let (descriptor, usage, wanted) = parts(row);
         let layout = layout_of(rt.alloc(), descriptor)?.expect(&rt, "accepted");
         let told = least_told(rt.alloc(), &layout, usage)?;
@@ -251,7 +251,7 @@ fn usage_told(alloc: Global, layout: &Layout, index: usize) -> Result<String, Fa
 
 #[test]
 fn usages_are_found_in_their_range(rt: HostRuntime) -> Result<(), Fail> {
-    for row in USAGES.trim().lines() {
+    for row in rows_of(USAGES) {
         let (descriptor, index, wanted) = parts(row);
         let layout = layout_of(rt.alloc(), descriptor)?.expect(&rt, "accepted");
         let told = usage_told(rt.alloc(), &layout, index.parse()?)?;

@@ -3,7 +3,13 @@
 
 use crate::boot::{KEYBOARD, MOUSE};
 use std::alloc::Global;
+use std::str::Lines;
 use std::test::Fail;
+
+/// The rows of a table.
+pub fn rows_of(table: &str) -> Lines<'_> {
+    table.trim().lines()
+}
 
 /// The descriptor of a row, what is asked, and what is wanted.
 pub fn parts(row: &str) -> (&str, &str, &str) {

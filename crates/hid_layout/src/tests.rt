@@ -2,7 +2,7 @@
 //! nearest one that is accepted. What descriptors lay out stands in the examples, worked out by hand.
 
 use crate::boot::{KEYBOARD, MOUSE};
-use crate::test_rows::{descriptor_of, numbers_of, parts};
+use crate::test_rows::{descriptor_of, numbers_of, parts, rows_of};
 use crate::{Cause, Layout, LayoutFault};
 use std::alloc::Global;
 use std::test::Fail;
@@ -39,7 +39,7 @@ fn accepted(rt: &HostRuntime, descriptor: &[u8]) -> Result<Layout, Fail> {
 #[test]
 fn the_mouse_has_buttons_and_motion(rt: HostRuntime) -> Result<(), Fail> {
     let layout = accepted(&rt, &MOUSE)?;
-    for row in READ.trim().lines() {
+    for row in rows_of(READ) {
         let (place, wanted) = row.split_once('>').unwrap_or((row, ""));
         let told = read(rt.alloc(), &layout, place.trim())?;
         assert_eq!(rt; told.as_str(), wanted.trim(), "{row}");
@@ -106,7 +106,7 @@ const REFUSED: &str = "
 
 #[test]
 fn a_refusal_has_its_cause_and_place(rt: HostRuntime) -> Result<(), Fail> {
-    for row in REFUSED.trim().lines() {
+    for row in rows_of(REFUSED) {
         let (descriptor, _, wanted) = parts(row);
         let told = parsed(rt.alloc(), &descriptor_of(rt.alloc(), descriptor)?)?;
         assert_eq!(rt; told.as_str(), wanted, "{row}");
@@ -143,7 +143,7 @@ const ACCEPTED: &str = "
 
 #[test]
 fn the_nearest_descriptor_is_accepted(rt: HostRuntime) -> Result<(), Fail> {
-    for row in ACCEPTED.trim().lines() {
+    for row in rows_of(ACCEPTED) {
         let (descriptor, _, wanted) = parts(row);
         let told = parsed(rt.alloc(), &descriptor_of(rt.alloc(), descriptor)?)?;
         assert_eq!(rt; told.as_str(), wanted, "{row}");
@@ -168,7 +168,7 @@ const LIMITS: &str = "
 
 #[test]
 fn limits_are_reached_and_not_passed(rt: HostRuntime) -> Result<(), Fail> {
-    for row in LIMITS.trim().lines() {
+    for row in rows_of(LIMITS) {
         let (descriptor, _, wanted) = parts(row);
         let told = parsed(rt.alloc(), &descriptor_of(rt.alloc(), descriptor)?)?;
         assert_eq!(rt; told.as_str(), wanted, "{row}");
@@ -207,7 +207,7 @@ fn counted(alloc: Global, row: &str) -> Result<String, Fail> {
 
 #[test]
 fn fields_and_ids_are_counted(rt: HostRuntime) -> Result<(), Fail> {
-    for row in COUNTED.trim().lines() {
+    for row in rows_of(COUNTED) {
         let (given, _, wanted) = parts(row);
         let told = counted(rt.alloc(), given.trim())?;
         assert_eq!(rt; told.as_str(), wanted, "{row}");
