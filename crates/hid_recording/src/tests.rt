@@ -46,9 +46,12 @@ const NO_NAMES: Options = Options {
     json: true,
 };
 
+/// What a recording is about, the options, the recording, and what it tells.
+type Recorded = (&'static str, Options, &'static str, &'static str);
+
 /// Recordings with what they tell.
 #[rattlefmt::skip]
-const TOLD: [(&str, Options, &str, &str); 14] = [
+const TOLD: [Recorded; 14] = [
     ("a mouse that clicks and moves", PLAIN,
         "# a mouse\nD: 0\nR: 50 05 01 09 02 A1 01 09 01 A1 00 05 09 19 01 29 03 15 00 25 01 95 03 75 01 81 02 95 01 75 05 81 01 05 01 09 30 09 31 15 81 25 7F 75 08 95 02 81 06 C0 C0\nN: mouse\nI: 3 046d c077\nE: 000000.000000 3 01 05 00\nE: 000000.010000 3 00 00 FF\n",
         "000000.000000 0 down 09:01\n000000.000000 0 motion 01:30 5\n000000.010000 0 up 09:01\n000000.010000 0 motion 01:31 -1\n"),
@@ -101,15 +104,21 @@ fn played(
     play(alloc, &mut reader, text, options, &mut ())
 }
 
+/// What the first recording is about that tells anything else.
+fn first_wrong(alloc: Global, rows: &[Recorded]) -> Result<Option<&'static str>, Fail> {
+    for (name, options, recording, want) in rows {
+        let mut text = Vec::new(alloc);
+        let result = played(alloc, *options, recording, &mut text);
+        if result.is_err() || text.as_slice() != want.as_bytes() {
+            return Ok(Some(*name));
+        }
+    }
+    Ok(None)
+}
+
 #[test]
 fn recordings_tell_their_events(rt: HostRuntime) -> Result<(), Fail> {
-    for (name, options, recording, want) in TOLD {
-        let mut text = Vec::new(rt.alloc());
-        let result = played(rt.alloc(), options, recording, &mut text);
-        assert!(rt; result.is_ok(), "{name}");
-        let text = String::from_utf8(text)?;
-        assert_eq!(rt; text.as_str(), want, "{name}");
-    }
+    assert_eq!(rt; first_wrong(rt.alloc(), &TOLD)?, None);
     Ok(())
 }
 
