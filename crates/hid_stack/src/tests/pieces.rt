@@ -1,7 +1,7 @@
 //! Reports of more than a packet on the bus, which go in pieces of 64 bytes (USB 2.0, 5.7.3, 8.5.4, 8.6 and 9.4.5): each is
 //! told whole or not at all, whatever comes between its pieces. What is wanted was worked out by hand from the definitions.
 
-use super::{Verdict, attach_to, is_verdict};
+use super::{Verdict, bus_with, is_verdict};
 use crate::{Delivered, Request, Rig, StackFault, Start, Step, Told};
 use hid_device::Boot;
 use hid_layout::{ControlId, Usage};
@@ -125,8 +125,11 @@ fn are_delivered(out: &[Delivered], wanted: &[Given]) -> bool {
 /// A step, what it tells, which piece goes out behind it, and what is delivered.
 type Row = (Does, Tells, Option<usize>, &'static [Given]);
 
+/// What a schedule is about, the descriptor of its device, and its steps.
+type Schedule = (&'static str, &'static [u8], &'static [Row]);
+
 #[rattlefmt::skip]
-const SCHEDULES: [(&str, &[u8], &[Row]); 8] = [
+const SCHEDULES: [Schedule; 8] = [
     ("a value that is set between two pieces goes in the next round", &VALUES, &[
         (Does::Set(7),                Tells::Any,                               None,    &[]),
         (Does::Poll(Fate::AckLost),   Tells::Data(0xC3, 7, 64, Verdict::Fresh), Some(0), &[]),
@@ -221,13 +224,24 @@ fn first_that_differs(
     Ok(None)
 }
 
+/// The first row that doesn't go as it says, of a bus with this device alone.
+fn plays(rt: &HostRuntime, descriptor: &[u8], rows: &[Row]) -> Result<Option<usize>, Fail> {
+    let mut rig = bus_with(rt, Boot::No, descriptor, Start::Ready)?;
+    first_that_differs(rt, &mut rig, rows)
+}
+
+/// What the first schedule is about that doesn't go as it says.
+fn first_wrong(rt: &HostRuntime, schedules: &[Schedule]) -> Result<Option<&'static str>, Fail> {
+    for (name, descriptor, rows) in schedules {
+        if plays(rt, descriptor, rows)?.is_some() {
+            return Ok(Some(*name));
+        }
+    }
+    Ok(None)
+}
+
 #[test]
 fn a_report_is_told_whole_or_not_at_all(rt: HostRuntime) -> Result<(), Fail> {
-    for (name, descriptor, rows) in SCHEDULES {
-        let mut rig = Rig::new(rt.alloc())?;
-        attach_to(&mut rig, Boot::No, descriptor, Start::Ready)?;
-        let wrong = first_that_differs(&rt, &mut rig, rows)?;
-        assert!(rt; wrong.is_none(), "{name}: {wrong:?}");
-    }
+    assert_eq!(rt; first_wrong(&rt, &SCHEDULES)?, None);
     Ok(())
 }
