@@ -1,17 +1,11 @@
 //! Reports of more than a packet at a ready host (USB 2.0, 5.7.3, 8.6 and 9.4.5; HID 1.11, 5.6): what came of a report is kept
-//! until it ends, and forgotten where it is refused, where the endpoint is cleared, and at a reset. What is wanted was worked
-//! out by hand from the descriptors.
+//! until it ends, and forgotten where it is refused. What is wanted was worked out by hand from the descriptors.
 
-use super::{data, device, ready};
+use super::{data, ready};
 use crate::{HostDevice, StackFault};
-use hid_device::{Boot, Config, Device};
-use hid_layout::ControlId;
-use hid_requests::Request;
-use hid_usages::{Change, ReportFault};
+use hid_usages::ReportFault;
 use std::test::Fail;
-use usb_control::Progress;
-use usb_packet::Packet;
-use usb_transact::{Fate, Took};
+use usb_transact::Took;
 
 /// 100 values of a byte each, in a report without an ID.
 #[rattlefmt::skip]
@@ -127,68 +121,5 @@ fn first_wrong(rt: &HostRuntime, rows: &[Row]) -> Result<Option<&'static str>, F
 #[test]
 fn a_report_is_read_once_it_is_whole(rt: HostRuntime) -> Result<(), Fail> {
     assert_eq!(rt; first_wrong(&rt, &ROWS)?, None);
-    Ok(())
-}
-
-/// A device at address 1 with that report, configured.
-fn long_device(rt: &HostRuntime) -> Result<Device, Fail> {
-    let config = Config {
-        vendor: 0xFFFF,
-        product: 0x0001,
-        interval: 10,
-        boot: Boot::No,
-    };
-    let mut device = device(rt, &config, &LONG)?;
-    device.configure();
-    Ok(device)
-}
-
-/// The events of a poll of which nothing is lost, where it brings fresh data.
-fn polled(
-    rt: &HostRuntime,
-    host: &mut HostDevice,
-    device: &mut Device,
-) -> Result<Option<usize>, Fail> {
-    let answer = device.on_packet(&host.token()?);
-    let mut out = Vec::with_capacity(rt.alloc(), host.max_events())?;
-    let took = host.reply(answer.as_ref(), &mut out)?;
-    device.on_packet(&Packet::Ack);
-    Ok(match took {
-        Took::Fresh(_) => Some(out.len()),
-        _ => None,
-    })
-}
-
-/// Whether the next polls bring so many events each.
-fn are_polled(
-    rt: &HostRuntime,
-    host: &mut HostDevice,
-    device: &mut Device,
-    wanted: &[Option<usize>],
-) -> Result<bool, Fail> {
-    for count in wanted {
-        if polled(rt, host, device)? != *count {
-            return Ok(false);
-        }
-    }
-    Ok(true)
-}
-
-/// Whether a clear is done in its second try.
-fn is_cleared(host: &mut HostDevice, device: &mut Device) -> Result<bool, StackFault> {
-    host.begin(&Request::Clear)?;
-    let first = host.control_step(device.control(), Fate::Clean)?;
-    let second = host.control_step(device.control(), Fate::Clean)?;
-    Ok(first == Progress::Running && second == Progress::Done)
-}
-
-#[test]
-fn a_clear_forgets_what_came_of_a_report(rt: HostRuntime) -> Result<(), Fail> {
-    let mut device = long_device(&rt)?;
-    let mut host = ready(&rt, &LONG)?;
-    device.change(Change::Set(ControlId { item: 0, index: 99 }, 7))?;
-    assert!(rt; are_polled(&rt, &mut host, &mut device, &[Some(0)])?);
-    assert!(rt; is_cleared(&mut host, &mut device)?);
-    assert!(rt; are_polled(&rt, &mut host, &mut device, &[Some(0), Some(1), None])?);
     Ok(())
 }
