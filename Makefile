@@ -10,20 +10,22 @@ SEED ?= 1
 PREFIX ?= /usr/local
 DESTDIR ?=
 VERSION := 0.2.0
+MAJOR := $(firstword $(subst ., ,$(VERSION)))
 
-.PHONY: run test try hidrun hidplay hidmap examples library library-test library-check library-cost scale play-cost install deb deb-test documents memory refusals mutants descriptors compare-linux clean
+.PHONY: run test try hidrun hidplay hidmap examples library library-test library-check library-cost scale play-cost names install deb deb-test documents memory refusals mutants descriptors compare-linux clean
 
 # Runs the mouse example on the proved program.
 run: $(HIDRUN)
 	$(HIDRUN) < examples/layouts/mouse.script
 
 # Proves, tests and builds everything from nothing, looks whether all that documents cite is there, and runs each
-# example on the program that it built, and the C library's where there is a C compiler.
+# example on the program that it built, and those of the C library where there is a C compiler.
 test:
 	rm -rf bin/build/rooms
 	rt ci
 	$(MAKE) --no-print-directory documents
 	$(MAKE) --no-print-directory hidrun hidplay hidmap examples memory
+	if tools/archive hidstack; then $(MAKE) --no-print-directory library-test; fi
 
 # Runs a script without a proof: make try SCRIPT=FILE ARGS=--trace
 try:
@@ -76,6 +78,10 @@ scale: $(HIDPLAY)
 play-cost: $(HIDPLAY)
 	tools/play-cost $(HIDPLAY)
 
+# Holds the names of usages against Debian's list (package usb.ids), where it is installed.
+names:
+	tools/check-names
+
 # The C library: bin/lib/libhidstack.a and the shared libhidstack.so.$(VERSION), of the proved crate.
 library: bin/lib/libhidstack.a
 
@@ -87,11 +93,11 @@ $(ARCHIVE): crates.txt $(SOURCES)
 bin/lib/libhidstack.a: $(ARCHIVE) tools/library
 	tools/library $(ARCHIVE) bin/lib $(VERSION)
 
-# Holds the header against the exports, and runs the examples in C, C++ and Python and the wrong calls.
+# Holds the header against the exports, and runs the quick start, the examples in C, C++ and Python and the wrong calls.
 library-test: library
 	tools/check-library
 
-# The same under valgrind and the address sanitizer, and with each allocation of an opening refused in turn.
+# The same under valgrind and the sanitizers, and with each allocation of an opening, a table, a run and a text refused.
 library-check: library
 	tools/check-library --memory
 
@@ -99,20 +105,24 @@ library-check: library
 library-cost: library
 	tools/library-cost
 
-# Programs, library, header, pkg-config file, manual pages and completion: make install PREFIX=/usr/local DESTDIR=
+# Programs, library, header, pkg-config file, manual pages, completion and documents: make install PREFIX=/usr/local DESTDIR=
 install: $(HIDRUN) $(HIDPLAY) $(HIDMAP) library
 	install -Dm755 $(HIDRUN) $(DESTDIR)$(PREFIX)/bin/hidrun
 	install -Dm755 $(HIDPLAY) $(DESTDIR)$(PREFIX)/bin/hidplay
 	install -Dm755 $(HIDMAP) $(DESTDIR)$(PREFIX)/bin/hidmap
 	install -Dm644 bin/lib/libhidstack.a $(DESTDIR)$(PREFIX)/lib/libhidstack.a
 	install -Dm755 bin/lib/libhidstack.so.$(VERSION) $(DESTDIR)$(PREFIX)/lib/libhidstack.so.$(VERSION)
-	cp -P bin/lib/libhidstack.so bin/lib/libhidstack.so.0 $(DESTDIR)$(PREFIX)/lib
+	cp -P bin/lib/libhidstack.so bin/lib/libhidstack.so.$(MAJOR) $(DESTDIR)$(PREFIX)/lib
 	install -Dm644 include/hidstack.h $(DESTDIR)$(PREFIX)/include/hidstack.h
 	install -Dm644 packaging/hidrun.1 $(DESTDIR)$(PREFIX)/share/man/man1/hidrun.1
 	install -Dm644 packaging/hidplay.1 $(DESTDIR)$(PREFIX)/share/man/man1/hidplay.1
 	install -Dm644 packaging/hidmap.1 $(DESTDIR)$(PREFIX)/share/man/man1/hidmap.1
 	install -Dm644 packaging/hidstack.3 $(DESTDIR)$(PREFIX)/share/man/man3/hidstack.3
 	install -Dm644 -t $(DESTDIR)$(PREFIX)/share/bash-completion/completions packaging/completion/*
+	install -Dm644 -t $(DESTDIR)$(PREFIX)/share/doc/rulohevian README.md
+	install -Dm644 -t $(DESTDIR)$(PREFIX)/share/doc/rulohevian/docs docs/*.md
+	install -Dm644 -t $(DESTDIR)$(PREFIX)/share/doc/rulohevian/docs/pictures docs/pictures/*.svg
+	install -Dm644 -t $(DESTDIR)$(PREFIX)/share/doc/rulohevian/examples examples/README.md
 	mkdir -p $(DESTDIR)$(PREFIX)/lib/pkgconfig
 	sed 's|@PREFIX@|$(PREFIX)|; s|@VERSION@|$(VERSION)|' packaging/hidstack.pc.in > $(DESTDIR)$(PREFIX)/lib/pkgconfig/hidstack.pc
 
@@ -154,8 +164,8 @@ descriptors: $(HIDRUN)
 # with tshark, and on what QEMU's own keyboard, mouse and tablet send: docs/COMPARISON.md. Outside of the gate; it wants
 # qemu-system-x86, tshark, gcc and Debian's apt, fetches kernel and busybox into bin/linux, and says what it leaves out.
 compare-linux: $(HIDPLAY)
-	tools/compare-linux $(HIDPLAY) --seed $(SEED)
-	tools/compare-tshark $(HIDPLAY) --seed $(SEED)
+	tools/compare-tshark $(HIDPLAY) --seed $(SEED) --self-test
+	tools/compare-linux $(HIDPLAY) --seed $(SEED) --self-test
 	tools/compare-qemu $(HIDPLAY)
 
 # Runs each example script on the proved program, and each test of calls that take memory, with each of its allocations

@@ -3,8 +3,10 @@
  * What each call promises is a contract that was proved of the library's code: docs/C.md names it, call by call. What no
  * proof can see is what a C program does, so it owes this:
  *
- *   - Pointers are to what their types say, and live for the call. None is null, but with a length of 0 one may be.
- *     Nothing that a call writes overlaps another of its arguments.
+ *   - Pointers are to what their types say, and live for the call. At the pointer of a descriptor, a report or a script
+ *     stand the bytes that its length says, and at that of a table or a text the places that its room says: no call can
+ *     look. None is null, but with a length or room of 0 one may be. Nothing that a call writes overlaps another of its
+ *     arguments.
  *   - A `struct hidstack` is all bytes zero before its first call (HIDSTACK_INIT), or was left by a call. While it is
  *     open it is not copied, and only hidstack_close ends it: what it keeps would else never be given back.
  *   - No two calls are at work on one `struct hidstack` at once, calls that only read it included. It may go from one
@@ -12,19 +14,29 @@
  *     nothing: they may run in any threads at once.
  *   - No call comes from a signal handler. `malloc`, `realloc` and `free` are the C library's own.
  *
- * Lengths and places may be any: a wrong one is told by a status. Every call returns.
+ * The bytes may be any, and so may lengths and rooms that stand there, items, indices, options and the contents of an
+ * element: what is wrong is told by a status. Every call returns.
  *
  * Places: an `item` is the place of a listed item, the Input, Output and Feature items of a descriptor that have bits,
  * from 0 in its order. An `index` is the place of an element in its item, and of a control the place of its element, or
- * of an array the place of its key in the item's usage list. Bytes and numbers are those of the machine: each struct
- * has fields of fixed width alone, each at a multiple of its own width.
+ * of an array the place of its key in the item's usage list. Bytes and numbers are those of the machine, which is one
+ * of 64 bits. Each struct but `struct hidstack` has fields of fixed width alone, each at a multiple of its own width.
  *
- * It compiles as C99 and as C++. Link with -lhidstack. */
+ * Memory: hidstack_open takes some, until hidstack_close. Calls that read a handle take none, and neither do
+ * hidstack_feed, hidstack_number and hidstack_cause_words. The others give back what they took. Of the stack a call
+ * takes 10 kB, and hidstack_run 37 kB, what a thread takes itself included (measured: docs/C.md).
+ *
+ * It compiles as C99 and as C++11. Link with -lhidstack. docs/C.md and docs/SCRIPT.md are installed below PREFIX as
+ * share/doc/rulohevian, with the Debian package as /usr/share/doc/rulohevian. */
 #ifndef HIDSTACK_H
 #define HIDSTACK_H
 
 #include <stddef.h>
 #include <stdint.h>
+
+#if SIZE_MAX < UINT64_MAX
+#error "libhidstack is for machines of 64 bits"
+#endif
 
 #ifdef __cplusplus
 extern "C" {
@@ -33,7 +45,7 @@ extern "C" {
 /* What calls answer. A call that doesn't answer HIDSTACK_OK writes nothing but what is said there. */
 enum hidstack_status {
     HIDSTACK_OK = 0,      /* done */
-    HIDSTACK_REFUSED = 1, /* the descriptor, or a line of the script, is refused: its cause and place are told */
+    HIDSTACK_REFUSED = 1, /* the descriptor is refused, or the script ended at a line: cause and place are told */
     HIDSTACK_BUSY = 2,    /* the handle is open already */
     HIDSTACK_CLOSED = 3,  /* the handle is closed */
     HIDSTACK_NO_ROOM = 4, /* the table or text is too small: the room that it needs is told */
@@ -168,14 +180,16 @@ struct hidstack_ran {
 /* ---- A device, a report at a time ---- */
 
 /* Reads a report descriptor of `length` bytes into a closed handle. It takes memory, which hidstack_close gives back.
- *   OK       the handle is open: nothing is held, values are 0 where 0 is in range; `opened` tells what it has
+ *   OK       the handle is open, and `opened` tells what it has. Nothing is held. An absolute control has no value where
+ *            it has a null state; else its value is 0 where 0 is in range, and else the least one
  *   REFUSED  the handle is closed still; `opened` tells cause and place. Cause 17 at 0: memory was wanting
- *   BUSY     the handle was open, and stays as it was */
+ *   BUSY     the handle was open; it stays as it was, and so does `opened` */
 uint32_t hidstack_open(const uint8_t *descriptor, size_t length, struct hidstack *handle, struct hidstack_opened *opened);
 
 /* Reads the bytes of an Input report, its ID first where reports have IDs, and writes its events over the first places
  * of `events`, which has `room` places. Bytes behind the report's are ignored. It takes no memory.
- *   OK       `count` is how many events there are; the places behind them stay as they were
+ *   OK       `count` is how many events there are; the places behind them stay as they were. They come by rising item,
+ *            and in an item by rising index, but for an array: each key that went up, and then each that went down
  *   NO_ROOM  `room` is less than the `room` of hidstack_open, which `count` tells; whatever the report is
  *   SHORT, UNKNOWN, CLOSED: `count` is 0
  * But for OK the view and the table stay as they were. */
@@ -223,10 +237,11 @@ uint32_t hidstack_number(const struct hidstack_element_info *element, const uint
 /* ---- Scripts and texts. None is ended by a zero byte. ---- */
 
 /* Runs a script of docs/SCRIPT.md, as `hidrun` does, and writes what it tells over the first bytes of `out`.
- *   OK       all lines were run
- *   REFUSED  a line was refused: what was told before it is in `out`, the line that names its fault in `fault`
- *   NO_ROOM  a text is longer than its room: `ran` tells both lengths, and neither is written
- *   MEMORY   memory was wanting for the line that names the fault; nothing is written, and `ran` is all 0 */
+ *   OK       all lines were run, and `fault` stays as it was
+ *   REFUSED  the run ended at a line: what was told before is in `out`, the line that names the fault in `fault`. A line
+ *            is refused by X1 to X4 and X9; by X7 memory was wanting at it, and by X6 memory for what the script tells
+ *   NO_ROOM  a text is longer than its room: `ran` tells both lengths and the line, and neither text is written
+ *   MEMORY   memory was wanting, and then also for the line that names the fault; neither text is written, `ran` is all 0 */
 uint32_t hidstack_run(const uint8_t *script, size_t length, uint32_t options, uint8_t *out, size_t out_room, uint8_t *fault, size_t fault_room, struct hidstack_ran *ran);
 
 /* The code of a cause, `L10` of 10, over the first bytes of `out`; `told` is its length.

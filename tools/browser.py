@@ -121,11 +121,11 @@ class Browser:
         tree = self.value("document.documentElement.outerHTML")
         return re.findall(r"<(?:h2|title|td)[^>]*>([^<]*)<", tree)
 
-    def links(self):
-        """The names of links, as a screen reader is told them."""
+    def names(self, role):
+        """The names of all parts of a role, as links, as a screen reader is told them."""
         self.ask("Accessibility.enable")
         nodes = self.ask("Accessibility.getFullAXTree")["nodes"]
-        return [node["name"]["value"] for node in nodes if not node["ignored"] and node["role"]["value"] == "link"]
+        return [node["name"]["value"] for node in nodes if not node["ignored"] and node["role"]["value"] == role]
 
     def misplaced(self):
         return json.loads(self.value(MISPLACED))

@@ -4,7 +4,6 @@ fetch() downloads Debian's kernel and busybox by `apt-get download` into a folde
 installed. play() boots that kernel with tools/c/uhidplay.c as its only program, and gives what it prints. What is wanting
 is told as Missing, with the package to install.
 """
-import os
 import pathlib
 import shutil
 import subprocess
@@ -47,8 +46,9 @@ def ran(words, **how):
 
 def kernel_package():
     """The package on which linux-image-amd64 depends, as linux-image-6.1.0-56-amd64."""
-    lines = ran(["apt-cache", "depends", "linux-image-amd64"]).splitlines()
-    names = [line.split()[1] for line in lines if "Depends: linux-image-" in line]
+    asked = subprocess.run(["apt-cache", "depends", "linux-image-amd64"], stdout=subprocess.PIPE, stderr=subprocess.DEVNULL,
+                           text=True, check=False)
+    names = [line.split()[1] for line in asked.stdout.splitlines() if "Depends: linux-image-" in line]
     if not names:
         raise Missing("apt-cache knows no linux-image-amd64: apt-get update, with Debian's main among the sources")
     return names[0]

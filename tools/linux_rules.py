@@ -1,16 +1,27 @@
 """What Linux makes of a report, by the rules of its hid-core.c, hid-input.c and input.c (6.1), one after another.
 
 There follows the kernel's own map of usages to codes. Where a rule makes of an element's number something else than the
-standard does, its name stands in `fired` beside the code: the class of the difference. What this says is held against what
-the kernel told, so a rule that is wrong or missing shows as a difference that isn't explained.
+standard does, its name stands in `fired` beside the code: the class of the difference; in `apart` it stands for as long as
+what is held of that code may be another than here. What this says is held against what the kernel told, so a rule that is
+wrong or missing shows as a difference that isn't explained.
 """
 from linux_sides import ABS, KEY, MOST_USAGES, NULL, POWER, REL, RELATIVE, VARIABLE, usage_list
 
 BUFFERED, HAT, TOUCH, RUBBER = 0x100, 0x10039, 0x14A, 0x141
 ERASER, INVERT, TIP, IN_RANGE = 0xD0045, 0xD003C, 0xD0042, 0xD0032
 TOOLS = [ERASER, INVERT, TIP, IN_RANGE]
+CONTACT = 0xD0051
+EARLY = [ERASER, INVERT, TIP, 0xD0030, IN_RANGE]  # hid-input.c takes these first, Tip Pressure before In Range
 PADS = {0x10090: 1, 0x10091: 5, 0x10092: 3, 0x10093: 7}
 DIRECTIONS = [(0, 0), (0, -1), (1, -1), (1, 0), (1, 1), (0, 1), (-1, 1), (-1, 0), (-1, -1)]
+
+
+SCAN = (4, 4)  # MSC_SCAN
+
+
+def of_32_bits(number):
+    """The number as the kernel holds it."""
+    return (number + (1 << 31)) % (1 << 32) - (1 << 31)
 
 
 def cut(number, divisor):
@@ -24,28 +35,28 @@ class There:
     def __init__(self, layout, map, fuzz):
         self.layout, self.map, self.fuzz = layout, map, fuzz
         self.values, self.down, self.axes, self.wheels = {}, set(), {}, {}
-        self.tool, self.is_active, self.multipliers = {}, {}, {}
-        self.told, self.fired = [], {}
+        self.tool, self.is_active, self.multipliers, self.slots = {}, {}, {}, {}
+        self.told, self.fired, self.apart = [], {}, {}
 
-    def take(self, report):
-        """The events of a report, as ((node, type, code), value), in order."""
+    def take(self, report, numbers=None):
+        """The events of a report, as ((node, type, code), value), in order of each node; of `numbers` by item, if they are given."""
         self.told, self.fired = [], {}
         named = report[0] if self.layout.has_ids and report else 0
         fields = [item for item in self.layout.fields if (item.kind, item.id) == ("input", named)]
         ordered, new = [], {}
         for item in fields:
-            new[item] = self.layout.numbers(item, report)
+            new[item] = (numbers or {}).get(item) or self.layout.numbers(item, report)
             if item.flags & VARIABLE:
                 ordered += [(self.priority(item, j), item, j) for j in range(item.count)]
             elif not self.rolls_over(item, new[item]):
-                ordered.append((len(TOOLS), item, None))
+                ordered.append(((self.slot(item), len(EARLY)), item, None))
         for _, item, j in sorted(ordered, key=lambda one: one[0]):
             if j is None:
                 self.array(item, new[item])
             else:
                 self.event(item, j, new[item][j])
         self.values.update((item, numbers) for item, numbers in new.items() if item.flags & VARIABLE)
-        return self.told
+        return sorted(self.told, key=lambda one: one[0][0])
 
     def usage(self, item, j):
         usages = usage_list(item)
@@ -53,7 +64,15 @@ class There:
 
     def priority(self, item, j):
         usage = self.usage(item, j)
-        return TOOLS.index(usage) if usage in TOOLS else len(TOOLS)
+        return self.slot(item), EARLY.index(usage) if usage in EARLY else len(EARLY)
+
+    def slot(self, item):
+        """The place of the item's collection among those with a Contact ID, each of which is taken as a whole; the others follow."""
+        if item.id not in self.slots:
+            fields = [one for one in self.layout.fields if (one.kind, one.id) == ("input", item.id) and one.path]
+            self.slots[item.id] = list(dict.fromkeys(id(one.path[-1]) for one in fields if CONTACT in usage_list(one)))
+        slots = self.slots[item.id]
+        return slots.index(id(item.path[-1])) if item.path and id(item.path[-1]) in slots else len(slots)
 
     def rolls_over(self, item, numbers):
         usages = usage_list(item)
@@ -76,7 +95,10 @@ class There:
     def fire(self, item, j, rule, code=None):
         code = code or self.map.codes[item, j]
         if code not in (None, POWER):
-            self.fired.setdefault((self.map.nodes[item], *code), []).append(rule)
+            where = (self.map.nodes[item], *code)
+            self.fired.setdefault(where, []).append(rule)
+            if not item.flags & RELATIVE:
+                self.apart[where] = rule
 
     def event(self, item, j, value):
         code, usage, node = self.map.codes[item, j], self.usage(item, j), self.map.nodes[item]
@@ -85,28 +107,38 @@ class There:
         if usage in PADS or usage == HAT and item.least < item.greatest:
             self.hat(item, j, node, code[1], usage, value)
             return
-        if item.flags & VARIABLE and item.least < item.greatest:
-            is_in = item.least <= value <= item.greatest
-            if not is_in and item.flags & NULL:
-                self.fire(item, j, "null keeps the last value")
-                return
-            if not is_in:
-                self.fire(item, j, "out of range is clamped")
-            value = min(max(value, item.least), item.greatest)
-        elif item.flags & VARIABLE:
-            self.fire(item, j, "a range of one number or none tells all numbers")
-        if usage in TOOLS and code[0] == KEY and not self.digitizer(item, node, usage, code, value):
-            return
-        if code == (KEY, 0):
+        if item.flags & VARIABLE:
+            value = self.ranged(item, j, value)
+        if value is None or usage in TOOLS and code[0] == KEY and not self.digitizer(item, node, usage, code, value):
             return
         if code[0] == REL and code[1] in (11, 12):
             self.wheel(item, j, node, code[1], value)
-            return
+        elif code != (KEY, 0):
+            self.tell(item, j, node, code, value)
+
+    def ranged(self, item, j, value):
+        """The number of a variable item's element as Linux goes on with it, or None, where it is dropped."""
+        least, greatest, value = item.least, of_32_bits(item.greatest), of_32_bits(value)
+        if least >= greatest:
+            is_large = least < item.greatest
+            self.fire(item, j, "numbers past 2^31 - 1 are negative" if is_large else "a range of one number or none tells all numbers")
+            return value
+        if not least <= value <= greatest and item.flags & NULL:
+            self.fire(item, j, "null keeps the last value")
+            return None
+        if not least <= value <= greatest:
+            self.fire(item, j, "out of range is clamped")
+        return min(max(value, least), greatest)
+
+    def tell(self, item, j, node, code, value):
+        """Tells a key, a motion or an axis; of a key that changes its usage as well."""
         if code[0] == KEY and item.flags & VARIABLE and ((item.least, item.greatest) != (0, 1) or item.flags & NULL):
-            self.fire(item, j, "a key is up or down")
+            self.fire(item, j, "a key of more numbers than two")
         is_kept = self.values.get(item, [0] * item.count)[j] if item.flags & VARIABLE and j < item.count else None
         if not item.flags & (RELATIVE | BUFFERED) and item.flags & VARIABLE and value == is_kept:
             return
+        if code[0] == KEY and ((node, code[1]) not in self.down) == value:
+            self.told.append(((node, *SCAN), of_32_bits(self.usage(item, j))))
         self.core(node, *code, value)
         if item.flags & RELATIVE and code[0] == KEY:
             self.fire(item, j, "relative keys are pulses")
@@ -114,8 +146,11 @@ class There:
 
     def hat(self, item, j, node, code, usage, value):
         direction = PADS.get(usage) or cut((value - item.least) * 8, item.greatest - item.least + 1) + 1
-        for axis in (code, code + 1) if not item.flags & NULL else ():
-            self.fire(item, j, "a hat without Null State is centred out of its range", (ABS, axis))
+        for axis in (code, code + 1):
+            if usage in PADS:
+                self.fire(item, j, "a D-pad of four switches", (ABS, axis))
+            elif not item.flags & NULL:
+                self.fire(item, j, "a hat without Null State is centred out of its range", (ABS, axis))
         x, y = DIRECTIONS[direction if 0 <= direction <= 8 else 0]
         self.core(node, ABS, code, x)
         self.core(node, ABS, code + 1, y)
@@ -165,12 +200,13 @@ class There:
         self.tool[report] = tool
 
     def core(self, node, kind, code, value):
-        """input.c: what changes nothing isn't told; a joystick's axis is smoothed."""
+        """input.c: what changes nothing isn't told, but 2, auto-repeat, always is; a joystick's axis is smoothed."""
         where = (node, kind, code)
         if kind == KEY:
-            if value == 2 or ((node, code) in self.down) == bool(value):
+            if value != 2 and ((node, code) in self.down) == bool(value):
                 return
-            (self.down.add if value else self.down.discard)((node, code))
+            if value != 2:
+                (self.down.add if value else self.down.discard)((node, code))
         elif kind == ABS:
             old = self.axes.get(where, 0)
             value = self.smoothed(where, value, old)
@@ -187,6 +223,7 @@ class There:
         if not fuzz or near >= fuzz * 2:
             return value
         self.fired.setdefault(where, []).append("a joystick's axis is smoothed")
+        self.apart[where] = "a joystick's axis is smoothed"
         if near < fuzz // 2:
             return old
         return cut(old * 3 + value, 4) if near < fuzz else cut(old + value, 2)

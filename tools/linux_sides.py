@@ -1,7 +1,8 @@
 """What the standard makes of a report, and which code Linux gives to each of its elements.
 
 Here reads the layout of tools/second-reader and keeps a view, as the definitions of this repository say it; it shares
-nothing with the programs. Map is the kernel's own map of usages to codes, as tools/c/uhidplay.c printed it.
+nothing with the programs. Said goes the other way: from events to the numbers that a report must have had. Map is the
+kernel's own map of usages to codes, as tools/c/uhidplay.c printed it.
 """
 import functools
 import importlib.machinery
@@ -70,15 +71,21 @@ def spread(item):
     return usages + usages[-1:] * (item.count - len(usages))
 
 
+def carried(item):
+    """The least and the greatest number that an element carries (5.8)."""
+    return (-(1 << item.size - 1), (1 << item.size - 1) - 1) if item.least < 0 else (0, (1 << item.size) - 1)
+
+
 class Here:
     """The view of a host."""
 
     def __init__(self, layout):
         self.layout, self.held = layout, {}
 
-    def is_key(self, item, place, usage):
-        bounds = (-(1 << item.size - 1), (1 << item.size - 1) - 1) if item.least < 0 else (0, (1 << item.size) - 1)
-        return (bounds[0] <= item.least + place <= bounds[1] and place < 65536 and usage & 0xFFFF
+    @staticmethod
+    def is_key(item, place, usage):
+        low, high = carried(item)
+        return (low <= item.least + place <= high and place < 65536 and usage & 0xFFFF
                 and not 0x70001 <= usage <= 0x70003)
 
     def take(self, report):
@@ -97,19 +104,28 @@ class Here:
                 events += [(place, *event) for event in read(place, item, layout.numbers(item, report))]
         return events
 
-    def variable(self, place, item, numbers):
-        low, high = (-(1 << item.size - 1), (1 << item.size - 1) - 1) if item.least < 0 else (0, (1 << item.size) - 1)
-        has_null = item.flags & NULL and (low < item.least or high > item.greatest)
-        is_switch = (item.least, item.greatest) == (0, 1) and not item.flags & NULL
+    @staticmethod
+    def has_null(item):
+        low, high = carried(item)
+        return bool(item.flags & NULL and (low < item.least or high > item.greatest))
+
+    @staticmethod
+    def first(item):
+        """What is held of each element at first: null, 0, or the least number."""
+        low, high = carried(item)
         least = max(low, item.least)
-        first = None if has_null else 0 if least <= 0 <= min(high, item.greatest) else least
+        return [None if Here.has_null(item) else 0 if least <= 0 <= min(high, item.greatest) else least] * item.count
+
+    def variable(self, place, item, numbers):
+        has_null, first = self.has_null(item), self.first(item)
+        is_switch = (item.least, item.greatest) == (0, 1) and not item.flags & NULL
         for j, (usage, v) in enumerate(zip(spread(item), numbers)):
             is_in = item.least <= v <= item.greatest
             if item.flags & RELATIVE:
                 if v and is_in:
                     yield j, "motion", usage, v
                 continue
-            before = self.held.get((place, j), first)
+            before = self.held.get((place, j), first[j])
             now = v if is_in else None if has_null else before
             self.held[place, j] = now
             if now != before:
@@ -118,7 +134,7 @@ class Here:
 
     def array(self, place, item, numbers):
         usages = usage_list(item)
-        named = {v - item.least for v in numbers if 0 <= v - item.least < len(usages)}
+        named = {v - item.least for v in numbers if item.least <= v <= item.greatest and v - item.least < len(usages)}
         if any(usages[i] == 0x70001 for i in named):
             return
         before = self.held.get(place, set())
@@ -128,6 +144,55 @@ class Here:
             yield i, "up", usages[i], 0
         for i in sorted(now - before):
             yield i, "down", usages[i], 1
+
+
+class Said:
+    """The numbers of reports that the events of a view say, from one report to the next; `wrong` tells where a report has others."""
+
+    def __init__(self, layout):
+        self.layout, self.held, self.wrong = layout, {}, ""
+
+    def take(self, report, events):
+        """The numbers of each item of a report. Where the events can't say any, a number is that of the report."""
+        told, numbers, self.wrong = {}, {}, ""
+        for place, j, word, _, number in events:
+            told.setdefault(place, []).append((j, word, number))
+        named = report[0] if self.layout.has_ids else 0
+        for place, item in enumerate(self.layout.items):
+            if (item.kind, item.id) == ("input", named) and not item.is_padding:
+                read = self.variable if item.flags & VARIABLE else self.array
+                numbers[item] = read(place, item, told.pop(place, []), self.layout.numbers(item, report))
+        self.wrong = self.wrong or "events of an item that the report doesn't have" * bool(told)
+        return numbers
+
+    def variable(self, place, item, events, actual):
+        held = self.held.setdefault(place, list(Here.first(item)))
+        now = [0] * len(held) if item.flags & RELATIVE else held
+        if len({j for j, _, _ in events}) < len(events):
+            self.wrong = "two events of one element"
+        for j, _, number in events:
+            now[j] = number
+        changed = {j for j, _, _ in events}
+        for j, v in enumerate(actual):
+            is_in = item.least <= v <= item.greatest
+            if is_in and now[j] != v:
+                self.wrong = "events say %s of element %d, and the report has %d" % (now[j], j, v)
+            elif not is_in and j in changed and now[j] is not None:
+                self.wrong = "an event of element %d, whose number is out of its range" % j
+        return [v if n is None or not item.least <= v <= item.greatest else n for n, v in zip(now, actual)]
+
+    def array(self, place, item, events, actual):
+        held, usages = self.held.setdefault(place, set()), usage_list(item)
+        for i, word, _ in events:
+            (held.add if word == "down" else held.discard)(i)
+        named = [v - item.least for v in actual if item.least <= v <= item.greatest and v - item.least < len(usages)]
+        if any(usages[i] == 0x70001 for i in named):
+            self.wrong = self.wrong or "events of a report with ErrorRollOver" * bool(events)
+            return actual
+        if {i for i in named if Here.is_key(item, i, usages[i])} == held:
+            return actual
+        self.wrong = "keys %s are told, and the report has %s" % (sorted(held), sorted(set(named)))
+        return actual
 
 
 def texts(events):

@@ -1,15 +1,17 @@
 """Recordings that programs are compared on: given ones, and ones made from a seed, for each descriptor each sort of report
 that tells readers of reports apart.
 
-recordings() gives names and texts, of_hidplay() what hidplay tells of them. The descriptors are those of the given
-recordings, and some of OURS, each for something that no real one among them has.
+recordings() gives names and texts, run_hidplay() and of_hidplay() what hidplay tells of them. The descriptors are those of
+the given recordings, and some of OURS, each for something that no real one among them has.
 """
 import collections
 import pathlib
 import random
+import re
 import subprocess
 
-from linux_sides import NULL, RELATIVE, VARIABLE, Layout, usage_list
+from linux_guest import Missing
+from linux_sides import NULL, VARIABLE, Layout, usage_list
 
 MOST = 48                 # elements of a report, and steps of a recording, that are taken at most
 OURS = {
@@ -32,6 +34,16 @@ OURS = {
     "made_usage_twice": "05 01 09 04 a1 01 09 30 09 31 09 30 15 81 25 7f 75 08 95 03 81 02 09 31 95 02 81 02 05 09 09 01 09 02 09 01 15 00 25 01 75 01 95 04 81 02 75 04 95 01 81 01 c0",
     # relative one-bit keys of a dial, and a dial
     "made_relative_keys": "05 0c 09 01 a1 01 09 e9 09 ea 09 e2 09 b5 15 00 25 01 75 01 95 04 81 06 95 04 81 01 05 01 09 37 15 81 25 7f 75 08 95 01 81 06 c0",
+    # a D-pad of four bits
+    "made_d_pad": "05 01 09 05 a1 01 09 90 09 91 09 93 09 92 15 00 25 01 75 01 95 04 81 02 05 09 19 01 29 04 81 02 c0",
+    # axes with Null State, and one of 0 to 2^32 - 1
+    "made_null_axes": "05 01 09 04 a1 01 09 30 09 31 15 01 25 64 75 08 95 02 81 42 05 09 09 01 15 01 25 03 75 02 95 01 81 42 75 06 81 01 c0",
+    "made_large_numbers": "05 01 09 04 a1 01 09 30 15 00 27 ff ff ff ff 75 20 95 01 81 02 09 31 15 00 27 ff ff ff 7f 81 02 c0",
+    # two fingers, and how many there are
+    "made_fingers": "05 0d 09 04 a1 01 09 22 a1 02 09 42 15 00 25 01 75 01 95 01 81 02 95 07 81 01 09 51 25 0f 75 08 95 01 81 02 05 01 09 30 09 31 26 ff 0f 75 10 95 02 81 02 c0 "
+    "05 0d 09 22 a1 02 09 42 15 00 25 01 75 01 95 01 81 02 95 07 81 01 09 51 25 0f 75 08 95 01 81 02 05 01 09 30 09 31 26 ff 0f 75 10 95 02 81 02 c0 05 0d 09 54 25 02 75 08 95 01 81 02 c0",
+    # an array whose range ends before its usages do
+    "made_short_range": "05 01 09 06 a1 01 05 07 19 00 29 65 15 00 25 10 75 08 95 03 81 00 c0",
     # a pen with Tip Switch, Barrel Switch, Eraser, Invert and In Range, and its place
     "made_pen": "05 0d 09 02 a1 01 09 20 a1 00 09 42 09 44 09 45 09 3c 09 32 15 00 25 01 75 01 95 05 81 02 95 03 81 01 05 01 09 30 09 31 26 ff 0f 75 10 95 02 81 02 05 0d 09 30 26 ff 00 75 08 95 01 81 02 c0 c0",
 }
@@ -234,17 +246,40 @@ def numbered(text):
     return "\n".join(lines)
 
 
-def is_of_hid_recorder(path):
-    """Whether it is neither a binary descriptor nor a dump of usbhid-dump."""
-    data = path.read_bytes()
-    return data[:1] not in (b"\x05", b"\x06") and b":STREAM" not in data
+def of_dump(text):
+    """The lines of a recording that say what usbhid-dump's complete dumps say."""
+    lines, interfaces, kind, data = [], [], "", []
+    for line in text.split("\n"):
+        head = re.match(r"(\d+:\d+:\d+):(DESCRIPTOR|STREAM) ", line)
+        if head:
+            interface, kind, data = head[1], head[2], []
+            interfaces += [interface] * (interface not in interfaces)
+        elif line.startswith(" ") and kind:
+            data += line.split()
+        elif not line and kind:
+            words = [str(len(data)), *data]
+            lines += ["D: %d" % interfaces.index(interface), " ".join(["R:"] + words if kind == "DESCRIPTOR" else ["E: 0"] + words)]
+            kind = ""
+    return lines
+
+
+def text_of(path):
+    """A recording as hid-recorder's lines: a binary descriptor and usbhid-dump's dumps are put into them."""
+    try:
+        data = path.read_bytes()
+    except OSError as wrong:
+        raise Missing("%s can't be read (%s)" % (path, wrong.strerror)) from wrong
+    if data[:1] in (b"\x05", b"\x06"):
+        return "# a binary descriptor\nN: a device\n" + "\n".join(recording(data, [])) + "\n"
+    text = data.decode()
+    return "\n".join(of_dump(text)) + "\n" if ":STREAM" in text else text
 
 
 def recordings(paths, seed):
     """Names and texts of what is played."""
     real = {}
-    for path in filter(is_of_hid_recorder, paths):
-        text = path.read_text()
+    for path in paths:
+        text = text_of(path)
         descriptors = [line.split()[2:] for line in text.splitlines() if line.startswith("R:")]
         if "\nN:" in text and len(descriptors) == 1:
             real[path.stem] = bytes.fromhex("".join(descriptors[0]))
@@ -253,20 +288,35 @@ def recordings(paths, seed):
         yield "%s.hid" % name, numbered("\n".join(lines) + "\n")
 
 
-def of_hidplay(program, files, *options):
-    """What hidplay told: (file, line) to events, to the code of a refusal, and with --values to the numbers of elements."""
-    ran = subprocess.run([program, *options, *files], stdout=subprocess.PIPE, text=True, check=False)
-    events, refusals, values, file = collections.defaultdict(list), {}, {}, files[0].name
-    for line in ran.stdout.splitlines():
+def write(paths, seed, folder):
+    """Puts what is played into a folder; the files."""
+    for name, text in recordings(paths, seed):
+        (folder / name).write_text(text)
+    return sorted(folder.iterdir())
+
+
+def run_hidplay(program, files, *options):
+    """What hidplay prints of the files."""
+    try:
+        return subprocess.run([program, *options, *files], stdout=subprocess.PIPE, text=True, check=False).stdout
+    except OSError as wrong:
+        raise Missing("%s can't be run (%s): make hidplay" % (program, wrong.strerror)) from wrong
+
+
+def of_hidplay(text, first):
+    """What hidplay told: (file, line, device) to events, (file, line) to the code of a refusal, and with --values
+    (file, line, device) to the numbers of elements. The first file is `first`."""
+    events, refusals, values, file = collections.defaultdict(list), {}, {}, first
+    for line in text.splitlines():
         words = line.split(" ", 2)
         if words[0] == "file":
             file = pathlib.Path(line[5:]).name
         elif words[0] == "line":
-            refusals[file, int(words[1].rstrip(":"))] = words[2].split(":")[0].split()[0]
+            refusals[file, int(words[1].rstrip(":"))] = words[2].split(":")[0]
         elif words[0] == "value":
             last[tuple(map(int, words[1].split(".")))] = int(words[2].split()[0])
         elif words[2] == "report":
-            last = values[file, int(words[0])] = {}
+            last = values[file, int(words[0]), int(words[1])] = {}
         else:
-            events[file, int(words[0])].append(words[2])
+            events[file, int(words[0]), int(words[1])].append(words[2])
     return events, refusals, values

@@ -1,88 +1,141 @@
 /* stream DESCRIPTOR: reads Input reports from standard input, one behind the other, and prints their events. A hidraw
- * device gives such a stream: stream /sys/class/hidraw/hidraw0/device/report_descriptor < /dev/hidraw0 */
+ * device gives such a stream: stream /sys/class/hidraw/hidraw0/device/report_descriptor < /dev/hidraw0
+ *
+ * It ends with 0; with 1 where the descriptor is refused, bytes are of no report of the device, or the last report is
+ * cut; and with 2 where something can't be read or written, or memory is wanting. */
 #include "hidstack.h"
+#include <errno.h>
 #include <inttypes.h>
 #include <stdio.h>
 #include <stdlib.h>
+#include <string.h>
 #include <unistd.h>
 
+enum { DONE = 0, REFUSED = 1, FAILED = 2 };
+
+struct stream {
+    struct hidstack device;
+    struct hidstack_opened opened;
+    struct hidstack_event *events; /* has opened.room places */
+    uint8_t bytes[4096];           /* a report has up to 256 */
+    size_t have;
+};
+
+static int failed(const char *what, int error)
+{
+    fprintf(stderr, "stream: %s: %s\n", what, strerror(error));
+    return FAILED;
+}
+
 /* The bytes of the Input report that begins with this byte, or 0. */
-static uint64_t report_bytes(struct hidstack *device, const struct hidstack_opened *opened, uint8_t first)
+static uint64_t report_bytes(struct stream *stream, uint8_t first)
 {
     struct hidstack_report_info report;
     uint64_t place;
-    for (place = 0; hidstack_report(device, place, &report) == HIDSTACK_OK; place++)
-        if (report.kind == HIDSTACK_INPUT && (!opened->numbered || report.id == first))
+    for (place = 0; hidstack_report(&stream->device, place, &report) == HIDSTACK_OK; place++)
+        if (report.kind == HIDSTACK_INPUT && (!stream->opened.numbered || report.id == first))
             return report.bytes;
     return 0;
 }
 
-static void print(const struct hidstack_event *event)
+static int print(const struct hidstack_event *event)
 {
     static const char *const words[] = {"up", "down", "value", "null", "motion", "dropped"};
-    uint8_t usage[9], name[80];
+    uint8_t name[80];
     uint64_t told;
-    if (hidstack_usage_text(event->page, event->id, usage, sizeof usage, &told) != HIDSTACK_OK)
-        return;
-    printf("%s %.*s %" PRId64, words[event->kind], (int)told, (const char *)usage, event->value);
-    if (hidstack_usage_name(event->page, event->id, name, sizeof name, &told) == HIDSTACK_OK)
+    uint32_t named = hidstack_usage_name(event->page, event->id, name, sizeof name, &told);
+    if (named == HIDSTACK_MEMORY)
+        return failed("names", ENOMEM);
+    printf("%s %02X:%02X %" PRId64, words[event->kind], event->page, event->id, event->value);
+    if (named == HIDSTACK_OK)
         printf(" %.*s", (int)told, (const char *)name);
     putchar('\n');
+    return DONE;
 }
 
-static void print_refusal(const struct hidstack_opened *opened)
+static int refused(const struct hidstack_opened *opened)
 {
     uint8_t words[80];
     uint64_t told;
+    fprintf(stderr, "refused: L%" PRIu32 " at %" PRIu64, opened->cause, opened->at);
     if (hidstack_cause_words(opened->cause, words, sizeof words, &told) == HIDSTACK_OK)
-        fprintf(stderr, "refused: L%" PRIu32 " at %" PRIu64 ": %.*s\n", opened->cause, opened->at, (int)told,
-                (const char *)words);
+        fprintf(stderr, ": %.*s", (int)told, (const char *)words);
+    fputc('\n', stderr);
+    return opened->cause == 17 ? FAILED : REFUSED; /* 17: memory was wanting */
 }
 
-static int open_file(const char *name, struct hidstack *device, struct hidstack_opened *opened)
+static int open_file(const char *name, struct stream *stream)
 {
-    static uint8_t descriptor[4097];
+    static uint8_t descriptor[4097]; /* of more bytes any descriptor is refused (L2) */
     FILE *file = fopen(name, "rb");
-    size_t length = file ? fread(descriptor, 1, sizeof descriptor, file) : 0;
-    if (file)
-        fclose(file);
-    return hidstack_open(descriptor, length, device, opened) == HIDSTACK_OK;
+    size_t length;
+    int error;
+    if (!file)
+        return failed(name, errno);
+    length = fread(descriptor, 1, sizeof descriptor, file);
+    error = ferror(file) ? errno : 0;
+    fclose(file);
+    if (error)
+        return failed(name, error);
+    if (hidstack_open(descriptor, length, &stream->device, &stream->opened) != HIDSTACK_OK)
+        return refused(&stream->opened);
+    stream->events = calloc(stream->opened.room + 1, sizeof *stream->events);
+    return stream->events ? DONE : failed("events", ENOMEM);
+}
+
+/* Prints the events of the reports that are there whole, and keeps the bytes behind them. */
+static int feed(struct stream *stream)
+{
+    size_t at = 0;
+    uint64_t length, count, i;
+    while (at < stream->have && (length = report_bytes(stream, stream->bytes[at])) <= stream->have - at) {
+        if (length == 0) {
+            fprintf(stderr, "stream: %02X begins no report of the device\n", stream->bytes[at]);
+            return REFUSED;
+        }
+        if (hidstack_feed(&stream->device, stream->bytes + at, length, stream->events, stream->opened.room, &count) == HIDSTACK_OK)
+            for (i = 0; i < count; i++)
+                if (print(&stream->events[i]) != DONE)
+                    return FAILED;
+        at += length;
+    }
+    memmove(stream->bytes, stream->bytes + at, stream->have - at);
+    stream->have -= at;
+    return DONE;
+}
+
+static int play(struct stream *stream)
+{
+    int status = DONE;
+    ssize_t got = 1;
+    while (status == DONE && got > 0) {
+        got = read(0, stream->bytes + stream->have, sizeof stream->bytes - stream->have);
+        if (got < 0)
+            return failed("standard input", errno);
+        stream->have += (size_t)got;
+        status = feed(stream);
+        if (fflush(stdout) != 0)
+            return failed("standard output", errno);
+    }
+    if (status == DONE && stream->have > 0) {
+        fprintf(stderr, "stream: the last report is cut behind %zu bytes\n", stream->have);
+        return REFUSED;
+    }
+    return status;
 }
 
 int main(int argc, char **argv)
 {
-    static uint8_t bytes[4096];
-    struct hidstack device = HIDSTACK_INIT;
-    struct hidstack_opened opened;
-    struct hidstack_event *events;
-    size_t have = 0;
-    ssize_t got;
+    static struct stream stream; /* all zero: its device is closed */
+    int status;
     if (argc != 2) {
         fprintf(stderr, "usage: stream DESCRIPTOR\n");
-        return 2;
+        return FAILED;
     }
-    if (!open_file(argv[1], &device, &opened)) {
-        print_refusal(&opened);
-        return 1;
-    }
-    events = calloc(opened.room + 1, sizeof *events);
-    while (events && (got = read(0, bytes + have, sizeof bytes - have)) > 0) {
-        size_t at = 0;
-        uint64_t length, count, i;
-        have += (size_t)got;
-        while (at < have && (length = report_bytes(&device, &opened, bytes[at])) != 0 && length <= have - at) {
-            if (hidstack_feed(&device, bytes + at, length, events, opened.room, &count) == HIDSTACK_OK)
-                for (i = 0; i < count; i++)
-                    print(&events[i]);
-            at += length;
-        }
-        if (at < have && report_bytes(&device, &opened, bytes[at]) == 0)
-            at = have; /* of no report: what was read with it is passed over */
-        for (i = at; i < have; i++)
-            bytes[i - at] = bytes[i];
-        have -= at;
-    }
-    free(events);
-    hidstack_close(&device);
-    return 0;
+    status = open_file(argv[1], &stream);
+    if (status == DONE)
+        status = play(&stream);
+    free(stream.events);
+    hidstack_close(&stream.device);
+    return status;
 }

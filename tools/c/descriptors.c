@@ -1,5 +1,5 @@
 /* descriptors COUNT [FIRST]: opens so many made descriptors of up to 4,200 bytes, the FIRSTth and those behind it, and feeds
- * reports to those that are accepted. It tells how many are, and which took longest; a wrong answer ends it with 1. The same
+ * reports of 0 to 257 bytes to those that are accepted. It tells how many are, and which took longest; a wrong answer ends it with 1. The same
  * number makes the same descriptor, so that one alone can be run under valgrind. */
 #include "hidstack.h"
 #include <stdio.h>
@@ -7,7 +7,7 @@
 #include <string.h>
 #include <time.h>
 
-enum { MOST = 4096, LONGER = 4200, REPORT = 70 };
+enum { MOST = 4096, LONGER = 4200, LONGEST_REPORT = 256 };
 
 static const uint8_t mouse[] = {
     0x05, 0x01, 0x09, 0x02, 0xA1, 0x01, 0x09, 0x01, 0xA1, 0x00, 0x05, 0x09, 0x19, 0x01, 0x29, 0x03, 0x15,
@@ -95,10 +95,12 @@ static const char *wrong_with(const uint8_t *bytes, size_t length, long *accepte
         ++*accepted;
         if (length > MOST)
             told = "a longer one is accepted";
-        for (n = 0; events && n < 4; n++) {
-            uint8_t report[REPORT];
+        for (n = 0; events && n < 5; n++) {
             uint64_t count;
-            size_t at, given = any(REPORT + 1);
+            size_t at, given = n == 3 ? LONGEST_REPORT : n == 4 ? LONGEST_REPORT + 1 : any(n == 0 ? 71 : LONGEST_REPORT);
+            uint8_t *report = malloc(given ? given : 1);
+            if (!report)
+                exit(2);
             for (at = 0; at < given; at++)
                 report[at] = (uint8_t)(at == 0 && n % 2 ? 1u : any(256));
             status = hidstack_feed(&device, report, given, events, opened.room, &count);
@@ -106,6 +108,7 @@ static const char *wrong_with(const uint8_t *bytes, size_t length, long *accepte
                 told = "a report has another status";
             if (count > opened.room || events[opened.room].kind != 0)
                 told = "more events than there is room for";
+            free(report);
         }
         free(events);
     } else if (status != HIDSTACK_REFUSED) {

@@ -103,6 +103,8 @@ static void lengths(void)
     want("open", hidstack_open(mouse, sizeof mouse, &device, &opened), HIDSTACK_OK);
     want("what it has", opened.room == 5 && opened.items == 3 && opened.reports == 1 && !opened.numbered, 1);
     want("open an open one", hidstack_open(mouse, sizeof mouse, &device, &opened), HIDSTACK_BUSY);
+    want("with a wrong descriptor", hidstack_open(mouse, 1, &device, &opened), HIDSTACK_BUSY);
+    want("what was told stays", opened.room == 5 && opened.items == 3 && opened.reports == 1 && opened.cause == 0, 1);
     for (length = 0; length < 3; length++) {
         uint8_t *report = copy_of(mouse, length);
         want("cut short", hidstack_feed(&device, report, length, events, 5, &count), HIDSTACK_SHORT);
@@ -157,6 +159,99 @@ static void reports_with_ids(void)
     want("too short", hidstack_number(&element, (const uint8_t[]){3}, 1, &value), HIDSTACK_SHORT);
     want("no bytes at null", hidstack_number(&element, NULL, 0, &value), HIDSTACK_SHORT);
     want("as it was", (uint64_t)value, 7);
+    hidstack_close(&device);
+}
+
+/* Fed with reports of 0 to 257 bytes of ones: those that are shorter than 256 are refused. */
+static void long_ones(struct hidstack *device, uint8_t id, struct hidstack_event *events, size_t room)
+{
+    static const size_t lengths[] = {0, 1, 255, 256, 257};
+    uint64_t count, told = room;
+    size_t i;
+    for (i = 0; i < sizeof lengths / sizeof *lengths; i++) {
+        uint8_t *report = malloc(lengths[i] ? lengths[i] : 1);
+        if (!report)
+            exit(2);
+        memset(report, 0xFF, lengths[i]);
+        if (lengths[i] && id)
+            report[0] = id;
+        want("by its length", hidstack_feed(device, report, lengths[i], events, room, &count), lengths[i] < 256 ? HIDSTACK_SHORT : HIDSTACK_OK);
+        want("its events, once", count, lengths[i] == 256 ? told : 0);
+        free(report);
+    }
+}
+
+static void longest_reports(void)
+{
+    /* 2,048 buttons; 255 values behind an ID; both with a byte more */
+    static const uint8_t bits[] = {0x05, 0x09, 0x19, 0x01, 0x2A, 0x00, 0x08, 0x15, 0x00, 0x25, 0x01, 0x75, 0x01, 0x96, 0x00, 0x08, 0x81, 0x02};
+    static const uint8_t named[] = {0x05, 0x01, 0x09, 0x30, 0x85, 0x09, 0x15, 0x81, 0x25, 0x7F, 0x75, 0x08, 0x95, 0xFF, 0x81, 0x02};
+    static const uint8_t over[] = {0x05, 0x01, 0x09, 0x30, 0x15, 0x81, 0x25, 0x7F, 0x75, 0x08, 0x96, 0x01, 0x01, 0x81, 0x02};
+    static const uint8_t named_over[] = {0x05, 0x01, 0x09, 0x30, 0x85, 0x09, 0x15, 0x81, 0x25, 0x7F, 0x75, 0x08, 0x96, 0x00, 0x01, 0x81, 0x02};
+    struct hidstack device = HIDSTACK_INIT;
+    struct hidstack_opened opened;
+    struct hidstack_event *events = calloc(2048, sizeof *events);
+    uint64_t count;
+    size_t i;
+    want("257 bytes", hidstack_open(over, sizeof over, &device, &opened), HIDSTACK_REFUSED);
+    want("are L15 at the item", opened.cause == 15 && opened.at == 13, 1);
+    want("257 bytes with an ID", hidstack_open(named_over, sizeof named_over, &device, &opened), HIDSTACK_REFUSED);
+    want("are L15 at the item", opened.cause == 15 && opened.at == 15, 1);
+    want("256 bytes", hidstack_open(bits, sizeof bits, &device, &opened), HIDSTACK_OK);
+    want("room for each button", opened.room, 2048);
+    want("one place too few", hidstack_feed(&device, NULL, 0, events, 2047, &count), HIDSTACK_NO_ROOM);
+    long_ones(&device, 0, events, 2048);
+    for (i = 0; i < 2048; i++)
+        want("each button is down", events[i].kind == HIDSTACK_DOWN && events[i].id == i + 1 && events[i].index == i, 1);
+    hidstack_close(&device);
+    want("256 bytes with an ID", hidstack_open(named, sizeof named, &device, &opened), HIDSTACK_OK);
+    want("room for each value", opened.room, 255);
+    long_ones(&device, 9, events, 255);
+    want("another ID", hidstack_feed(&device, (const uint8_t[]){8}, 1, events, 255, &count), HIDSTACK_UNKNOWN);
+    hidstack_close(&device);
+    free(events);
+}
+
+/* A hat of 0 to 7 that has a null state, a value of 1 to 4 and one of -5 to 5. */
+static void first_values(void)
+{
+    static const uint8_t hat[] = {0x05, 0x01, 0x09, 0x39, 0x15, 0x00, 0x25, 0x07, 0x75, 0x04, 0x95, 0x01, 0x81, 0x42, 0x09, 0x30, 0x15, 0x01, 0x25, 0x04, 0x81, 0x02, 0x09, 0x31, 0x15, 0xFB, 0x25, 0x05, 0x75, 0x08, 0x81, 0x02};
+    struct hidstack device = HIDSTACK_INIT;
+    struct hidstack_opened opened;
+    struct hidstack_event events[3];
+    uint64_t count;
+    int64_t value = 9;
+    want("open", hidstack_open(hat, sizeof hat, &device, &opened), HIDSTACK_OK);
+    want("room", opened.room, 3);
+    want("a hat has no value at first", hidstack_value(&device, 0, 0, &value), HIDSTACK_NONE);
+    want("as it was", (uint64_t)value, 9);
+    want("the least value where 0 is out of range", hidstack_value(&device, 1, 0, &value) == HIDSTACK_OK && value == 1, 1);
+    want("0 where it is in range", hidstack_value(&device, 2, 0, &value) == HIDSTACK_OK && value == 0, 1);
+    want("north", hidstack_feed(&device, (const uint8_t[]){0x10, 0}, 2, events, 3, &count), HIDSTACK_OK);
+    want("is told", count == 1 && events[0].kind == HIDSTACK_VALUE && events[0].value == 0 && events[0].id == 0x39, 1);
+    want("let go", hidstack_feed(&device, (const uint8_t[]){0x18, 0}, 2, events, 3, &count), HIDSTACK_OK);
+    want("is told", count == 1 && events[0].kind == HIDSTACK_NULL && events[0].value == 0, 1);
+    want("no value any more", hidstack_value(&device, 0, 0, &value), HIDSTACK_NONE);
+    hidstack_close(&device);
+}
+
+/* An array of two keys, and a switch before it: what is told of each report, in its order. */
+static void orders(void)
+{
+    static const uint8_t keys[] = {0x05, 0x09, 0x09, 0x01, 0x15, 0x00, 0x25, 0x01, 0x75, 0x08, 0x95, 0x01, 0x81, 0x02, 0x05, 0x07, 0x19, 0x00, 0x29, 0x65, 0x15, 0x00, 0x25, 0x65, 0x95, 0x02, 0x81, 0x00};
+    struct hidstack device = HIDSTACK_INIT;
+    struct hidstack_opened opened;
+    struct hidstack_event *events;
+    uint64_t count;
+    want("open", hidstack_open(keys, sizeof keys, &device, &opened), HIDSTACK_OK);
+    events = calloc(opened.room, sizeof *events);
+    want("two keys", hidstack_feed(&device, (const uint8_t[]){0, 6, 4}, 3, events, opened.room, &count), HIDSTACK_OK);
+    want("by rising place", count == 2 && events[0].id == 4 && events[1].id == 6 && events[0].kind == HIDSTACK_DOWN, 1);
+    want("two others, and the switch", hidstack_feed(&device, (const uint8_t[]){1, 7, 5}, 3, events, opened.room, &count), HIDSTACK_OK);
+    want("the switch first", count == 5 && events[0].page == 9 && events[0].kind == HIDSTACK_DOWN, 1);
+    want("then what went up", events[1].kind == HIDSTACK_UP && events[1].id == 4 && events[2].kind == HIDSTACK_UP && events[2].id == 6, 1);
+    want("then what went down", events[3].kind == HIDSTACK_DOWN && events[3].id == 5 && events[4].kind == HIDSTACK_DOWN && events[4].id == 7, 1);
+    free(events);
     hidstack_close(&device);
 }
 
@@ -281,7 +376,6 @@ static void words(void)
         }
 }
 
-/*RUN*/
 static void runs(void)
 {
     static const char script[] = "layout 05 01 09 30 15 81 25 7F 75 08 95 01 81 06\nvalues 81\nnonsense\n";
@@ -295,16 +389,18 @@ static void runs(void)
     want("the whole", hidstack_run(bytes, sizeof script - 1, 0, out, sizeof out, line, sizeof line, &ran), HIDSTACK_REFUSED);
     want("the line", ran.line == 3 && ran.fault == sizeof line && memcmp(line, fault, sizeof line) == 0, 1);
     want("too little room", hidstack_run(bytes, sizeof script - 1, 0, out, sizeof out - 1, line, sizeof line, &ran), HIDSTACK_NO_ROOM);
-    want("both are told", ran.told == sizeof out && ran.fault == sizeof line, 1);
+    want("all three are told", ran.told == sizeof out && ran.fault == sizeof line && ran.line == 3, 1);
     want("no line", hidstack_run(NULL, 0, 0, NULL, 0, NULL, 0, &ran), HIDSTACK_OK);
 }
-/*END*/
 
 int main(void)
 {
     closed_handles();
     lengths();
     reports_with_ids();
+    longest_reports();
+    first_values();
+    orders();
     wild_elements();
     tables();
     any_descriptors();

@@ -1,9 +1,11 @@
-/* Each allocation of an opening, a table and a run fails in turn, feeding takes none, and a handle goes to another thread.
+/* Each allocation of an opening, a table, a run and a text fails in turn, alone and with all behind it. What only reads
+   takes none, and a handle goes to another thread.
    cc -Wl,--wrap=malloc -Wl,--wrap=realloc -pthread */
 #include "hidstack.h"
 #include <pthread.h>
 #include <stdio.h>
 #include <stdlib.h>
+#include <string.h>
 
 static const uint8_t mouse[] = {
     0x05, 0x01, 0x09, 0x02, 0xA1, 0x01, 0x09, 0x01, 0xA1, 0x00, 0x05, 0x09, 0x19, 0x01, 0x29, 0x03, 0x15,
@@ -11,20 +13,27 @@ static const uint8_t mouse[] = {
     0x09, 0x30, 0x09, 0x31, 0x15, 0x81, 0x25, 0x7F, 0x75, 0x08, 0x95, 0x02, 0x81, 0x06, 0xC0, 0xC0};
 static struct hidstack_event events[8];
 static long calls, fails = -1;
+static int all; /* the allocations behind it fail too */
 
 void *__real_malloc(size_t n);
 void *__real_realloc(void *p, size_t n);
 void *__wrap_malloc(size_t n);
 void *__wrap_realloc(void *p, size_t n);
 
+static int refused(void)
+{
+    long call = calls++;
+    return fails >= 0 && (call == fails || (all && call > fails));
+}
+
 void *__wrap_malloc(size_t n)
 {
-    return calls++ == fails ? NULL : __real_malloc(n);
+    return refused() ? NULL : __real_malloc(n);
 }
 
 void *__wrap_realloc(void *p, size_t n)
 {
-    return calls++ == fails ? NULL : __real_realloc(p, n);
+    return refused() ? NULL : __real_realloc(p, n);
 }
 
 static int openings(struct hidstack *device)
@@ -54,6 +63,47 @@ static int tables(void)
         if (calls <= fails)
             return status != HIDSTACK_OK;
         if (status != HIDSTACK_OK && (status != HIDSTACK_REFUSED || tabled.cause != 17))
+            return 1;
+    }
+}
+
+/* A run ends whole, or at a line with X6 or X7, or without a word; where all memory is gone, always without a word. */
+static int runs(void)
+{
+    static const char script[] = "device ready plain 05 01 09 30 15 81 25 7F 75 08 95 01 81 06\nmove 1 1:30 5\npoll 1 clean 20\n";
+    static uint8_t out[4096];
+    uint8_t fault[16];
+    struct hidstack_ran ran;
+    for (fails = 0;; fails++) {
+        uint32_t status;
+        int is_right;
+        calls = 0;
+        out[0] = fault[0] = 'U';
+        status = hidstack_run((const uint8_t *)script, sizeof script - 1, HIDSTACK_POLLS, out, sizeof out, fault, sizeof fault, &ran);
+        if (calls <= fails)
+            return status != HIDSTACK_OK || ran.line != 0 || ran.told == 0 || ran.fault != 0;
+        if (status == HIDSTACK_OK) /* it does without */
+            is_right = !all && ran.line == 0 && fault[0] == 'U';
+        else if (status == HIDSTACK_REFUSED)
+            is_right = !all && ran.line >= 1 && ran.line <= 4 && ran.fault == 11 && (!memcmp(fault + 6, ": X6\n", 5) || !memcmp(fault + 6, ": X7\n", 5));
+        else
+            is_right = status == HIDSTACK_MEMORY && ran.line + ran.told + ran.fault == 0 && out[0] == 'U' && fault[0] == 'U';
+        if (!is_right)
+            return 1;
+    }
+}
+
+static int codes(void)
+{
+    uint8_t text[3];
+    uint64_t told;
+    for (fails = 0;; fails++) {
+        uint32_t status;
+        calls = 0;
+        status = hidstack_cause_text(10, text, 3, &told);
+        if (calls <= fails)
+            return status != HIDSTACK_OK || told != 3;
+        if (status != HIDSTACK_OK && (status != HIDSTACK_MEMORY || told != 0))
             return 1;
     }
 }
@@ -93,9 +143,20 @@ static int names(void)
 
 static int feeds(struct hidstack *device)
 {
+    struct hidstack_opened opened;
+    struct hidstack_element_info element;
+    struct hidstack_report_info report;
+    struct hidstack_usage_info usage;
+    struct hidstack_collection_info collection;
     uint64_t count;
+    uint32_t held;
+    int64_t value;
     int i;
     calls = 0;
+    if (hidstack_report(device, 0, &report) || hidstack_element(device, 2, 1, &element) || hidstack_usage(device, 2, 1, &usage) ||
+        hidstack_collection(device, 2, 1, &collection) || hidstack_held(device, 0, 0, &held) || hidstack_number(&element, mouse, 3, &value) ||
+        hidstack_value(device, 2, 0, &value) != HIDSTACK_NONE || hidstack_open(mouse, sizeof mouse, device, &opened) != HIDSTACK_BUSY)
+        return 1;
     for (i = 0; i < 1000; i++) {
         const uint8_t report[] = {(uint8_t)(i & 7), (uint8_t)i, 1};
         if (hidstack_feed(device, report, 3, events, 8, &count) != HIDSTACK_OK)
@@ -116,11 +177,17 @@ static void *elsewhere(void *device)
 int main(void)
 {
     struct hidstack device = HIDSTACK_INIT;
+    struct hidstack_opened opened;
     pthread_t thread;
     void *answer;
-    if (openings(&device) || tables() || texts() || names())
-        return 1;
+    for (all = 0; all < 2; all++)
+        if (openings(&device) || tables() || runs() || codes() || texts() || names())
+            return 1;
+        else
+            hidstack_close(&device);
     fails = -1;
+    if (hidstack_open(mouse, sizeof mouse, &device, &opened) != HIDSTACK_OK)
+        return 1;
     if (feeds(&device) || pthread_create(&thread, NULL, elsewhere, &device) || pthread_join(thread, &answer))
         return 1;
     return answer != NULL || device.session != NULL;

@@ -8,7 +8,7 @@
  *       key INDEX USAGE CODE      EVIOCGKEYCODE_V2, usages of keys and those that have no code
  *       axis N CODE FUZZ          an absolute axis, and how far it is smoothed
  *     report D LINE, then:
- *       N TYPE CODE VALUE         its input events but EV_SYN and auto-repeat, in the order of each node
+ *       N TYPE CODE VALUE         its input events but EV_SYN, in the order of each node; auto-repeat is off
  *
  * It wants to be root of a system that does nothing else. */
 #include <dirent.h>
@@ -85,17 +85,27 @@ static int is_bound(int uhid, const char *id)
     return 0;
 }
 
+/* Takes the node for this program, so that no key reaches the console, and puts auto-repeat off. */
+static int take_node(int node)
+{
+    unsigned never[2] = {0, 0};
+    struct input_event told = {.type = EV_SYN, .code = SYN_REPORT};
+    if (ioctl(node, EVIOCGRAB, 1)) return 0;
+    if (!ioctl(node, EVIOCSREP, never) && write(node, &told, sizeof told) < 0) perror("auto-repeat");
+    while (read(node, &told, sizeof told) == sizeof told) {}
+    return 1;
+}
+
 static void open_nodes(struct device *device, const char *where)
 {
     for (int i = 0; i < 256 && device->count < NODES; i++) {
         char path[64], phys[64] = "", name[256] = "";
         snprintf(path, sizeof path, "/dev/input/event%d", i);
-        int node = open(path, O_RDONLY | O_NONBLOCK);
+        int node = open(path, O_RDWR | O_NONBLOCK);
         if (node < 0) continue;
         ioctl(node, EVIOCGPHYS(sizeof phys - 1), phys);
         ioctl(node, EVIOCGNAME(sizeof name - 1), name);
-        /* (grabbed, so that no key reaches the console) */
-        if (strcmp(phys, where) || ioctl(node, EVIOCGRAB, 1)) { close(node); continue; }
+        if (strcmp(phys, where) || !take_node(node)) { close(node); continue; }
         printf("node %d %s\n", device->count, name);
         device->nodes[device->count++] = node;
     }
@@ -192,7 +202,7 @@ static void send_report(int number, int line, char *text)
     if (write(device->uhid, &event, sizeof event) < 0) perror("report");
     for (int i = 0; i < device->count; i++)
         while (read(device->nodes[i], &told, sizeof told) == sizeof told)
-            if (told.type == EV_SYN ? told.code == SYN_DROPPED : !(told.type == EV_KEY && told.value == 2))
+            if (told.type != EV_SYN || told.code == SYN_DROPPED)
                 printf("%d %d %d %d\n", i, told.type, told.code, told.value);
     answer(device->uhid);
 }

@@ -3,7 +3,7 @@
 ghost use Rattle.std.specs.Prelude.{◌≡◌, IfOk};
 ghost use Rattle.hid_layout.specs.Controls.{items_of};
 ghost use Rattle.hid_layout.specs.Reports.{IsLayout};
-ghost use Rattle.hid_cells.specs.Cells.{blank, blank_cell, first_value};
+ghost use Rattle.hid_cells.specs.Cells.{FitsView, blank, blank_cell, first_value};
 ghost use Rattle.hid_cells.specs.Parts.{shown_cell, blank_parts};
 
 use crate::cell::{Cell, Motions, Values};
@@ -56,6 +56,7 @@ pub fn blank_cell(alloc: Global, controls: &Controls) -> Result<Cell, AllocError
 /// What is kept of each item's controls at first.
 pub fn blank_cells(alloc: Global, layout: &Layout) -> Result<Vec<Cell>, AllocError>
     ensures blank { IfOk result (λ cells. cells.items ≡ blank (items_of layout.now)) }
+    ensures fits { IfOk result (λ cells. FitsView (items_of layout.now) cells.items) }
     ensures layout { IsLayout layout.now }
 {
     let mut cells = Vec::with_capacity(alloc, item_count(layout))?;

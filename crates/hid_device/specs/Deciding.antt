@@ -1,6 +1,6 @@
 -- The requests that endpoint 0 of a device answers, and what they bring about (USB 2.0, 9.1.1.5 and 9.4; HID 1.11, 4.2,
 -- 4.3, 7.1 and 7.2).
-use Rattle.std.specs.Prelude.{ℕ, Bool, true, false, not, ◌&&◌, ◌==◌, nat_le, if◌then◌else◌, List, [], ◌∷◌, length, replicate, slice_get, slice_set, Option, Some, None, option_map}
+use Rattle.std.specs.Prelude.{◌≡◌, ℕ, Bool, true, false, not, ◌&&◌, ◌==◌, nat_le, if◌then◌else◌, List, [], ◌∷◌, length, replicate, slice_get, slice_set, Option, Some, None, option_map}
 use Rattle.std.specs.Option.{option_and_then}
 use Rattle.hid_descriptor.specs.declared.report.ReportKind.{ReportKind}
 use Rattle.hid_descriptor.specs.declared.report.ReportKind.TheVariants.{Input, Output, Feature}
@@ -149,6 +149,10 @@ abbrev pub left_by : CoreState → Decided → CoreState
 left_by core Refuses = record core { answer = None; pending = Nothing }
 left_by core (Reads bytes) = record core { answer = Some bytes; pending = Nothing }
 left_by core (Writes pending) = record core { answer = None; pending = pending }
+
+-- A request is decided on so: whether it is accepted, and what that leaves.
+abbrev pub Decides : CoreState → Decided → Bool → CoreState → Type 0
+Decides core decided accepted new = (accepted ≡ is_accepted decided) × (new ≡ left_by core decided)
 
 -- an idle time is set: that of one Input report, or of all (HID 1.11, 7.2.4)
 abbrev pub idle_set : List ℕ → Option ℕ → ℕ → List ℕ

@@ -3,8 +3,6 @@ use Rattle.std.specs.Prelude.{ℕ, Bool, true, false, List}
 use Rattle.hid_device.specs.declared.decisions.Answer.{Answer}
 use Rattle.hid_device.specs.declared.decisions.Answer.TheVariants.{Bytes, Descriptor}
 use Rattle.hid_device.specs.declared.decisions.Pending.{Pending}
-use Rattle.hid_device.specs.declared.decisions.Decision.{Decision}
-use Rattle.hid_device.specs.declared.decisions.Decision.TheVariants as decisions
 
 -- a request is refused, or reads these bytes, or writes and is to bring this about
 pub data Decided : Type 0 where
@@ -27,13 +25,7 @@ is_accepted Refuses = false
 is_accepted (Reads bytes) = true
 is_accepted (Writes pending) = true
 
--- the bytes of an answer, of a device with this report descriptor
-abbrev pub answer_bytes : List ℕ → Answer → List ℕ
-answer_bytes descriptor (Bytes bytes) = bytes.items
-answer_bytes descriptor Descriptor = descriptor
-
--- and what a decision is there
-abbrev pub decided_by : List ℕ → Decision → Decided
-decided_by descriptor decisions.Refuses = Refuses
-decided_by descriptor (decisions.Reads answer) = Reads (answer_bytes descriptor answer)
-decided_by descriptor (decisions.Writes pending) = Writes pending
+-- the bytes of an answer, of a device with this report descriptor that has written these bytes down
+abbrev pub answer_bytes : List ℕ → List ℕ → Answer → List ℕ
+answer_bytes descriptor written Bytes = written
+answer_bytes descriptor written Descriptor = descriptor

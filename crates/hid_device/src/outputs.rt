@@ -59,9 +59,9 @@ fn bare(layout: &Layout, report: usize) -> KeptReport
     ensures { result ≡ bare_report layout.now report }
 {
     let _items = layout.items(); // with what holds of every layout, as that a report has at most 256 bytes
-    KeptReport {
-        bytes: bare_report(layout, report),
-    }
+    let mut bytes = ArrayVec::new();
+    bare_report(layout, report, &mut bytes);
+    KeptReport { bytes }
 }
 
 /// Makes each of these reports what it was at first. No memory is taken.

@@ -10,13 +10,13 @@ ghost use Rattle.usb_packet.specs.Spelling.{Fits};
 ghost use Rattle.hid_device.specs.Standing.{is_due, due_where};
 ghost use Rattle.hid_device.specs.Core.{IsSound, armed_of, opened_core, opening_of, closed_core, configured_core, halted_core, cleared_core, piece_at, poll_answer, reset_core, changed_core, framed_core, next_of, round_of};
 ghost use Rattle.hid_device.specs.declared.decisions.Pending.TheVariants.{Keep, Nothing};
-ghost use Rattle.hid_device.specs.Decisions.{decided_by};
-ghost use Rattle.hid_device.specs.Deciding.{decided_row, effected, idle_told, keeps, output_of, reads_any, report_now, sets_idle, still_bytes};
+ghost use Rattle.hid_device.specs.Decisions.{Reads, Refuses, Writes, reads_if, writes_if};
+ghost use Rattle.hid_device.specs.Deciding.{Decides, decided_row, effected, idle_told, keeps, left_by, output_of, reads_any, report_now, sets_idle, still_bytes};
 ghost use Rattle.hid_device.specs.Outputs.{kept_place};
 ghost use Rattle.hid_device.specs.Making.{no_memory, new_core, CanServe, RefusesDescriptor, MakesCore};
 
 use crate::config::Config;
-use crate::decisions::{Answer, Decision, Pending, reads, reads_if, writes_if};
+use crate::decisions::{Answer, Pending};
 use crate::fault::{DeviceCause, DeviceFault};
 use crate::frames::{count_frame, is_idle_over, set_idle};
 use crate::inputs::input_count;
@@ -68,6 +68,8 @@ pub struct Core {
     still: Shown,
     /// The answer to the last request, where it was a read that was accepted.
     answer: Option<Answer>,
+    /// Its bytes, where they aren't those of the report descriptor.
+    written: ArrayVec<u8, 256>,
     /// What its status brings about.
     pending: Pending,
 }
@@ -97,7 +99,7 @@ impl Model for Core {
       halted = c.pipe.halted;
       protocol = c.protocol;
       outputs = c.outputs.items;
-      answer = option_map (answer_bytes c.descriptor.items) c.answer;
+      answer = option_map (answer_bytes c.descriptor.items c.written.items) c.answer;
       pending = c.pending;
     } };
 
@@ -120,7 +122,7 @@ impl Model for Core {
       halted = c.pipe.halted;
       protocol = c.protocol;
       outputs = c.outputs.items;
-      answer = option_map (answer_bytes c.descriptor.items) c.answer;
+      answer = option_map (answer_bytes c.descriptor.items c.written.items) c.answer;
       pending = c.pending;
     }) c.pipe.armed c.round.items c.still };
 }
@@ -190,6 +192,7 @@ impl Core {
             outputs,
             still,
             answer: None,
+            written: ArrayVec::new(),
             pending: Pending::Nothing,
         })
     }
@@ -428,7 +431,7 @@ impl Core {
         self.snapshot.take_motion(&self.layout, report, &self.fixed);
         self.frames[report] = 0;
         self.cut[report] = false;
-        self.round = encode_report::<WordCodec>(&self.layout, report, &self.fixed);
+        encode_report::<WordCodec>(&self.layout, report, &self.fixed, &mut self.round);
         are_bytes(&self.round);
         self.pipe.arm(piece_of(&self.round, 0));
         self.current = Some(report);
@@ -455,32 +458,106 @@ impl Core {
         }
     }
 
-    /// The bytes of an Input report as it is now, with every motion 0.
-    fn still_report(&mut self, report: usize) -> ArrayVec<u8, 256>
-        requires { report < length self.old.standing.frames }
-        ensures bytes { result.items ≡ still_bytes self.old report }
-        ensures same { self.new ≡ self.old }
+    /// A request is refused: STALL, in its data or status stage.
+    fn refuse(&mut self) -> bool
+        ensures { Decides self.old Refuses result self.new }
     {
-        self.still.reset(&self.layout);
-        self.snapshot.still(&self.layout, report, &mut self.still);
-        encode_report::<WordCodec>(&self.layout, report, &self.still)
+        self.forget_request();
+        false
     }
 
-    /// What is decided on GET_REPORT (HID 1.11, 7.2.1).
-    fn get_report(&mut self, kind: ReportKind, id: u8) -> Decision
-        ensures decided { decided_by self.old.descriptor result
-            ≡ reads_any (report_now self.old kind id) }
-        ensures same { self.new ≡ self.old }
+    /// A read has the report descriptor as its answer.
+    fn read_descriptor(&mut self) -> bool
+        ensures { Decides self.old (Reads self.old.descriptor) result self.new }
+    {
+        self.forget_request();
+        self.answer = Some(Answer::Descriptor);
+        true
+    }
+
+    /// A read has these bytes as its answer, which are written down.
+    fn read(&mut self, bytes: &[u8]) -> bool
+        requires { length bytes.now ≤ 256 }
+        ensures { Decides self.old (Reads bytes.now) result self.new }
+    {
+        self.forget_request();
+        self.written.clear();
+        self.written.try_extend_from_slice(bytes).unwrap();
+        self.answer = Some(Answer::Bytes);
+        true
+    }
+
+    /// The same where something holds; else it is refused.
+    fn read_if(&mut self, holds: bool, bytes: &[u8]) -> bool
+        requires { length bytes.now ≤ 256 }
+        ensures { Decides self.old (reads_if holds bytes.now) result self.new }
+    {
+        if holds {
+            self.read(bytes)
+        } else {
+            self.refuse()
+        }
+    }
+
+    /// A write is to bring this about.
+    fn write(&mut self, pending: Pending) -> bool
+        ensures { Decides self.old (Writes pending) result self.new }
+    {
+        self.forget_request();
+        self.pending = pending;
+        true
+    }
+
+    /// The same where something holds; else it is refused.
+    fn write_if(&mut self, holds: bool, pending: Pending) -> bool
+        ensures { Decides self.old (writes_if holds pending) result self.new }
+    {
+        if holds {
+            self.write(pending)
+        } else {
+            self.refuse()
+        }
+    }
+
+    /// A read has the bytes of an Input report as it is now, with every motion 0, as its answer.
+    fn read_input(&mut self, report: usize) -> bool
+        requires { report < length self.old.standing.frames }
+        ensures { Decides self.old (Reads (still_bytes self.old report)) result self.new }
+    {
+        self.forget_request();
+        self.still.reset(&self.layout);
+        self.snapshot.still(&self.layout, report, &mut self.still);
+        encode_report::<WordCodec>(&self.layout, report, &self.still, &mut self.written);
+        self.answer = Some(Answer::Bytes);
+        true
+    }
+
+    /// A read has an Output or Feature report, as it was set last, as its answer.
+    fn read_output(&mut self, kind: ReportKind, id: u8) -> bool
+        ensures { Decides self.old (reads_any (output_of self.old kind id)) result self.new }
+    {
+        let Some(place) = kept_place(&self.layout, kind, id) else {
+            return self.refuse();
+        };
+        self.forget_request();
+        self.written.clear();
+        self.written
+            .try_extend_from_slice(self.outputs[place].bytes())
+            .unwrap();
+        self.answer = Some(Answer::Bytes);
+        true
+    }
+
+    /// GET_REPORT is decided on (HID 1.11, 7.2.1).
+    fn get_report(&mut self, kind: ReportKind, id: u8) -> bool
+        ensures { Decides self.old (reads_any (report_now self.old kind id)) result self.new }
     {
         match kind {
             ReportKind::Input => match input_with(&self.layout, id) {
-                Some(report) => reads(&self.still_report(report)),
-                None => Decision::Refuses,
+                Some(report) => self.read_input(report),
+                None => self.refuse(),
             },
-            ReportKind::Output | ReportKind::Feature => match self.output(kind, id) {
-                Some(bytes) => reads(bytes),
-                None => Decision::Refuses,
-            },
+            ReportKind::Output | ReportKind::Feature => self.read_output(kind, id),
         }
     }
 
@@ -498,34 +575,33 @@ impl Core {
         }
     }
 
-    /// What is decided on SET_REPORT (HID 1.11, 7.2.2): as many bytes come as the report has.
-    fn set_report(&self, kind: ReportKind, id: u8, length: u16) -> Decision
-        ensures { decided_by self.now.descriptor result
-            ≡ keeps self.now length (kept_place self.now.layout.reports kind id) }
+    /// SET_REPORT is decided on (HID 1.11, 7.2.2): as many bytes come as the report has.
+    fn set_report(&mut self, kind: ReportKind, id: u8, length: u16) -> bool
+        ensures { Decides self.old (keeps self.old length (kept_place self.old.layout.reports kind id)) result
+            self.new }
     {
         match kept_place(&self.layout, kind, id) {
             Some(place) => {
                 let suits = usize::from(length) == self.outputs[place].len();
-                writes_if(suits, Pending::Keep { place })
+                self.write_if(suits, Pending::Keep { place })
             }
-            None => Decision::Refuses,
+            None => self.refuse(),
         }
     }
 
-    /// What is decided on SET_IDLE (HID 1.11, 7.2.4): for an Input report, or with 0 for all.
-    fn set_idle(&self, id: u8, time: u8) -> Decision
-        ensures { decided_by self.now.descriptor result ≡ sets_idle self.now id time }
+    /// SET_IDLE is decided on (HID 1.11, 7.2.4): it is of an Input report, or with 0 of all.
+    fn set_idle(&mut self, id: u8, time: u8) -> bool
+        ensures { Decides self.old (sets_idle self.old id time) result self.new }
     {
         if id == 0 {
-            Decision::Writes(Pending::Idle { report: None, time })
-        } else {
-            match input_with(&self.layout, id) {
-                Some(report) => Decision::Writes(Pending::Idle {
-                    report: Some(report),
-                    time,
-                }),
-                None => Decision::Refuses,
-            }
+            return self.write(Pending::Idle { report: None, time });
+        }
+        match input_with(&self.layout, id) {
+            Some(report) => self.write(Pending::Idle {
+                report: Some(report),
+                time,
+            }),
+            None => self.refuse(),
         }
     }
 
@@ -538,39 +614,49 @@ impl Core {
         }
     }
 
-    /// What is decided on a request, by its row (USB 2.0, 9.4; HID 1.11, 7.1 and 7.2).
-    fn decide(&mut self, asked: Asked) -> Decision
-        ensures decided { decided_by self.old.descriptor result ≡ decided_row self.old asked }
-        ensures same { self.new ≡ self.old }
+    /// A request is decided on by its row (USB 2.0, 9.4; HID 1.11, 7.1 and 7.2): whether it is accepted.
+    fn decide(&mut self, asked: Asked) -> bool
+        ensures { Decides self.old (decided_row self.old asked) result self.new }
     {
+        let Config { interval, boot, .. } = self.config;
+        let (length, is_configured) = (self.report_length(), self.is_configured);
         match asked {
-            Asked::Status | Asked::ControlStatus => reads(&[0, 0]),
-            Asked::InterfaceStatus => reads_if(self.is_configured, &[0, 0]),
-            Asked::ReportStatus => reads_if(self.is_configured, &[u8::from(self.pipe.halted()), 0]),
-            Asked::DeviceDescriptor => reads(&device_descriptor(&self.config.device_info())),
-            Asked::Configuration => {
-                let info = self.config.config_info(self.report_length());
-                reads(&configuration(&info, self.config.interval))
+            Asked::Status | Asked::ControlStatus => self.read(&[0, 0]),
+            Asked::InterfaceStatus => self.read_if(is_configured, &[0, 0]),
+            Asked::ReportStatus => {
+                let halted = self.pipe.halted();
+                self.read_if(is_configured, &[u8::from(halted), 0])
             }
-            Asked::HidDescriptor => reads(&hid_descriptor(self.report_length())),
-            Asked::ReportDescriptor => Decision::Reads(Answer::Descriptor),
-            Asked::GetConfiguration => reads(&[u8::from(self.is_configured)]),
-            Asked::GetInterface => reads_if(self.is_configured, &[0]),
-            Asked::SetConfiguration => Decision::Writes(Pending::Configure),
-            Asked::ClearFeature => writes_if(self.is_configured, Pending::Clear),
-            Asked::SetFeature => writes_if(self.is_configured, Pending::Halt),
+            Asked::DeviceDescriptor => {
+                let info = self.config.device_info();
+                self.read(&device_descriptor(&info))
+            }
+            Asked::Configuration => {
+                let info = self.config.config_info(length);
+                self.read(&configuration(&info, interval))
+            }
+            Asked::HidDescriptor => self.read(&hid_descriptor(length)),
+            Asked::ReportDescriptor => self.read_descriptor(),
+            Asked::GetConfiguration => self.read(&[u8::from(is_configured)]),
+            Asked::GetInterface => self.read_if(is_configured, &[0]),
+            Asked::SetConfiguration => self.write(Pending::Configure),
+            Asked::ClearFeature => self.write_if(is_configured, Pending::Clear),
+            Asked::SetFeature => self.write_if(is_configured, Pending::Halt),
             Asked::GetReport { kind, id } => self.get_report(kind, id),
             Asked::GetIdle { id } => match self.idle_time(id) {
-                Some(time) => reads(&[time]),
-                None => Decision::Refuses,
+                Some(time) => self.read(&[time]),
+                None => self.refuse(),
             },
-            Asked::GetProtocol => reads_if(self.config.boot.is_boot(), &[self.protocol.number()]),
+            Asked::GetProtocol => {
+                let number = self.protocol.number();
+                self.read_if(boot.is_boot(), &[number])
+            }
             Asked::SetReport { kind, id, length } => self.set_report(kind, id, length),
             Asked::SetIdle { id, time } => self.set_idle(id, time),
-            Asked::SetProtocol { protocol } => writes_if(
-                self.config.boot.is_boot() && !self.is_configured,
-                Pending::Protocol(protocol),
-            ),
+            Asked::SetProtocol { protocol } => {
+                let holds = boot.is_boot() && !is_configured;
+                self.write_if(holds, Pending::Protocol(protocol))
+            }
         }
     }
 }
@@ -600,28 +686,16 @@ impl Requests for Core {
 
     #[tactic(auto, unfolding(crate::specs::Deciding::decide))]
     fn prepare(&mut self, setup: &Setup) -> bool {
-        let decision = match what_is_asked(setup) {
+        match what_is_asked(setup) {
             Some(asked) => self.decide(asked),
-            None => Decision::Refuses,
-        };
-        self.forget_request();
-        match decision {
-            Decision::Refuses => false,
-            Decision::Reads(answer) => {
-                self.answer = Some(answer);
-                true
-            }
-            Decision::Writes(pending) => {
-                self.pending = pending;
-                true
-            }
+            None => self.refuse(),
         }
     }
 
     fn answer(&self) -> Option<&[u8]> {
-        match &self.answer {
+        match self.answer {
             None => None,
-            Some(Answer::Bytes(bytes)) => Some(bytes.as_slice()),
+            Some(Answer::Bytes) => Some(self.written.as_slice()),
             Some(Answer::Descriptor) => Some(self.descriptor.as_slice()),
         }
     }

@@ -1,6 +1,8 @@
 //! What a host makes of the answer to a request that is done.
 ghost use Rattle.std.specs.Prelude.{◌≡◌, ◌≤◌, ℕ, List, [], Ok, Err, IfOk, IfErr, OnOk, OnErr};
 ghost use Rattle.hid_descriptor.specs.Faults.{Explains};
+ghost use Rattle.hid_layout.specs.Controls.{items_of};
+ghost use Rattle.hid_cells.specs.Cells.{FitsView, blank};
 ghost use Rattle.usb_packet.specs.declared.packet.TheConstants.{MAX_ENDPOINT};
 ghost use Rattle.hid_device.specs.Laying.{Lays};
 ghost use Rattle.hid_requests.specs.declared.request.Request.TheVariants.{Configure};
@@ -10,9 +12,10 @@ ghost use Rattle.hid_host.specs.Phase.{HasEndpoint};
 use crate::fault::{DescriptorFault, StackFault};
 use crate::phase::HostPhase;
 use crate::ready::ReadyHost;
+use hid_cells::blank_cells;
 use hid_layout::{Cause, Layout, LayoutFault};
 use hid_requests::Request;
-use hid_usages::View;
+use hid_usages::{Cell, View};
 use std::alloc::Global;
 use std::mem;
 use usb_control::{ConfigInfo, DeviceInfo};
@@ -36,6 +39,18 @@ pub(crate) fn layout_of(alloc: Global, descriptor: &[u8]) -> Result<Layout, Stac
     match Layout::parse(alloc, descriptor) {
         Ok(layout) => Ok(layout),
         Err(fault) => Err(no_layout(fault)),
+    }
+}
+
+/// The cells of a view at first.
+pub(crate) fn cells_at_first(alloc: Global, layout: &Layout) -> Result<Vec<Cell>, StackFault>
+    ensures blank { IfOk result (λ cells. cells.items ≡ blank (items_of layout.now)) }
+    ensures fits { IfOk result (λ cells. FitsView (items_of layout.now) cells.items) }
+    ensures memory { IfErr result (λ fault. fault ≡ StackFault.Memory) }
+{
+    match blank_cells(alloc, layout) {
+        Ok(cells) => Ok(cells),
+        Err(_) => Err(StackFault::Memory),
     }
 }
 
@@ -78,7 +93,7 @@ fn configured(alloc: Global, addr: u8, phase: &mut HostPhase) -> Result<(), Stac
     };
     let endpoint = info.endpoint;
     let view = View::initial(alloc, layout)?;
-    let initial = View::initial(alloc, layout)?;
+    let initial = cells_at_first(alloc, layout)?;
     let HostPhase::Parsed(_, layout) = mem::replace(phase, HostPhase::Cold) else {
         unreachable!()
     };

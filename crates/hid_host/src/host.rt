@@ -8,12 +8,12 @@ ghost use Rattle.usb_transact.specs.Taken.{taken};
 ghost use Rattle.hid_device.specs.Laying.{Lays};
 ghost use Rattle.hid_host.specs.Bringing.{may_cut};
 ghost use Rattle.hid_host.specs.Conclusions.{IsNoLayout};
-ghost use Rattle.hid_host.specs.Host.{cold_host, is_clear, polls_with, ready_host, ready_after};
-ghost use Rattle.hid_host.specs.Phase.{IsReady, IfReady, may_poll, state_of};
+ghost use Rattle.hid_host.specs.Host.{ConcludesAt, bytes_got, clearing_behind, cold_host, is_clear, polls_with, ready_host, ready_after};
+ghost use Rattle.hid_host.specs.Phase.{HasEndpoint, IsReady, IfReady, may_poll, state_of};
 ghost use Rattle.hid_host.specs.Ready.{told_of, events_behind};
 ghost use Rattle.hid_host.specs.Resetting.{SuitsRound, cut_told, reset_told};
 
-use crate::conclusions::{conclude, layout_of};
+use crate::conclusions::{cells_at_first, conclude, layout_of};
 use crate::fault::StackFault;
 use crate::phase::{HostPhase, HostState};
 use crate::ready::ReadyHost;
@@ -97,7 +97,7 @@ impl HostDevice {
     {
         let layout = layout_of(alloc, descriptor)?;
         let view = View::initial(alloc, &layout)?;
-        let initial = View::initial(alloc, &layout)?;
+        let initial = cells_at_first(alloc, &layout)?;
         let host = ReadyHost::new(addr, REPORT_ENDPOINT, layout, view, initial);
         Ok(HostDevice {
             alloc,
@@ -274,7 +274,7 @@ impl HostDevice {
     ghost use Rattle.std.specs.Prelude.{Ok, Err, Some, None, OnOk, OnErr, is_some};
     ghost use Rattle.hid_requests.specs.Asking.{FitsRequest};
     ghost use Rattle.hid_host.specs.declared.fault.StackFault.{StackFault as Refusal};
-    ghost use Rattle.hid_host.specs.Host.{ConcludesAt, ControlSteps, ShowsLast, begin_refusal, begun, bytes_got, clearing_behind, running};
+    ghost use Rattle.hid_host.specs.Host.{ControlSteps, ShowsLast, begin_refusal, begun, running};
 
     /// Whether a transfer runs.
     fn is_busy(&self) -> bool
@@ -350,38 +350,18 @@ impl HostDevice {
         if !self.is_busy() {
             return Err(StackFault::Control(ControlFault::NoTransfer));
         }
-        let Some(mut transfer) = self.transfer.take() else {
-            unreachable!()
-        };
-        transfer.ends.step(control, fate);
-        let told = self.concluded(&transfer);
-        self.transfer = Some(transfer);
-        told
-    }
-
-    /// What is told behind a try of a transfer. Where it is done, the host goes on by its answer.
-    fn concluded(&mut self, transfer: &Transfer) -> Result<Progress, StackFault>
-        ensures concludes { ConcludesAt transfer.now.ends.stage self.old.addr transfer.now.request
-            self.old.phase (bytes_got transfer.now.ends) result self.new.phase }
-        ensures others { self.new ≡ record self.old {
-          phase = self.new.phase;
-          clearing = clearing_behind transfer.now.ends.stage transfer.now.request self.old.clearing;
-        } }
-    {
-        match transfer.ends.outcome() {
-            Outcome::Running => Ok(Progress::Running),
-            Outcome::Failed(fault) => Ok(Progress::Failed(fault)),
-            Outcome::Done(bytes) => {
-                self.clearing = !is_clear(&transfer.request) && self.clearing;
-                conclude(
+        match &mut self.transfer {
+            Some(transfer) => {
+                transfer.ends.step(control, fate);
+                concluded(
                     self.alloc,
                     self.addr,
-                    &transfer.request,
-                    bytes,
+                    transfer,
                     &mut self.phase,
-                )?;
-                Ok(Progress::Done)
+                    &mut self.clearing,
+                )
             }
+            None => unreachable!(),
         }
     }
 
@@ -395,6 +375,32 @@ impl HostDevice {
         match &self.transfer {
             Some(transfer) => Ok(transfer.ends.outcome()),
             None => Err(StackFault::Control(ControlFault::NoTransfer)),
+        }
+    }
+}
+
+/// What is told behind a try of a transfer. Where it is done, the host goes on by its answer.
+fn concluded(
+    alloc: Global,
+    addr: u8,
+    transfer: &Transfer,
+    phase: &mut HostPhase,
+    clearing: &mut bool,
+) -> Result<Progress, StackFault>
+    requires addr { addr ≤ MAX_ADDRESS }
+    requires endpoint { HasEndpoint phase.old }
+    ensures concludes { ConcludesAt transfer.now.ends.stage addr transfer.now.request
+        phase.old (bytes_got transfer.now.ends) result phase.new }
+    ensures clearing { clearing.new ≡ clearing_behind transfer.now.ends.stage transfer.now.request clearing.old }
+    ensures endpoint { HasEndpoint phase.new }
+{
+    match transfer.ends.outcome() {
+        Outcome::Running => Ok(Progress::Running),
+        Outcome::Failed(fault) => Ok(Progress::Failed(fault)),
+        Outcome::Done(bytes) => {
+            *clearing = !is_clear(&transfer.request) && *clearing;
+            conclude(alloc, addr, &transfer.request, bytes, phase)?;
+            Ok(Progress::Done)
         }
     }
 }

@@ -20,7 +20,9 @@ use arrayvec::ArrayVec;
 use hid_cells::pieces_of;
 use hid_fields::WordCodec;
 use hid_layout::Layout;
-use hid_usages::{Event, ReportFault, Shown, View, bytes_awaited, changes, changes_and_drops};
+use hid_usages::{
+    Cell, Event, ReportFault, Shown, View, bytes_awaited, changes, changes_and_drops,
+};
 use std::marker::Model;
 use usb_packet::{MAX_ADDRESS, MAX_ENDPOINT, MAX_PAYLOAD, Packet};
 use usb_transact::{HostPipe, Took};
@@ -31,8 +33,8 @@ pub struct ReadyHost {
     layout: Layout,
     pipe: HostPipe,
     view: View,
-    /// The initial view, to which a reset of the bus goes back.
-    initial: View,
+    /// The cells of the initial view, to which a reset of the bus goes back.
+    initial: Vec<Cell>,
     /// What came of a report that isn't whole yet: full packets.
     collected: ArrayVec<u8, 256>,
 }
@@ -49,7 +51,7 @@ impl Model for ReadyHost {
       collected = h.collected.items;
     } };
 
-    ghost invariant = { λ h. AreViews h.layout h.view h.initial × ArePackets h.collected.items };
+    ghost invariant = { λ h. AreViews h.layout h.view h.initial.items × ArePackets h.collected.items };
 }
 
 /// Whether a report ends with these bytes, of which so many came last: it is as long as it should be, or the last packet isn't
@@ -87,13 +89,13 @@ impl ReadyHost {
         endpoint: u8,
         layout: Layout,
         view: View,
-        initial: View,
+        initial: Vec<Cell>,
     ) -> ReadyHost
         requires addr { addr ≤ MAX_ADDRESS }
         requires endpoint { endpoint ≤ MAX_ENDPOINT }
         requires layout { IsLayout layout }
         requires view { (view ≡ blank (items_of layout)) × FitsView (items_of layout) view }
-        requires initial { (initial ≡ blank (items_of layout)) × FitsView (items_of layout) initial }
+        requires initial { (initial.items ≡ blank (items_of layout)) × FitsView (items_of layout) initial.items }
         ensures { result ≡ known_at_start addr endpoint layout }
     {
         ReadyHost {
@@ -256,13 +258,13 @@ impl ReadyHost {
         match self.awaited(round, piece) {
             Some(report) => changes_and_drops(
                 &self.layout,
-                &self.view,
+                self.view.cells(),
                 &self.initial,
                 report,
                 fixed,
                 out,
             ),
-            None => changes(&self.layout, &self.view, &self.initial, out),
+            None => changes(&self.layout, self.view.cells(), &self.initial, out),
         }
     }
 
@@ -284,7 +286,8 @@ impl ReadyHost {
         ensures room { vec_capacity out.new ≡ vec_capacity out.old }
     {
         if let Some(report) = self.awaited(round, piece) {
-            changes_and_drops(&self.layout, &self.view, &self.view, report, fixed, out);
+            let cells = self.view.cells();
+            changes_and_drops(&self.layout, cells, cells, report, fixed, out);
         }
     }
 }

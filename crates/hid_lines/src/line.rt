@@ -1,7 +1,8 @@
 //! The lines of a script.
 
 ghost use Rattle.std.specs.Prelude.{◌≡◌, ◌≤◌, Err, length, map};
-ghost use Rattle.hid_lines.specs.Words.{total_length};
+ghost use Rattle.hid_lines.specs.Arguments.{with_bytes};
+ghost use Rattle.hid_lines.specs.Words.{hex_of, total_length};
 ghost use Rattle.hid_lines.specs.Line.{Gives, keyword_of, meaning_of, words_said, said_by, device_said};
 
 use super::arguments::{
@@ -182,14 +183,8 @@ fn read_arguments(keyword: Keyword, words: &[&[u8]]) -> Result<Line, LineFault>
     ensures { result ≡ said_by keyword (map (λ word. word.now) words.now) }
 {
     match keyword {
-        Keyword::Layout => {
-            let bytes = read_hex(words)?;
-            Ok(Line::Layout { bytes })
-        }
-        Keyword::Values => {
-            let bytes = read_hex(words)?;
-            Ok(Line::Values { bytes })
-        }
+        Keyword::Layout => read_layout(words),
+        Keyword::Values => read_values(words),
         Keyword::Device => read_attachment(words),
         Keyword::Press => {
             let (dev, usage) = read_control(words).ok_or(LineFault::Syntax)?;
@@ -235,7 +230,28 @@ fn read_arguments(keyword: Keyword, words: &[&[u8]]) -> Result<Line, LineFault>
     }
 }
 
+/// `HEX`: a report descriptor.
+#[inline(never)] // no other line makes room for its bytes
+fn read_layout(words: &[&[u8]]) -> Result<Line, LineFault>
+    requires { total_length (map (λ word. word.now) words.now) ≤ 1024 }
+    ensures { result ≡ with_bytes Line.Layout (hex_of (map (λ word. word.now) words.now)) }
+{
+    let bytes = read_hex(words)?;
+    Ok(Line::Layout { bytes })
+}
+
+/// `HEX`: the bytes of an Input report.
+#[inline(never)]
+fn read_values(words: &[&[u8]]) -> Result<Line, LineFault>
+    requires { total_length (map (λ word. word.now) words.now) ≤ 1024 }
+    ensures { result ≡ with_bytes Line.Values (hex_of (map (λ word. word.now) words.now)) }
+{
+    let bytes = read_hex(words)?;
+    Ok(Line::Values { bytes })
+}
+
 /// `START KIND HEX`: a device, with its report descriptor.
+#[inline(never)]
 #[tactic(auto, unfolding(crate::specs::Line::device_said))]
 fn read_attachment(words: &[&[u8]]) -> Result<Line, LineFault>
     requires { total_length (map (λ word. word.now) words.now) ≤ 1024 }

@@ -210,6 +210,7 @@ fn read_request(words: &[&[u8]]) -> Result<Request, LineFault>
 }
 
 /// `D REQUEST`: a device, and what its host asks.
+#[inline(never)] // no other line makes room for a request
 #[tactic(auto, unfolding(crate::specs::Requests::begin_said))]
 pub fn read_begin(words: &[&[u8]]) -> Result<Line, LineFault>
     requires { total_length (map (λ word. word.now) words.now) ≤ 1024 }

@@ -1,11 +1,10 @@
 //! The words of a line, and the bytes that words of hex spell.
 
 ghost use Rattle.std.specs.Prelude.{◌≡◌, ◌+◌, ◌*◌, ◌/◌, ◌≤◌, IfOk, OnOk, IfErr, map, length, is_ok, [], ◌++◌};
-ghost use Rattle.std.specs.List.{slice_split};
 ghost use Rattle.std.specs.Result.{result_unwrap_or};
 ghost use Rattle.hex.specs.Hex.{decode_of};
 ghost use Rattle.arrayvec.specs.ArrayVec.{array_vec_len};
-ghost use Rattle.hid_lines.specs.Words.{words_of, is_blank, look_up as under, hex_of, GivesHex, total_length, byte_count};
+ghost use Rattle.hid_lines.specs.Words.{words_of, look_up as under, hex_of, GivesHex, total_length, byte_count};
 
 use super::fault::LineFault;
 use super::line::HEX_LIMIT;
@@ -16,23 +15,8 @@ use std::alloc::{AllocError, Global};
 pub fn words_of_line(alloc: Global, line: &[u8]) -> Result<Vec<&[u8]>, AllocError>
     ensures { IfOk result (λ words. map (λ word. word.now) words.items ≡ words_of line.now) }
 {
-    let parts = parts_of_line(alloc, line)?;
-    let mut words = Vec::new(alloc);
-    for part in &parts {
-        let part = *part;
-        if !part.is_empty() {
-            words.push(part)?;
-        }
-    }
-    Ok(words)
-}
-
-// What stands between spaces and tabs, also where nothing does.
-fn parts_of_line(alloc: Global, line: &[u8]) -> Result<Vec<&[u8]>, AllocError>
-    ensures { IfOk result (λ parts. map (λ part. part.now) parts.items
-        ≡ slice_split is_blank line.now) }
-{
     line.split(|byte| *byte == b' ' || *byte == b'\t')
+        .filter(|word| !word.is_empty())
         .collect(alloc)
 }
 

@@ -6,7 +6,8 @@
 //!   page FF00      --usage_name--> none
 //! ```
 //! The rows stand by rising page and ID, so no usage is named twice: [`laws::rises`].
-//! What is named is what the tables say, and no usage that they have is left without: `name` on [`usage_name`].
+//! What is named is what the rows say, and no usage that has a row is left without: `name` on [`usage_name`]. The rows are
+//! those of Debian's list of USB IDs and some more, named as the HID Usage Tables name them; newer usages have none.
 #![tactic(auto)]
 
 pub mod laws;

@@ -2,11 +2,13 @@
 
 /// 01: Generic Desktop.
 #[rattlefmt::skip]
-pub static DESKTOP: [(u16, &str); 60] = [
+pub static DESKTOP: [(u16, &str); 65] = [
     (0x01, "Pointer"), (0x02, "Mouse"), (0x04, "Joystick"), (0x05, "Game Pad"), (0x06, "Keyboard"),
-    (0x07, "Keypad"), (0x08, "Multi-Axis Controller"), (0x09, "Water Cooling Device"),
-    (0x0A, "Computer Chassis Device"), (0x0B, "Wireless Radio Controls"), (0x0C, "Portable Device Control"),
-    (0x0D, "System Multi-Axis Controller"), (0x0E, "Spatial Controller"), (0x30, "X"), (0x31, "Y"), (0x32, "Z"),
+    (0x07, "Keypad"), (0x08, "Multi-Axis Controller"), (0x09, "Tablet PC System Controls"),
+    (0x0A, "Water Cooling Device"), (0x0B, "Computer Chassis Device"), (0x0C, "Wireless Radio Controls"),
+    (0x0D, "Portable Device Control"), (0x0E, "System Multi-Axis Controller"), (0x0F, "Spatial Controller"),
+    (0x10, "Assistive Control"), (0x11, "Device Dock"), (0x12, "Dockable Device"),
+    (0x13, "Call State Management Control"), (0x30, "X"), (0x31, "Y"), (0x32, "Z"),
     (0x33, "Rx"), (0x34, "Ry"), (0x35, "Rz"), (0x36, "Slider"), (0x37, "Dial"), (0x38, "Wheel"),
     (0x39, "Hat Switch"), (0x3A, "Counted Buffer"), (0x3B, "Byte Count"), (0x3C, "Motion Wakeup"), (0x3D, "Start"),
     (0x3E, "Select"), (0x40, "Vx"), (0x41, "Vy"), (0x42, "Vz"), (0x43, "Vbrx"), (0x44, "Vbry"), (0x45, "Vbrz"),
@@ -34,9 +36,9 @@ pub static SIMULATION: [(u16, &str); 51] = [
     (0xB4, "Chaff Release"), (0xB5, "Collective Control"), (0xB6, "Dive Brake"),
     (0xB7, "Electronic Countermeasures"), (0xB8, "Elevator"), (0xB9, "Elevator Trim"), (0xBA, "Rudder"),
     (0xBB, "Throttle"), (0xBC, "Flight Communications"), (0xBD, "Flare Release"), (0xBE, "Landing Gear"),
-    (0xBF, "Toe Brake"), (0xC0, "Trigger"), (0xC1, "Weapon Arm"), (0xC2, "Weapons Select"), (0xC3, "Wing Flaps"),
+    (0xBF, "Toe Brake"), (0xC0, "Trigger"), (0xC1, "Weapons Arm"), (0xC2, "Weapons Select"), (0xC3, "Wing Flaps"),
     (0xC4, "Accelerator"), (0xC5, "Brake"), (0xC6, "Clutch"), (0xC7, "Shifter"), (0xC8, "Steering"),
-    (0xC9, "Turret Direction"), (0xCA, "Barrel Elevation"), (0xCB, "Drive Plane"), (0xCC, "Ballast"),
+    (0xC9, "Turret Direction"), (0xCA, "Barrel Elevation"), (0xCB, "Dive Plane"), (0xCC, "Ballast"),
     (0xCD, "Bicycle Crank"), (0xCE, "Handle Bars"), (0xCF, "Front Brake"), (0xD0, "Rear Brake"),
 ];
 
@@ -53,7 +55,7 @@ pub static REALITY: [(u16, &str); 12] = [
 pub static SPORT: [(u16, &str); 34] = [
     (0x01, "Baseball Bat"), (0x02, "Golf Club"), (0x03, "Rowing Machine"), (0x04, "Treadmill"), (0x30, "Oar"),
     (0x31, "Slope"), (0x32, "Rate"), (0x33, "Stick Speed"), (0x34, "Stick Face Angle"), (0x35, "Stick Heel/Toe"),
-    (0x36, "Stick Follow Through"), (0x38, "Stick Type"), (0x39, "Stick Height"), (0x47, "Stick Temp"),
+    (0x36, "Stick Follow Through"), (0x37, "Stick Tempo"), (0x38, "Stick Type"), (0x39, "Stick Height"),
     (0x50, "Putter"), (0x51, "1 Iron"), (0x52, "2 Iron"), (0x53, "3 Iron"), (0x54, "4 Iron"), (0x55, "5 Iron"),
     (0x56, "6 Iron"), (0x57, "7 Iron"), (0x58, "8 Iron"), (0x59, "9 Iron"), (0x5A, "10 Iron"), (0x5B, "11 Iron"),
     (0x5C, "Sand Wedge"), (0x5D, "Loft Wedge"), (0x5E, "Power Wedge"), (0x5F, "1 Wood"), (0x60, "3 Wood"),
@@ -62,14 +64,14 @@ pub static SPORT: [(u16, &str); 34] = [
 
 /// 05: Game Controls.
 #[rattlefmt::skip]
-pub static GAMES: [(u16, &str); 29] = [
+pub static GAMES: [(u16, &str); 28] = [
     (0x01, "3D Game Controller"), (0x02, "Pinball Device"), (0x03, "Gun Device"), (0x20, "Point Of View"),
-    (0x21, "Turn Right/Left"), (0x22, "Pitch Right/Left"), (0x23, "Roll Forward/Backward"),
+    (0x21, "Turn Right/Left"), (0x22, "Pitch Forward/Backward"), (0x23, "Roll Right/Left"),
     (0x24, "Move Right/Left"), (0x25, "Move Forward/Backward"), (0x26, "Move Up/Down"), (0x27, "Lean Right/Left"),
     (0x28, "Lean Forward/Backward"), (0x29, "Height of POV"), (0x2A, "Flipper"), (0x2B, "Secondary Flipper"),
     (0x2C, "Bump"), (0x2D, "New Game"), (0x2E, "Shoot Ball"), (0x2F, "Player"), (0x30, "Gun Bolt"),
     (0x31, "Gun Clip"), (0x32, "Gun Selector"), (0x33, "Gun Single Shot"), (0x34, "Gun Burst"),
-    (0x35, "Gun Automatic"), (0x36, "Gun Safety"), (0x37, "Gamepad Fire/Jump"), (0x38, "Gamepad Gun"),
+    (0x35, "Gun Automatic"), (0x36, "Gun Safety"), (0x37, "Gamepad Fire/Jump"),
     (0x39, "Gamepad Trigger"),
 ];
 
@@ -131,21 +133,21 @@ pub static KEYBOARD: [(u16, &str); 172] = [
 #[rattlefmt::skip]
 pub static LIGHTS: [(u16, &str); 77] = [
     (0x01, "Num Lock"), (0x02, "Caps Lock"), (0x03, "Scroll Lock"), (0x04, "Compose"), (0x05, "Kana"),
-    (0x06, "Power"), (0x07, "Shift"), (0x08, "Do not disturb"), (0x09, "Mute"), (0x0A, "Tone Enable"),
-    (0x0B, "High Cut Filter"), (0x0C, "Low Cut Filter"), (0x0D, "Equalizer Enable"), (0x0E, "Sound Field ON"),
+    (0x06, "Power"), (0x07, "Shift"), (0x08, "Do Not Disturb"), (0x09, "Mute"), (0x0A, "Tone Enable"),
+    (0x0B, "High Cut Filter"), (0x0C, "Low Cut Filter"), (0x0D, "Equalizer Enable"), (0x0E, "Sound Field On"),
     (0x0F, "Surround On"), (0x10, "Repeat"), (0x11, "Stereo"), (0x12, "Sampling Rate Detect"), (0x13, "Spinning"),
     (0x14, "CAV"), (0x15, "CLV"), (0x16, "Recording Format Detect"), (0x17, "Off-Hook"), (0x18, "Ring"),
     (0x19, "Message Waiting"), (0x1A, "Data Mode"), (0x1B, "Battery Operation"), (0x1C, "Battery OK"),
-    (0x1D, "Battery Low"), (0x1E, "Speaker"), (0x1F, "Head Set"), (0x20, "Hold"), (0x21, "Microphone"),
+    (0x1D, "Battery Low"), (0x1E, "Speaker"), (0x1F, "Headset"), (0x20, "Hold"), (0x21, "Microphone"),
     (0x22, "Coverage"), (0x23, "Night Mode"), (0x24, "Send Calls"), (0x25, "Call Pickup"), (0x26, "Conference"),
     (0x27, "Stand-by"), (0x28, "Camera On"), (0x29, "Camera Off"), (0x2A, "On-Line"), (0x2B, "Off-Line"),
     (0x2C, "Busy"), (0x2D, "Ready"), (0x2E, "Paper-Out"), (0x2F, "Paper-Jam"), (0x30, "Remote"), (0x31, "Forward"),
     (0x32, "Reverse"), (0x33, "Stop"), (0x34, "Rewind"), (0x35, "Fast Forward"), (0x36, "Play"), (0x37, "Pause"),
     (0x38, "Record"), (0x39, "Error"), (0x3A, "Usage Selected Indicator"), (0x3B, "Usage In Use Indicator"),
-    (0x3C, "Usage Multi Indicator"), (0x3D, "Indicator On"), (0x3E, "Indicator Flash"),
+    (0x3C, "Usage Multi Mode Indicator"), (0x3D, "Indicator On"), (0x3E, "Indicator Flash"),
     (0x3F, "Indicator Slow Blink"), (0x40, "Indicator Fast Blink"), (0x41, "Indicator Off"),
     (0x42, "Flash On Time"), (0x43, "Slow Blink On Time"), (0x44, "Slow Blink Off Time"),
-    (0x45, "Fast Blink On Time"), (0x46, "Fast Blink Off Time"), (0x47, "Usage Color Indicator"),
+    (0x45, "Fast Blink On Time"), (0x46, "Fast Blink Off Time"), (0x47, "Usage Indicator Color"),
     (0x48, "Indicator Red"), (0x49, "Indicator Green"), (0x4A, "Indicator Amber"), (0x4B, "Generic Indicator"),
     (0x4C, "System Suspend"), (0x4D, "External Power Connected"),
 ];
@@ -162,7 +164,7 @@ pub static TELEPHONY: [(u16, &str); 63] = [
     (0x70, "Voice Mail"), (0x71, "Screen Calls"), (0x72, "Do Not Disturb"), (0x73, "Message"),
     (0x74, "Answer On/Off"), (0x90, "Inside Dial Tone"), (0x91, "Outside Dial Tone"), (0x92, "Inside Ring Tone"),
     (0x93, "Outside Ring Tone"), (0x94, "Priority Ring Tone"), (0x95, "Inside Ringback"),
-    (0x96, "Priority Ringback"), (0x97, "Line Busy Tone"), (0x98, "Recorder Tone"), (0x99, "Call Waiting Tone"),
+    (0x96, "Priority Ringback"), (0x97, "Line Busy Tone"), (0x98, "Reorder Tone"), (0x99, "Call Waiting Tone"),
     (0x9A, "Confirmation Tone 1"), (0x9B, "Confirmation Tone 2"), (0x9C, "Tones Off"), (0x9D, "Outside Ringback"),
     (0xB0, "Phone Key 0"), (0xB1, "Phone Key 1"), (0xB2, "Phone Key 2"), (0xB3, "Phone Key 3"),
     (0xB4, "Phone Key 4"), (0xB5, "Phone Key 5"), (0xB6, "Phone Key 6"), (0xB7, "Phone Key 7"),
@@ -194,7 +196,7 @@ pub static CONSUMER: [(u16, &str); 226] = [
     (0xB9, "Random Play"), (0xBA, "Select Disc"), (0xBB, "Enter Disc"), (0xBC, "Repeat"), (0xBD, "Tracking"),
     (0xBE, "Track Normal"), (0xBF, "Slow Tracking"), (0xC0, "Frame Forward"), (0xC1, "Frame Back"), (0xC2, "Mark"),
     (0xC3, "Clear Mark"), (0xC4, "Repeat from Mark"), (0xC5, "Return to Mark"), (0xC6, "Search Mark Forward"),
-    (0xC7, "Search Mark Backward"), (0xC8, "Counter Reset"), (0xC9, "Show Counter"), (0xCA, "Tracking Increment"),
+    (0xC7, "Search Mark Backwards"), (0xC8, "Counter Reset"), (0xC9, "Show Counter"), (0xCA, "Tracking Increment"),
     (0xCB, "Tracking Decrement"), (0xCC, "Stop/Eject"), (0xCD, "Play/Pause"), (0xCE, "Play/Skip"),
     (0xE0, "Volume"), (0xE1, "Balance"), (0xE2, "Mute"), (0xE3, "Bass"), (0xE4, "Treble"), (0xE5, "Bass Boost"),
     (0xE6, "Surround Mode"), (0xE7, "Loudness"), (0xE8, "MPX"), (0xE9, "Volume Increment"),
@@ -207,9 +209,9 @@ pub static CONSUMER: [(u16, &str); 226] = [
     (0x162, "Channel Right"), (0x163, "Channel Center"), (0x164, "Channel Front"), (0x165, "Channel Center Front"),
     (0x166, "Channel Side"), (0x167, "Channel Surround"), (0x168, "Channel Low Frequency Enhancement"),
     (0x169, "Channel Top"), (0x16A, "Channel Unknown"), (0x170, "Sub-Channel"), (0x171, "Sub-Channel Increment"),
-    (0x172, "Sub-Channel Decrement"), (0x173, "Alternative Audio Increment"),
-    (0x174, "Alternative Audio Decrement"), (0x180, "Application Launch Buttons"),
-    (0x181, "AL Launch Button Configuration Tool"), (0x182, "AL Launch Button Configuration"),
+    (0x172, "Sub-Channel Decrement"), (0x173, "Alternate Audio Increment"),
+    (0x174, "Alternate Audio Decrement"), (0x180, "Application Launch Buttons"),
+    (0x181, "AL Launch Button Configuration Tool"), (0x182, "AL Programmable Button Configuration"),
     (0x183, "AL Consumer Control Configuration"), (0x184, "AL Word Processor"), (0x185, "AL Text Editor"),
     (0x186, "AL Spreadsheet"), (0x187, "AL Graphics Editor"), (0x188, "AL Presentation App"),
     (0x189, "AL Database App"), (0x18A, "AL Email Reader"), (0x18B, "AL Newsreader"), (0x18C, "AL Voicemail"),
@@ -218,7 +220,7 @@ pub static CONSUMER: [(u16, &str); 226] = [
     (0x193, "AL A/V Capture/Playback"), (0x194, "AL Local Machine Browser"), (0x195, "AL LAN/WAN Browser"),
     (0x196, "AL Internet Browser"), (0x197, "AL Remote Networking/ISP Connect"), (0x198, "AL Network Conference"),
     (0x199, "AL Network Chat"), (0x19A, "AL Telephony/Dialer"), (0x19B, "AL Logon"), (0x19C, "AL Logoff"),
-    (0x19D, "AL Logon/Logoff"), (0x19E, "AL Terminal Local/Screensaver"), (0x19F, "AL Control Panel"),
+    (0x19D, "AL Logon/Logoff"), (0x19E, "AL Terminal Lock/Screensaver"), (0x19F, "AL Control Panel"),
     (0x1A0, "AL Command Line Processor/Run"), (0x1A1, "AL Process/Task Manager"),
     (0x1A2, "AL Select Task/Application"), (0x1A3, "AL Next Task/Application"),
     (0x1A4, "AL Previous Task/Application"), (0x1A5, "AL Preemptive Halt Task/Application"),
@@ -247,8 +249,8 @@ pub static DIGITIZERS: [(u16, &str); 51] = [
     (0x39, "Tablet Function Keys"), (0x3A, "Program Change Keys"), (0x3B, "Battery Strength"), (0x3C, "Invert"),
     (0x3D, "X Tilt"), (0x3E, "Y Tilt"), (0x3F, "Azimuth"), (0x40, "Altitude"), (0x41, "Twist"),
     (0x42, "Tip Switch"), (0x43, "Secondary Tip Switch"), (0x44, "Barrel Switch"), (0x45, "Eraser"),
-    (0x46, "Tablet Pick"), (0x47, "Confidence"), (0x48, "Width"), (0x49, "Height"), (0x51, "Contact ID"),
-    (0x52, "Input Mode"), (0x53, "Device Index"), (0x54, "Contact Count"), (0x55, "Maximum Contact Number"),
+    (0x46, "Tablet Pick"), (0x47, "Touch Valid"), (0x48, "Width"), (0x49, "Height"), (0x51, "Contact Identifier"),
+    (0x52, "Device Mode"), (0x53, "Device Identifier"), (0x54, "Contact Count"), (0x55, "Contact Count Maximum"),
     (0x56, "Scan Time"), (0x5A, "Secondary Barrel Switch"), (0x5B, "Transducer Serial Number"),
 ];
 
@@ -284,8 +286,8 @@ pub static DISPLAYS: [(u16, &str); 35] = [
     (0x26, "Display Enable"), (0x27, "Screen Saver Delay"), (0x28, "Screen Saver Enable"),
     (0x29, "Vertical Scroll"), (0x2A, "Horizontal Scroll"), (0x2B, "Character Report"), (0x2C, "Display Data"),
     (0x2D, "Display Status"), (0x2E, "Stat Not Ready"), (0x2F, "Stat Ready"),
-    (0x30, "Err Not a loadable Character"), (0x31, "Err Font Data Cannot Be Read"),
-    (0x32, "Cursur Position Report"), (0x33, "Row"), (0x34, "Column"), (0x35, "Rows"), (0x36, "Columns"),
+    (0x30, "Err Not a Loadable Character"), (0x31, "Err Font Data Cannot Be Read"),
+    (0x32, "Cursor Position Report"), (0x33, "Row"), (0x34, "Column"), (0x35, "Rows"), (0x36, "Columns"),
     (0x37, "Cursor Pixel Positioning"), (0x38, "Cursor Mode"), (0x39, "Cursor Enable"), (0x3A, "Cursor Blink"),
     (0x3B, "Font Report"), (0x3C, "Font Data"), (0x3D, "Character Width"), (0x3E, "Character Height"),
     (0x3F, "Character Spacing Horizontal"), (0x40, "Character Spacing Vertical"), (0x41, "Unicode Character Set"),
@@ -312,7 +314,7 @@ pub static MONITOR_CONTROLS: [(u16, &str); 44] = [
     (0x4C, "Bottom Corner Distortion Balance"), (0x56, "Horizontal Moire"), (0x58, "Vertical Moire"),
     (0x5E, "Input Level Select"), (0x60, "Input Source Select"), (0x6C, "Red Video Black Level"),
     (0x6E, "Green Video Black Level"), (0x70, "Blue Video Black Level"), (0xA2, "Auto Size Center"),
-    (0xA4, "Polarity Horizontal Sychronization"), (0xA6, "Polarity Vertical Synchronization"),
+    (0xA4, "Polarity Horizontal Synchronization"), (0xA6, "Polarity Vertical Synchronization"),
     (0xAA, "Screen Orientation"), (0xAC, "Horizontal Frequency in Hz"), (0xAE, "Vertical Frequency in 0.1 Hz"),
     (0xB0, "Settings"), (0xCA, "On Screen Display (OSD)"), (0xD4, "Stereo Mode"),
 ];
@@ -335,7 +337,7 @@ pub static POWER: [(u16, &str); 77] = [
     (0x56, "Delay Before Startup"), (0x57, "Delay Before Shutdown"), (0x58, "Test"), (0x59, "Module Reset"),
     (0x5A, "Audible Alarm Control"), (0x60, "Present"), (0x61, "Good"), (0x62, "Internal Failure"),
     (0x63, "Voltage out of range"), (0x64, "Frequency out of range"), (0x65, "Overload"), (0x66, "Over Charged"),
-    (0x67, "Over Temperature"), (0x68, "Shutdown Requested"), (0x69, "Shutdown  Imminent"),
+    (0x67, "Over Temperature"), (0x68, "Shutdown Requested"), (0x69, "Shutdown Imminent"),
     (0x6B, "Switch On/Off"), (0x6C, "Switchable"), (0x6D, "Used"), (0x6E, "Boost"), (0x6F, "Buck"),
     (0x70, "Initialized"), (0x71, "Tested"), (0x72, "Awaiting Power"), (0x73, "Communication Lost"),
     (0xFD, "iManufacturer"), (0xFE, "iProduct"), (0xFF, "iSerialNumber"),
@@ -350,7 +352,7 @@ pub static BATTERIES: [(u16, &str); 91] = [
     (0x10, "Optional Mfg. Function 1"), (0x11, "Optional Mfg. Function 2"), (0x12, "Optional Mfg. Function 3"),
     (0x13, "Optional Mfg. Function 4"), (0x14, "Optional Mfg. Function 5"), (0x15, "Connection to SMBus"),
     (0x16, "Output Connection"), (0x17, "Charger Connection"), (0x18, "Battery Insertion"), (0x19, "Use Next"),
-    (0x1A, "OK to use"), (0x1B, "Battery  Supported"), (0x1C, "SelectorRevision"), (0x1D, "Charging Indicator"),
+    (0x1A, "OK to use"), (0x1B, "Battery Supported"), (0x1C, "Selector Revision"), (0x1D, "Charging Indicator"),
     (0x28, "Manufacturer Access"), (0x29, "Remaining Capacity Limit"), (0x2A, "Remaining Time Limit"),
     (0x2B, "At Rate"), (0x2C, "Capacity Mode"), (0x2D, "Broadcast To Charger"), (0x2E, "Primary Battery"),
     (0x2F, "Charge Controller"), (0x40, "Terminate Charge"), (0x41, "Terminate Discharge"),

@@ -1,8 +1,8 @@
 -- The items of a descriptor as a table (HID 1.11, 6.2.2; the words are those of the standard).
-use Rattle.std.specs.Prelude.{ℕ, ◌+◌, ◌/◌, ◌%◌, ◌^◌, nat_le, drop, ℤ, pos, Bool, ◌==◌, ◌||◌, List, [], ◌∷◌, ◌++◌, length, slice_get, map, if◌then◌else◌, Option, None, Some, codes}
+use Rattle.std.specs.Prelude.{ℕ, ◌+◌, ◌/◌, ◌%◌, ◌^◌, nat_le, drop, ℤ, pos, ◌-ℤ◌, Bool, ◌==◌, ◌&&◌, ◌||◌, List, [], ◌∷◌, ◌++◌, length, slice_get, unwrap_or, map, if◌then◌else◌, Option, None, Some, codes}
 use Rattle.std.specs.Borrow.{Bor}
 use Rattle.std.specs.Fmt.{decimal, signed_decimal}
-use Rattle.hid_descriptor.specs.Items.{Spelled, is_main, is_field, USAGE_PAGE, COLLECTION}
+use Rattle.hid_descriptor.specs.Items.{Spelled, is_main, is_field, INPUT, USAGE_PAGE, COLLECTION}
 use Rattle.hid_descriptor.specs.declared.usage.Usage.{Usage}
 use Rattle.hid_items.specs.Spelling.{data_of, prefix_of, unsigned_of, signed_of}
 use Rattle.hid_items.specs.declared.spelling.Item.{Item}
@@ -28,10 +28,19 @@ names_of rows = map (λ row. (row.0, row.1.now)) rows
 unfoldable pub item_name : ℕ → List ℕ
 item_name prefix = named_in (map (λ row. (row.0, row.1.now)) ITEM_NAMES) prefix
 
--- the next main item from a place on
-abbrev pub next_main : ℕ → List Item → ℕ
-next_main place [] = place
-next_main place (item ∷ items) = if is_main item.bytes.now then place else next_main (place + 1) items
+-- the first byte of an item
+abbrev pub first_of : Spelled → ℕ
+first_of [] = 0
+first_of (first ∷ rest) = first
+
+-- what an item is called: FE is the first byte of a long item (6.2.2.3)
+abbrev pub words_of : Spelled → List ℕ
+words_of item = if first_of item == 0xFE then codes "Long item" else item_name (prefix_of item)
+
+-- the next main item, where the first of these items stands at a place
+abbrev pub next_main : ℕ → List Item → Option ℕ
+next_main place [] = None
+next_main place (item ∷ items) = if is_main item.bytes.now then Some place else next_main (place + 1) items
 
 -- the prefix of long items, and of a reserved short one
 abbrev pub LONG : ℕ
@@ -45,14 +54,22 @@ number_of item = if prefix_of item == LONG then 0 else unsigned_of (data_of item
 abbrev pub signed_number : Spelled → ℤ
 signed_number item = if prefix_of item == LONG then pos 0 else signed_of (data_of item)
 
+-- an exponent: codes of four bits from 8 on are -8 to -1 (HID 1.11, 6.2.2.7), other numbers are as they are
+abbrev pub exponent_of : ℕ → ℤ → ℤ
+exponent_of code number = if nat_le 8 code && nat_le code 15 then pos code -ℤ pos 16 else number
+
 -- the number of an item that there may be
 abbrev pub number_at : List Item → Option ℕ → ℕ
 number_at items None = 0
 number_at items (Some k) = number_of (spelled_at items k)
 
--- the page in force at the next main item
+-- where the page of a usage is looked up: at the next main item of the table, or at the usage where none follows
+abbrev pub page_place : List Item → ℕ → ℕ
+page_place items k = unwrap_or (next_main k (drop k items)) k
+
+-- the page in force there
 abbrev pub page_at : List Item → ℕ → ℕ
-page_at items k = number_at items (global_place items (next_main k (drop k items)) USAGE_PAGE) % 2 ^ 16
+page_at items k = number_at items (global_place items (page_place items k) USAGE_PAGE) % 2 ^ 16
 
 -- the usage that a local item names: one of four bytes has its page in the high word
 abbrev pub usage_on : ℕ → Spelled → Usage
@@ -60,9 +77,13 @@ usage_on page item =
     if length item == 5 then record { page = number_of item / 2 ^ 16; id = number_of item % 2 ^ 16 }
     else record { page = page; id = number_of item % 2 ^ 16 }
 
--- a number with a sign: a minimum, a maximum or an exponent
+-- a number with a sign: a minimum or a maximum
 abbrev pub is_signed : ℕ → Bool
-is_signed prefix = prefix == 0x14 || (prefix == 0x24 || (prefix == 0x34 || (prefix == 0x44 || prefix == 0x54)))
+is_signed prefix = prefix == 0x14 || (prefix == 0x24 || (prefix == 0x34 || prefix == 0x44))
+
+-- the prefix of a Unit Exponent
+abbrev pub UNIT_EXPONENT : ℕ
+UNIT_EXPONENT = 0x54
 
 -- a usage, or an end of a range of usages
 abbrev pub is_usage : ℕ → Bool
@@ -72,6 +93,7 @@ is_usage prefix = prefix == 0x08 || (prefix == 0x18 || prefix == 0x28)
 abbrev pub number_text : ℕ → Spelled → List ℕ
 number_text prefix item =
     if is_signed prefix then signed_decimal (signed_number item)
+    else if prefix == UNIT_EXPONENT then signed_decimal (exponent_of (number_of item) (signed_number item))
     else if prefix == USAGE_PAGE then hex_text (number_of item % 2 ^ 16)
     else decimal (number_of item)
 
@@ -79,7 +101,7 @@ number_text prefix item =
 unfoldable pub data_text : ℕ → Spelled → List ℕ
 data_text page item =
     if nat_le (length item) 1 then []
-    else if is_field item then 32 ∷ flags_text (number_of item % 2 ^ 9)
+    else if is_field item then 32 ∷ flags_text (prefix_of item == INPUT) (number_of item % 2 ^ 9)
     else if prefix_of item == COLLECTION then 32 ∷ collection_name (number_of item % 2 ^ 8)
     else if is_usage (prefix_of item) then 32 ∷ escaped (usage_label (usage_on page item))
     else if prefix_of item == LONG then []
@@ -93,7 +115,7 @@ item_head at =
 -- an item is indented by the collections round it
 unfoldable pub item_words : List Item → ℕ → Spelled → List ℕ
 item_words items k item =
-    joined_below (round_at items k) (λ i. codes "&emsp;") ++ item_name (prefix_of item)
+    joined_below (round_at items k) (λ i. codes "&emsp;") ++ words_of item
     ++ data_text (page_at items k) item
 
 -- the row of an item: its place, its bytes, and what it is
@@ -107,10 +129,10 @@ abbrev pub row_at : List Item → ℕ → Option Item → List ℕ
 row_at items k None = []
 row_at items k (Some item) = item_row items k item
 
--- the rows of the first items
-unfoldable pub item_rows : List Item → ℕ → List ℕ
-item_rows items count = joined_below count (λ k. row_at items k (slice_get items k))
+-- the rows of items
+unfoldable pub item_rows : List Item → List ℕ
+item_rows items = joined_below (length items) (λ k. row_at items k (slice_get items k))
 
 -- the first items of a descriptor as a table
-unfoldable pub item_table : List Item → ℕ → List ℕ
-item_table items count = ITEMS_HEAD.now ++ item_rows items count ++ TABLE_END.now
+unfoldable pub item_table : List Item → List ℕ
+item_table items = ITEMS_HEAD.now ++ item_rows items ++ TABLE_END.now

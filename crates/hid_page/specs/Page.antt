@@ -1,6 +1,6 @@
 -- The page of a descriptor: the picture of each report, its fields as a table, and the items with their places (our
 -- choice: docs/PICTURES.md).
-use Rattle.std.specs.Prelude.{ℕ, ◌+◌, ◌/◌, ◌%◌, Bool, ◌==◌, List, [], ◌∷◌, ◌++◌, length, slice_get, if◌then◌else◌, Option, None, Some, codes, pos, int_lt}
+use Rattle.std.specs.Prelude.{ℕ, ◌+◌, Bool, ◌==◌, List, [], ◌∷◌, ◌++◌, length, slice_get, take, if◌then◌else◌, Option, None, Some, codes, pos, int_lt}
 use Rattle.std.specs.List.{flat_map}
 use Rattle.std.specs.Fmt.{decimal, signed_decimal}
 use Rattle.hid_descriptor.specs.Usages.{Entry}
@@ -25,7 +25,7 @@ use Rattle.hid_pieces.specs.Makers.{makes, listed_below}
 use Rattle.hid_pieces.specs.Pieces.{pieces_of}
 use Rattle.hid_picture.specs.Svg.{picture_at}
 use Rattle.hid_picture.specs.Terminal.{terminal_at}
-use Rattle.hid_pieces.specs.Words.{count_text, flags_text, collection_text, entry_text, report_name}
+use Rattle.hid_pieces.specs.Words.{count_text, bit_text, flags_text, is_input_item, collection_text, entry_text, report_name}
 
 -- which rows a field points at: its own, when it is pointed at or chosen
 unfoldable pub mark_head : ℕ → List ℕ
@@ -54,10 +54,6 @@ unfoldable pub number_cell : ℕ → List ℕ
 number_cell i =
     codes "<tr id='f" ++ decimal i ++ codes "' class='f" ++ decimal i ++ codes "'><th scope='row'>" ++ decimal i
     ++ codes "</th><td>"
-
--- where a field begins
-unfoldable pub from_cell : ℕ → List ℕ
-from_cell bit = codes "byte " ++ decimal (bit / 8) ++ codes ", bit " ++ decimal (bit % 8)
 
 -- how many elements of how many bits
 unfoldable pub size_cell : MainItem → List ℕ
@@ -104,12 +100,12 @@ links_cell items m = joined_below (length items) (link_at items m)
 -- where a field stands: its number, its first bit and its size
 unfoldable pub place_cells : Contents → ℕ → MainItem → List ℕ
 place_cells layout i item =
-    number_cell i ++ from_cell (first_bit layout + item.offset) ++ NEXT.now ++ size_cell item ++ NEXT.now
+    number_cell i ++ bit_text (first_bit layout + item.offset) ++ NEXT.now ++ size_cell item ++ NEXT.now
 
 -- what a field means: its usages, its range and its flags
-unfoldable pub meaning_cells : MainItem → List Entry → List ℕ
-meaning_cells item entries =
-    meaning_cell item.shape entries ++ NEXT.now ++ range_cell item.shape item ++ NEXT.now ++ flags_text item.flags.0
+unfoldable pub meaning_cells : Bool → MainItem → List Entry → List ℕ
+meaning_cells input item entries =
+    meaning_cell item.shape entries ++ NEXT.now ++ range_cell item.shape item ++ NEXT.now ++ flags_text input item.flags.0
     ++ NEXT.now
 
 -- where a field comes from: the collections round it, and its items
@@ -119,7 +115,7 @@ origin_cells items m path = path_cell path ++ NEXT.now ++ links_cell items m ++ 
 -- the row of a field
 unfoldable pub field_row : Contents → List Item → List ℕ → ℕ → MainItem → List Entry → List Collection → List ℕ
 field_row layout items mains i item entries path =
-    place_cells layout i item ++ meaning_cells item entries ++ origin_cells items (main_at mains i) path
+    place_cells layout i item ++ meaning_cells (is_input_item layout item) item entries ++ origin_cells items (main_at mains i) path
 
 -- the row of a listed item that there may be, where it stands in the report
 abbrev pub field_row_at : Contents → List Item → List ℕ → ℕ → ℕ
@@ -183,7 +179,7 @@ mains_of items = listed_below items (length items)
 unfoldable pub page_of : Contents → List Item → List ℕ → List ℕ
 page_of layout items mains =
     HEAD.now ++ mark_rules items mains ++ ACCEPTED.now ++ sections layout items mains
-    ++ item_table items (length items) ++ END.now
+    ++ item_table items ++ END.now
 
 -- why a descriptor is refused
 unfoldable pub refusal : List ℕ → List ℕ
@@ -192,4 +188,4 @@ refusal words = escaped words ++ codes "</p>" ++ 10 ∷ []
 -- the page of a descriptor that is refused: the words of the refusal, and the items up to its place
 unfoldable pub refused_page : List Item → ℕ → List ℕ → List ℕ
 refused_page items count words =
-    HEAD.now ++ REFUSED.now ++ refusal words ++ item_table items count ++ END.now
+    HEAD.now ++ REFUSED.now ++ refusal words ++ item_table (take count items) ++ END.now

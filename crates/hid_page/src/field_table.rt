@@ -5,15 +5,15 @@ ghost use Rattle.hid_pieces.specs.Makers.{in_force};
 ghost use Rattle.hid_pieces.specs.Pieces.{LiesIn};
 ghost use Rattle.hid_picture.specs.Escape.{escaped};
 ghost use Rattle.hid_pieces.specs.Words.{entry_text, collection_text};
-ghost use Rattle.hid_page.specs.Page.{mark_head, mark_at, marks_of, mark_rule, mark_rules, number_cell, from_cell, size_cell, usages_cell, meaning_cell, limits_text, range_cell, path_cell, item_link, link_at, links_cell, place_cells, meaning_cells, origin_cells, field_row, field_row_at, field_row_of, field_rows, field_table};
+ghost use Rattle.hid_page.specs.Page.{mark_head, mark_at, marks_of, mark_rule, mark_rules, number_cell, size_cell, usages_cell, meaning_cell, limits_text, range_cell, path_cell, item_link, link_at, links_cell, place_cells, meaning_cells, origin_cells, field_row, field_row_at, field_row_of, field_rows, field_table};
 
 use crate::item_table::TABLE_END;
 use hid_items::Item;
 use hid_layout::{Collection, Layout, MainItem, Shape, Usage};
 use hid_picture::push_escaped;
 use hid_pieces::{
-    InForce, first_bit, in_force, item_at, main_at, makes, place_of, print_collection, print_count,
-    print_entry, print_flags,
+    InForce, first_bit, in_force, is_input_item, item_at, main_at, makes, place_of, print_bit,
+    print_collection, print_count, print_entry, print_flags,
 };
 use std::alloc::{AllocError, Global};
 
@@ -109,16 +109,6 @@ fn print_number_cell(text: &mut String, i: usize) -> Result<(), AllocError>
         text,
         "<tr id='f{i}' class='f{i}'><th scope='row'>{i}</th><td>"
     )
-}
-
-/// Adds where a field begins.
-#[tactic(auto, unfolding(crate::specs::Page::from_cell))]
-fn print_from_cell(text: &mut String, at: u32) -> Result<(), AllocError>
-    ensures { OnOk result (string_bytes text.new ≡ string_bytes text.old ++ from_cell at) }
-{
-    let byte = at / 8;
-    let bit = at % 8;
-    write!(text, "byte {byte}, bit {bit}")
 }
 
 /// Adds how many elements of how many bits a field has.
@@ -280,7 +270,7 @@ fn print_place_cells(
         ≡ string_bytes text.old ++ place_cells layout.now i item.now) }
 {
     print_number_cell(text, i)?;
-    print_from_cell(text, first_bit(layout) + item.offset)?;
+    print_bit(text, first_bit(layout) + item.offset)?;
     text.push_str(NEXT)?;
     print_size_cell(text, item)?;
     text.push_str(NEXT)
@@ -291,17 +281,18 @@ fn print_place_cells(
 fn print_meaning_cells(
     alloc: Global,
     text: &mut String,
+    input: bool,
     item: &MainItem,
     entries: &[(Usage, Usage)],
 ) -> Result<(), AllocError>
     ensures { OnOk result (string_bytes text.new
-        ≡ string_bytes text.old ++ meaning_cells item.now entries.now) }
+        ≡ string_bytes text.old ++ meaning_cells input item.now entries.now) }
 {
     print_meaning_cell(alloc, text, item.shape, entries)?;
     text.push_str(NEXT)?;
     print_range_cell(text, item)?;
     text.push_str(NEXT)?;
-    print_flags(text, item.flags)?;
+    print_flags(text, input, item.flags)?;
     text.push_str(NEXT)
 }
 
@@ -347,7 +338,8 @@ fn print_field_row(
         ++ field_row layout.now items.now mains.now i row.entry.item.now row.entry.entries.now row.entry.path.now) }
 {
     print_place_cells(text, layout, i, row.item)?;
-    print_meaning_cells(alloc, text, row.item, row.entries)?;
+    let input = is_input_item(layout, row.item);
+    print_meaning_cells(alloc, text, input, row.item, row.entries)?;
     print_origin_cells(alloc, text, items, main_at(mains, i), row.path)
 }
 

@@ -5,7 +5,7 @@ ghost use Rattle.hid_notation.specs.Text.{joined_below};
 ghost use Rattle.hid_picture.specs.Escape.{escaped};
 ghost use Rattle.hid_pieces.specs.Items.{IsWhole};
 ghost use Rattle.hid_pieces.specs.Label.{usage_label};
-ghost use Rattle.hid_page.specs.ItemTable.{named_in, names_of, item_name, next_main, number_of, signed_number, number_at, page_at, usage_on, is_signed, is_usage, number_text, data_text, item_head, item_words, item_row, row_at, item_rows, item_table};
+ghost use Rattle.hid_page.specs.ItemTable.{named_in, names_of, item_name, first_of, words_of, next_main, page_place, number_of, signed_number, exponent_of, number_at, page_at, usage_on, is_signed, is_usage, number_text, data_text, item_head, item_words, item_row, row_at, item_rows, item_table};
 
 use hid_items::Item;
 use hid_layout::{MainFlags, Usage};
@@ -37,6 +37,10 @@ pub const TABLE_END: &str = "</tbody></table></div>\n";
 
 const USAGE_PAGE: u8 = 0x04;
 
+const INPUT: u8 = 0x80;
+
+const UNIT_EXPONENT: u8 = 0x54;
+
 /// The prefix of long items, and of a reserved short one.
 const LONG: u8 = 0xFC;
 
@@ -60,19 +64,50 @@ fn item_name(prefix: u8) -> &'static str
     named_in(&ITEM_NAMES, prefix)
 }
 
+/// The first byte of an item.
+fn first_of(bytes: &[u8]) -> u8
+    ensures { result ≡ first_of bytes.now }
+{
+    match bytes {
+        [] => 0,
+        [first, ..] => *first,
+    }
+}
+
+/// What an item is called.
+fn words_of(bytes: &[u8]) -> &'static str
+    ensures { result.now ≡ words_of bytes.now }
+{
+    if first_of(bytes) == 0xFE {
+        return "Long item";
+    }
+    item_name(prefix_of(bytes))
+}
+
 /// The next main item, where these are the items from a place on.
-fn next_main(rest: &[Item], place: usize) -> usize
+fn next_main(rest: &[Item], place: usize) -> Option<usize>
     requires { place + length rest.now < 2 ^ 64 }
     ensures { result ≡ next_main place rest.now }
 {
     let mut at = place;
     for item in rest {
         if is_main(item.bytes) {
-            return at;
+            return Some(at);
         }
         at += 1;
     }
-    at
+    None
+}
+
+/// Where the page of a usage is looked up: at the next main item, or at the usage where none follows.
+fn page_place(items: &[Item], k: usize) -> usize
+    requires { k < length items.now }
+    ensures { result ≡ page_place items.now k }
+{
+    match next_main(&items[k..], k) {
+        None => k,
+        Some(m) => m,
+    }
 }
 
 /// An item that is spelled whole.
@@ -108,6 +143,17 @@ fn signed_number(item: &Item) -> i64
     item.signed()
 }
 
+/// An exponent: codes of four bits from 8 on are -8 to -1 (HID 1.11, 6.2.2.7).
+fn exponent_of(code: u64, number: i64) -> i64
+    ensures { result ≡ exponent_of code number }
+{
+    if 8 <= code && code <= 15 {
+        code as i64 - 16
+    } else {
+        number
+    }
+}
+
 /// The number of an item that there may be.
 fn number_at(items: &[Item], place: Option<usize>) -> u64
     requires { All IsWhole items.now }
@@ -124,14 +170,14 @@ fn number_at(items: &[Item], place: Option<usize>) -> u64
     }
 }
 
-/// The page in force at the next main item.
+/// The page in force there.
 fn page_at(items: &[Item], k: usize) -> u16
     requires there { k < length items.now }
     requires whole { All IsWhole items.now }
     ensures { result ≡ page_at items.now k }
 {
-    let m = next_main(&items[k..], k);
-    (number_at(items, global_place(items, m, USAGE_PAGE)) % 0x1_0000) as u16
+    let place = global_place(items, page_place(items, k), USAGE_PAGE);
+    (number_at(items, place) % 0x1_0000) as u16
 }
 
 /// The usage that a local item names.
@@ -151,11 +197,11 @@ fn usage_on(page: u16, item: &Item) -> Usage
     }
 }
 
-/// A minimum, a maximum or an exponent.
+/// A minimum or a maximum.
 fn is_signed(prefix: u8) -> bool
     ensures { result ≡ is_signed prefix }
 {
-    matches!(prefix, 0x14 | 0x24 | 0x34 | 0x44 | 0x54)
+    matches!(prefix, 0x14 | 0x24 | 0x34 | 0x44)
 }
 
 /// A usage, or an end of a range of usages.
@@ -174,6 +220,10 @@ fn print_number(text: &mut String, prefix: u8, item: &Item) -> Result<(), AllocE
     if is_signed(prefix) {
         let number = signed_number(item);
         return write!(text, "{number}");
+    }
+    if prefix == UNIT_EXPONENT {
+        let exponent = exponent_of(number_of(item), signed_number(item));
+        return write!(text, "{exponent}");
     }
     if prefix == USAGE_PAGE {
         let page = HexText((number_of(item) % 0x1_0000) as u16);
@@ -207,7 +257,11 @@ fn print_data(alloc: Global, text: &mut String, page: u16, item: &Item) -> Resul
     }
     if is_field(item.bytes) {
         text.push_str(" ")?;
-        return print_flags(text, MainFlags((number_of(item) % 0x200) as u16));
+        return print_flags(
+            text,
+            prefix == INPUT,
+            MainFlags((number_of(item) % 0x200) as u16),
+        );
     }
     if prefix == COLLECTION {
         text.push_str(" ")?;
@@ -259,7 +313,7 @@ fn print_item_words(
         ≡ string_bytes text.old ++ item_words items.now k item.now.bytes.now) }
 {
     print_indentation(text, round_at(items, k))?;
-    text.push_str(item_name(prefix_of(item.bytes)))?;
+    text.push_str(words_of(item.bytes))?;
     print_data(alloc, text, page_at(items, k), item)
 }
 
@@ -285,20 +339,13 @@ fn print_item_row(
     text.push_str("</td></tr>\n")
 }
 
-/// Adds the rows of the first items.
+/// Adds the rows of items.
 #[tactic(auto, unfolding(crate::specs::ItemTable::item_rows))]
-fn print_item_rows(
-    alloc: Global,
-    text: &mut String,
-    items: &[Item],
-    count: usize,
-) -> Result<(), AllocError>
-    requires within { count ≤ length items.now }
-    requires whole { All IsWhole items.now }
-    ensures { OnOk result (string_bytes text.new
-        ≡ string_bytes text.old ++ item_rows items.now count) }
+fn print_item_rows(alloc: Global, text: &mut String, items: &[Item]) -> Result<(), AllocError>
+    requires { All IsWhole items.now }
+    ensures { OnOk result (string_bytes text.new ≡ string_bytes text.old ++ item_rows items.now) }
 {
-    for k in 0..count {
+    for k in 0..items.len() {
         print_item_row(alloc, text, items, k, whole_at(items, k))?;
     }
     Ok(())
@@ -306,18 +353,11 @@ fn print_item_rows(
 
 /// Adds the first items of a descriptor as a table.
 #[tactic(auto, unfolding(crate::specs::ItemTable::item_table))]
-pub fn print_item_table(
-    alloc: Global,
-    text: &mut String,
-    items: &[Item],
-    count: usize,
-) -> Result<(), AllocError>
-    requires within { count ≤ length items.now }
-    requires whole { All IsWhole items.now }
-    ensures { OnOk result (string_bytes text.new
-        ≡ string_bytes text.old ++ item_table items.now count) }
+pub fn print_item_table(alloc: Global, text: &mut String, items: &[Item]) -> Result<(), AllocError>
+    requires { All IsWhole items.now }
+    ensures { OnOk result (string_bytes text.new ≡ string_bytes text.old ++ item_table items.now) }
 {
     text.push_str(ITEMS_HEAD)?;
-    print_item_rows(alloc, text, items, count)?;
+    print_item_rows(alloc, text, items)?;
     text.push_str(TABLE_END)
 }

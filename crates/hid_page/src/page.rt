@@ -161,7 +161,7 @@ pub fn print_page(
     print_mark_rules(text, items, mains)?;
     text.push_str(ACCEPTED)?;
     print_sections(alloc, text, layout, items, mains)?;
-    print_item_table(alloc, text, items, items.len())?;
+    print_item_table(alloc, text, items)?;
     text.push_str(END)
 }
 
@@ -191,6 +191,6 @@ pub fn print_refused(
     text.push_str(HEAD)?;
     text.push_str(REFUSED)?;
     print_refusal(text, words)?;
-    print_item_table(alloc, text, items, count)?;
+    print_item_table(alloc, text, &items[..count])?;
     text.push_str(END)
 }

@@ -17,6 +17,12 @@ const EXTREMES: [u8; 56] = [
     0x81, 0x02, 0xC0, 0xFE, 0x00, 0x77,
 ];
 
+/// A byte a hundred and one times: the number of the last one has three digits.
+const LONG: [u8; 19] = [
+    0x05, 0x01, 0x09, 0x30, 0xA1, 0x01, 0x15, 0x00, 0x25, 0x7F, 0x75, 0x08, 0x95, 0x65, 0x09, 0x30,
+    0x81, 0x02, 0xC0,
+];
+
 /// What is drawn of a descriptor that is accepted.
 fn drawn(alloc: Global, descriptor: &[u8], form: Form) -> Result<String, Fail> {
     let layout = Layout::parse(alloc, descriptor)?;
@@ -27,7 +33,7 @@ fn drawn(alloc: Global, descriptor: &[u8], form: Form) -> Result<String, Fail> {
 /// A descriptor, a form, and what stands in the drawing. The mouse has two collections, so its bits begin 52 + 2 * 6 from the
 /// left; a bit has 112, a byte 48, the first one begins at 34.
 #[rattlefmt::skip]
-const HOLDS: [(&[u8], Form, &str); 21] = [
+const HOLDS: [(&[u8], Form, &str); 25] = [
     (&MOUSE, Form::Svg(0),      "<a class='k0 f0' href='#f0'><svg x='848' y='34' width='112' height='36'>"),
     (&MOUSE, Form::Svg(0),      "<a class='p f1' href='#f1'><svg x='64' y='34' width='560' height='36'>"),
     (&MOUSE, Form::Svg(0),      "<a class='k2 f2' href='#f2'><svg x='64' y='130' width='896' height='36'>"),
@@ -39,15 +45,19 @@ const HOLDS: [(&[u8], Form, &str); 21] = [
     (&MOUSE, Form::Page,        "&emsp;&emsp;Usage Maximum Button 3</td>"),
     (&MOUSE, Form::Page,        " C0</code></td><td>End Collection</td></tr>"),
     (&MOUSE, Form::Characters,  " 0 │padding                                          │Button 3 │Button 2 │Button 1 │││\n"),
+    (&LONG,     Form::Characters, "\n  0│X      "),
+    (&LONG,     Form::Characters, "\n 99│X      "),
+    (&LONG,     Form::Characters, "\n100│X      "),
     (&EXTREMES, Form::Page,     "FFFF:FFFF (Vendor-defined)"),
     (&EXTREMES, Form::Page,     "<td>-2147483648 to 2147483647, signed</td>"),
-    (&EXTREMES, Form::Page,     "data, variable, relative, wrap, nonlinear, no preferred, null state, volatile, buffered bytes"),
+    (&EXTREMES, Form::Page,     "data, variable, relative, wrap, nonlinear, no preferred, null state, reserved, buffered bytes"),
     (&EXTREMES, Form::Page,     "FFFF:FFFF, bits 24 to 31: byte 59, bits 0 to 7; -2147483648..2147483647 relative null; "),
     (&EXTREMES, Form::Page,     "Keyboard &#39; and &#34;"),
     (&EXTREMES, Form::Page,     "Keyboard , and &lt;"),
     (&EXTREMES, Form::Page,     "Keyboard 7 and &amp;"),
     (&EXTREMES, Form::Page,     "Keyboard . and &gt;"),
-    (&EXTREMES, Form::Page,     "FE 00 77</code></td><td>Reserved</td>"),
+    (&EXTREMES, Form::Page,     "FE 00 77</code></td><td>Long item</td>"),
+    (&[0x55, 0x0E], Form::Page, "<td><code> 55 0E</code></td><td>Unit Exponent -2</td>"),
     (&[],       Form::Page,     "<h1>Reports of a HID device</h1>\n<h2 id='items'>"),
 ];
 
@@ -71,10 +81,10 @@ fn names_end_no_tag(rt: HostRuntime) -> Result<(), Fail> {
     Ok(())
 }
 
-/// A byte that is too far in front, so that what is behind it is told in two digits; then 16 collections with the longest
-/// name and kind, and a field with the longest words of flags and the longest range of names.
-fn deepest(alloc: Global) -> Result<Vec<u8>, AllocError> {
-    let mut deep = Vec::from_slice(alloc, &[0x75, 0x08, 0x95, 0x20, 0x81, 0x03])?;
+/// So many bytes in front; then 16 collections with the longest name and kind, and as many bytes in a field with the longest
+/// words of flags and the longest range of names.
+fn deepest(alloc: Global, front: u8) -> Result<Vec<u8>, AllocError> {
+    let mut deep = Vec::from_slice(alloc, &[0x75, 0x08, 0x95, front, 0x81, 0x03])?;
     for _ in 0..16 {
         deep.extend_from_slice(&[0x05, 0x82, 0x09, 0x40, 0xA1, 0x80])?;
     }
@@ -87,12 +97,15 @@ fn deepest(alloc: Global) -> Result<Vec<u8>, AllocError> {
     Ok(deep)
 }
 
-/// In characters no line has over 100 columns, and one of a picture under 16 collections has as many.
+/// In characters no line has over 100 columns, and one of a picture under 16 collections has as many: in reports of 64,
+/// 100, 102 and 256 bytes, whose collections take the bytes from 32, 50, 51 and 128 on.
 #[test]
 fn lines_fit_a_terminal(rt: HostRuntime) -> Result<(), Fail> {
-    let deep = deepest(rt.alloc())?;
-    let text = drawn(rt.alloc(), deep.as_slice(), Form::Characters)?;
-    assert_eq!(rt; widest(text.as_str()), 100);
+    for front in [32, 50, 51, 128] {
+        let deep = deepest(rt.alloc(), front)?;
+        let text = drawn(rt.alloc(), deep.as_slice(), Form::Characters)?;
+        assert_eq!(rt; widest(text.as_str()), 100, "{front}");
+    }
     let text = drawn(rt.alloc(), &EXTREMES, Form::Characters)?;
     assert!(rt; widest(text.as_str()) <= 100);
     Ok(())
@@ -115,11 +128,14 @@ fn other_reports_are_not_drawn(rt: HostRuntime) -> Result<(), Fail> {
     Ok(())
 }
 
-/// A collection that nothing ends, and a Pop without a Push: why, the last item that is shown, and the next one.
+/// A collection that nothing ends, and a Pop without a Push: why, the last item that is shown, and the next one. Where the
+/// main item behind a usage isn't shown, the page at the usage names it.
 #[rattlefmt::skip]
-const REFUSED: [(&[u8], &str, &str, &str); 2] = [
+const REFUSED: [(&[u8], &str, &str, &str); 3] = [
     (&[0x05, 0x01, 0xA1, 0x01],       "<p class='fault'>L7 at 4: a Collection is open at the end</p>", "id='at2'", "id='at4'"),
     (&[0x05, 0x01, 0xB4, 0x09, 0x02], "<p class='fault'>L3 at 2: a Pop without a Push</p>",            "id='at2'", "id='at3'"),
+    (&[0x05, 0x09, 0x19, 0x01, 0xB4, 0x05, 0x01, 0x81, 0x02],
+        "<td><code> 19 01</code></td><td>Usage Minimum Button 1</td>",                                "id='at4'", "id='at5'"),
 ];
 
 #[test]

@@ -41,23 +41,22 @@ fn id_of(layout: &Layout, report: usize) -> u8
     layout.reports()[report].id
 }
 
-/// A report of zeros, behind its ID where there are IDs.
-pub fn bare_report(layout: &Layout, report: usize) -> ArrayVec<u8, 256>
+/// A report of zeros, behind its ID where there are IDs, in the place of other bytes.
+pub fn bare_report(layout: &Layout, report: usize, bytes: &mut ArrayVec<u8, 256>)
     requires layout { IsLayout layout.now }
     requires report { report < length layout.now.reports }
-    ensures items { result.items ≡ bare_report layout.now report }
-    ensures len { array_vec_len result ≡ report_bytes layout.now report }
-    ensures bytes { AreBytes result.items }
+    ensures items { bytes.new.items ≡ bare_report layout.now report }
+    ensures len { array_vec_len bytes.new ≡ report_bytes layout.now report }
+    ensures bytes { AreBytes bytes.new.items }
 {
     let count = layout.report_bytes(report);
-    let mut bytes = ArrayVec::new();
+    bytes.clear();
     if layout.numbered() {
         bytes.push(id_of(layout, report));
-        push_zeros(&mut bytes, count - 1);
+        push_zeros(bytes, count - 1);
     } else {
-        push_zeros(&mut bytes, count);
+        push_zeros(bytes, count);
     }
-    bytes
 }
 
 /// Whether an item has data elements in the report.
@@ -142,31 +141,31 @@ fn show_item<C: FieldCodec>(
     }
 }
 
-/// The bytes of a report that show its part: the report's ID first where there are IDs, then each element with its
-/// number, and 0 in every bit that no data element covers (HID 1.11, 5.6, 5.8, 5.10 and 8).
+/// Gives the bytes of a report that show its part, in the place of other bytes: the report's ID first where there are IDs,
+/// then each element with its number, and 0 in every bit that no data element covers (HID 1.11, 5.6, 5.8, 5.10 and 8).
 #[tactic(auto, using(crate::proofs::EncodingLemmas::whole_report))]
 pub fn encode_report<C: FieldCodec>(
     layout: &Layout,
     report: usize,
     shown: &Shown,
-) -> ArrayVec<u8, 256>
+    bytes: &mut ArrayVec<u8, 256>,
+)
     requires input { IsInput layout.now report }
     requires fits { FitsShown (items_of layout.now) shown.now }
     requires empty_codes { has_empty_codes layout.now ≡ true }
     requires zeros { has_zeros (items_of layout.now) ≡ true }
     // These bytes, and no others, show the part.
-    ensures shows { IsEncoding layout.now report (part_numbers layout.now shown.now) result.items }
+    ensures shows { IsEncoding layout.now report (part_numbers layout.now shown.now) bytes.new.items }
     ensures only { (other : List ℕ) → AreBytes other
         → IsEncoding layout.now report (part_numbers layout.now shown.now) other
-        → other ≡ result.items }
-    ensures bytes { result.items ≡ part_bytes layout.now report shown.now }
+        → other ≡ bytes.new.items }
+    ensures bytes { bytes.new.items ≡ part_bytes layout.now report shown.now }
 {
     let places = plan_of(layout, report);
-    let mut bytes = bare_report(layout, report);
+    bare_report(layout, report, bytes);
     for place in places {
-        show_item::<C>(layout, report, *place, shown, &mut bytes);
+        show_item::<C>(layout, report, *place, shown, bytes);
     }
-    bytes
 }
 
 /// The numbers of an item's elements.

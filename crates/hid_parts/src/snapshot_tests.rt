@@ -5,6 +5,7 @@ ghost use Rattle.hid_layout.specs.Controls.{items_of};
 ghost use Rattle.hid_cells.specs.Cells.{FitsSnapshot, FitsShown};
 
 use crate::{Shown, Snapshot, encode_report};
+use arrayvec::ArrayVec;
 use hid_cells::{Change, ChangeFault, has_empty_codes, has_keys, has_zeros, is_input};
 use hid_fields::{BitCodec, FieldCodec, WordCodec};
 use hid_layout::{ControlId, Layout};
@@ -207,7 +208,9 @@ fn shows<F: FieldCodec>(
     } else {
         snapshot.shown(layout, 0, parts);
     }
-    encode_report::<F>(layout, 0, parts).as_slice() == bytes
+    let mut shown = ArrayVec::new();
+    encode_report::<F>(layout, 0, parts, &mut shown);
+    shown.as_slice() == bytes
 }
 
 /// A name, a descriptor, changes of a blank snapshot, and the bytes that its report shows.

@@ -1,12 +1,12 @@
 -- The picture of a report in characters: a row for each byte, ten columns for each bit (our choice: docs/PICTURES.md).
-use Rattle.std.specs.Prelude.{ℕ, ◌-◌, ◌*◌, min, Bool, true, false, ◌==◌, ◌&&◌, ◌||◌, nat_le, nat_lt, List, [], ◌∷◌, ◌++◌, length, slice_get, unwrap_or, if◌then◌else◌, Option, None, Some, codes}
+use Rattle.std.specs.Prelude.{ℕ, ◌+◌, ◌-◌, min, Bool, false, ◌==◌, ◌&&◌, ◌||◌, nat_le, nat_lt, List, [], ◌∷◌, ◌++◌, length, slice_get, if◌then◌else◌, Option, None, Some, codes}
 use Rattle.std.specs.List.{flat_map, list_any}
 use Rattle.std.specs.Fmt.{decimal}
 use Rattle.hid_descriptor.specs.Usages.{Entry}
 use Rattle.hid_descriptor.specs.declared.report.Report.{Report}
 use Rattle.hid_layout.specs.declared.main_item.MainItem.{MainItem}
 use Rattle.hid_layout.specs.Layout.{Contents}
-use Rattle.hid_layout.specs.Reports.{report_bytes}
+use Rattle.hid_layout.specs.Reports.{first_bit, report_bytes}
 use Rattle.hid_notation.specs.Text.{joined_below}
 use Rattle.hid_pieces.specs.declared.frames.Frame.{Frame}
 use Rattle.hid_pieces.specs.declared.pieces.Piece.{Piece}
@@ -16,7 +16,7 @@ use Rattle.hid_picture.specs.Escape.{printed}
 use Rattle.hid_pieces.specs.Frames.{deepest}
 use Rattle.hid_picture.specs.Lines.{byte_at, columns_of, line_of, row_lines}
 use Rattle.hid_picture.specs.Words.{frame_name}
-use Rattle.hid_pieces.specs.Words.{report_name, count_text, piece_name, part_details, entry_text, flags_text}
+use Rattle.hid_pieces.specs.Words.{report_name, count_text, piece_name, part_details, entry_text, bit_text, flags_text, is_input_item}
 
 -- so many columns of words: what has room, and spaces
 unfoldable pub fitted : List ℕ → ℕ → List ℕ
@@ -107,26 +107,32 @@ unfoldable pub line_above : ℕ → List Frame → List Piece → List ℕ
 line_above byte frames pieces =
     codes "   " ++ edge_line pieces byte ++ brackets frames (deepest frames) byte ++ 10 ∷ []
 
--- the number of a byte, in two columns
-unfoldable pub row_number : ℕ → List ℕ
-row_number byte =
-    (if nat_lt byte 10 then codes " " else []) ++ decimal byte ++ 32 ∷ []
+-- the number of a byte, at the right of two columns
+abbrev pub two_columns : ℕ → List ℕ
+two_columns byte = (if nat_lt byte 10 then codes " " else []) ++ decimal byte
+
+-- the number of a byte, of so many, in three columns: a space stands behind it where none of them has three digits
+unfoldable pub row_number : ℕ → ℕ → List ℕ
+row_number bytes byte =
+    if nat_le bytes 100 then two_columns byte ++ codes " "
+    else if nat_lt byte 100 then 32 ∷ two_columns byte
+    else decimal byte
 
 -- what stands in front of a line of a row: the number of the byte in front of the first
-abbrev pub line_number : ℕ → ℕ → List ℕ
-line_number byte k = if k == 0 then row_number byte else codes "   "
+abbrev pub line_number : ℕ → ℕ → ℕ → List ℕ
+line_number bytes byte k = if k == 0 then row_number bytes byte else codes "   "
 
 -- a line of a row
-unfoldable pub row_line : Contents → ℕ → ℕ → List Frame → List Piece → ℕ → List ℕ
-row_line layout r byte frames pieces k =
-    line_number byte k ++ cells_line layout r k byte pieces ++ glyphs.SIDE.now ++ sides frames (deepest frames) byte
+unfoldable pub row_line : Contents → ℕ → ℕ → ℕ → List Frame → List Piece → ℕ → List ℕ
+row_line layout r bytes byte frames pieces k =
+    line_number bytes byte k ++ cells_line layout r k byte pieces ++ glyphs.SIDE.now ++ sides frames (deepest frames) byte
     ++ 10 ∷ []
 
 -- a row: the line above it, and the lines of its cells
-unfoldable pub row_text : Contents → ℕ → List Frame → List Piece → ℕ → List ℕ
-row_text layout r frames pieces byte =
+unfoldable pub row_text : Contents → ℕ → ℕ → List Frame → List Piece → ℕ → List ℕ
+row_text layout r bytes frames pieces byte =
     line_above byte frames pieces
-    ++ joined_below (row_lines layout r false byte pieces) (row_line layout r byte frames pieces)
+    ++ joined_below (row_lines layout r false byte pieces) (row_line layout r bytes byte frames pieces)
 
 -- a frame by its name and its bytes, indented by its level as far as the columns have room for it
 unfoldable pub frame_line : Contents → Frame → List ℕ
@@ -138,20 +144,21 @@ frame_line layout frame =
 unfoldable pub usage_lines : List Entry → List ℕ
 usage_lines entries = flat_map (λ entry. codes "  " ++ entry_text entry ++ 10 ∷ []) entries
 
--- an item of the report: its number, its flags and its usages
-unfoldable pub item_lines : ℕ → MainItem → List Entry → List ℕ
-item_lines i item entries =
-    codes "field " ++ decimal i ++ 10 ∷ 32 ∷ 32 ∷ flags_text item.flags.0 ++ 10 ∷ usage_lines entries
+-- an item of the report: its number, where it begins, its flags and its usages
+unfoldable pub item_lines : Contents → ℕ → MainItem → List Entry → List ℕ
+item_lines layout i item entries =
+    codes "field " ++ decimal i ++ codes ": " ++ bit_text (first_bit layout + item.offset) ++ 10 ∷ 32 ∷ 32 ∷
+    flags_text (is_input_item layout item) item.flags.0 ++ 10 ∷ usage_lines entries
 
 -- the lines of an item that there may be, where it stands in the report
-abbrev pub field_lines : ℕ → ℕ → Option MainItem → Option (List Entry) → List ℕ
-field_lines r i (Some item) (Some entries) = if item.report == r then item_lines i item entries else []
-field_lines r i _ _ = []
+abbrev pub field_lines : Contents → ℕ → ℕ → Option MainItem → Option (List Entry) → List ℕ
+field_lines layout r i (Some item) (Some entries) = if item.report == r then item_lines layout i item entries else []
+field_lines layout r i _ _ = []
 
 -- the fields of a report
 unfoldable pub fields_text : Contents → ℕ → List ℕ
 fields_text layout r =
-    joined_below (length layout.items) (λ i. field_lines r i (slice_get layout.items i) (slice_get layout.entries i))
+    joined_below (length layout.items) (λ i. field_lines layout r i (slice_get layout.items i) (slice_get layout.entries i))
 
 -- what the picture of a report begins with
 unfoldable pub terminal_head : Bool → ℕ → Report → List ℕ
@@ -161,7 +168,7 @@ terminal_head numbered bytes report =
 -- the rows of a report
 unfoldable pub rows_text : Contents → ℕ → ℕ → List Frame → List Piece → List ℕ
 rows_text layout r bytes frames pieces =
-    joined_below bytes (row_text layout r frames pieces) ++ line_above bytes frames pieces
+    joined_below bytes (row_text layout r bytes frames pieces) ++ line_above bytes frames pieces
 
 -- the frames of a report
 unfoldable pub frame_lines : Contents → List Frame → List ℕ

@@ -1,4 +1,4 @@
--- What frames are called.
+-- What frames are called: by the type of their collection (HID 1.11, 6.2.2.6).
 use Rattle.std.specs.Prelude.{ℕ, ◌-◌, List, [], slice_get, Option, None, Some}
 use Rattle.hid_descriptor.specs.declared.collection.Collection.{Collection}
 use Rattle.hid_layout.specs.declared.main_item.MainItem.{MainItem}

@@ -27,7 +27,7 @@ pub const LEFT: u64 = 52;
 /// From one frame to the one in it.
 pub const STEP: u64 = 6;
 
-/// Right of the names of the frames begin.
+/// From where the names of the frames begin to the right end of the picture.
 pub const RIGHT: u64 = 182;
 
 /// A rectangle by its upper left corner.

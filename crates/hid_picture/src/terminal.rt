@@ -2,8 +2,9 @@
 
 ghost use Rattle.std.specs.Prelude.{◌≡◌, ◌++◌, ◌-◌, ◌<◌, min, codes, length, slice_get, unwrap_or, Some, OnOk, string_bytes};
 ghost use Rattle.hid_notation.specs.Text.{joined_below};
+ghost use Rattle.hid_pieces.specs.Pieces.{LiesIn};
 ghost use Rattle.hid_picture.specs.declared.terminal.TheConstants.{MOST_STEPS};
-ghost use Rattle.hid_picture.specs.Terminal.{fitted, is_edge, is_edge_above, end_corner, corner, corner_at, edge_line, is_held, is_held_on, bracket, bracket_at, brackets, side_at, sides, cell_line, byte_cell, cells_line, line_number, row_line, line_above, row_number, row_text, frame_line, frame_lines, usage_lines, item_lines, field_lines, fields_text, terminal_head, rows_text, terminal_of, terminal_at};
+ghost use Rattle.hid_picture.specs.Terminal.{fitted, is_edge, is_edge_above, end_corner, corner, corner_at, edge_line, is_held, is_held_on, bracket, bracket_at, brackets, side_at, sides, cell_line, byte_cell, cells_line, line_number, row_line, line_above, two_columns, row_number, row_text, frame_line, frame_lines, usage_lines, item_lines, field_lines, fields_text, terminal_head, rows_text, terminal_of, terminal_at};
 
 use crate::escape::push_printed;
 use crate::glyphs::{
@@ -14,13 +15,14 @@ use crate::lines::{byte_at, columns_of, line_of, row_lines};
 use crate::words::print_frame_name;
 use hid_layout::{Layout, MainItem, Report, Usage};
 use hid_pieces::{
-    Frame, Piece, deepest, item_at, piece_at, print_count, print_entry, print_flags,
-    print_part_details, print_piece_name, print_report_name, report_at,
+    Frame, Piece, deepest, first_bit, is_input_item, item_at, piece_at, print_bit, print_count,
+    print_entry, print_flags, print_part_details, print_piece_name, print_report_name, report_at,
 };
 use std::alloc::{AllocError, Global};
 
-/// The name of a frame is indented by so many steps at most: the longest one then has a hundred columns.
-pub const MOST_STEPS: usize = 14;
+/// The name of a frame is indented by so many steps at most: the longest line, of a name of
+/// 55 columns and bytes of three digits, then has 99.
+pub const MOST_STEPS: usize = 13;
 
 /// Adds so many columns of words: what has room, and spaces.
 #[tactic(auto, unfolding(crate::specs::Terminal::fitted))]
@@ -292,23 +294,40 @@ fn print_line_above(
     text.push_str("\n")
 }
 
-/// Adds the number of a byte, in two columns.
-#[tactic(auto, unfolding(crate::specs::Terminal::row_number))]
-fn print_row_number(text: &mut String, byte: u32) -> Result<(), AllocError>
-    ensures { OnOk result (string_bytes text.new ≡ string_bytes text.old ++ row_number byte) }
+/// Adds the number of a byte, at the right of two columns.
+fn print_two_columns(text: &mut String, byte: u32) -> Result<(), AllocError>
+    ensures { OnOk result (string_bytes text.new ≡ string_bytes text.old ++ two_columns byte) }
 {
     if byte < 10 {
-        return write!(text, " {byte} ");
+        return write!(text, " {byte}");
     }
-    write!(text, "{byte} ")
+    write!(text, "{byte}")
+}
+
+/// Adds the number of a byte, of so many, in three columns.
+#[tactic(auto, unfolding(crate::specs::Terminal::row_number))]
+fn print_row_number(text: &mut String, bytes: u32, byte: u32) -> Result<(), AllocError>
+    ensures { OnOk result (string_bytes text.new
+        ≡ string_bytes text.old ++ row_number bytes byte) }
+{
+    if bytes <= 100 {
+        print_two_columns(text, byte)?;
+        return text.push_str(" ");
+    }
+    if byte < 100 {
+        text.push_str(" ")?;
+        return print_two_columns(text, byte);
+    }
+    write!(text, "{byte}")
 }
 
 /// Adds what stands in front of a line of a row.
-fn print_line_number(text: &mut String, byte: u32, k: u16) -> Result<(), AllocError>
-    ensures { OnOk result (string_bytes text.new ≡ string_bytes text.old ++ line_number byte k) }
+fn print_line_number(text: &mut String, bytes: u32, byte: u32, k: u16) -> Result<(), AllocError>
+    ensures { OnOk result (string_bytes text.new
+        ≡ string_bytes text.old ++ line_number bytes byte k) }
 {
     if k == 0 {
-        print_row_number(text, byte)
+        print_row_number(text, bytes, byte)
     } else {
         text.push_str("   ")
     }
@@ -321,6 +340,7 @@ fn print_row_line(
     text: &mut String,
     layout: &Layout,
     r: usize,
+    bytes: u32,
     frames: &[Frame],
     pieces: &[Piece],
     byte: u32,
@@ -328,9 +348,9 @@ fn print_row_line(
 ) -> Result<(), AllocError>
     requires { r < length layout.now.reports }
     ensures { OnOk result (string_bytes text.new
-        ≡ string_bytes text.old ++ row_line layout.now r byte frames.now pieces.now k) }
+        ≡ string_bytes text.old ++ row_line layout.now r bytes byte frames.now pieces.now k) }
 {
-    print_line_number(text, byte, k)?;
+    print_line_number(text, bytes, byte, k)?;
     print_cells_line(alloc, text, layout, r, k, byte, pieces)?;
     text.push_str(SIDE)?;
     print_sides(text, frames, deepest(frames), byte)?;
@@ -344,18 +364,19 @@ fn print_row(
     text: &mut String,
     layout: &Layout,
     r: usize,
+    bytes: u32,
     frames: &[Frame],
     pieces: &[Piece],
     byte: u32,
 ) -> Result<(), AllocError>
     requires { r < length layout.now.reports }
     ensures { OnOk result (string_bytes text.new
-        ≡ string_bytes text.old ++ row_text layout.now r frames.now pieces.now byte) }
+        ≡ string_bytes text.old ++ row_text layout.now r bytes frames.now pieces.now byte) }
 {
     print_line_above(text, byte, frames, pieces)?;
     let lines = row_lines(alloc, layout, r, false, byte, pieces)?;
     for k in 0..lines {
-        print_row_line(alloc, text, layout, r, frames, pieces, byte, k)?;
+        print_row_line(alloc, text, layout, r, bytes, frames, pieces, byte, k)?;
     }
     Ok(())
 }
@@ -409,19 +430,23 @@ fn print_usage_lines(text: &mut String, entries: &[(Usage, Usage)]) -> Result<()
     Ok(())
 }
 
-/// Adds an item of the report: its number, its flags and its usages.
+/// Adds an item of the report: its number, where it begins, its flags and its usages.
 #[tactic(auto, unfolding(crate::specs::Terminal::item_lines))]
 fn print_item_lines(
     text: &mut String,
+    layout: &Layout,
     i: usize,
     item: &MainItem,
     entries: &[(Usage, Usage)],
 ) -> Result<(), AllocError>
+    requires { LiesIn layout.now item.now }
     ensures { OnOk result (string_bytes text.new
-        ≡ string_bytes text.old ++ item_lines i item.now entries.now) }
+        ≡ string_bytes text.old ++ item_lines layout.now i item.now entries.now) }
 {
-    write!(text, "field {i}\n  ")?;
-    print_flags(text, item.flags)?;
+    write!(text, "field {i}: ")?;
+    print_bit(text, first_bit(layout) + item.offset)?;
+    text.push_str("\n  ")?;
+    print_flags(text, is_input_item(layout, item), item.flags)?;
     text.push_str("\n")?;
     print_usage_lines(text, entries)
 }
@@ -429,18 +454,20 @@ fn print_item_lines(
 /// Adds the lines of an item, where it stands in the report.
 fn print_field_lines(
     text: &mut String,
+    layout: &Layout,
     r: usize,
     i: usize,
     item: &MainItem,
     entries: &[(Usage, Usage)],
 ) -> Result<(), AllocError>
-    ensures { OnOk result (string_bytes text.new
-        ≡ string_bytes text.old ++ field_lines r i (Some item.now) (Some entries.now)) }
+    requires { LiesIn layout.now item.now }
+    ensures { OnOk result (string_bytes text.new ≡ string_bytes text.old
+        ++ field_lines layout.now r i (Some item.now) (Some entries.now)) }
 {
     if item.report != r {
         return Ok(());
     }
-    print_item_lines(text, i, item, entries)
+    print_item_lines(text, layout, i, item, entries)
 }
 
 /// Adds the fields of a report.
@@ -450,7 +477,7 @@ fn print_fields(text: &mut String, layout: &Layout, r: usize) -> Result<(), Allo
         ≡ string_bytes text.old ++ fields_text layout.now r) }
 {
     for i in 0..layout.items().len() {
-        print_field_lines(text, r, i, item_at(layout, i), layout.entries(i))?;
+        print_field_lines(text, layout, r, i, item_at(layout, i), layout.entries(i))?;
     }
     Ok(())
 }
@@ -489,7 +516,7 @@ fn print_rows(
         ≡ string_bytes text.old ++ rows_text layout.now r bytes frames.now pieces.now) }
 {
     for byte in 0..bytes {
-        print_row(alloc, text, layout, r, frames, pieces, byte)?;
+        print_row(alloc, text, layout, r, bytes, frames, pieces, byte)?;
     }
     print_line_above(text, bytes, frames, pieces)
 }

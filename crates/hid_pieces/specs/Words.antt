@@ -1,6 +1,6 @@
 -- What is said of fields, collections and reports, in words (HID 1.11, 6.2.2.5 and 6.2.2.6; the words are our choice:
 -- docs/PICTURES.md).
-use Rattle.std.specs.Prelude.{ℕ, ◌+◌, ◌-◌, ◌*◌, Bool, ◌==◌, ◌&&◌, nat_le, min, bit_and, List, [], ◌∷◌, ◌++◌, length, slice_get, if◌then◌else◌, Option, None, Some, codes}
+use Rattle.std.specs.Prelude.{ℕ, ◌+◌, ◌-◌, ◌*◌, ◌/◌, ◌%◌, Bool, true, false, ◌==◌, ◌&&◌, nat_le, min, bit_and, List, [], ◌∷◌, ◌++◌, length, slice_get, if◌then◌else◌, Option, None, Some, codes}
 use Rattle.std.specs.List.{flat_map}
 use Rattle.std.specs.Fmt.{decimal, signed_decimal}
 use Rattle.hid_descriptor.specs.Flags.{has_flag, RELATIVE, NULL_STATE}
@@ -25,9 +25,30 @@ use Rattle.hid_pieces.specs.Label.{usage_label}
 abbrev pub flag_words : ℕ → ℕ → List ℕ → List ℕ → List ℕ
 flag_words flags flag clear set = if bit_and flags flag == 0 then clear else set
 
--- what the flags say
-unfoldable pub flags_text : ℕ → List ℕ
-flags_text flags = flat_map (λ row. flag_words flags row.0 row.1.now row.2.now) FLAG_WORDS
+-- what bit 7 says: in an Input item it is reserved (6.2.2.5)
+abbrev pub bit_7_words : Bool → List ℕ
+bit_7_words input = if input then codes ", reserved" else codes ", volatile"
+
+-- what the flags of an Input item say, or of an Output or Feature item
+unfoldable pub flags_text : Bool → ℕ → List ℕ
+flags_text input flags =
+    flat_map (λ row. flag_words flags row.0 row.1.now row.2.now) FLAG_WORDS
+    ++ flag_words flags 0x080 [] (bit_7_words input) ++ flag_words flags 0x100 [] (codes ", buffered bytes")
+
+-- whether these are Input reports
+abbrev pub is_input : ReportKind → Bool
+is_input Input = true
+is_input Output = false
+is_input Feature = false
+
+-- whether a report that there may be is an Input report
+abbrev pub is_input_at : Option Report → Bool
+is_input_at None = false
+is_input_at (Some report) = is_input report.kind
+
+-- whether an item stands in an Input report
+abbrev pub is_input_item : Contents → MainItem → Bool
+is_input_item layout item = is_input_at (slice_get layout.reports item.report)
 
 -- the name of a kind of reports
 abbrev pub kind_name : ReportKind → List ℕ
@@ -149,15 +170,19 @@ part_details layout r Filler = []
 part_details layout r (Field i j) = item_details (slice_get layout.items i)
 
 -- the flags of an item that there may be
-abbrev pub item_flags : Option MainItem → List ℕ
-item_flags None = []
-item_flags (Some item) = flags_text item.flags.0
+abbrev pub item_flags : Contents → Option MainItem → List ℕ
+item_flags layout None = []
+item_flags layout (Some item) = flags_text (is_input_item layout item) item.flags.0
 
 -- the flags of a part
 unfoldable pub part_flags : Contents → Part → List ℕ
 part_flags layout ReportId = []
 part_flags layout Filler = []
-part_flags layout (Field i j) = item_flags (slice_get layout.items i)
+part_flags layout (Field i j) = item_flags layout (slice_get layout.items i)
+
+-- where a bit stands
+unfoldable pub bit_text : ℕ → List ℕ
+bit_text bit = codes "byte " ++ decimal (bit / 8) ++ codes ", bit " ++ decimal (bit % 8)
 
 -- the bits of a byte that a piece has
 unfoldable pub place_text : Piece → List ℕ

@@ -29,6 +29,7 @@ pub use makers::{
 };
 pub use pieces::{Part, Piece, piece_at, pieces_of};
 pub use words::{
-    collection_name, print_collection, print_count, print_entry, print_flags, print_part_details,
-    print_part_flags, print_piece_name, print_place, print_report_name,
+    collection_name, is_input_item, print_bit, print_collection, print_count, print_entry,
+    print_flags, print_part_details, print_part_flags, print_piece_name, print_place,
+    print_report_name,
 };

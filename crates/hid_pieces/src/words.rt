@@ -3,7 +3,7 @@
 ghost use Rattle.std.specs.Prelude.{◌≡◌, ◌++◌, ◌*◌, ◌<◌, ◌≤◌, length, slice_get, Some, OnOk, string_bytes};
 ghost use Rattle.std.specs.List.{flat_map};
 ghost use Rattle.hid_descriptor.specs.declared.limits.TheConstants.{MAX_ENTRIES, MAX_REPORT_BYTES};
-ghost use Rattle.hid_pieces.specs.Words.{flag_words, flags_text, kind_name, report_name, count_text, collection_name, purpose_text, collection_text, entry_text, choice_from, choice_text, field_usage, usage_words, name_in, part_name, share_text, piece_name, range_text, details_in, part_details, part_flags, place_text};
+ghost use Rattle.hid_pieces.specs.Words.{flag_words, bit_7_words, flags_text, is_input, is_input_at, is_input_item, kind_name, report_name, count_text, collection_name, purpose_text, collection_text, entry_text, choice_from, choice_text, field_usage, usage_words, name_in, part_name, share_text, piece_name, range_text, details_in, part_details, part_flags, bit_text, place_text};
 
 use crate::label::UsageLabel;
 use crate::listed::{item_at, report_at};
@@ -15,7 +15,7 @@ use std::alloc::AllocError;
 
 /// A flag with what it says where it is 0, and where it is 1 (HID 1.11, 6.2.2.5).
 #[rattlefmt::skip]
-pub static FLAG_WORDS: [(u16, &str, &str); 9] = [
+pub static FLAG_WORDS: [(u16, &str, &str); 7] = [
     (0x001, "data", "constant"),
     (0x002, ", array", ", variable"),
     (0x004, ", absolute", ", relative"),
@@ -23,8 +23,6 @@ pub static FLAG_WORDS: [(u16, &str, &str); 9] = [
     (0x010, "", ", nonlinear"),
     (0x020, "", ", no preferred"),
     (0x040, "", ", null state"),
-    (0x080, "", ", volatile"),
-    (0x100, "", ", buffered bytes"),
 ];
 
 /// Adds what a flag says.
@@ -61,12 +59,41 @@ fn print_rows(
     Ok(())
 }
 
-/// Adds what the flags say.
-#[tactic(auto, unfolding(crate::specs::Words::flags_text))]
-pub fn print_flags(text: &mut String, flags: MainFlags) -> Result<(), AllocError>
-    ensures { OnOk result (string_bytes text.new ≡ string_bytes text.old ++ flags_text flags.0) }
+/// What bit 7 says where it is 1.
+fn bit_7_words(input: bool) -> &'static str
+    ensures { result.now ≡ bit_7_words input }
 {
-    print_rows(text, flags.0, &FLAG_WORDS)
+    if input { ", reserved" } else { ", volatile" }
+}
+
+/// Adds what the flags of an Input item say, or of an Output or Feature item.
+#[tactic(auto, unfolding(crate::specs::Words::flags_text))]
+pub fn print_flags(text: &mut String, input: bool, flags: MainFlags) -> Result<(), AllocError>
+    ensures { OnOk result (string_bytes text.new
+        ≡ string_bytes text.old ++ flags_text input flags.0) }
+{
+    print_rows(text, flags.0, &FLAG_WORDS)?;
+    print_flag(text, flags.0, 0x080, "", bit_7_words(input))?;
+    print_flag(text, flags.0, 0x100, "", ", buffered bytes")
+}
+
+fn is_input(kind: ReportKind) -> bool
+    ensures { result ≡ is_input kind }
+{
+    match kind {
+        ReportKind::Input => true,
+        ReportKind::Output | ReportKind::Feature => false,
+    }
+}
+
+/// Whether an item stands in an Input report.
+pub fn is_input_item(layout: &Layout, item: &MainItem) -> bool
+    ensures { result ≡ is_input_item layout.now item.now }
+{
+    match layout.reports().get(item.report) {
+        None => false,
+        Some(report) => is_input(report.kind),
+    }
 }
 
 fn kind_name(kind: ReportKind) -> &'static str
@@ -343,9 +370,20 @@ pub fn print_part_flags(text: &mut String, layout: &Layout, part: Part) -> Resul
             if item >= layout.items().len() {
                 return Ok(());
             }
-            print_flags(text, item_at(layout, item).flags)
+            let main = item_at(layout, item);
+            print_flags(text, is_input_item(layout, main), main.flags)
         }
     }
+}
+
+/// Adds where a bit stands.
+#[tactic(auto, unfolding(crate::specs::Words::bit_text))]
+pub fn print_bit(text: &mut String, at: u32) -> Result<(), AllocError>
+    ensures { OnOk result (string_bytes text.new ≡ string_bytes text.old ++ bit_text at) }
+{
+    let byte = at / 8;
+    let bit = at % 8;
+    write!(text, "byte {byte}, bit {bit}")
 }
 
 /// Adds the bits of a byte that a piece has.

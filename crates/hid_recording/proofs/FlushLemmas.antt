@@ -1,5 +1,5 @@
 -- A flush that fails ends a run at the line where it stood, whatever ended it there.
-use Rattle.std.proofs.Common.{◌≡◌, ℕ, ◌+◌, Bool, true, false, cond, List, [], ◌∷◌, length, refl, sym, ap, ◌∙◌, subst, inl, inr, arith, append-nil, Option, None, Some, Result, Ok, Err, nat_lt}
+use Rattle.std.proofs.Common.{◌≡◌, ℕ, ◌+◌, ◌-◌, Bool, true, false, cond, List, [], ◌∷◌, length, refl, sym, ap, ◌∙◌, subst, inl, inr, arith, append-nil, Option, None, Some, Result, Ok, Err, nat_lt}
 use Rattle.std.specs.Prelude.{slice_get}
 use Rattle.std.specs.Str.Lines.{lines}
 use Rattle.std.proofs.KnownBytes.{Appends-nil}
@@ -17,11 +17,13 @@ use Rattle.hid_recording.specs.Session.{Session, Member, Outcome, accepted, refu
 use Rattle.hid_recording.specs.Records.{Said, Nothing, Blank, Device, Descriptor, Report, Begins, Bytes, record_of}
 use Rattle.hid_recording.specs.Words.{time_of}
 use Rattle.hid_recording.specs.Dumps.{numbered}
+use Rattle.hid_recording.specs.Joining.{bytes_with, ends_with, kept_of}
 use Rattle.hid_recording.specs.declared.dump.Address.{Address}
 use Rattle.hid_recording.specs.declared.dump.Content.{Content}
 use Rattle.hid_recording.specs.declared.dump.Content.TheVariants as contents
-use Rattle.hid_recording.specs.Telling.{goes_on, refuses, reads_named, reads_of, known_at, begins_behind, begins_of, gathers, ended, stream_told, EndTells, SaidTells, Means, TellsUnless, advanced, LineTells, LineBegins}
-use Rattle.hid_recording.specs.Runs.{Ending, Refusal, Want, Cut, Silence, Never, ending_of, EndsAs, FirstTells, FirstBegins, RunsTo, Stops, line_of, AppendsRecording}
+use Rattle.hid_recording.specs.Telling.{goes_on, refuses, reads_named, reads_of, known_at, begins_behind, begins_of, gathers, ended, with_device, chunk_in, chunk_of, stream_told, EndTells, SaidTells, Means, TellsUnless, advanced, LineTells, LineBegins}
+use Rattle.hid_recording.specs.Runs.{Ending, Refusal, Want, Cut, Silence, Never, ending_of, EndsAs, FirstTells, FirstBegins, PlayedTo, RunsTo, Stops, line_of, played_of, AppendsRecording}
+use Rattle.hid_recording.specs.Player.{summary_of}
 use Rattle.hid_recording.specs.Place.{Place, Advances, RunsFrom, lines_at}
 use Rattle.hid_recording.proofs.PlaceLemmas.{start, first_begins, broken_run}
 
@@ -55,7 +57,7 @@ no_slot_text session time bytes text cause (Some member) e = no_report_text sess
 
 no_begun_text : (content : Option Content) (next : Session) (text : List ℕ) (cause : Cause) → ended_with text cause ≡ begins_behind content next → text ≡ []
 no_begun_text None next text cause e = not_accepted text _ cause _ e
-no_begun_text (Some content) next text cause e = no_refusal_text next _ text cause e
+no_begun_text (Some content) next text cause e = no_refusal_text _ _ text cause e
 
 no_begin_text : (session : Session) (address : Address) (content : Content) (time : List ℕ) (device : Option ℕ) (text : List ℕ) (cause : Cause) → ended_with text cause ≡ begins_of session address content time device → text ≡ []
 no_begin_text session address content time None text cause e = no_refusal_text _ _ text cause e
@@ -65,13 +67,28 @@ room_text : (long : Bool) (session next : Session) (why : Why) (text : List ℕ)
 room_text true session next why text cause e = no_refusal_text session why text cause e
 room_text false session next why text cause e = not_accepted text _ cause _ e
 
-no_gathered_text : (session : Session) (bytes : List ℕ) (content : Option Content) (text : List ℕ) (cause : Cause) → ended_with text cause ≡ gathers session bytes content → text ≡ []
-no_gathered_text session bytes None text cause e = no_refusal_text session _ text cause e
-no_gathered_text session bytes (Some content) text cause e = room_text (nat_lt 4096 (length session.gathered.bytes + length bytes)) _ _ _ text cause e
+passed_text : (passed : Bool) (session next : Session) (why : Why) (text : List ℕ) (cause : Cause) → ended_with text cause ≡ cond passed (accepted [] session) (refuses next why) → text ≡ []
+passed_text true session next why text cause e = not_accepted text _ cause _ e
+passed_text false session next why text cause e = no_refusal_text next why text cause e
+
+no_gathered_text : (session : Session) (bytes : Option (List ℕ)) (content : Option Content) (text : List ℕ) (cause : Cause) → ended_with text cause ≡ gathers session bytes content → text ≡ []
+no_gathered_text session bytes None text cause e = passed_text session.gathered.is_dropped _ _ _ text cause e
+no_gathered_text session None (Some content) text cause e = no_refusal_text _ _ text cause e
+no_gathered_text session (Some bytes) (Some content) text cause e = room_text (nat_lt 4096 (length session.gathered.bytes + length bytes)) _ _ _ text cause e
+
+no_chunk_text : (session : Session) (time chunk text : List ℕ) (cause : Cause) (member : Member) (doubt ends : Bool) → ended_with text cause ≡ chunk_in session time chunk member doubt ends → text ≡ []
+no_chunk_text session time chunk text cause member true ends e = no_refusal_text _ _ text cause e
+no_chunk_text session time chunk text cause member false true e =
+    let now = with_device session (Some (kept_of member [])) in no_slot_text now time (bytes_with member chunk) text cause (known_at (slice_get now.devices now.current)) e
+no_chunk_text session time chunk text cause member false false e = not_accepted text _ cause _ e
+
+no_chunk_slot_text : (session : Session) (time chunk text : List ℕ) (cause : Cause) (slot : Option Member) → ended_with text cause ≡ chunk_of session time chunk slot → text ≡ []
+no_chunk_slot_text session time chunk text cause None e = no_refusal_text session _ text cause e
+no_chunk_slot_text session time chunk text cause (Some member) e = no_chunk_text session time chunk text cause member member.in_doubt (ends_with member chunk) e
 
 no_told_text : (session : Session) (time : Option (List ℕ)) (bytes text : List ℕ) (cause : Cause) → ended_with text cause ≡ stream_told time bytes session → text ≡ []
 no_told_text session None bytes text cause e = no_refusal_text session _ text cause e
-no_told_text session (Some time) bytes text cause e = no_slot_text session time bytes text cause (known_at (slice_get session.devices session.current)) e
+no_told_text session (Some time) bytes text cause e = no_chunk_slot_text session time bytes text cause (known_at (slice_get session.devices session.current)) e
 
 no_end_text : (session : Session) (content : Option Content) (text : List ℕ) (cause : Cause) → EndTells session content (ended_with text cause) → text ≡ []
 no_end_text session None text cause e = not_accepted text _ cause _ e
@@ -91,7 +108,7 @@ no_said_text session (Report time bytes) text cause e = no_slot_text session tim
 
 no_meant_text : (session : Session) (meant : Result Said Why) (text : List ℕ) (cause : Cause) → Means session meant (ended_with text cause) → text ≡ []
 no_meant_text session (Ok said) text cause h = no_said_text session said text cause h
-no_meant_text session (Err why) text cause e = no_refusal_text session why text cause e
+no_meant_text session (Err why) text cause e = no_refusal_text _ why text cause e
 
 unless_text : (long : Bool) (session : Session) (line text : List ℕ) (cause : Cause) → TellsUnless long session line (ended_with text cause) → text ≡ []
 unless_text true session line text cause e = no_text text cause _ e
@@ -112,10 +129,10 @@ cut_there Cut session recording part cause h = h
 cut_there Silence session recording part cause h = ([], first_begins session recording, rw h ([], refl))
 cut_there Never session recording part cause h = absurd h
 
-cut_stops : (session : Session) (recording : List (List ℕ)) (before : ℕ) (written : List ℕ) (first fault : RecordingFault) → fault.line ≡ first.line → fault.cause ≡ causes.Write
+cut_stops : (session : Session) (recording : List (List ℕ)) (before : ℕ) (written : List ℕ) (first fault : RecordingFault) → fault.line ≡ first.line → fault.cause ≡ causes.Write → fault.played ≡ first.played
     → Stops session recording before written first → Stops session recording before written fault
 unfolding ending_of
-cut_stops session recording before written first fault at is h = record {
+cut_stops session recording before written first fault at is same h = record {
   first = h.first;
   others = h.others;
   split = h.split;
@@ -123,17 +140,18 @@ cut_stops session recording before written first fault at is h = record {
   text = h.text;
   now = h.now;
   all = h.all;
+  played = same ∙ h.played ∙ ap (λ (n : ℕ). summary_of h.now (n - 1)) (sym at);
   part = h.part;
   ends = subst (λ c. EndsAs (ending_of c) (FirstTells h.now h.others) (FirstBegins h.now h.others) h.part c) (sym is) (cut_there (ending_of first.cause) h.now h.others h.part first.cause h.ends);
   whole = h.whole;
 }
 
 -- and behind the last line nothing is told that could be cut
-cut_at_end : (session : Session) (recording : List (List ℕ)) (written : List ℕ) (result : Result Summary RecordingFault) (fault : RecordingFault) → fault.line ≡ line_of result → fault.cause ≡ causes.Write
+cut_at_end : (session : Session) (recording : List (List ℕ)) (written : List ℕ) (result : Result Summary RecordingFault) (fault : RecordingFault) → fault.line ≡ line_of result → fault.cause ≡ causes.Write → fault.played ≡ played_of result
     → RunsTo session recording 0 written result → Stops session recording 0 written fault
 unfolding ending_of
-cut_at_end session recording written (Err first) fault at is (inl h) = cut_stops session recording 0 written first fault at is h
-cut_at_end session recording written (Err first) fault at is (inr h) = record {
+cut_at_end session recording written (Err first) fault at is same (inl h) = cut_stops session recording 0 written first fault at is same h
+cut_at_end session recording written (Err first) fault at is same (inr h) = record {
   first = recording;
   others = [];
   split = sym (append-nil recording);
@@ -141,11 +159,12 @@ cut_at_end session recording written (Err first) fault at is (inr h) = record {
   text = written;
   now = h.last;
   all = h.all;
+  played = same ∙ h.played ∙ ap (λ (n : ℕ). summary_of h.last (n - 1)) (sym at);
   part = [];
   ends = subst (λ c. EndsAs (ending_of c) (FirstTells h.last []) (FirstBegins h.last []) [] c) (sym is) ([], refl, ([], refl));
   whole = sym (append-nil written);
 }
-cut_at_end session recording written (Ok summary) fault at is h = record {
+cut_at_end session recording written (Ok summary) fault at is same h = record {
   first = recording;
   others = [];
   split = sym (append-nil recording);
@@ -153,6 +172,7 @@ cut_at_end session recording written (Ok summary) fault at is h = record {
   text = written;
   now = h.last;
   all = h.all;
+  played = same ∙ h.counts ∙ ap (summary_of h.last) (omega (arith, at));
   part = [];
   ends = subst (λ c. EndsAs (ending_of c) (FirstTells h.last []) (FirstBegins h.last []) [] c) (sym is) ([], refl, ([], refl));
   whole = sym (append-nil written);
@@ -171,15 +191,15 @@ flushed_run options None c d e result h k = tt
 flushed_run options (Some recording) c d e result h k = (h.0, kept_written c d e h.0 h.1 k, h.2)
 
 -- the last flush failed
-pub never_flushed : (options : Options) (a c d e : Option (List ℕ)) (result : Result Summary RecordingFault) (fault : RecordingFault) → fault.line ≡ line_of result → fault.cause ≡ causes.Write
+pub never_flushed : (options : Options) (a c d e : Option (List ℕ)) (result : Result Summary RecordingFault) (fault : RecordingFault) → fault.line ≡ line_of result → fault.cause ≡ causes.Write → fault.played ≡ played_of result
     → AppendsRecording options a c d result → Keeps d e → AppendsRecording options a c e (Err fault)
-never_flushed options None c d e result fault at is h k = tt
-never_flushed options (Some recording) c d e result fault at is h k = (h.0, kept_written c d e h.0 h.1 k, inl (cut_at_end (at_first options) (lines recording) h.0 result fault at is h.2))
+never_flushed options None c d e result fault at is same h k = tt
+never_flushed options (Some recording) c d e result fault at is same h k = (h.0, kept_written c d e h.0 h.1 k, inl (cut_at_end (at_first options) (lines recording) h.0 result fault at is same h.2))
 
 -- one before a read did
-cut_here : (place : Place) (more : List ℕ) (fault : RecordingFault) → fault.cause ≡ causes.Write → fault.line ≡ place.lines + 1 → RunsFrom place more [] (Err fault)
+cut_here : (place : Place) (more : List ℕ) (fault : RecordingFault) → fault.cause ≡ causes.Write → fault.line ≡ place.lines + 1 → PlayedTo place.session fault → RunsFrom place more [] (Err fault)
 unfolding ending_of
-cut_here place more fault is at = inl (record {
+cut_here place more fault is at played = inl (record {
   first = [];
   others = lines_at place more;
   split = refl;
@@ -187,12 +207,13 @@ cut_here place more fault is at = inl (record {
   text = [];
   now = place.session;
   all = (refl, refl);
+  played = played;
   part = [];
   ends = subst (λ c. EndsAs (ending_of c) (FirstTells place.session (lines_at place more)) (FirstBegins place.session (lines_at place more)) [] c) (sym is) ([], first_begins place.session (lines_at place more), ([], refl));
   whole = refl;
 })
 
 pub cut_run : (options : Options) (a b c d e : Option (List ℕ)) (read written : List ℕ) (now : Place) (fault : RecordingFault) → Consumes a b read → Appends c d written → Advances (start options) read written now
-    → Keeps d e → fault.cause ≡ causes.Write → fault.line ≡ now.lines + 1 → AppendsRecording options a c e (Err fault)
-cut_run options a b c d e read written now fault from grew taken kept is at =
-    flushed_run options a c d e (Err fault) (broken_run options a b c d d read written [] now (Err fault) from grew taken (Appends-nil d) (λ more. cut_here now more fault is at)) kept
+    → Keeps d e → fault.cause ≡ causes.Write → fault.line ≡ now.lines + 1 → PlayedTo now.session fault → AppendsRecording options a c e (Err fault)
+cut_run options a b c d e read written now fault from grew taken kept is at played =
+    flushed_run options a c d e (Err fault) (broken_run options a b c d d read written [] now (Err fault) from grew taken (Appends-nil d) (λ more. cut_here now more fault is at played)) kept

@@ -16,7 +16,7 @@ use Rattle.hid_recording.specs.declared.fault.Options.{Options}
 use Rattle.hid_recording.specs.Session.{Session, accepted, refused, at_first}
 use Rattle.hid_recording.specs.Telling.{LineTells, LineBegins, TellsUnless}
 use Rattle.hid_recording.specs.Player.{summary_of}
-use Rattle.hid_recording.specs.Runs.{Silence, ending_of, EndsAs, Ends, FirstTells, FirstBegins, AllTell, RunsTo, AppendsRecording}
+use Rattle.hid_recording.specs.Runs.{Silence, ending_of, EndsAs, Ends, FirstTells, FirstBegins, AllTell, PlayedTo, RunsTo, AppendsRecording}
 use Rattle.hid_recording.specs.Place.{Place, IsUnbroken, lines_at, Writes, Advances, RunsFrom, Takes, EndsAt}
 
 -- ---- lines
@@ -107,12 +107,19 @@ advances_line session next begun line n written whole same told = record {
   split = λ more. lines_first begun more whole ∙ ap (λ l. l ∷ lines more) (sym same);
 }
 
+-- ---- what was played
+
+-- up to a line, by what was counted before it
+pub stopped_at : (session : Session) (n : ℕ) (played : Summary) (fault : RecordingFault) → played.lines ≡ n → played ≡ summary_of session played.lines → fault.line ≡ played.lines + 1 → fault.played ≡ played
+    → (fault.line ≡ n + 1) × PlayedTo session fault
+stopped_at session n played fault count counts at is = (omega (arith, count, at), is ∙ counts ∙ ap (summary_of session) (omega (arith, at)))
+
 -- ---- ends
 
 -- a run that ended in its first line
-line_stops : (session : Session) (recording others : List (List ℕ)) (before : ℕ) (line part : List ℕ) (cause : Cause) (fault : RecordingFault) → recording ≡ line ∷ others → fault.line ≡ before + 1 → fault.cause ≡ cause
+line_stops : (session : Session) (recording others : List (List ℕ)) (before : ℕ) (line part : List ℕ) (cause : Cause) (fault : RecordingFault) → recording ≡ line ∷ others → fault.line ≡ before + 1 → fault.cause ≡ cause → PlayedTo session fault
     → Ends (LineTells session line) (LineBegins session line) part cause → RunsTo session recording before part (Err fault)
-line_stops session recording others before line part cause fault e at is h = inl (record {
+line_stops session recording others before line part cause fault e at is played h = inl (record {
   first = [];
   others = line ∷ others;
   split = e;
@@ -120,6 +127,7 @@ line_stops session recording others before line part cause fault e at is h = inl
   text = [];
   now = session;
   all = (refl, refl);
+  played = played;
   part = part;
   ends = subst (λ c. Ends (FirstTells session (line ∷ others)) (FirstBegins session (line ∷ others)) part c) (sym is) h;
   whole = refl;
@@ -143,6 +151,7 @@ runs_more session middle first others before after text rest (Err fault) h at (i
   text = text ++ k.text;
   now = k.now;
   all = all_more session middle k.now first k.first text k.text h k.all;
+  played = k.played;
   part = k.part;
   ends = k.ends;
   whole = ap (λ l. text ++ l) k.whole ∙ sym (append_assoc text k.text k.part);
@@ -152,6 +161,7 @@ runs_more session middle first others before after text rest (Err fault) h at (i
   all = all_more session middle k.last first others text rest h k.all;
   unended = k.unended;
   line = omega (arith, k.line, length-append first others);
+  played = k.played;
   cause = k.cause;
 })
 
@@ -162,19 +172,19 @@ runs_after p q bytes more written text result h k =
     (runs_more p.session q.session h.ended (lines_at q more) p.lines q.lines written text result h.all h.count k)
 
 -- a line that is too long ends the run
-pub long_stops : (place : Place) (b : ℕ) (more : List ℕ) (fault : RecordingFault) → IsUnbroken place.begun → nat_eq b 10 ≡ false → 16385 ≤ length place.begun → fault.line ≡ place.lines + 1 → fault.cause ≡ causes.LineTooLong
+pub long_stops : (place : Place) (b : ℕ) (more : List ℕ) (fault : RecordingFault) → IsUnbroken place.begun → nat_eq b 10 ≡ false → 16385 ≤ length place.begun → fault.line ≡ place.lines + 1 → fault.cause ≡ causes.LineTooLong → PlayedTo place.session fault
     → RunsFrom place (b ∷ more) [] (Err fault)
 unfolding LineTells ending_of
-long_stops place b more fault whole apart long at is =
+long_stops place b more fault whole apart long at is played =
     let first = long_first (place.begun ++ b ∷ []) more (All-push (λ x. nat_eq x 10 ≡ false) place.begun b whole apart) (omega (arith, length-append place.begun (b ∷ []))) in
-    line_stops place.session (lines_at place (b ∷ more)) first.1 place.lines first.0 [] causes.LineTooLong fault (ap lines (sym (append_assoc place.begun (b ∷ []) more)) ∙ first.2) at is
+    line_stops place.session (lines_at place (b ∷ more)) first.1 place.lines first.0 [] causes.LineTooLong fault (ap lines (sym (append_assoc place.begun (b ∷ []) more)) ∙ first.2) at is played
     (subst (λ long. TellsUnless long place.session first.0 (refused causes.LineTooLong)) (sym (lt-ltb 16384 (length first.0) first.3)) refl)
 
 -- a line that ended the run at its line feed
 pub line_feed_stops : (place : Place) (next : Session) (line more written : List ℕ) (cause : Cause) (fault : RecordingFault) → IsUnbroken place.begun → line ≡ strip_carriage_return place.begun
-    → Writes (LineTells place.session line) (LineBegins place.session line) written (Err cause) next → fault.line ≡ place.lines + 1 → fault.cause ≡ cause → RunsFrom place (10 ∷ more) written (Err fault)
-line_feed_stops place next line more written cause fault whole same told at is =
-    line_stops place.session (lines_at place (10 ∷ more)) (lines more) place.lines line written cause fault (lines_first place.begun more whole ∙ ap (λ l. l ∷ lines more) (sym same)) at is told
+    → Writes (LineTells place.session line) (LineBegins place.session line) written (Err cause) next → fault.line ≡ place.lines + 1 → fault.cause ≡ cause → PlayedTo place.session fault → RunsFrom place (10 ∷ more) written (Err fault)
+line_feed_stops place next line more written cause fault whole same told at is played =
+    line_stops place.session (lines_at place (10 ∷ more)) (lines more) place.lines line written cause fault (lines_first place.begun more whole ∙ ap (λ l. l ∷ lines more) (sym same)) at is played told
 
 -- ---- byte by byte
 
@@ -195,8 +205,8 @@ stops_at_byte p q r bytes v w i fault (Err e) below h k is = λ more.
 -- ---- whole runs
 
 -- a fault that comes before any text of a line may come at any time
-pub outside_stops : (place : Place) (more : List ℕ) (fault : RecordingFault) → ending_of fault.cause ≡ Silence → fault.line ≡ place.lines + 1 → RunsFrom place more [] (Err fault)
-outside_stops place more fault is at = inl (record {
+pub outside_stops : (place : Place) (more : List ℕ) (fault : RecordingFault) → ending_of fault.cause ≡ Silence → fault.line ≡ place.lines + 1 → PlayedTo place.session fault → RunsFrom place more [] (Err fault)
+outside_stops place more fault is at played = inl (record {
   first = [];
   others = lines_at place more;
   split = refl;
@@ -204,6 +214,7 @@ outside_stops place more fault is at = inl (record {
   text = [];
   now = place.session;
   all = (refl, refl);
+  played = played;
   part = [];
   ends = subst (λ e. EndsAs e (FirstTells place.session (lines_at place more)) (FirstBegins place.session (lines_at place more)) [] fault.cause) (sym is) refl;
   whole = refl;
@@ -222,7 +233,7 @@ last_line place whole some = ap lines (append-nil place.begun) ∙ lines_last pl
 -- nothing more comes
 ends_at : (session : Session) (before : ℕ) (result : Result Summary RecordingFault) → EndsAt session before result → RunsTo session [] before [] result
 ends_at session before (Ok summary) h = record { last = session; all = (refl, refl); closed = h.0; lines = omega (arith, h.1); counts = h.2 }
-ends_at session before (Err fault) h = inr (record { last = session; all = (refl, refl); unended = h.0; line = omega (arith, h.2); cause = h.1 })
+ends_at session before (Err fault) h = inr (record { last = session; all = (refl, refl); unended = h.0; line = omega (arith, h.2); played = h.3; cause = h.1 })
 
 pub last_line_told : (place : Place) (next : Session) (written : List ℕ) (result : Result Summary RecordingFault) → IsUnbroken place.begun → 0 < length place.begun → LineTells place.session place.begun (accepted written next)
     → EndsAt next (place.lines + 1) result → RunsFrom place [] written result
@@ -231,9 +242,9 @@ last_line_told place next written result whole some told ends =
     subst (λ recording. RunsTo place.session recording place.lines written result) (sym (last_line place whole some)) (subst (λ text. RunsTo place.session (place.begun ∷ []) place.lines text result) (append-nil written) runs)
 
 pub last_line_stops : (place : Place) (next : Session) (written : List ℕ) (cause : Cause) (fault : RecordingFault) → IsUnbroken place.begun → 0 < length place.begun → Writes (LineTells place.session place.begun) (LineBegins place.session place.begun) written (Err cause) next
-    → fault.line ≡ place.lines + 1 → fault.cause ≡ cause → RunsFrom place [] written (Err fault)
-last_line_stops place next written cause fault whole some told at is =
-    line_stops place.session (lines_at place []) [] place.lines place.begun written cause fault (last_line place whole some) at is told
+    → fault.line ≡ place.lines + 1 → fault.cause ≡ cause → PlayedTo place.session fault → RunsFrom place [] written (Err fault)
+last_line_stops place next written cause fault whole some told at is played =
+    line_stops place.session (lines_at place []) [] place.lines place.begun written cause fault (last_line place whole some) at is played told
 
 pub no_last_line : (place : Place) (result : Result Summary RecordingFault) → place.begun ≡ [] → EndsAt place.session place.lines result → RunsFrom place [] [] result
 no_last_line place result none ends =
@@ -261,9 +272,9 @@ broken_run options a b c d f read written text now result from grew taken last s
 
 -- nothing more is written at a fault from outside
 pub outside_run : (options : Options) (a b c d : Option (List ℕ)) (read written : List ℕ) (now : Place) (fault : RecordingFault) → Consumes a b read → Appends c d written → Advances (start options) read written now
-    → ending_of fault.cause ≡ Silence → fault.line ≡ now.lines + 1 → AppendsRecording options a c d (Err fault)
-outside_run options a b c d read written now fault from grew taken is at =
-    broken_run options a b c d d read written [] now (Err fault) from grew taken (Appends-nil d) (λ more. outside_stops now more fault is at)
+    → ending_of fault.cause ≡ Silence → fault.line ≡ now.lines + 1 → PlayedTo now.session fault → AppendsRecording options a c d (Err fault)
+outside_run options a b c d read written now fault from grew taken is at played =
+    broken_run options a b c d d read written [] now (Err fault) from grew taken (Appends-nil d) (λ more. outside_stops now more fault is at played)
 
 -- the piece that was read ended the run
 pub piece_stops : (options : Options) (a b e c d f : Option (List ℕ)) (read written text piece : List ℕ) (now : Place) (fault : RecordingFault) (result : Result Summary RecordingFault)
@@ -288,9 +299,9 @@ pub first_begins : (session : Session) (recording : List (List ℕ)) → FirstBe
 first_begins session [] = refl
 first_begins session (line ∷ more) = begins_nothing session line
 
-no_line_run : (options : Options) (recording : List ℕ) (fault : RecordingFault) → fault.line ≡ 1 → fault.cause ≡ causes.Memory → RunsTo (at_first options) (lines recording) 0 [] (Err fault)
+no_line_run : (options : Options) (recording : List ℕ) (fault : RecordingFault) → fault.line ≡ 1 → fault.cause ≡ causes.Memory → PlayedTo (at_first options) fault → RunsTo (at_first options) (lines recording) 0 [] (Err fault)
 unfolding ending_of
-no_line_run options recording fault at is = inl (record {
+no_line_run options recording fault at is played = inl (record {
   first = [];
   others = lines recording;
   split = refl;
@@ -298,12 +309,13 @@ no_line_run options recording fault at is = inl (record {
   text = [];
   now = at_first options;
   all = (refl, refl);
+  played = played;
   part = [];
   ends = subst (λ c. Ends (FirstTells (at_first options) (lines recording)) (FirstBegins (at_first options) (lines recording)) [] c) (sym is) (first_begins (at_first options) (lines recording));
   whole = refl;
 })
 
 -- memory for the devices was wanting before the first read
-pub never_begun : (options : Options) (a c : Option (List ℕ)) (fault : RecordingFault) → fault.line ≡ 1 → fault.cause ≡ causes.Memory → AppendsRecording options a c c (Err fault)
-never_begun options None c fault at is = tt
-never_begun options (Some recording) c fault at is = ([], Appends-nil c, no_line_run options recording fault at is)
+pub never_begun : (options : Options) (a c : Option (List ℕ)) (fault : RecordingFault) → fault.line ≡ 1 → fault.cause ≡ causes.Memory → PlayedTo (at_first options) fault → AppendsRecording options a c c (Err fault)
+never_begun options None c fault at is played = tt
+never_begun options (Some recording) c fault at is played = ([], Appends-nil c, no_line_run options recording fault at is played)

@@ -1,5 +1,5 @@
 -- What a player gathers of a line, and what it writes.
-use Rattle.std.proofs.Common.{◌≡◌, ℕ, ◌<◌, ◌≤◌, zero, suc, false, List, [], ◌∷◌, ◌++◌, length, refl, sym, ap, ◌∙◌, subst, inr, append_assoc, Option, None, Some, Result, Ok, Err, OnOk, IfErr, IsErrAnd}
+use Rattle.std.proofs.Common.{◌≡◌, ℕ, ◌<◌, ◌≤◌, zero, suc, Bool, true, false, List, [], ◌∷◌, ◌++◌, length, refl, sym, ap, ◌∙◌, subst, inr, append_assoc, Option, None, Some, Result, Ok, Err, OnOk, IfErr, IsErrAnd}
 use Rattle.std.specs.Prelude.{slice_get, set}
 use Rattle.std.specs.Io.KnownBytes.{Appends}
 use Rattle.std.proofs.KnownBytes.{Appends-nil}
@@ -26,7 +26,8 @@ use Rattle.hid_recording.specs.Refusals.{is_memory}
 use Rattle.hid_recording.specs.Session.{Session, Member, Outcome, accepted, refused, counted}
 use Rattle.hid_recording.specs.Records.{Said, record_of}
 use Rattle.hid_recording.specs.EventLines.{event_lines}
-use Rattle.hid_recording.specs.Telling.{refuses, with_device, TellsDescriptor, SaidTells, values_asked, report_text, reads_named, reads_of, known_at, report_told, ended, EndTells, Means, TellsUnless, LineTells, LineBegins}
+use Rattle.hid_recording.specs.Joining.{past_chunk, bytes_with, ends_with, kept_of}
+use Rattle.hid_recording.specs.Telling.{refuses, with_device, TellsDescriptor, SaidTells, values_asked, report_text, reads_named, reads_of, known_at, report_told, chunk_in, chunk_of, chunk_told, ended, EndTells, Means, TellsUnless, LineTells, LineBegins}
 use Rattle.hid_recording.specs.Gathering.{EndsIn, Gathers}
 use Rattle.hid_recording.specs.Playing.{TakesOne, SlotTakesNone, PlaysAt}
 use Rattle.hid_recording.specs.Runs.{ending_of, Ends}
@@ -75,19 +76,19 @@ said_meant session meant said r text next e h = subst (λ m. Gathers (Means sess
 -- ---- reports
 
 -- a report that was read, with what it tells
-pub report_taken : (options : Options) (time : List ℕ) (device : ℕ) (bytes : List ℕ) (layout : Contents) (cells after : List Cell) (old asked more : List ℕ) (none told : List Event) (events report : ℕ) → report_named layout bytes ≡ Ok report
+pub report_taken : (options : Options) (time : List ℕ) (device : ℕ) (bytes : List ℕ) (layout : Contents) (cells after : List Cell) (kept : List ℕ) (doubt : Bool) (old asked more : List ℕ) (none told : List Event) (events report : ℕ) → report_named layout bytes ≡ Ok report
     → after ≡ read_view layout report bytes cells → none ≡ [] → told ≡ none ++ read_events layout report bytes cells → events ≡ length told
     → asked ≡ old ++ values_asked options.values time device layout (report_named layout bytes) bytes → more ≡ asked ++ event_lines time device options told
-    → TakesOne options time device bytes (record { layout = layout; cells = cells }) old events (record { layout = layout; cells = after }) more
+    → TakesOne options time device bytes (record { layout = layout; cells = cells; collected = kept; in_doubt = doubt }) old events (record { layout = layout; cells = after; collected = kept; in_doubt = doubt }) more
 unfolding report_text
-report_taken options time device bytes layout cells after old asked more none told events report named read nothing gives count values lines =
+report_taken options time device bytes layout cells after kept doubt old asked more none told events report named read nothing gives count values lines =
     let asked_of = λ (n : Result ℕ ReportFault). values_asked options.values time device layout n bytes in
     let shown = λ (l : List Event). event_lines time device options l in
     let all : told ≡ read_events layout report bytes cells = gives ∙ ap (λ l. l ++ read_events layout report bytes cells) nothing in
     record {
       report = report;
       named = named;
-      read = ap (λ c. (let m : Member = record { layout = layout; cells = c } in m)) read;
+      read = ap (λ c. (let m : Member = record { layout = layout; cells = c; collected = kept; in_doubt = doubt } in m)) read;
       count = count ∙ ap (λ (l : List Event). length l) all;
       told = lines ∙ ap (λ l. l ++ shown told) values ∙ append_assoc old (asked_of (report_named layout bytes)) (shown told) ∙ ap (λ n. old ++ (asked_of n ++ shown told)) named ∙ ap (λ l. old ++ (asked_of (Ok report) ++ shown l)) all;
     }
@@ -112,6 +113,47 @@ report_refused session options time bytes current devices why before more r text
     let kept : devices ≡ session.devices = played.2 ∙ ap (λ m. set session.devices session.current m) left.0 ∙ kept_at session.devices session.current in
     let same : (let s : Session = record session { current = current; devices = devices } in s) ≡ session = rw (here, kept) refl in
     gathers_so (λ o. o ≡ refuses (record session { current = current; devices = devices }) why) (λ o. o ≡ report_told time bytes session) r text next (λ o e. e ∙ ap (λ s. refuses s why) same ∙ left.1) h
+
+-- ---- chunks
+
+-- what is told of a chunk is told of the device behind it
+pub chunk_joined : (session : Session) (time chunk : List ℕ) (current : ℕ) (devices : List (Option Member)) (after : Option Member) (tells : Session → Outcome) (r : Result (Unit {0}) Cause) (text : List ℕ) (next : Session)
+    → current ≡ session.current → devices ≡ set session.devices session.current after → tells (with_device session after) ≡ chunk_told time chunk session
+    → Gathers (λ o. o ≡ tells (record session { current = current; devices = devices })) r text next → Gathers (λ o. o ≡ chunk_told time chunk session) r text next
+chunk_joined session time chunk current devices after tells r text next here kept is h =
+    let same : (let s : Session = record session { current = current; devices = devices } in s) ≡ with_device session after = rw (here, kept) refl in
+    gathers_so (λ o. o ≡ tells (record session { current = current; devices = devices })) (λ o. o ≡ chunk_told time chunk session) r text next (λ o e. e ∙ ap tells same ∙ is) h
+
+-- a device without a descriptor
+pub unknown_told : (session : Session) (time chunk : List ℕ) (after : Option Member) → known_at (slice_get session.devices session.current) ≡ None → after ≡ None
+    → refuses (with_device session after) refusals.NoLayout ≡ chunk_told time chunk session
+unknown_told session time chunk after none still =
+    let kept : set session.devices session.current after ≡ session.devices = ap (λ m. set session.devices session.current m) (still ∙ sym none) ∙ kept_at session.devices session.current in
+    ap (λ d. refuses (record session { devices = d }) refusals.NoLayout) kept ∙ sym (ap (chunk_of session time chunk) none)
+
+-- a device that a chunk finds so
+found_told : (session : Session) (time chunk : List ℕ) (member : Member) (doubt ends : Bool) → known_at (slice_get session.devices session.current) ≡ Some member → member.in_doubt ≡ doubt → ends_with member chunk ≡ ends
+    → chunk_told time chunk session ≡ chunk_in session time chunk member doubt ends
+found_told session time chunk member doubt ends slot doubts does =
+    ap (chunk_of session time chunk) slot ∙ ap (λ b. chunk_in session time chunk member b (ends_with member chunk)) doubts ∙ ap (chunk_in session time chunk member doubt) does
+
+-- a part of its report may be missing
+pub doubtful_told : (session : Session) (time chunk : List ℕ) (member : Member) (after : Option Member) → known_at (slice_get session.devices session.current) ≡ Some member → member.in_doubt ≡ true
+    → after ≡ Some (past_chunk member chunk) → refuses (with_device session after) refusals.PartMissing ≡ chunk_told time chunk session
+doubtful_told session time chunk member after slot doubts behind =
+    ap (λ m. refuses (with_device session m) refusals.PartMissing) behind ∙ sym (found_told session time chunk member true (ends_with member chunk) slot doubts refl)
+
+-- more of its report comes
+pub begun_told : (session : Session) (time chunk : List ℕ) (member : Member) (after : Option Member) → known_at (slice_get session.devices session.current) ≡ Some member → member.in_doubt ≡ false → ends_with member chunk ≡ false
+    → after ≡ Some (kept_of member (bytes_with member chunk)) → accepted [] (with_device session after) ≡ chunk_told time chunk session
+begun_told session time chunk member after slot certain goes behind =
+    ap (λ m. accepted [] (with_device session m)) behind ∙ sym (found_told session time chunk member false false slot certain goes)
+
+-- its report ends
+pub whole_told : (session : Session) (time chunk bytes : List ℕ) (member : Member) (after : Option Member) → known_at (slice_get session.devices session.current) ≡ Some member → member.in_doubt ≡ false → ends_with member chunk ≡ true
+    → bytes ≡ bytes_with member chunk → after ≡ Some (kept_of member []) → report_told time bytes (with_device session after) ≡ chunk_told time chunk session
+whole_told session time chunk bytes member after slot certain ends all behind =
+    ap (λ m. report_told time bytes (with_device session m)) behind ∙ ap (λ b. report_told time b (with_device session (Some (kept_of member [])))) all ∙ sym (found_told session time chunk member false true slot certain ends)
 
 -- ---- lines
 

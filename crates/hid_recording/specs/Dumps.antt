@@ -1,22 +1,29 @@
 -- What came of a dump, and the numbers of devices that dumps are of (our choice: docs/RECORDINGS.md).
-use Rattle.std.specs.Prelude.{ℕ, ◌==◌, Bool, ◌&&◌, nat_lt, List, [], ◌∷◌, ◌++◌, length, position, if◌then◌else◌, Option, None, Some}
+use Rattle.std.specs.Prelude.{ℕ, ◌==◌, Bool, false, true, ◌&&◌, nat_lt, List, [], ◌∷◌, ◌++◌, length, position, if◌then◌else◌, Option, None, Some}
 use Rattle.hid_recording.specs.declared.dump.Address.{Address}
 use Rattle.hid_recording.specs.declared.dump.Content.{Content}
 
--- what came of a dump: of what it is, if one is open, of which device, when it came, and its bytes so far
+-- what came of a dump: of what it is, if one is open, or whether one was dropped, whose bytes are passed over; of which
+-- device it is, when it came, and its bytes so far
 pub record Gathered : Type 0 where
   pub content : Option Content
+  pub is_dropped : Bool
   pub device : ℕ
   pub time : List ℕ
   pub bytes : List ℕ
 
 -- no dump is open
 abbrev pub nothing : Gathered
-nothing = record { content = None; device = 0; time = []; bytes = [] }
+nothing = record { content = None; is_dropped = false; device = 0; time = []; bytes = [] }
+
+-- no dump is open, and bytes that come are of one that was dropped
+abbrev pub left_out : Gathered
+left_out = record { content = None; is_dropped = true; device = 0; time = []; bytes = [] }
 
 -- a dump of which no byte came yet
 abbrev pub opened : Content → ℕ → List ℕ → Gathered
-opened content device time = record { content = Some content; device = device; time = time; bytes = [] }
+opened content device time =
+    record { content = Some content; is_dropped = false; device = device; time = time; bytes = [] }
 
 -- the same interface of the same device
 abbrev pub is_same : Address → Address → Bool

@@ -6,6 +6,7 @@ pub mod EventJson
 pub mod EventLines
 pub mod Session
 pub mod Taking
+pub mod Joining
 pub mod Telling
 pub mod Gathering
 pub mod Playing

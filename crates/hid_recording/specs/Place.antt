@@ -9,7 +9,7 @@ use Rattle.hid_recording.specs.declared.fault.Summary.{Summary}
 use Rattle.hid_recording.specs.Session.{Session, Outcome, accepted}
 use Rattle.hid_recording.specs.Player.{summary_of}
 use Rattle.hid_recording.specs.Output.{IsFront}
-use Rattle.hid_recording.specs.Runs.{Ending, Refusal, Want, Cut, Silence, Never, ending_of, AllTell, Ends, RunsTo}
+use Rattle.hid_recording.specs.Runs.{Ending, Refusal, Want, Cut, Silence, Never, ending_of, AllTell, Ends, PlayedTo, RunsTo}
 
 -- what was written of a line: all that it tells, or what its end leaves of that
 abbrev pub Writes : (Outcome → Type 0) → (List ℕ → Type 0) → List ℕ → Result (Unit {0}) Cause → Session → Type 0
@@ -87,6 +87,7 @@ EndsAt session lines' (Ok summary) =
     (session.gathered.content ≡ None) × (summary.lines ≡ lines') × (summary ≡ summary_of session summary.lines)
 EndsAt session lines' (Err fault) =
     (is_some session.gathered.content ≡ true) × (fault.cause ≡ Unended) × (fault.line ≡ lines' + 1)
+    × PlayedTo session fault
 
 -- known bytes grew by what was written to the end of a recording that ended here
 abbrev pub AppendsRun : Option (List ℕ) → Option (List ℕ) → Place → Result Summary RecordingFault → Type 0

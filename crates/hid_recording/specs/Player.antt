@@ -9,7 +9,13 @@ use Rattle.hid_recording.specs.Session.{Session}
 -- what came of a dump
 abbrev pub gathered_of : Dump → Gathered
 gathered_of dump =
-    record { content = dump.content; device = dump.device; time = dump.time.items; bytes = dump.bytes.items }
+    record {
+      content = dump.content;
+      is_dropped = dump.is_dropped;
+      device = dump.device;
+      time = dump.time.items;
+      bytes = dump.bytes.items;
+    }
 
 -- the session of a player
 abbrev pub session_of : Player → Session

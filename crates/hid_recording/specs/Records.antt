@@ -1,6 +1,7 @@
 -- What a line of a recording says (our choice: docs/RECORDINGS.md; the letters are those of hid-recorder).
 use Rattle.std.specs.Prelude.{⊤, ◌≡◌, ℕ, ◌==◌, Bool, ◌&&◌, ◌||◌, nat_le, List, [], ◌∷◌, length, if◌then◌else◌, Option, None, Some, Result, Ok, Err, MatchResult}
 use Rattle.std.specs.List.{slice_split}
+use Rattle.std.specs.Option.{option_map}
 use Rattle.hid_lines.specs.Words.{Word, words_of}
 use Rattle.hid_recording.specs.declared.dump.Address.{Address}
 use Rattle.hid_recording.specs.declared.dump.Content.{Content}
@@ -13,7 +14,7 @@ use Rattle.hid_recording.specs.declared.record.Record.TheVariants as records
 use Rattle.hid_recording.specs.Words.{bytes_of, is_count, device_of, time_of, is_colon, address_of, content_of}
 
 -- what a line says: nothing, or nothing but the end of a dump; which device the next lines are of; its report descriptor;
--- a report and when it came; that a dump begins; or bytes of one
+-- a report and when it came; that a dump begins; or bytes of one, if each word is a byte
 pub data Said : Type 0 where
   Nothing : Said
   Blank : Said
@@ -21,7 +22,7 @@ pub data Said : Type 0 where
   Descriptor : List ℕ → Said
   Report : List ℕ → List ℕ → Said
   Begins : Address → Content → List ℕ → Said
-  Bytes : List ℕ → Said
+  Bytes : Option (List ℕ) → Said
 
 -- what a record says
 abbrev pub said_in : Record → Said
@@ -31,7 +32,7 @@ said_in (records.Device device) = Device device.number
 said_in (records.Descriptor bytes) = Descriptor bytes.items
 said_in (records.Report time bytes) = Report time.now bytes.items
 said_in (records.Begins address content time) = Begins address content time.now
-said_in (records.Bytes bytes) = Bytes bytes.items
+said_in (records.Bytes bytes) = Bytes (option_map (λ b. b.items) bytes)
 
 -- bytes that are so many
 abbrev pub if_so_many : Word → Option (List ℕ) → Result (List ℕ) Refusal
@@ -86,14 +87,9 @@ abbrev pub lettered : ℕ → List ℕ → Result Said Refusal
 lettered letter [] = Err Syntax
 lettered letter (colon ∷ rest) = if colon == 58 then said_by letter (words_of rest) else Err Syntax
 
--- bytes of a dump
-abbrev pub or_no_bytes : Option (List ℕ) → Result Said Refusal
-or_no_bytes None = Err BadHex
-or_no_bytes (Some bytes) = Ok (Bytes bytes)
-
 -- HEX, of a dump
 abbrev pub dumped : List Word → Result Said Refusal
-dumped hex = or_no_bytes (bytes_of hex)
+dumped hex = Ok (Bytes (bytes_of hex))
 
 -- a dump of what there may be, at a time that there may be
 abbrev pub begun : Option Address → Option Content → Option (List ℕ) → Result Said Refusal

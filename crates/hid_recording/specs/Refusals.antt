@@ -10,7 +10,7 @@ use Rattle.hid_notation.specs.Causes.{layout_words}
 use Rattle.hid_usages.specs.Faults.{report_code}
 use Rattle.hid_recording.specs.EventJson.{refusal_tokens, json_text}
 use Rattle.hid_recording.specs.declared.fault.Refusal.{Refusal}
-use Rattle.hid_recording.specs.declared.fault.Refusal.TheVariants.{Syntax, BadHex, BadCount, BadDevice, BadTime, NoLayout, Unended, DumpTooLong, TooManyDevices, Layout, Report}
+use Rattle.hid_recording.specs.declared.fault.Refusal.TheVariants.{Syntax, BadHex, BadCount, BadDevice, BadTime, NoLayout, Unended, DumpTooLong, TooManyDevices, PartMissing, Layout, Report}
 use Rattle.hid_recording.specs.declared.fault.Cause.{Cause}
 use Rattle.hid_recording.specs.declared.fault.Cause.TheVariants as causes
 
@@ -35,6 +35,7 @@ refusal_text NoLayout = codes "R7: the device has no descriptor"
 refusal_text Unended = codes "R12: no empty line ends the dump before"
 refusal_text DumpTooLong = codes "R13: a dump of over 4096 bytes"
 refusal_text TooManyDevices = codes "R14: dumps of over 16 interfaces"
+refusal_text PartMissing = codes "R15: a part of the report may be missing"
 refusal_text (Layout fault) = layout_fault_text fault ++ codes ": " ++ layout_words fault.cause
 refusal_text (Report fault) = report_code fault ++ codes ": " ++ report_words fault
 

@@ -1,5 +1,5 @@
--- What a run wrote and answered, of what a recording tells (our choice: docs/SCRIPT.md).
-use Rattle.std.specs.Prelude.{◌≡◌, ◌⊎◌, ℕ, ◌+◌, true, List, [], ◌∷◌, ◌++◌, length, Result, Ok, Err, Option, None, is_some, IfSome}
+-- What a run wrote and answered, of what a recording tells (our choice: docs/RECORDINGS.md).
+use Rattle.std.specs.Prelude.{◌≡◌, ◌⊎◌, ℕ, ◌+◌, ◌-◌, true, List, [], ◌∷◌, ◌++◌, length, Result, Ok, Err, Option, None, is_some, IfSome}
 use Rattle.std.specs.Str.Lines.{lines}
 use Rattle.std.specs.Io.KnownBytes.{Appends}
 use Rattle.hid_recording.specs.declared.fault.Cause.{Cause}
@@ -73,6 +73,10 @@ pub record Finishes (session : Session) (recording : List (List ℕ)) (before : 
   pub lines : summary.lines ≡ before + length recording
   pub counts : summary ≡ summary_of last summary.lines
 
+-- what was played before the line at which a run ended
+abbrev pub PlayedTo : Session → RecordingFault → Type 0
+PlayedTo session fault = fault.played ≡ summary_of session (fault.line - 1)
+
 -- The run ended at the line behind the first ones: the whole text of those was written, and what the end leaves of that
 -- line's.
 pub record Stops (session : Session) (recording : List (List ℕ)) (before : ℕ) (written : List ℕ)
@@ -84,6 +88,7 @@ pub record Stops (session : Session) (recording : List (List ℕ)) (before : ℕ
   pub text : List ℕ
   pub now : Session
   pub all : AllTell session first text now
+  pub played : PlayedTo now fault
   pub part : List ℕ
   pub ends : Ends (FirstTells now others) (FirstBegins now others) part fault.cause
   pub whole : written ≡ text ++ part
@@ -95,6 +100,7 @@ pub record BreaksOff (session : Session) (recording : List (List ℕ)) (before :
   pub all : AllTell session recording written last
   pub unended : is_some last.gathered.content ≡ true
   pub line : fault.line ≡ before + length recording + 1
+  pub played : PlayedTo last fault
   pub cause : fault.cause ≡ Unended
 
 -- what a run of these lines wrote and answered
@@ -107,6 +113,11 @@ RunsTo session recording before written (Err fault) =
 abbrev pub line_of : Result Summary RecordingFault → ℕ
 line_of (Ok summary) = summary.lines + 1
 line_of (Err fault) = fault.line
+
+-- and what was played
+abbrev pub played_of : Result Summary RecordingFault → Summary
+played_of (Ok summary) = summary
+played_of (Err fault) = fault.played
 
 -- the writer's bytes grew by what a run of the reader's bytes writes, where both tell their bytes
 abbrev pub AppendsRecording : Options → Option (List ℕ) → Option (List ℕ) → Option (List ℕ)

@@ -1,6 +1,6 @@
 -- What stands between two lines of a recording, and what a line tells: its text, and where it leaves the session (our
 -- choice: docs/RECORDINGS.md).
-use Rattle.std.specs.Prelude.{ℕ, ◌+◌, ◌-◌, ◌^◌, min, List, [], ◌∷◌, Option, None, Result, Ok, Err}
+use Rattle.std.specs.Prelude.{ℕ, ◌+◌, ◌-◌, ◌^◌, min, Bool, false, List, [], ◌∷◌, Option, None, Result, Ok, Err}
 use Rattle.hid_layout.specs.Layout.{Contents}
 use Rattle.hid_layout.specs.Controls.{items_of}
 use Rattle.hid_cells.specs.declared.cell.Cell.{Cell}
@@ -10,14 +10,18 @@ use Rattle.hid_recording.specs.Dumps.{Gathered, nothing}
 use Rattle.hid_recording.specs.declared.fault.Options.{Options}
 use Rattle.hid_recording.specs.declared.fault.Cause.{Cause}
 
--- a device: its layout, and the view that its reports made
+-- a device: its layout, the view that its reports made, what came of a report that the next chunk of a dump goes on with, and
+-- whether a part of a report may be missing before that
 pub record Member : Type 0 where
   pub layout : Contents
   pub cells : List Cell
+  pub collected : List ℕ
+  pub in_doubt : Bool
 
 -- a device of which no report came yet
 abbrev pub fresh_member : Contents → Member
-fresh_member layout = record { layout = layout; cells = blank (items_of layout) }
+fresh_member layout =
+    record { layout = layout; cells = blank (items_of layout); collected = []; in_doubt = false }
 
 -- The options, the device of the next lines, the descriptors that were accepted last with what their reports made, the
 -- interfaces of which dumps came, what came of a dump that isn't ended, and counts: of lines, of descriptors, of reports,

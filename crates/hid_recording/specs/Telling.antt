@@ -1,5 +1,5 @@
 -- What a line of a recording tells (our choice: docs/RECORDINGS.md).
-use Rattle.std.specs.Prelude.{◌≡◌, ◌⊎◌, ℕ, ◌+◌, nat_lt, Bool, true, false, List, [], ◌∷◌, ◌++◌, length, if◌then◌else◌, Option, None, Some, Result, Ok, Err, slice_get, set, codes}
+use Rattle.std.specs.Prelude.{◌≡◌, ◌⊎◌, ℕ, ◌+◌, nat_lt, Bool, true, false, List, [], ◌∷◌, ◌++◌, length, if◌then◌else◌, Option, None, Some, Result, Ok, Err, slice_get, set, map, codes}
 use Rattle.std.specs.Fmt.{decimal}
 use Rattle.hid_descriptor.specs.Items.{Spelled}
 use Rattle.hid_descriptor.specs.Faults.{Accepts, Refuses}
@@ -18,11 +18,12 @@ use Rattle.hid_recording.specs.declared.fault.Refusal.{Refusal}
 use Rattle.hid_recording.specs.declared.fault.Refusal.TheVariants as refusals
 use Rattle.hid_recording.specs.Session.{Session, Member, Outcome, accepted, refused, counted, fresh_member}
 use Rattle.hid_recording.specs.Taking.{read_member, member_events}
+use Rattle.hid_recording.specs.Joining.{doubted_slot, past_chunk, bytes_with, ends_with, kept_of}
 use Rattle.hid_recording.specs.EventLines.{event_lines}
 use Rattle.hid_recording.specs.Refusals.{refusal_line}
 use Rattle.hid_recording.specs.Records.{Said, Nothing, Blank, Device, Descriptor, Report, Begins, Bytes, record_of}
 use Rattle.hid_recording.specs.Words.{time_of}
-use Rattle.hid_recording.specs.Dumps.{nothing, opened, numbered, with_address}
+use Rattle.hid_recording.specs.Dumps.{nothing, left_out, opened, numbered, with_address}
 
 -- ---- refusals
 
@@ -115,6 +116,14 @@ report_told time bytes session = reads_of session time bytes (known_at (slice_ge
 abbrev pub closed : Session → Session
 closed session = record session { gathered = nothing }
 
+-- a part of a report may be missing: of any device, since it isn't known of which the line was
+abbrev pub in_doubt : Session → Session
+in_doubt session = record session { devices = map doubted_slot session.devices }
+
+-- a dump that is open is dropped, and its further bytes are passed over
+abbrev pub dropped : Session → Session
+dropped session = record session { devices = map doubted_slot session.devices; gathered = left_out }
+
 -- a dump is open, of which no byte came yet
 abbrev pub with_dump : Session → Address → Content → List ℕ → ℕ → Session
 with_dump session address content time device =
@@ -123,11 +132,11 @@ with_dump session address content time device =
 -- the dump before it should have been ended
 abbrev pub begins_behind : Option Content → Session → Outcome
 begins_behind None next = accepted [] next
-begins_behind (Some content) next = refuses next refusals.Unended
+begins_behind (Some content) next = refuses (in_doubt next) refusals.Unended
 
 -- a dump of a device that may have a number
 abbrev pub begins_of : Session → Address → Content → List ℕ → Option ℕ → Outcome
-begins_of session address content time None = refuses (closed session) refusals.TooManyDevices
+begins_of session address content time None = refuses (dropped session) refusals.TooManyDevices
 begins_of session address content time (Some device) =
     begins_behind session.gathered.content (with_dump session address content time device)
 
@@ -141,31 +150,57 @@ abbrev pub with_bytes : Session → List ℕ → Session
 with_bytes session bytes = record session {
   gathered = record {
     content = session.gathered.content;
+    is_dropped = session.gathered.is_dropped;
     device = session.gathered.device;
     time = session.gathered.time;
     bytes = session.gathered.bytes ++ bytes;
   };
 }
 
+-- bytes that no dump has: of one that was dropped, or of none
+abbrev pub gathers_none : Session → Outcome
+gathers_none session =
+    if session.gathered.is_dropped then accepted [] session else refuses (dropped session) refusals.Syntax
+
 -- bytes, where a dump is open; it has 4,096 at most
-abbrev pub gathers : Session → List ℕ → Option Content → Outcome
-gathers session bytes None = refuses session refusals.Syntax
-gathers session bytes (Some content) =
+abbrev pub gathers : Session → Option (List ℕ) → Option Content → Outcome
+gathers session bytes None = gathers_none session
+gathers session None (Some content) = refuses (dropped session) refusals.BadHex
+gathers session (Some bytes) (Some content) =
     if nat_lt 4096 (length session.gathered.bytes + length bytes)
-    then refuses (closed session) refusals.DumpTooLong else accepted [] (with_bytes session bytes)
+    then refuses (dropped session) refusals.DumpTooLong else accepted [] (with_bytes session bytes)
 
 -- a dump is ended, and the next lines are of its device
 abbrev pub ended : Session → Session
 ended session = record session { current = session.gathered.device; gathered = nothing }
 
--- the report of a dump
+-- a chunk of a device: passed over where a part may be missing, else the report that it ends is told
+abbrev pub chunk_in : Session → List ℕ → List ℕ → Member → Bool → Bool → Outcome
+chunk_in session time chunk member true ends =
+    refuses (with_device session (Some (past_chunk member chunk))) refusals.PartMissing
+chunk_in session time chunk member false true =
+    report_told time (bytes_with member chunk) (with_device session (Some (kept_of member [])))
+chunk_in session time chunk member false false =
+    accepted [] (with_device session (Some (kept_of member (bytes_with member chunk))))
+
+-- a chunk of a device whose descriptor is known
+abbrev pub chunk_of : Session → List ℕ → List ℕ → Option Member → Outcome
+chunk_of session time chunk None = refuses session refusals.NoLayout
+chunk_of session time chunk (Some member) =
+    chunk_in session time chunk member member.in_doubt (ends_with member chunk)
+
+-- a chunk of the device of these lines
+abbrev pub chunk_told : List ℕ → List ℕ → Session → Outcome
+chunk_told time chunk session = chunk_of session time chunk (known_at (slice_get session.devices session.current))
+
+-- the chunk of a dump
 abbrev pub stream_told : Option (List ℕ) → List ℕ → Session → Outcome
-stream_told None bytes session = refuses session refusals.BadTime
-stream_told (Some time) bytes session = report_told time bytes session
+stream_told None chunk session = refuses session refusals.BadTime
+stream_told (Some time) chunk session = chunk_told time chunk session
 
 -- an empty line tells the dump that is open, if one is
 abbrev pub EndTells : Session → Option Content → Outcome → Type 0
-EndTells session None o = o ≡ accepted [] session
+EndTells session None o = o ≡ accepted [] (closed session)
 EndTells session (Some contents.Descriptor) o = TellsDescriptor session.gathered.bytes (ended session) o
 EndTells session (Some contents.Stream) o =
     o ≡ stream_told (time_of session.gathered.time) session.gathered.bytes (ended session)
@@ -182,10 +217,10 @@ SaidTells session (Device device) o = o ≡ accepted [] (record session { curren
 SaidTells session (Descriptor bytes) o = TellsDescriptor bytes session o
 SaidTells session (Report time bytes) o = o ≡ report_told time bytes session
 
--- a line tells what it says
+-- A line tells what it says. One that is refused drops the dump in which it stands.
 abbrev pub Means : Session → Result Said Refusal → Outcome → Type 0
 Means session (Ok said) o = SaidTells session said o
-Means session (Err refusal) o = o ≡ refuses session refusal
+Means session (Err refusal) o = o ≡ refuses (dropped session) refusal
 
 -- the line that is being played is counted
 abbrev pub advanced : Session → Session

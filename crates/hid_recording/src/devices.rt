@@ -1,14 +1,15 @@
 //! The devices of a recording.
 
-ghost use Rattle.std.specs.Prelude.{◌≡◌, ◌<◌, length, set, slice_get, string_bytes, IfOk};
+ghost use Rattle.std.specs.Prelude.{◌≡◌, ◌<◌, Option, length, map, set, slice_get, string_bytes, IfOk};
 ghost use Rattle.hid_recording.specs.Session.{Member, no_devices};
+ghost use Rattle.hid_recording.specs.Joining.{doubted_slot, Joins};
 ghost use Rattle.hid_recording.specs.Telling.{known_at};
 ghost use Rattle.hid_recording.specs.Playing.{PlaysAt, PlaysReport};
 ghost use Rattle.hid_recording.specs.declared.words.TheConstants.{MAX_DEVICES};
 
 use super::event_line::Source;
 use super::fault::{Cause, Options, Refusal};
-use super::recorded::Recorded;
+use super::recorded::{Joined, Recorded};
 use super::words::MAX_DEVICES;
 use std::alloc::{AllocError, Global};
 
@@ -58,6 +59,25 @@ impl Devices {
         self.slots[i] = recorded;
     }
 
+    /// A part of a report may have been left out, of any device.
+    pub fn doubt(&mut self)
+        ensures { (self.new.current ≡ self.old.current)
+            × (self.new.slots.items ≡ map doubted_slot self.old.slots.items) }
+    {
+        doubt_all(self.slots.as_mut_slice());
+    }
+
+    /// Joins a chunk of the device to what came of its report before.
+    pub fn join(&mut self, alloc: Global, chunk: &[u8]) -> Result<Joined, AllocError>
+        ensures joined { IfOk result (λ joined. (after : Option Member)
+            × Joins (known_at (slice_get self.old.slots.items self.old.current)) chunk.now joined after
+            × (self.new.slots.items ≡ set self.old.slots.items self.old.current after)) }
+        ensures current { self.new.current ≡ self.old.current }
+    {
+        let i = usize::from(self.current);
+        join_chunk(&mut self.slots[i], alloc, chunk)
+    }
+
     /// Plays a report of the device, and answers how many events it told.
     pub fn play(
         &mut self,
@@ -79,6 +99,38 @@ impl Devices {
         };
         let i = usize::from(self.current);
         play_report(&mut self.slots[i], text, &source, bytes)
+    }
+}
+
+/// A part of a report may have been left out, of the device in a slot.
+fn doubt_slot(slot: &mut Option<Recorded>)
+    ensures { slot.new ≡ doubted_slot slot.old }
+{
+    if let Some(recorded) = slot {
+        recorded.doubt();
+    }
+}
+
+/// The same, of all.
+fn doubt_all(slots: &mut [Option<Recorded>])
+    ensures { slots.new ≡ map doubted_slot slots.old }
+{
+    for slot in slots.iter_mut() {
+        doubt_slot(slot);
+    }
+}
+
+/// Joins a chunk of the device in a slot.
+fn join_chunk(
+    slot: &mut Option<Recorded>,
+    alloc: Global,
+    chunk: &[u8],
+) -> Result<Joined, AllocError>
+    ensures { IfOk result (λ joined. Joins slot.old chunk.now joined slot.new) }
+{
+    match slot {
+        None => Ok(Joined::Unknown),
+        Some(recorded) => recorded.join(alloc, chunk),
     }
 }
 

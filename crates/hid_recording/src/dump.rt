@@ -1,6 +1,6 @@
 //! Dumps, as usbhid-dump writes them: whose they are, and what came of the one that is open.
 
-ghost use Rattle.std.specs.Prelude.{◌≡◌, ◌≤◌, ◌<◌, [], Some, None, IfOk, OnOk, length, position};
+ghost use Rattle.std.specs.Prelude.{◌≡◌, ◌≤◌, ◌<◌, false, true, [], Some, None, IfOk, OnOk, length, position};
 ghost use Rattle.std.specs.Option.{option_map};
 ghost use Rattle.hid_recording.specs.Dumps.{is_same, numbered, with_address};
 ghost use Rattle.hid_recording.specs.declared.words.TheConstants.{MAX_DEVICES};
@@ -31,6 +31,8 @@ pub enum Content {
 pub struct Dump {
     /// None where no dump is open.
     pub content: Option<Content>,
+    /// Whether one was dropped, whose bytes are passed over.
+    pub is_dropped: bool,
     pub device: u8,
     pub time: Vec<u8>,
     pub bytes: Vec<u8>,
@@ -40,15 +42,26 @@ pub struct Dump {
 impl Dump {
     /// No dump is open.
     pub fn none(alloc: Global) -> Self
-        ensures closed { result.content ≡ None }
+        ensures closed { (result.content ≡ None) × (result.is_dropped ≡ false) }
         ensures empty { (result.device ≡ 0) × (result.time.items ≡ []) × (result.bytes.items ≡ []) }
     {
         Dump {
             content: None,
+            is_dropped: false,
             device: 0,
             time: Vec::new(alloc),
             bytes: Vec::new(alloc),
         }
+    }
+
+    /// No dump is open, and bytes that come are of one that was dropped.
+    pub fn left_out(alloc: Global) -> Self
+        ensures closed { (result.content ≡ None) × (result.is_dropped ≡ true) }
+        ensures empty { (result.device ≡ 0) × (result.time.items ≡ []) × (result.bytes.items ≡ []) }
+    {
+        let mut dump = Dump::none(alloc);
+        dump.is_dropped = true;
+        dump
     }
 
     /// A dump of which no byte came yet.
@@ -58,7 +71,7 @@ impl Dump {
         device: DeviceNumber,
         time: &str,
     ) -> Result<Self, AllocError>
-        ensures open { IfOk result (λ dump. dump.content ≡ Some content) }
+        ensures open { IfOk result (λ dump. (dump.content ≡ Some content) × (dump.is_dropped ≡ false)) }
         ensures device { IfOk result (λ dump. dump.device ≡ device.number) }
         ensures time { IfOk result (λ dump. dump.time.items ≡ time.now) }
         ensures empty { IfOk result (λ dump. dump.bytes.items ≡ []) }
@@ -66,6 +79,7 @@ impl Dump {
         let time = Vec::from_slice(alloc, time.as_bytes())?;
         Ok(Dump {
             content: Some(content),
+            is_dropped: false,
             device: device.number,
             time,
             bytes: Vec::new(alloc),

@@ -36,6 +36,21 @@ pub struct Summary {
     pub refused: u64,
 }
 
+impl Summary {
+    /// Nothing was played.
+    pub fn none() -> Summary
+        ensures { result ≡ record { lines = 0; descriptors = 0; reports = 0; events = 0; refused = 0 } }
+    {
+        Summary {
+            lines: 0,
+            descriptors: 0,
+            reports: 0,
+            events: 0,
+            refused: 0,
+        }
+    }
+}
+
 /// Why a line is refused. It is printed as its code, and in words.
 #[derive(Clone, Copy, Debug, PartialEq, Eq)]
 pub enum Refusal {
@@ -57,6 +72,8 @@ pub enum Refusal {
     DumpTooLong,
     /// R14: a dump of a seventeenth interface.
     TooManyDevices,
+    /// R15: a chunk of a dump, and a part of its report may be missing.
+    PartMissing,
     /// L1 to L16: the descriptor is refused.
     Layout(LayoutFault),
     /// U8, U9: the bytes are no Input report of the device.
@@ -92,11 +109,13 @@ impl From<AllocError> for Cause {
     }
 }
 
-/// Where and why a run ended early.
+/// Where and why a run ended early, and what was played before.
 #[derive(Clone, Copy, Debug, PartialEq, Eq, Error)]
 #[error("line {line}: {cause}")]
 pub struct RecordingFault {
     /// The line that was being read or played, from 1.
     pub line: u64,
     pub cause: Cause,
+    /// What was played before that line.
+    pub played: Summary,
 }

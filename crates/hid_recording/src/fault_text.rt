@@ -32,6 +32,7 @@ impl fmt::Display for Refusal {
             Refusal::Unended => write!(f, "R12: no empty line ends the dump before"),
             Refusal::DumpTooLong => write!(f, "R13: a dump of over 4096 bytes"),
             Refusal::TooManyDevices => write!(f, "R14: dumps of over 16 interfaces"),
+            Refusal::PartMissing => write!(f, "R15: a part of the report may be missing"),
             Refusal::Layout(fault) => {
                 let words = layout_words(fault.cause);
                 write!(f, "{fault}: {words}")

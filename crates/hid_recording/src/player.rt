@@ -1,9 +1,10 @@
 //! A session: what stands between two lines, and how a line is played.
 
-ghost use Rattle.std.specs.Prelude.{◌≡◌, ◌++◌, None, IfOk, IfErr, OnOk, is_some, string_bytes};
+ghost use Rattle.std.specs.Prelude.{◌≡◌, ◌++◌, None, Option, List, ℕ, IfOk, IfErr, OnOk, is_some, string_bytes};
+ghost use Rattle.std.specs.Option.{option_map};
 ghost use Rattle.hid_recording.specs.Session.{at_first};
 ghost use Rattle.hid_recording.specs.Records.{record_of};
-ghost use Rattle.hid_recording.specs.Telling.{described_text, LineTells, LineBegins, Means, TellsDescriptor, EndTells, advanced, with_device, installs, refuses, begins, gathers, stream_told, report_told};
+ghost use Rattle.hid_recording.specs.Telling.{described_text, LineTells, LineBegins, Means, TellsDescriptor, EndTells, advanced, with_device, installs, refuses, dropped, begins, gathers, gathers_none, chunk_told, stream_told, report_told};
 ghost use Rattle.hid_recording.specs.Words.{time_of};
 ghost use Rattle.hid_recording.specs.Player.{summary_of};
 ghost use Rattle.hid_recording.specs.Refusals.{is_memory, refusal_line};
@@ -17,7 +18,7 @@ use super::event_json::print_refusal_json;
 use super::fault::{Cause, Options, Refusal, Summary};
 use super::output::write_text;
 use super::record::{Record, read_record};
-use super::recorded::Recorded;
+use super::recorded::{Joined, Recorded};
 use super::words::read_time;
 use hid_layout::{Layout, LayoutFault};
 use hid_text::print_layout;
@@ -25,7 +26,7 @@ use std::alloc::{AllocError, Global};
 use std::io::Write;
 use std::mem;
 
-/// The longest line, without its end (our choice): a descriptor of 4,096 bytes has 12,296.
+/// The longest line, without its end (our choice): a descriptor of 4,096 bytes has 12,295.
 pub const LINE_LIMIT: usize = 16_384;
 
 /// The devices with what is known of them, counts, and room for what a line tells.
@@ -165,13 +166,23 @@ impl Player {
                     time,
                 },
             ) => self.begin_dump(address, content, time),
-            Ok(Record::Bytes(bytes)) => self.gather(bytes.as_slice()),
-            Err(Cause::Refused(refusal)) => self.refuse(refusal),
+            Ok(Record::Bytes(bytes)) => self.gather(bytes),
+            Err(Cause::Refused(refusal)) => self.drop_dump(refusal),
             Err(cause) => Err(cause),
         }
     }
 
-    /// A line is refused.
+    /// A line is refused, and with it the dump in which it stands.
+    fn drop_dump(&mut self, refusal: Refusal) -> Result<(), Cause>
+        ensures { Gathers (λ o. o ≡ refuses (dropped (session_of self.old)) refusal) result
+            (string_bytes self.new.text) (session_of self.new) }
+    {
+        self.dump = Dump::left_out(self.alloc);
+        self.devices.doubt();
+        self.refuse(refusal)
+    }
+
+    /// What is told is that a line is refused.
     fn refuse(&mut self, refusal: Refusal) -> Result<(), Cause>
         ensures { Gathers (λ o. o ≡ refuses (session_of self.old) refusal) result
             (string_bytes self.new.text) (session_of self.new) }
@@ -252,10 +263,11 @@ impl Player {
         let behind = self.dump.content.is_some();
         self.dump = Dump::none(self.alloc);
         let Some(device) = self.addresses.number(address)? else {
-            return self.refuse(Refusal::TooManyDevices);
+            return self.drop_dump(Refusal::TooManyDevices);
         };
         self.dump = Dump::begin(self.alloc, content, device, time)?;
         if behind {
+            self.devices.doubt();
             return self.refuse(Refusal::Unended);
         }
         self.text.clear();
@@ -263,18 +275,33 @@ impl Player {
     }
 
     /// Bytes of the dump that is open.
-    fn gather(&mut self, bytes: &[u8]) -> Result<(), Cause>
-        ensures { Gathers (λ o. o ≡ gathers (session_of self.old) bytes.now self.old.dump.content) result
+    fn gather(&mut self, bytes: Option<Vec<u8>>) -> Result<(), Cause>
+        ensures { Gathers (λ o. o ≡ gathers (session_of self.old)
+            (option_map (λ some. some.items) bytes) self.old.dump.content) result
             (string_bytes self.new.text) (session_of self.new) }
     {
         if self.dump.content.is_none() {
-            return self.refuse(Refusal::Syntax);
+            return self.gather_none();
         }
+        let Some(bytes) = bytes else {
+            return self.drop_dump(Refusal::BadHex);
+        };
         if self.dump.bytes.len().saturating_add(bytes.len()) > DUMP_LIMIT {
-            self.dump = Dump::none(self.alloc);
-            return self.refuse(Refusal::DumpTooLong);
+            return self.drop_dump(Refusal::DumpTooLong);
         }
-        self.dump.bytes.extend_from_slice(bytes)?;
+        self.dump.bytes.extend_from_slice(bytes.as_slice())?;
+        self.text.clear();
+        Ok(())
+    }
+
+    /// Bytes, and no dump is open: they are of one that was dropped, or of none.
+    fn gather_none(&mut self) -> Result<(), Cause>
+        ensures { Gathers (λ o. o ≡ gathers_none (session_of self.old)) result
+            (string_bytes self.new.text) (session_of self.new) }
+    {
+        if !self.dump.is_dropped {
+            return self.drop_dump(Refusal::Syntax);
+        }
         self.text.clear();
         Ok(())
     }
@@ -284,11 +311,11 @@ impl Player {
         ensures { Gathers (EndTells (session_of self.old) self.old.dump.content) result
             (string_bytes self.new.text) (session_of self.new) }
     {
-        let Some(content) = self.dump.content else {
+        let dump = mem::replace(&mut self.dump, Dump::none(self.alloc));
+        let Some(content) = dump.content else {
             self.text.clear();
             return Ok(());
         };
-        let dump = mem::replace(&mut self.dump, Dump::none(self.alloc));
         self.devices.select(dump.device);
         match content {
             Content::Descriptor => self.describe(dump.bytes.as_slice()),
@@ -296,14 +323,30 @@ impl Player {
         }
     }
 
-    /// The report of a dump.
+    /// The chunk of a dump.
     fn stream(&mut self, time: &[u8], bytes: &[u8]) -> Result<(), Cause>
         ensures { Gathers (λ o. o ≡ stream_told (time_of time.now) bytes.now (session_of self.old)) result
             (string_bytes self.new.text) (session_of self.new) }
     {
         match read_time(time) {
-            Some(time) => self.report(time, bytes),
+            Some(time) => self.chunk(time, bytes),
             None => self.refuse(Refusal::BadTime),
+        }
+    }
+
+    /// A chunk of the device.
+    fn chunk(&mut self, time: &str, chunk: &[u8]) -> Result<(), Cause>
+        ensures { Gathers (λ o. o ≡ chunk_told time.now chunk.now (session_of self.old)) result
+            (string_bytes self.new.text) (session_of self.new) }
+    {
+        match self.devices.join(self.alloc, chunk)? {
+            Joined::Unknown => self.refuse(Refusal::NoLayout),
+            Joined::Doubtful => self.refuse(Refusal::PartMissing),
+            Joined::Begun => {
+                self.text.clear();
+                Ok(())
+            }
+            Joined::Whole(bytes) => self.report(time, bytes.as_slice()),
         }
     }
 

@@ -34,8 +34,8 @@ pub enum Record<'a> {
         content: Content,
         time: &'a str,
     },
-    /// A space and HEX: bytes of a dump.
-    Bytes(Vec<u8>),
+    /// A space and HEX: bytes of a dump; none where a word is no byte.
+    Bytes(Option<Vec<u8>>),
 }
 
 /// Reads one line, without its end.
@@ -131,8 +131,11 @@ fn read_report<'a>(alloc: Global, words: &[&'a [u8]]) -> Result<Record<'a>, Caus
 fn read_dumped<'a>(alloc: Global, words: &[&'a [u8]]) -> Result<Record<'a>, Cause>
     ensures { ReadsRecord result (dumped (map (λ word. word.now) words.now)) }
 {
-    let bytes = read_bytes(alloc, words)?;
-    Ok(Record::Bytes(bytes))
+    match read_bytes(alloc, words) {
+        Ok(bytes) => Ok(Record::Bytes(Some(bytes))),
+        Err(Cause::Memory) => Err(Cause::Memory),
+        Err(_) => Ok(Record::Bytes(None)),
+    }
 }
 
 /// `BUS:DEVICE:INTERFACE:CONTENT TIME`

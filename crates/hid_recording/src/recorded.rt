@@ -1,6 +1,7 @@
-//! A device of a recording: its layout, and the view that its reports made.
+//! A device of a recording: its layout, the view that its reports made, and what came of a report in chunks.
 
-ghost use Rattle.std.specs.Prelude.{◌≡◌, ◌++◌, IfOk, IfErr, OnOk, List, string_bytes};
+ghost use Rattle.std.specs.Prelude.{◌≡◌, ◌++◌, Some, IfOk, IfErr, OnOk, List, string_bytes};
+ghost use Rattle.std.specs.List.{list_any};
 ghost use Rattle.hid_descriptor.specs.Items.{Spelled};
 ghost use Rattle.hid_descriptor.specs.Faults.{Accepts, Explains};
 ghost use Rattle.hid_layout.specs.Layout.{layout_of};
@@ -8,23 +9,47 @@ ghost use Rattle.hid_recording.specs.Session.{fresh_member};
 ghost use Rattle.hid_descriptor.specs.declared.fault.Cause.TheVariants.{Memory};
 ghost use Rattle.hid_recording.specs.Telling.{values_in, values_asked};
 ghost use Rattle.hid_recording.specs.Playing.{PlaysMember};
+ghost use Rattle.hid_recording.specs.Joining.{is_long, has_long, doubted, Joins};
+ghost use Rattle.hid_host.specs.Ready.{is_whole};
 ghost use Rattle.hid_usages.specs.Reading.{report_named};
 
 use super::event_line::{Source, print_events};
 use super::fault::{Cause, Refusal};
 use hid_fields::WordCodec;
-use hid_layout::{Layout, LayoutFault};
+use hid_layout::{Layout, LayoutFault, Report, ReportKind};
 use hid_text::print_values;
-use hid_usages::{Event, View, input_report};
+use hid_usages::{Event, View, bytes_awaited, input_report};
 use std::alloc::{AllocError, Global};
 use std::marker::Model;
+use std::mem;
 
-/// A layout, the view of its reports, and room for what one of them tells. A contract sees layout and view.
+/// The most bytes of a packet at full speed (USB 2.0, 5.7.3).
+const FULL_PACKET: usize = 64;
+
+/// A layout, the view of its reports, room for what one of them tells, and what came of one in chunks. A contract sees all but
+/// the room.
 #[derive(Drop)]
 pub struct Recorded {
     layout: Layout,
     view: View,
     events: Vec<Event>,
+    /// What came of a report that the next chunk goes on with.
+    collected: Vec<u8>,
+    /// Whether a part of a report may be missing in front of the next chunk.
+    in_doubt: bool,
+}
+
+/// What a chunk of a dump makes of a report.
+#[derive(Drop)]
+pub enum Joined {
+    /// The device has no descriptor.
+    Unknown,
+    /// A part of the report may be missing.
+    Doubtful,
+    /// More of it comes.
+    Begun,
+    /// These are its bytes.
+    Whole(Vec<u8>),
 }
 
 impl Model for Recorded {
@@ -35,7 +60,12 @@ impl Model for Recorded {
 
     ghost Value = { Member };
 
-    ghost view = { λ r. record { layout = r.layout; cells = r.view } };
+    ghost view = { λ r. record {
+      layout = r.layout;
+      cells = r.view;
+      collected = r.collected.items;
+      in_doubt = r.in_doubt;
+    } };
 
     ghost invariant = { λ r. FitsView (items_of r.layout) r.view
         × (max_events (items_of r.layout) ≤ vec_capacity r.events) };
@@ -70,6 +100,8 @@ impl Recorded {
                 layout,
                 view,
                 events,
+                collected: Vec::new(alloc),
+                in_doubt: false,
             }),
             Err(_) => Err(no_memory()),
         }
@@ -79,6 +111,30 @@ impl Recorded {
         ensures { result.now ≡ self.now.layout }
     {
         &self.layout
+    }
+
+    /// A part of a report may have been left out in front of the next chunk.
+    pub fn doubt(&mut self)
+        ensures { self.new ≡ doubted self.old }
+    {
+        self.collected.clear();
+        self.in_doubt = has_long(&self.layout);
+    }
+
+    /// Joins a chunk to what came of its report before.
+    pub fn join(&mut self, alloc: Global, chunk: &[u8]) -> Result<Joined, AllocError>
+        ensures { IfOk result (λ joined. Joins (Some self.old) chunk.now joined (Some self.new)) }
+    {
+        if self.in_doubt {
+            self.in_doubt = chunk.len() >= FULL_PACKET;
+            return Ok(Joined::Doubtful);
+        }
+        self.collected.extend_from_slice(chunk)?;
+        if !is_whole(&self.layout, self.collected.as_slice(), chunk.len()) {
+            return Ok(Joined::Begun);
+        }
+        let bytes = mem::replace(&mut self.collected, Vec::new(alloc));
+        Ok(Joined::Whole(bytes))
     }
 
     /// Plays a report: adds what it tells, and answers how many events it told. A report that is refused leaves the view
@@ -105,6 +161,35 @@ impl Recorded {
         print_events(text, source, events)?;
         Ok(events.len() as u64)
     }
+}
+
+/// Whether it is an Input report of over 64 bytes with its ID, which spans packets.
+fn is_long(report: &Report, numbered: bool) -> bool
+    ensures { result ≡ is_long numbered report.now }
+{
+    match report.kind {
+        ReportKind::Input => report.bits > if numbered { 504 } else { 512 },
+        ReportKind::Output | ReportKind::Feature => false,
+    }
+}
+
+/// Whether a device has such a report.
+fn has_long(layout: &Layout) -> bool
+    ensures { result ≡ has_long layout.now }
+{
+    let numbered = layout.numbered();
+    layout
+        .reports()
+        .iter()
+        .any(|report| is_long(report, numbered))
+}
+
+/// Whether a report ends with these bytes, of which so many came last: it is as long as it should be, or the last packet isn't
+/// full (USB 2.0, 5.7.3).
+fn is_whole(layout: &Layout, bytes: &[u8], last: usize) -> bool
+    ensures { result ≡ is_whole layout.now bytes.now last }
+{
+    last < FULL_PACKET || bytes_awaited(layout, bytes) <= bytes.len()
 }
 
 /// Adds the values of a report, where they are asked for.

@@ -3,6 +3,7 @@
 ghost use Rattle.std.specs.Prelude.{◌≡◌, ◌+◌, ◌-◌, ◌^◌, ◌<◌, ◌≤◌, [], ◌∷◌, length, IfOk};
 ghost use Rattle.std.specs.Str.Lines.{strip_carriage_return};
 ghost use Rattle.hid_recording.specs.Place.{IsUnbroken, AppendsTaken, AppendsRun, EndsAt};
+ghost use Rattle.hid_recording.specs.Runs.{PlayedTo};
 
 use super::fault::{Cause, RecordingFault, Summary};
 use super::player::Player;
@@ -74,9 +75,10 @@ impl Recording {
             (place_of self.old) (10 ∷ []) result (place_of self.new) }
         ensures count { self.new.lines ≤ self.old.lines + 1 }
     {
+        let played = self.summary();
         let line = without_return(self.begun.as_slice());
         if let Err(cause) = self.player.line(line, writer) {
-            return Err(self.fault(cause));
+            return Err(stopped(played, cause));
         }
         self.begun.clear();
         self.lines += 1;
@@ -94,8 +96,9 @@ impl Recording {
         if self.begun.is_empty() {
             return self.end();
         }
+        let played = self.summary();
         if let Err(cause) = self.player.line(self.begun.as_slice(), writer) {
-            return Err(self.fault(cause));
+            return Err(stopped(played, cause));
         }
         self.lines += 1;
         self.end()
@@ -123,12 +126,22 @@ impl Recording {
     /// What ends the run at the line that has begun.
     pub fn fault(&self, cause: Cause) -> RecordingFault
         requires { self.now.lines < 2 ^ 64 - 1 }
-        ensures { (result.line ≡ self.now.lines + 1) × (result.cause ≡ cause) }
+        ensures { (result.line ≡ self.now.lines + 1) × (result.cause ≡ cause)
+            × PlayedTo (session_of self.now.player) result }
     {
-        RecordingFault {
-            line: self.lines + 1,
-            cause,
-        }
+        stopped(self.summary(), cause)
+    }
+}
+
+// What ends the run at the line behind those that were played.
+fn stopped(played: Summary, cause: Cause) -> RecordingFault
+    requires { played.lines < 2 ^ 64 - 1 }
+    ensures { (result.line ≡ played.lines + 1) × (result.cause ≡ cause) × (result.played ≡ played) }
+{
+    RecordingFault {
+        line: played.lines + 1,
+        cause,
+        played,
     }
 }
 

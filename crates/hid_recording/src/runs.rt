@@ -1,7 +1,7 @@
 //! A whole recording, from a reader to a writer.
 
 ghost use Rattle.std.specs.Prelude.{◌≡◌, ◌≤◌, ◌*◌, IfOk};
-ghost use Rattle.hid_recording.specs.Runs.{AppendsRecording, line_of};
+ghost use Rattle.hid_recording.specs.Runs.{AppendsRecording, line_of, played_of};
 
 use super::fault::{Cause, Options, RecordingFault, Summary};
 use super::player::Player;
@@ -27,12 +27,13 @@ impl Watch for () {
 }
 
 /// Runs the recording that the reader gives, and writes what it tells. A read of 0 bytes ends the recording, and so does
-/// the first line that is refused. A read that is interrupted is tried again. What was told is flushed before each read
-/// and at the end, also at a fault, so `writer` may be a buffer.
+/// the first line of a strict run that is refused. A read that is interrupted is tried again. What was told is flushed
+/// before each read and at the end, also at a fault, so `writer` may be a buffer.
 ///
 /// # Errors
-/// The first fault, at its line. Where the last flush fails, R9 at that line, whatever the fault was: what was told would
-/// else be lost without a word. Of a recording that is accepted the line is the one behind the last.
+/// What ended the run early, at its line, with what was played before. Where the last flush fails, R9 at that line,
+/// whatever the fault was: what was told would else be lost without a word. Of a recording that is accepted the line is
+/// the one behind the last.
 pub fn play<R: Read, W: Write, H: Watch>(
     alloc: Global,
     reader: &mut R,
@@ -49,6 +50,7 @@ pub fn play<R: Read, W: Write, H: Watch>(
         Err(_) => Err(RecordingFault {
             line: line_of(&end),
             cause: Cause::Write,
+            played: played_of(&end),
         }),
     }
 }
@@ -61,6 +63,16 @@ fn line_of(end: &Result<Summary, RecordingFault>) -> u64
     match end {
         Ok(summary) => summary.lines + 1,
         Err(fault) => fault.line,
+    }
+}
+
+/// What was played.
+fn played_of(end: &Result<Summary, RecordingFault>) -> Summary
+    ensures { result ≡ played_of end.now }
+{
+    match end {
+        Ok(summary) => *summary,
+        Err(fault) => fault.played,
     }
 }
 
@@ -78,7 +90,13 @@ fn play_lines<R: Read, W: Write, H: Watch>(
 {
     let player = match Player::new(alloc, options) {
         Ok(player) => player,
-        Err(cause) => return Err(RecordingFault { line: 1, cause }),
+        Err(cause) => {
+            return Err(RecordingFault {
+                line: 1,
+                cause,
+                played: Summary::none(),
+            });
+        }
     };
     let mut recording = Recording::new(player);
     let mut piece = [0u8; PIECE];

@@ -2,7 +2,7 @@
 //! The mouse is that of HID 1.11, appendix E.10; its reports were worked out by hand from appendix B.2, and every expected
 //! text from docs/RECORDINGS.md.
 
-use crate::{Cause, Options, RecordingFault, Summary, play};
+use crate::{Cause, Options, RecordingFault, Refusal, Summary, play};
 use std::alloc::{AllocError, Global};
 use std::test::Fail;
 
@@ -51,7 +51,7 @@ type Recorded = (&'static str, Options, &'static str, &'static str);
 
 /// Recordings with what they tell.
 #[rattlefmt::skip]
-const TOLD: [Recorded; 14] = [
+const TOLD: [Recorded; 28] = [
     ("a mouse that clicks and moves", PLAIN,
         "# a mouse\nD: 0\nR: 50 05 01 09 02 A1 01 09 01 A1 00 05 09 19 01 29 03 15 00 25 01 95 03 75 01 81 02 95 01 75 05 81 01 05 01 09 30 09 31 15 81 25 7F 75 08 95 02 81 06 C0 C0\nN: mouse\nI: 3 046d c077\nE: 000000.000000 3 01 05 00\nE: 000000.010000 3 00 00 FF\n",
         "000000.000000 0 down 09:01\n000000.000000 0 motion 01:30 5\n000000.010000 0 up 09:01\n000000.010000 0 motion 01:31 -1\n"),
@@ -76,7 +76,22 @@ const TOLD: [Recorded; 14] = [
         "2.1 1 down 09:02\n2.2 0 down 09:01\n2.3 1 up 09:02\n"),
     ("dumps that are none", PLAIN,
         "001:003:STREAM 1\n001:003:000:NOISE 1\n001:003:000:STREAM x\n001:003:000:STREAM\n 00\n001:003:000:STREAM 1\n 0g\n001:003:000:STREAM 2\n 00\n\n",
-        "line 1: R1: no line of a recording\nline 2: R1: no line of a recording\nline 3: R6: the time isn't digits and points\nline 4: R1: no line of a recording\nline 5: R1: no line of a recording\nline 7: R3: a byte isn't two hex digits\nline 8: R12: no empty line ends the dump before\nline 10: R7: the device has no descriptor\n"),
+        "line 1: R1: no line of a recording\nline 2: R1: no line of a recording\nline 3: R6: the time isn't digits and points\nline 4: R1: no line of a recording\nline 7: R3: a byte isn't two hex digits\nline 10: R7: the device has no descriptor\n"),
+    ("a dump that no empty line ends", PLAIN,
+        "1:1:0:STREAM 1\n 00\n1:1:0:STREAM 2\n 00\n\n",
+        "line 3: R12: no empty line ends the dump before\nline 5: R7: the device has no descriptor\n"),
+    ("a descriptor of which a line is refused", PLAIN,
+        "1:1:0:DESCRIPTOR 1\n 05 09 09 01 15 00 25 01 75 01\n 95 01 8\n 95 01 81 02\n\n1:1:0:STREAM 2\n 01\n\n",
+        "line 3: R3: a byte isn't two hex digits\nline 8: R7: the device has no descriptor\n"),
+    ("a report of which a line is refused, and the next one", PLAIN,
+        "1:1:0:DESCRIPTOR 1\n 05 09 09 01 15 00 25 01 75 01 95 01 81 02\n\n1:1:0:STREAM 2\n 0\n 01\n\n1:1:0:STREAM 3\n 01\n\n",
+        "line 5: R3: a byte isn't two hex digits\n3 0 down 09:01\n"),
+    ("a head that is refused behind a dump that is open", PLAIN,
+        "1:1:0:DESCRIPTOR 1\n 05 09 09 01 15 00 25 01 75 01 95 01 81 02\n\n1:1:0:STREAM 2\n1:1:1:STREAM x\n 01\n\n",
+        "line 5: R6: the time isn't digits and points\n"),
+    ("bytes, and no dump is open", PLAIN,
+        " 00\n 01\nD: 0\n 02\n\n 03\n",
+        "line 1: R1: no line of a recording\nline 6: R1: no line of a recording\n"),
     ("events and refusals as JSON", JSON,
         "R: 14 05 09 09 01 15 00 25 01 75 01 95 01 81 02\nE: 1.5 1 01\nE: 2 1\n",
         "{\"time\":\"1.5\",\"device\":0,\"event\":\"down\",\"page\":9,\"id\":1,\"name\":\"Button 1\"}\n{\"line\":3,\"refused\":\"R4: the count isn't that of the bytes\"}\n"),
@@ -84,11 +99,38 @@ const TOLD: [Recorded; 14] = [
         "R: 33 05 01 09 30 15 00 26 FF 00 75 08 95 01 81 02 09 31 15 81 25 7F 81 06 09 39 15 01 25 08 75 08 81 42 C0\nR: 31 05 01 09 30 15 00 26 FF 00 75 08 95 01 81 02 09 31 15 81 25 7F 81 06 09 39 15 01 25 08 81 42\nE: .1 3 09 FF 01\nE: .2 3 09 00 00\n",
         "{\"line\":1,\"refused\":\"R4: the count isn't that of the bytes\"}\n{\"time\":\".1\",\"device\":0,\"event\":\"value\",\"page\":1,\"id\":48,\"value\":9}\n{\"time\":\".1\",\"device\":0,\"event\":\"motion\",\"page\":1,\"id\":49,\"value\":-1}\n{\"time\":\".1\",\"device\":0,\"event\":\"value\",\"page\":1,\"id\":57,\"value\":1}\n{\"time\":\".2\",\"device\":0,\"event\":\"null\",\"page\":1,\"id\":57}\n"),
     ("dumps of seventeen interfaces", PLAIN,
-        "1:1:0:DESCRIPTOR 1\n\n1:1:1:DESCRIPTOR 1\n\n1:1:2:DESCRIPTOR 1\n\n1:1:3:DESCRIPTOR 1\n\n1:1:4:DESCRIPTOR 1\n\n1:1:5:DESCRIPTOR 1\n\n1:1:6:DESCRIPTOR 1\n\n1:1:7:DESCRIPTOR 1\n\n1:1:8:DESCRIPTOR 1\n\n1:1:9:DESCRIPTOR 1\n\n1:1:10:DESCRIPTOR 1\n\n1:1:11:DESCRIPTOR 1\n\n1:1:12:DESCRIPTOR 1\n\n1:1:13:DESCRIPTOR 1\n\n1:1:14:DESCRIPTOR 1\n\n1:1:15:DESCRIPTOR 1\n\n1:1:16:DESCRIPTOR 1\n\n",
+        "1:1:0:DESCRIPTOR 1\n\n1:1:1:DESCRIPTOR 1\n\n1:1:2:DESCRIPTOR 1\n\n1:1:3:DESCRIPTOR 1\n\n1:1:4:DESCRIPTOR 1\n\n1:1:5:DESCRIPTOR 1\n\n1:1:6:DESCRIPTOR 1\n\n1:1:7:DESCRIPTOR 1\n\n1:1:8:DESCRIPTOR 1\n\n1:1:9:DESCRIPTOR 1\n\n1:1:10:DESCRIPTOR 1\n\n1:1:11:DESCRIPTOR 1\n\n1:1:12:DESCRIPTOR 1\n\n1:1:13:DESCRIPTOR 1\n\n1:1:14:DESCRIPTOR 1\n\n1:1:15:DESCRIPTOR 1\n\n1:1:16:DESCRIPTOR 1\n 05 01\n 09 02\n\n",
         "line 33: R14: dumps of over 16 interfaces\n"),
     ("a device that a dump is of is that of the next lines", PLAIN,
         "D: 5\n1:1:0:DESCRIPTOR 1\n 05 09 09 01 15 00 25 01 75 01 95 01 81 02\n\nE: 2 1 01\nD: 1\nE: 3 1 01\n",
         "2 0 down 09:01\nline 7: R7: the device has no descriptor\n"),
+    ("a report in two chunks", PLAIN,
+        "1:1:0:DESCRIPTOR 1\n 85 01 05 01 09 30 15 00 26 FF 00 75 08 95 50 81 02 85 02 05 09 09 01 25 01 75 01 95 01 81 02\n\n1:1:0:STREAM 2\n 01 00 00 00 00 00 00 00 00 00 00 00 00 00 00 00 00 00 00 00 00 00 00 00 00 00 00 00 00 00 00 00\n 00 00 00 00 00 00 00 00 00 00 00 00 00 00 00 00 00 00 00 00 00 00 00 00 00 00 00 00 00 00 00 00\n\n1:1:0:STREAM 3\n 00 00 00 00 00 00 00 00 00 00 00 00 00 00 00 00 07\n\n1:1:0:STREAM 4\n 02 01\n\n",
+        "3 0 value 01:30 7\n4 0 down 09:01\n"),
+    ("a report of another interface between them", PLAIN,
+        "1:1:0:DESCRIPTOR 1\n 85 01 05 01 09 30 15 00 26 FF 00 75 08 95 50 81 02 85 02 05 09 09 01 25 01 75 01 95 01 81 02\n\n1:1:1:DESCRIPTOR 1\n 05 09 09 01 15 00 25 01 75 01 95 01 81 02\n\n1:1:0:STREAM 2\n 01 00 00 00 00 00 00 00 00 00 00 00 00 00 00 00 00 00 00 00 00 00 00 00 00 00 00 00 00 00 00 00\n 00 00 00 00 00 00 00 00 00 00 00 00 00 00 00 00 00 00 00 00 00 00 00 00 00 00 00 00 00 00 00 00\n\n1:1:1:STREAM 2.5\n 01\n\n1:1:0:STREAM 3\n 00 00 00 00 00 00 00 00 00 00 00 00 00 00 00 00 07\n\n",
+        "2.5 1 down 09:01\n3 0 value 01:30 7\n"),
+    ("a chunk of under 64 bytes ends its report", PLAIN,
+        "1:1:0:DESCRIPTOR 1\n 85 01 05 01 09 30 15 00 26 FF 00 75 08 95 50 81 02 85 02 05 09 09 01 25 01 75 01 95 01 81 02\n\n1:1:0:STREAM 2\n 01 00 00 00 00 00 00 00 00 00 00 00 00 00 00 00 00 00 00 00 00 00 00 00 00 00 00 00 00 00 00 00\n 00 00 00 00 00 00 00 00 00 00 00 00 00 00 00 00 00 00 00 00 00 00 00 00 00 00 00 00 00 00 00 00\n\n1:1:0:STREAM 3\n 07 07 07 07 07 07 07 07 07 07\n\n1:1:0:STREAM 4\n 02 01\n\n",
+        "line 10: U8: the report is too short\n4 0 down 09:01\n"),
+    ("a report with an ID that the device hasn't, in three chunks", PLAIN,
+        "1:1:0:DESCRIPTOR 1\n 85 01 05 01 09 30 15 00 26 FF 00 75 08 95 50 81 02 85 02 05 09 09 01 25 01 75 01 95 01 81 02\n\n1:1:0:STREAM 2\n 09 00 00 00 00 00 00 00 00 00 00 00 00 00 00 00 00 00 00 00 00 00 00 00 00 00 00 00 00 00 00 00\n 00 00 00 00 00 00 00 00 00 00 00 00 00 00 00 00 00 00 00 00 00 00 00 00 00 00 00 00 00 00 00 00\n\n1:1:0:STREAM 3\n 02 01 00 00 00 00 00 00 00 00 00 00 00 00 00 00 00 00 00 00 00 00 00 00 00 00 00 00 00 00 00 00\n 00 00 00 00 00 00 00 00 00 00 00 00 00 00 00 00 00 00 00 00 00 00 00 00 00 00 00 00 00 00 00 00\n\n1:1:0:STREAM 4\n 02 01\n\n1:1:0:STREAM 5\n 02 01\n\n",
+        "line 14: U9: the device has no such Input report\n5 0 down 09:01\n"),
+    ("the rest of a report whose first chunk is refused", PLAIN,
+        "1:1:0:DESCRIPTOR 1\n 85 01 05 01 09 30 15 00 26 FF 00 75 08 95 50 81 02 85 02 05 09 09 01 25 01 75 01 95 01 81 02\n\n1:1:0:STREAM 2\n 01 0\n 00 00 00 00 00 00 00 00 00 00 00 00 00 00 00 00 00 00 00 00 00 00 00 00 00 00 00 00 00 00 00 00\n 00 00 00 00 00 00 00 00 00 00 00 00 00 00 00 00 00 00 00 00 00 00 00 00 00 00 00 00 00 00\n\n1:1:0:STREAM 3\n 02 01 00 00 00 00 00 00 00 00 00 00 00 00 00 00 00\n\n1:1:0:STREAM 4\n 02 01\n\n",
+        "line 5: R3: a byte isn't two hex digits\nline 11: R15: a part of the report may be missing\n4 0 down 09:01\n"),
+    ("a report whose second chunk is refused, and the next one", PLAIN,
+        "1:1:0:DESCRIPTOR 1\n 85 01 05 01 09 30 15 00 26 FF 00 75 08 95 50 81 02 85 02 05 09 09 01 25 01 75 01 95 01 81 02\n\n1:1:0:STREAM 2\n 01 00 00 00 00 00 00 00 00 00 00 00 00 00 00 00 00 00 00 00 00 00 00 00 00 00 00 00 00 00 00 00\n 00 00 00 00 00 00 00 00 00 00 00 00 00 00 00 00 00 00 00 00 00 00 00 00 00 00 00 00 00 00 00 00\n\n1:1:0:STREAM 3\n 0 0\n\n1:1:0:STREAM 4\n 01 00 00 00 00 00 00 00 00 00 00 00 00 00 00 00 00 00 00 00 00 00 00 00 00 00 00 00 00 00 00 00\n 00 00 00 00 00 00 00 00 00 00 00 00 00 00 00 00 00 00 00 00 00 00 00 00 00 00 00 00 00 00 00 00\n\n1:1:0:STREAM 5\n 02 01 00 00 00 00 00 00 00 00 00 00 00 00 00 00 00\n\n1:1:0:STREAM 6\n 02 01\n\n",
+        "line 9: R3: a byte isn't two hex digits\nline 14: R15: a part of the report may be missing\nline 17: R15: a part of the report may be missing\n6 0 down 09:01\n"),
+    ("the rest of a report whose first chunk no empty line ends", PLAIN,
+        "1:1:0:DESCRIPTOR 1\n 85 01 05 01 09 30 15 00 26 FF 00 75 08 95 50 81 02 85 02 05 09 09 01 25 01 75 01 95 01 81 02\n\n1:1:0:STREAM 2\n 01 00 00 00 00 00 00 00 00 00 00 00 00 00 00 00 00 00 00 00 00 00 00 00 00 00 00 00 00 00 00 00\n 00 00 00 00 00 00 00 00 00 00 00 00 00 00 00 00 00 00 00 00 00 00 00 00 00 00 00 00 00 00 00 00\n1:1:0:STREAM 3\n 02 01 00 00 00 00 00 00 00 00 00 00 00 00 00 00 00\n\n1:1:0:STREAM 4\n 02 01\n\n",
+        "line 7: R12: no empty line ends the dump before\nline 9: R15: a part of the report may be missing\n4 0 down 09:01\n"),
+    ("spaces in front of what is no dump's", PLAIN,
+        " # x\n\n R: 1 05\n\n\tE: 1\n",
+        "line 1: R1: no line of a recording\nline 3: R1: no line of a recording\nline 5: R1: no line of a recording\n"),
+    ("two refused lines in a dump", PLAIN,
+        "1:1:0:STREAM 1\n 0g\n 0h\n\n",
+        "line 2: R3: a byte isn't two hex digits\n"),
     ("a strict run of what isn't refused", STRICT,
         "R: 14 05 09 09 01 15 00 25 01 75 01 95 01 81 02\nE: 1 1 01",
         "1 0 down 09:01\n"),
@@ -122,15 +164,42 @@ fn recordings_tell_their_events(rt: HostRuntime) -> Result<(), Fail> {
     Ok(())
 }
 
+/// Recordings that end early, the options, what they tell, and where and why they end: a button is pressed, and then comes
+/// what ends them.
+#[rattlefmt::skip]
+const EARLY: [(&str, Options, &str, &str, u64, Cause); 3] = [
+    ("a dump that is cut off", PLAIN,
+        "R: 14 05 09 09 01 15 00 25 01 75 01 95 01 81 02\nE: 1 1 01\nX\n001:003:000:STREAM 1\n 00\n",
+        "1 0 down 09:01\nline 3: R1: no line of a recording\n", 6, Cause::Unended),
+    ("the first refusal of a strict run", STRICT,
+        "R: 14 05 09 09 01 15 00 25 01 75 01 95 01 81 02\nE: 1 1 01\nE: 2 2 00\nE: 3 1 00\n",
+        "1 0 down 09:01\n", 3, Cause::Refused(Refusal::BadCount)),
+    ("a refused line in a dump of a strict run", STRICT,
+        "R: 14 05 09 09 01 15 00 25 01 75 01 95 01 81 02\nE: 1 1 01\n001:003:000:STREAM 1\n 0\n\n",
+        "1 0 down 09:01\n", 4, Cause::Refused(Refusal::BadHex)),
+];
+
+/// The faults have what was played before their lines.
 #[test]
-fn a_dump_that_is_cut_off_is_a_fault(rt: HostRuntime) {
-    let mut text = Vec::new(rt.alloc());
-    let end = played(rt.alloc(), PLAIN, "001:003:000:STREAM 1\n 00\n", &mut text);
-    let want = RecordingFault {
-        line: 3,
-        cause: Cause::Unended,
-    };
-    assert_eq!(rt; end, Err(want));
+fn runs_that_end_early_tell_where_and_what_was_played(rt: HostRuntime) {
+    for (name, options, recording, want, line, cause) in EARLY {
+        let mut text = Vec::new(rt.alloc());
+        let end = played(rt.alloc(), options, recording, &mut text);
+        let played = Summary {
+            lines: line - 1,
+            descriptors: 1,
+            reports: 1,
+            events: 1,
+            refused: u64::from(!options.strict),
+        };
+        let fault = RecordingFault {
+            line,
+            cause,
+            played,
+        };
+        assert_eq!(rt; end, Err(fault), "{name}");
+        assert_eq!(rt; text.as_slice(), want.as_bytes(), "{name}");
+    }
 }
 
 /// Recordings of a head, a piece that is repeated, and a tail, with what they tell and the line at which they end, if they
@@ -138,7 +207,7 @@ fn a_dump_that_is_cut_off_is_a_fault(rt: HostRuntime) {
 #[rattlefmt::skip]
 const LONG: [(&str, &str, &str, u32, &str, &str, Option<u64>); 4] = [
     ("a dump of 4,096 bytes", "1:1:0:STREAM 1\n", " 00\n", 4096, "\n", "line 4098: R7: the device has no descriptor\n", None),
-    ("a byte more",           "1:1:0:STREAM 1\n", " 00\n", 4097, "\n", "line 4098: R13: a dump of over 4096 bytes\n", None),
+    ("bytes more",            "1:1:0:STREAM 1\n", " 00\n", 4100, "\n", "line 4098: R13: a dump of over 4096 bytes\n", None),
     ("a line of 16,384 bytes", "#", "x", 16383, "\r\nX\n", "line 2: R1: no line of a recording\n", None),
     ("a byte more",            "#", "x", 16384, "\r\nX\n", "", Some(1)),
 ];

@@ -5,6 +5,7 @@ ghost use Rattle.hid_script.specs.Session.{at_first};
 ghost use Rattle.hid_script.specs.Steps.{TellsLayout, TellsValues, TellsDevice, TellsStep, TellsChange, got_by};
 ghost use Rattle.hid_script.specs.Telling.{Once, times, CarriesOut, Begins, LineTells, LineBegins};
 ghost use Rattle.hid_script.specs.Place.{AppendsTold, AppendsOnce};
+ghost use Rattle.hid_stack.specs.declared.step.Step.TheVariants as Taking;
 
 use super::fault::{Cause, Options};
 use super::output::write_text;
@@ -12,12 +13,13 @@ use super::wanted::{Wanted, change_of};
 use hid_device::{Boot, Config};
 use hid_layout::{Layout, Usage};
 use hid_lines::{Line, parse_line};
-use hid_stack::{Delivered, Rig, Start, Step};
+use hid_stack::{Delivered, Request, Rig, Start, Step};
 use hid_text::{print_layout, print_step, print_values};
 use hid_usages::input_report;
 use std::alloc::Global;
 use std::io::Write;
 use usb_control::Outcome;
+use usb_transact::Fate;
 
 /// idVendor of a script's devices (USB 2.0, 9.6.1; our choice).
 const VENDOR: u16 = 0xFFFF;
@@ -114,8 +116,10 @@ impl Interpreter {
             (LineTells (session_of self.old) line.now)
             (LineBegins (session_of self.old) line.now) result (session_of self.new) }
     {
-        let line = parse_line(self.alloc, line)?;
-        self.carry_out(&line, writer)
+        match &parse_line(self.alloc, line) {
+            Ok(line) => self.carry_out(line, writer),
+            Err(fault) => Err(Cause::from(*fault)),
+        }
     }
 
     /// Carries out a line as often as it says, up to the first time that it is refused. What it tells each time is written
@@ -158,31 +162,17 @@ impl Interpreter {
                 writer,
             ),
             Line::Move { dev, usage, by } => self.change(*dev, *usage, Wanted::Move(*by), writer),
-            Line::Frame { .. } => self.step(&Step::Frame, writer),
-            Line::Poll { dev, fate, .. } => {
-                let (dev, fate) = (*dev, *fate);
-                self.step(&Step::Poll { dev, fate }, writer)
-            }
-            Line::Control { dev, fate, .. } => {
-                let (dev, fate) = (*dev, *fate);
-                self.step(&Step::Control { dev, fate }, writer)
-            }
-            Line::Begin { dev, request } => {
-                let (dev, request) = (*dev, request.copied());
-                self.step(&Step::Begin { dev, request }, writer)
-            }
-            Line::Reset { dev } => {
-                let dev = *dev;
-                self.step(&Step::Reset { dev }, writer)
-            }
-            Line::Halt { dev } => {
-                let dev = *dev;
-                self.step(&Step::Halt { dev }, writer)
-            }
+            Line::Frame { .. } => self.frame(writer),
+            Line::Poll { dev, fate, .. } => self.poll(*dev, *fate, writer),
+            Line::Control { dev, fate, .. } => self.control(*dev, *fate, writer),
+            Line::Begin { dev, request } => self.begin(*dev, request, writer),
+            Line::Reset { dev } => self.reset(*dev, writer),
+            Line::Halt { dev } => self.halt(*dev, writer),
         }
     }
 
     /// Prints the layout that a descriptor gives, and keeps it.
+    #[inline(never)]
     fn lay_out<W: Write>(&mut self, descriptor: &[u8], writer: &mut W) -> Result<(), Cause>
         ensures { AppendsOnce (W.contents writer.old) (W.contents writer.new)
             (TellsLayout descriptor.now (session_of self.old)) result (session_of self.new) }
@@ -195,6 +185,7 @@ impl Interpreter {
     }
 
     /// Prints the values of a report of the layout that is kept.
+    #[inline(never)]
     fn tell_values<W: Write>(&mut self, bytes: &[u8], writer: &mut W) -> Result<(), Cause>
         ensures { AppendsOnce (W.contents writer.old) (W.contents writer.new)
             (TellsValues bytes.now (session_of self.old)) result (session_of self.new) }
@@ -209,6 +200,7 @@ impl Interpreter {
     }
 
     /// Attaches a device, and prints its layout where layouts are asked for.
+    #[inline(never)]
     fn attach<W: Write>(
         &mut self,
         start: Start,
@@ -237,6 +229,7 @@ impl Interpreter {
     }
 
     /// Changes the least control with a usage.
+    #[inline(never)]
     fn change<W: Write>(
         &mut self,
         dev: u8,
@@ -250,6 +243,63 @@ impl Interpreter {
         let control = self.rig.find(dev, usage)?;
         let change = change_of(wanted, control);
         self.step(&Step::Change { dev, change }, writer)
+    }
+
+    // A step has room for a report that is set, so each sort of them is made in a function of its own.
+
+    /// A frame passes.
+    #[inline(never)]
+    fn frame<W: Write>(&mut self, writer: &mut W) -> Result<(), Cause>
+        ensures { AppendsOnce (W.contents writer.old) (W.contents writer.new)
+            (TellsStep (Taking.Frame) (session_of self.old)) result (session_of self.new) }
+    {
+        self.step(&Step::Frame, writer)
+    }
+
+    /// The host polls a device.
+    #[inline(never)]
+    fn poll<W: Write>(&mut self, dev: u8, fate: Fate, writer: &mut W) -> Result<(), Cause>
+        ensures { AppendsOnce (W.contents writer.old) (W.contents writer.new)
+            (TellsStep (Taking.Poll dev fate) (session_of self.old)) result (session_of self.new) }
+    {
+        self.step(&Step::Poll { dev, fate }, writer)
+    }
+
+    /// The host makes a try of the transfer that runs.
+    #[inline(never)]
+    fn control<W: Write>(&mut self, dev: u8, fate: Fate, writer: &mut W) -> Result<(), Cause>
+        ensures { AppendsOnce (W.contents writer.old) (W.contents writer.new)
+            (TellsStep (Taking.Control dev fate) (session_of self.old)) result (session_of self.new) }
+    {
+        self.step(&Step::Control { dev, fate }, writer)
+    }
+
+    /// The host begins a request.
+    #[inline(never)]
+    fn begin<W: Write>(&mut self, dev: u8, request: &Request, writer: &mut W) -> Result<(), Cause>
+        ensures { AppendsOnce (W.contents writer.old) (W.contents writer.new)
+            (TellsStep (Taking.Begin dev request.now) (session_of self.old)) result (session_of self.new) }
+    {
+        let request = request.copied();
+        self.step(&Step::Begin { dev, request }, writer)
+    }
+
+    /// The bus resets a device.
+    #[inline(never)]
+    fn reset<W: Write>(&mut self, dev: u8, writer: &mut W) -> Result<(), Cause>
+        ensures { AppendsOnce (W.contents writer.old) (W.contents writer.new)
+            (TellsStep (Taking.Reset dev) (session_of self.old)) result (session_of self.new) }
+    {
+        self.step(&Step::Reset { dev }, writer)
+    }
+
+    /// A device halts the endpoint that is polled.
+    #[inline(never)]
+    fn halt<W: Write>(&mut self, dev: u8, writer: &mut W) -> Result<(), Cause>
+        ensures { AppendsOnce (W.contents writer.old) (W.contents writer.new)
+            (TellsStep (Taking.Halt dev) (session_of self.old)) result (session_of self.new) }
+    {
+        self.step(&Step::Halt { dev }, writer)
     }
 
     /// Takes a step of the bus, and prints what it tells.

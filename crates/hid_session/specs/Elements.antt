@@ -1,5 +1,5 @@
 -- Elements as records of numbers (HID 1.11, 5.8, 6.2.2.5 and 6.2.2.8; the record: our choice).
-use Rattle.std.specs.Prelude.{◌≡◌, ℕ, zero, suc, ◌+◌, ◌-◌, ◌*◌, ◌<◌, ◌≤◌, ◌==◌, ◌⊎◌, Bool, true, false, not, if◌then◌else◌, List, [], ◌∷◌, ◌++◌, length, min, slice_get, slice_index, Option, Some, None, Result, Ok, Err, ℤ}
+use Rattle.std.specs.Prelude.{◌≡◌, ℕ, ◌+◌, ◌-◌, ◌*◌, ◌<◌, ◌≤◌, ◌==◌, ◌⊎◌, Bool, true, false, not, List, [], length, min, slice_get, slice_index, Option, Some, None, Result, Ok, Err, ℤ}
 use Rattle.hid_fields.specs.Field.{pattern_of}
 use Rattle.hid_fields.specs.Value.{value_of}
 use Rattle.hid_descriptor.specs.Kinds.{rank}
@@ -7,7 +7,7 @@ use Rattle.hid_descriptor.specs.declared.usage.Usage.{Usage}
 use Rattle.hid_descriptor.specs.declared.shape.Shape.{Shape}
 use Rattle.hid_descriptor.specs.declared.shape.Shape.TheVariants.{Padding, Variable, Array}
 use Rattle.hid_descriptor.specs.declared.limits.TheConstants.{MAX_WIDTH}
-use Rattle.hid_descriptor.specs.Usages.{Entry, usage_list}
+use Rattle.hid_descriptor.specs.Usages.{usage_list}
 use Rattle.hid_cells.specs.declared.fault.ReportFault.{ReportFault}
 use Rattle.hid_cells.specs.declared.fault.ReportFault.TheVariants.{Short, UnknownReport}
 use Rattle.hid_layout.specs.Layout.{Contents}

@@ -5,6 +5,7 @@ use Rattle.hid_layout.specs.declared.control.ControlId.{ControlId}
 use Rattle.hid_cells.specs.declared.event.Event.{Event}
 use Rattle.hid_cells.specs.declared.event.Event.TheVariants.{Down, Up, Value, Null, Motion, Dropped}
 use Rattle.hid_session.specs.declared.event.HidEvent.{HidEvent}
+use Rattle.hid_session.specs.declared.event.TheConstants.{UP, DOWN, VALUE, NULL, MOTION, DROPPED}
 
 -- a record of this kind, of a control with its usage, and of a number
 abbrev pub told_as : ℕ → ControlId → Usage → ℤ → HidEvent
@@ -13,9 +14,9 @@ told_as kind control usage value =
 
 -- the record of an event
 abbrev pub event_of : Event → HidEvent
-event_of (Up control usage) = told_as 0 control usage (pos 0)
-event_of (Down control usage) = told_as 1 control usage (pos 1)
-event_of (Value control usage value) = told_as 2 control usage value
-event_of (Null control usage) = told_as 3 control usage (pos 0)
-event_of (Motion control usage by) = told_as 4 control usage by
-event_of (Dropped control usage by) = told_as 5 control usage by
+event_of (Up control usage) = told_as UP control usage (pos 0)
+event_of (Down control usage) = told_as DOWN control usage (pos 1)
+event_of (Value control usage value) = told_as VALUE control usage value
+event_of (Null control usage) = told_as NULL control usage (pos 0)
+event_of (Motion control usage by) = told_as MOTION control usage by
+event_of (Dropped control usage by) = told_as DROPPED control usage by

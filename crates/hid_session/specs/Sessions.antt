@@ -1,4 +1,4 @@
--- What opening a session gives, and what a report makes of it.
+-- What opening a session gives (HID 1.11, 6.2.2), and what a report makes of it (5.6 and 6.2.2.5).
 use Rattle.std.specs.Prelude.{◌≡◌, ℕ, ◌<◌, ◌≤◌, List, ◌++◌, length, map, drop, Result, Ok, Err}
 use Rattle.hid_descriptor.specs.Items.{Spelled}
 use Rattle.hid_descriptor.specs.Faults.{Accepts}

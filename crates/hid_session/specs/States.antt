@@ -1,4 +1,4 @@
--- What is seen of a session.
+-- What is seen of a session (our choice).
 use Rattle.std.specs.Prelude.{List}
 use Rattle.hid_layout.specs.Layout.{Contents}
 use Rattle.hid_cells.specs.declared.cell.Cell.{Cell}

@@ -1,5 +1,5 @@
 -- The data elements of a layout, item by item (our choice).
-use Rattle.std.specs.Prelude.{ℕ, zero, suc, List, [], ◌∷◌, ◌++◌, length, slice_get, Option, Some, None}
+use Rattle.std.specs.Prelude.{ℕ, zero, suc, List, [], ◌∷◌, ◌++◌, slice_get, Option, Some, None}
 use Rattle.hid_layout.specs.Layout.{Contents}
 use Rattle.hid_layout.specs.declared.main_item.MainItem.{MainItem}
 use Rattle.hid_session.specs.declared.element.HidElement.{HidElement}

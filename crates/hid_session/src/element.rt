@@ -13,6 +13,15 @@ use hid_layout::{
 };
 use hid_usages::ReportFault;
 
+/// From the device to the host.
+pub const INPUT: u8 = 0;
+
+/// From the host to the device.
+pub const OUTPUT: u8 = 1;
+
+/// Settings, either way.
+pub const FEATURE: u8 = 2;
+
 /// A data element of a report.
 #[repr(C)]
 #[derive(Clone, Copy, Debug, PartialEq, Eq)]
@@ -39,7 +48,7 @@ pub struct HidElement {
     pub id: u16,
     /// The flags of its item, bits 0 to 8 (HID 1.11, 6.2.2.5).
     pub flags: u16,
-    /// The kind of its report: 0 Input, 1 Output, 2 Feature.
+    /// The kind of its report: [`INPUT`], [`OUTPUT`] or [`FEATURE`].
     pub kind: u8,
     /// The Report ID, with which the bytes of its report begin; 0 where reports have none.
     pub report: u8,
@@ -63,9 +72,9 @@ pub(crate) fn kind_number(kind: ReportKind) -> u8
     ensures { result ≡ rank kind }
 {
     match kind {
-        ReportKind::Input => 0,
-        ReportKind::Output => 1,
-        ReportKind::Feature => 2,
+        ReportKind::Input => INPUT,
+        ReportKind::Output => OUTPUT,
+        ReportKind::Feature => FEATURE,
     }
 }
 

@@ -6,6 +6,24 @@ ghost use Rattle.hid_session.specs.Events.{told_as, event_of};
 use hid_layout::{ControlId, Usage};
 use hid_usages::Event;
 
+/// A switch or a key that was held is up.
+pub const UP: u32 = 0;
+
+/// A switch or a key that was up is held.
+pub const DOWN: u32 = 1;
+
+/// An absolute control has another value.
+pub const VALUE: u32 = 2;
+
+/// An absolute control has no value any more.
+pub const NULL: u32 = 3;
+
+/// A relative control moved.
+pub const MOTION: u32 = 4;
+
+/// A motion that a reset, a halt or its end let go.
+pub const DROPPED: u32 = 5;
+
 /// An event of a report.
 #[repr(C)]
 #[derive(Clone, Copy, Debug, PartialEq, Eq)]
@@ -20,7 +38,7 @@ pub struct HidEvent {
     pub page: u16,
     /// The ID of that usage.
     pub id: u16,
-    /// 0 up, 1 down, 2 value, 3 null, 4 motion, 5 dropped.
+    /// One of the six above, from [`UP`] to [`DROPPED`].
     pub kind: u32,
 }
 
@@ -42,16 +60,16 @@ pub fn event_of(event: &Event) -> HidEvent
     ensures { result ≡ event_of event.now }
 {
     match *event {
-        Event::Up { control, usage } => told_as(0, control, usage, 0),
-        Event::Down { control, usage } => told_as(1, control, usage, 1),
+        Event::Up { control, usage } => told_as(UP, control, usage, 0),
+        Event::Down { control, usage } => told_as(DOWN, control, usage, 1),
         Event::Value {
             control,
             usage,
             value,
-        } => told_as(2, control, usage, value),
-        Event::Null { control, usage } => told_as(3, control, usage, 0),
-        Event::Motion { control, usage, by } => told_as(4, control, usage, by),
-        Event::Dropped { control, usage, by } => told_as(5, control, usage, by),
+        } => told_as(VALUE, control, usage, value),
+        Event::Null { control, usage } => told_as(NULL, control, usage, 0),
+        Event::Motion { control, usage, by } => told_as(MOTION, control, usage, by),
+        Event::Dropped { control, usage, by } => told_as(DROPPED, control, usage, by),
     }
 }
 

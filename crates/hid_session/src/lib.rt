@@ -20,8 +20,8 @@ mod shown;
 mod table;
 
 pub use cause::{cause_number, cause_with};
-pub use element::{HidElement, element_at, number_in};
-pub use event::{HidEvent, event_of, put_events};
+pub use element::{FEATURE, HidElement, INPUT, OUTPUT, element_at, number_in};
+pub use event::{DOWN, DROPPED, HidEvent, MOTION, NULL, UP, VALUE, event_of, put_events};
 pub use hid_layout::{Cause, ControlId, LayoutFault};
 pub use hid_usages::ReportFault;
 pub use session::{FeedFault, Session};

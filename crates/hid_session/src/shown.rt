@@ -15,7 +15,7 @@ pub struct HidReport {
     pub bytes: u64,
     /// The bits of its items, without those of a Report ID.
     pub bits: u32,
-    /// 0 Input, 1 Output, 2 Feature.
+    /// [`crate::INPUT`], [`crate::OUTPUT`] or [`crate::FEATURE`].
     pub kind: u8,
     /// The Report ID, with which its bytes begin; 0 where reports have none.
     pub id: u8,

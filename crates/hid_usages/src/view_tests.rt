@@ -335,7 +335,7 @@ fn compared(
     let taken = take_all::<WordCodec>(&layout, &mut old, &[before], &mut told)
         && take_all::<WordCodec>(&layout, &mut new, &[after], &mut told);
     told.clear();
-    changes(&layout, &old, &new, &mut told);
+    changes(&layout, old.cells(), new.cells(), &mut told);
     Ok(taken && told.as_slice() == events)
 }
 
@@ -385,7 +385,14 @@ fn forgets(
     }
     snapshot.shown(&layout, row.shows, &mut parts);
     told.clear();
-    changes_and_drops(&layout, &view, &initial, row.drops, &parts, &mut told);
+    changes_and_drops(
+        &layout,
+        view.cells(),
+        initial.cells(),
+        row.drops,
+        &parts,
+        &mut told,
+    );
     Ok(taken && moved && told.as_slice() == events)
 }
 

@@ -47,7 +47,6 @@ impl Model for View {
 
 impl View {
     /// Nothing is held; values are those of a blank snapshot.
-    #[tactic(auto, using(hid_cells::proofs::BlankLemmas::initial_fits))]
     pub fn initial(alloc: Global, layout: &Layout) -> Result<Self, MemoryFault>
         ensures initial { IfOk result (λ view. view ≡ blank (items_of layout.now)) }
         ensures fits { IfOk result (λ view. FitsView (items_of layout.now) view) }
@@ -120,6 +119,13 @@ impl View {
         }
     }
 
+    /// What it has of each listed item.
+    pub fn cells(&self) -> &[Cell]
+        ensures { result.now ≡ self.now }
+    {
+        &self.cells
+    }
+
     /// The held keys of an Input array, by place in its usage list: bit i mod 64 of word i div 64 is 1 exactly where the
     /// key at place i is held.
     #[tactic(auto, using(hid_cells::proofs::KeyWordLemmas::view_words))]
@@ -144,10 +150,10 @@ impl View {
     }
 }
 
-/// Appends what changes from one view to another: of a variable item by rising index, of an array each release by
-/// rising index and then each press. There is reserved room for `max_events` more; no memory is taken.
+/// Appends what changes from the cells of one view to those of another: of a variable item by rising index, of an array
+/// each release by rising index and then each press. There is reserved room for `max_events` more; no memory is taken.
 #[tactic(auto, using(crate::proofs::ViewLemmas::few_changes))]
-pub fn changes(layout: &Layout, before: &View, after: &View, out: &mut Vec<Event>)
+pub fn changes(layout: &Layout, before: &[Cell], after: &[Cell], out: &mut Vec<Event>)
     requires before { FitsView (items_of layout.now) before.now }
     requires after { FitsView (items_of layout.now) after.now }
     requires room { vec_len out.old + max_events (items_of layout.now) ≤ vec_capacity out.old }
@@ -155,17 +161,17 @@ pub fn changes(layout: &Layout, before: &View, after: &View, out: &mut Vec<Event
         ≡ out.old.items ++ changes_between (items_of layout.now) before.now after.now }
     ensures room { vec_capacity out.new ≡ vec_capacity out.old }
 {
-    all_changes(layout, &before.cells, &after.cells, out);
+    all_changes(layout, before, after, out);
 }
 
-/// Appends what changes from one view to another, and the motion of an Input report's part as dropped: what a host tells
-/// that forgets its device, where the report was sent and didn't reach it. There is reserved room for `max_events` more;
-/// no memory is taken.
+/// Appends what changes from the cells of one view to those of another, and the motion of an Input report's part as
+/// dropped: what a host tells that forgets its device, where the report was sent and didn't reach it. There is reserved
+/// room for `max_events` more; no memory is taken.
 #[tactic(auto, using(crate::proofs::DropLemmas::drops))]
 pub fn changes_and_drops(
     layout: &Layout,
-    before: &View,
-    after: &View,
+    before: &[Cell],
+    after: &[Cell],
     report: usize,
     shown: &Shown,
     out: &mut Vec<Event>,
@@ -186,5 +192,5 @@ pub fn changes_and_drops(
         report,
         shown,
     };
-    all_changes_and_drops(&dropped, &before.cells, &after.cells, out);
+    all_changes_and_drops(&dropped, before, after, out);
 }

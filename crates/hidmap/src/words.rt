@@ -13,7 +13,7 @@ pub struct Asked<'a> {
 }
 
 const CODES: &str =
-    "A descriptor is read as binary, or as text: the first R: line of hid-recorder, hex digits, what usbhid-dump prints, or\nan array of C.\nL1 to L16 are why it is refused: docs/RECORDINGS.md. The pictures: docs/PICTURES.md.";
+    "A descriptor is read as binary, or as text: the first R: line of hid-recorder, hex digits, what usbhid-dump prints, or\nan array of C.\nL1 to L16 are why it is refused: docs/RECORDINGS.md. The pictures: docs/PICTURES.md.\nBoth are installed in share/doc/rulohevian.";
 
 fn command<'a>(alloc: Global) -> Result<Command<'a>, Error> {
     let svg = Arg::new(alloc, "svg")
@@ -21,7 +21,9 @@ fn command<'a>(alloc: Global) -> Result<Command<'a>, Error> {
         .value_name("N")
         .value_parser(value_parser!(u16))
         .conflicts_with("text")?
-        .help("Draw the picture of the report N alone, as SVG; the first is 0");
+        .help(
+            "Draw the picture of the report N alone, as SVG: Input, Output, then Feature reports, each by ID, from 0",
+        );
     let text = Arg::new(alloc, "text")
         .long("text")
         .action(ArgAction::SetTrue)

@@ -1,5 +1,5 @@
 -- The exit status of a run (our choice: docs/RECORDINGS.md).
-use Rattle.std.specs.Prelude.{ℕ, nat_lt, if◌then◌else◌, Result, Ok, Err}
+use Rattle.std.specs.Prelude.{ℕ, nat_lt, Bool, true, false, if◌then◌else◌, Result, Ok, Err}
 use Rattle.hid_recording.specs.declared.fault.Summary.{Summary}
 use Rattle.hid_recording.specs.declared.fault.RecordingFault.{RecordingFault}
 use Rattle.hid_recording.specs.declared.fault.Cause.{Cause}
@@ -19,3 +19,18 @@ cause_status Unended = 1
 abbrev pub status_of : Result Summary RecordingFault → ℕ
 status_of (Ok summary) = if nat_lt 0 summary.refused then 1 else 0
 status_of (Err fault) = cause_status fault.cause
+
+-- what ends all files: standard output failed, or a refusal of a strict run
+abbrev pub ends_all_by : Bool → Cause → Bool
+ends_all_by strict (Refused refusal) = strict
+ends_all_by strict LineTooLong = strict
+ends_all_by strict Unended = strict
+ends_all_by strict Write = true
+ends_all_by strict Read = false
+ends_all_by strict Memory = false
+ends_all_by strict TooManyReads = false
+
+-- whether no further file is begun
+abbrev pub ends_all : Bool → Result Summary RecordingFault → Bool
+ends_all strict (Ok summary) = false
+ends_all strict (Err fault) = ends_all_by strict fault.cause

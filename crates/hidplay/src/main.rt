@@ -6,10 +6,13 @@
 //!                                                                          |
 //!                                           progress, what ended a run, a summary --> standard error
 //! ```
+//! What ends a file ends all of them where it is R9, or a refusal with --strict.
 //! The exit status is 0; 1 where a line was refused; 2 for a wrong command line; 3 where a file can't be read, standard
 //! output can't be written, or memory was wanting.
 #![tactic(auto)]
 
+mod codes;
+mod end_line;
 mod file_line;
 mod progress;
 mod source;
@@ -20,11 +23,12 @@ mod total;
 mod words;
 
 use clap::error::ErrorKind;
+use end_line::end_line;
 use file_line::file_line;
 use hid_recording::{Cause, RecordingFault, Summary};
 use progress::Progress;
 use source::{before_all, play_source};
-use status::{FINE, OUTSIDE, WRONG_USAGE, exit_of, worse};
+use status::{FINE, OUTSIDE, WRONG_USAGE, ends_all, exit_of, worse};
 use std::alloc::Global;
 use std::io::{BufWriter, IsTerminal, Stderr, Write};
 use std::process::ExitCode;
@@ -73,35 +77,61 @@ fn play_all(rt: &HostRuntime, asked: &Asked<'_>) -> u8 {
     let mut total = Total::default();
     let mut status = FINE;
     if asked.files.is_empty() {
-        status = play_one(rt, asked, "-", &mut out, &mut total);
+        let end = play_one(rt, asked, "-", &mut out);
+        total.add(&end);
+        status = exit_of(&end);
     }
     for name in &asked.files {
-        let one = play_one(rt, asked, *name, &mut out, &mut total);
-        status = worse(status, one);
+        let end = play_one(rt, asked, *name, &mut out);
+        total.add(&end);
+        status = worse(status, exit_of(&end));
+        if ends_all(asked.options.strict, &end) {
+            break;
+        }
     }
     let _ = eprintln!(rt; "{total}");
     status
 }
 
-/// Plays one file, tells what ended it early, and adds up what was played.
+/// Plays one file, and tells what ended it early.
 fn play_one<W: Write>(
     rt: &HostRuntime,
     asked: &Asked<'_>,
     name: &str,
     out: &mut W,
-    total: &mut Total,
-) -> u8 {
+) -> Result<Summary, RecordingFault> {
     let end = match print_file(rt.alloc(), asked, name, out) {
         Ok(()) => play_named(rt, asked, name, out),
         Err(cause) => Err(before_all(cause)),
     };
-    match &end {
-        Ok(summary) => total.add(summary),
-        Err(fault) => {
-            let _ = eprintln!(rt; "{name}: {fault}");
-        }
+    let Err(fault) = end else {
+        return end;
+    };
+    let fault = print_end(rt.alloc(), asked, fault, out);
+    let _ = eprintln!(rt; "{name}: {fault}");
+    Err(fault)
+}
+
+/// With JSON, prints what ended a file too. Where that fails, it is what ended the file.
+fn print_end<W: Write>(
+    alloc: Global,
+    asked: &Asked<'_>,
+    fault: RecordingFault,
+    out: &mut W,
+) -> RecordingFault {
+    if !asked.options.json || fault.cause == Cause::Write {
+        return fault;
     }
-    exit_of(&end)
+    let Ok(line) = end_line(alloc, &fault) else {
+        return fault;
+    };
+    if out.write_all(line.as_slice()).is_ok() && out.flush().is_ok() {
+        return fault;
+    }
+    RecordingFault {
+        cause: Cause::Write,
+        ..fault
+    }
 }
 
 /// Of several files the name stands before what each tells.

@@ -16,12 +16,19 @@ pub enum Kind {
 /// More bytes than a descriptor has: it is refused for its length, whatever comes behind them.
 const TOO_MANY: usize = 4097;
 
+/// The byte order mark of UTF-8.
+const MARK: [u8; 3] = [0xEF, 0xBB, 0xBF];
+
 /// How often a reader is asked at most.
 const READS: u32 = 1_000_000;
 
 /// What ended a run before its first line was played.
 pub fn before_all(cause: Cause) -> RecordingFault {
-    RecordingFault { line: 1, cause }
+    RecordingFault {
+        line: 1,
+        cause,
+        played: Summary::none(),
+    }
 }
 
 /// A text begins with no control character but a tab and the ends of lines, and a descriptor with the prefix of an item,
@@ -80,6 +87,16 @@ fn play_binary<R: Read, W: Write, H: Watch>(
     play(alloc, &mut recording, out, options, watch)
 }
 
+/// Passes over a byte order mark, if the front that is there has it whole.
+fn skip_mark<R: Read>(reader: &mut BufReader<R>) -> Result<(), RecordingFault> {
+    if let Some(0xEF) = first_byte(reader)? {
+        if reader.buffer().starts_with(&MARK) {
+            reader.consume(MARK.len());
+        }
+    }
+    Ok(())
+}
+
 /// Plays a file, as what it is.
 pub fn play_source<R: Read + Drop, W: Write, H: Watch>(
     alloc: Global,
@@ -100,6 +117,7 @@ pub fn play_source<R: Read + Drop, W: Write, H: Watch>(
     if is_binary {
         play_binary(alloc, &mut reader, out, options, watch)
     } else {
+        skip_mark(&mut reader)?;
         play(alloc, &mut reader, out, options, watch)
     }
 }

@@ -1,7 +1,7 @@
 //! Exit statuses.
 
 ghost use Rattle.std.specs.Prelude.{◌≡◌, max};
-ghost use Rattle.hidplay.specs.Status.{status_of};
+ghost use Rattle.hidplay.specs.Status.{ends_all, status_of};
 
 use hid_recording::{Cause, RecordingFault, Summary};
 
@@ -27,6 +27,20 @@ pub fn exit_of(end: &Result<Summary, RecordingFault>) -> u8
         Err(fault) => match fault.cause {
             Cause::Refused(_) | Cause::LineTooLong | Cause::Unended => REFUSED,
             Cause::Read | Cause::Write | Cause::Memory | Cause::TooManyReads => OUTSIDE,
+        },
+    }
+}
+
+/// Whether no further file is begun: standard output failed, or a strict run met a refusal.
+pub fn ends_all(strict: bool, end: &Result<Summary, RecordingFault>) -> bool
+    ensures { result ≡ ends_all strict end.now }
+{
+    match end {
+        Ok(_) => false,
+        Err(fault) => match fault.cause {
+            Cause::Refused(_) | Cause::LineTooLong | Cause::Unended => strict,
+            Cause::Write => true,
+            Cause::Read | Cause::Memory | Cause::TooManyReads => false,
         },
     }
 }

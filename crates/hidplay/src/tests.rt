@@ -1,10 +1,15 @@
 //! Options and exit statuses, by hand from docs/RECORDINGS.md.
 
+use super::codes::CODES;
+use super::end_line::end_line;
 use super::file_line::file_line;
 use super::progress::Progress;
 use super::source::{Kind, begins_binary, play_source};
+use super::total::Total;
 use super::words::asked_by;
-use hid_recording::{Options, Summary, Watch};
+use hid_notation::layout_words;
+use hid_recording::{Cause, Options, RecordingFault, Refusal, Summary, Watch};
+use hid_usages::ReportFault;
 use std::alloc::{AllocError, Global};
 use std::str::from_utf8;
 use std::test::Fail;
@@ -142,10 +147,12 @@ const PLAIN: Options = Options {
 
 /// Files, what they are taken for, and what they tell.
 #[rattlefmt::skip]
-const SOURCES: [(&str, Kind, &[u8], &str); 4] = [
+const SOURCES: [(&str, Kind, &[u8], &str); 6] = [
     ("a descriptor",         Kind::Told,   b"\x05\x01", ""),
     ("one that is cut off",  Kind::Told,   b"\x05",     "line 1: L1 at 0: the descriptor ends in the middle of an item\n"),
     ("text, by the option",  Kind::Text,   b"\x05\x01", "line 1: R1: no line of a recording\n"),
+    ("a byte order mark",    Kind::Told,   b"\xEF\xBB\xBFX", "line 1: R1: no line of a recording\n"),
+    ("nothing behind it",    Kind::Told,   b"\xEF\xBB\xBF", ""),
     ("bytes, by the option", Kind::Binary, b"R",        "line 1: L1 at 0: the descriptor ends in the middle of an item\n"),
 ];
 
@@ -157,4 +164,97 @@ fn files_tell_as_what_they_are(rt: HostRuntime) {
         assert!(rt; end.is_ok(), "{name}");
         assert_eq!(rt; from_utf8(text.as_slice()), Ok(want), "{name}");
     }
+}
+
+/// What refuses lines and reports, and what ends a file.
+const CAUSES: [Cause; 18] = [
+    Cause::Refused(Refusal::Syntax),
+    Cause::Refused(Refusal::BadHex),
+    Cause::Refused(Refusal::BadCount),
+    Cause::Refused(Refusal::BadDevice),
+    Cause::Refused(Refusal::BadTime),
+    Cause::Refused(Refusal::NoLayout),
+    Cause::Refused(Refusal::Unended),
+    Cause::Refused(Refusal::DumpTooLong),
+    Cause::Refused(Refusal::TooManyDevices),
+    Cause::Refused(Refusal::PartMissing),
+    Cause::Refused(Refusal::Report(ReportFault::Short)),
+    Cause::Refused(Refusal::Report(ReportFault::UnknownReport)),
+    Cause::LineTooLong,
+    Cause::Read,
+    Cause::Write,
+    Cause::Memory,
+    Cause::TooManyReads,
+    Cause::Unended,
+];
+
+/// What refuses descriptors, but for want of memory.
+const LAYOUTS: [hid_layout::Cause; 16] = [
+    hid_layout::Cause::Truncated,
+    hid_layout::Cause::TooLong,
+    hid_layout::Cause::PopEmpty,
+    hid_layout::Cause::PushDepth,
+    hid_layout::Cause::CollectionDepth,
+    hid_layout::Cause::EndWithout,
+    hid_layout::Cause::Unclosed,
+    hid_layout::Cause::BadReportId,
+    hid_layout::Cause::MixedReportId,
+    hid_layout::Cause::BadRange,
+    hid_layout::Cause::BadSize,
+    hid_layout::Cause::BadUsageRange,
+    hid_layout::Cause::UnpairedUsage,
+    hid_layout::Cause::Delimiter,
+    hid_layout::Cause::ReportTooLong,
+    hid_layout::Cause::TooMany,
+];
+
+#[test]
+fn help_has_each_code_with_its_words(rt: HostRuntime) -> Result<(), Fail> {
+    for cause in CAUSES {
+        let line = format!(in rt.alloc(); "\n  {cause}")?;
+        assert!(rt; CODES.contains(line.as_str()), "{cause}");
+    }
+    for cause in LAYOUTS {
+        let words = layout_words(cause);
+        let line = format!(in rt.alloc(); "\n  {cause}: {words}\n")?;
+        assert!(rt; CODES.contains(line.as_str()), "{cause}");
+    }
+    Ok(())
+}
+
+/// What ended files, with the line of JSON that tells it, and the summary of that file and of one that was played whole.
+#[rattlefmt::skip]
+const ENDS: [(Cause, &[u8], &str); 2] = [
+    (Cause::Unended,
+        b"{\"line\":7,\"ended\":\"R12: no empty line ends the last dump\",\"descriptors\":1,\"reports\":2,\"events\":3,\"refusals\":5}\n",
+        "files 1, descriptors 2, reports 10, events 8, refused 5"),
+    (Cause::Read,
+        b"{\"line\":7,\"ended\":\"R8: the recording can't be read\",\"descriptors\":1,\"reports\":2,\"events\":3,\"refusals\":4}\n",
+        "files 1, descriptors 2, reports 10, events 8, refused 4"),
+];
+
+#[test]
+fn ends_have_what_was_played(rt: HostRuntime) -> Result<(), Fail> {
+    for (cause, want, summary) in ENDS {
+        let played = Summary {
+            lines: 6,
+            descriptors: 1,
+            reports: 2,
+            events: 3,
+            refused: 4,
+        };
+        let fault = RecordingFault {
+            line: 7,
+            cause,
+            played,
+        };
+        let line = end_line(rt.alloc(), &fault)?;
+        assert_eq!(rt; line.as_slice(), want, "{cause}");
+        let mut total = Total::default();
+        total.add(&Err(fault));
+        total.add(&Ok(READ));
+        let text = format!(in rt.alloc(); "{total}")?;
+        assert_eq!(rt; text.as_str(), summary, "{cause}");
+    }
+    Ok(())
 }

@@ -1,9 +1,11 @@
 //! What all files together had.
 
-use hid_recording::Summary;
+use super::end_line::refusals_of;
+use hid_recording::{RecordingFault, Summary};
 use std::fmt;
 
-/// Counts over all files that were played to their end. They stop at the greatest `u64`.
+/// Files that were played to their end, and counts over these and over what was played of others. They stop at the greatest
+/// `u64`.
 #[derive(Clone, Copy, Debug, Default)]
 pub struct Total {
     files: u64,
@@ -14,9 +16,21 @@ pub struct Total {
 }
 
 impl Total {
-    /// Adds a file.
-    pub fn add(&mut self, summary: &Summary) {
-        self.files = self.files.saturating_add(1);
+    /// Adds a file that was played to its end, or what was played of another, with what ended it.
+    pub fn add(&mut self, end: &Result<Summary, RecordingFault>) {
+        match end {
+            Ok(summary) => {
+                self.files = self.files.saturating_add(1);
+                self.count(summary);
+            }
+            Err(fault) => self.count(&Summary {
+                refused: refusals_of(fault),
+                ..fault.played
+            }),
+        }
+    }
+
+    fn count(&mut self, summary: &Summary) {
         self.descriptors = self.descriptors.saturating_add(summary.descriptors);
         self.reports = self.reports.saturating_add(summary.reports);
         self.events = self.events.saturating_add(summary.events);

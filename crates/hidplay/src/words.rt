@@ -1,5 +1,6 @@
 //! The words of the command line.
 
+use super::codes::CODES;
 use super::source::Kind;
 use clap::{Arg, ArgAction, Command, Error};
 use hid_recording::Options;
@@ -14,9 +15,6 @@ pub struct Asked<'a> {
     /// The files in their order; `-` is standard input.
     pub files: Vec<&'a str>,
 }
-
-const CODES: &str =
-    "What is refused is told in its place, with its line, a code and words; the rest goes on.\nR1 to R7 and R12 to R14 are of a line, L1 to L16 of a report descriptor, U8 and U9 of a report: docs/RECORDINGS.md.";
 
 fn flag<'a>(alloc: Global, name: &'a str, help: &'a str) -> Arg<'a> {
     Arg::new(alloc, name)
@@ -57,7 +55,11 @@ fn command<'a>(alloc: Global) -> Result<Command<'a>, Error> {
         .arg(flag(alloc, "values", "Print the values of each report"))?
         .arg(flag(alloc, "names", "Print the name of each event's usage"))?
         .arg(json)?
-        .arg(flag(alloc, "strict", "End at the first line that is refused"))?
+        .arg(flag(
+            alloc,
+            "strict",
+            "End all files at the first line that is refused",
+        ))?
         .arg(text)?
         .arg(flag(
             alloc,

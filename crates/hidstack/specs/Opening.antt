@@ -32,6 +32,6 @@ abbrev pub Refuses : Option State → List ℕ → Option State → HidOpened �
 Refuses before bytes after told =
     (before ≡ None) × (after ≡ None) × (cause : Cause) × (at : ℕ) × Explains bytes cause at × (told ≡ refused_as (cause_number cause) at)
 
--- the handle was open, and stays as it was
-abbrev pub IsBusy : Option State → Option State → HidOpened → Type 0
-IsBusy before after told = (s : State) × (before ≡ Some s) × (after ≡ Some s) × (told ≡ refused_as 0 0)
+-- the handle was open and stays as it was, and so does what was told
+abbrev pub IsBusy : Option State → Option State → HidOpened → HidOpened → Type 0
+IsBusy before after told told' = (s : State) × (before ≡ Some s) × (after ≡ Some s) × (told' ≡ told)

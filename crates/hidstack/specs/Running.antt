@@ -8,12 +8,13 @@ use Rattle.hid_script.specs.FaultText.{fault_text}
 use Rattle.hid_script.specs.Runs.{RunsTo}
 use Rattle.hid_script.specs.Session.{at_first}
 use Rattle.hidstack.specs.declared.run.HidRan.{HidRan}
+use Rattle.hidstack.specs.declared.run.TheConstants.{LAYOUTS, POLLS}
 use Rattle.hidstack.specs.declared.status.TheConstants.{OK, REFUSED, NO_ROOM, MEMORY}
 use Rattle.hidstack.specs.Texts.{Written}
 
--- bit 0: the layout of each device; bit 1: a line for each poll
+-- each option has a bit of its own
 abbrev pub options_of : ℕ → Options
-options_of options = record { layout = options % 2 == 1; trace = options / 2 % 2 == 1 }
+options_of options = record { layout = options / LAYOUTS % 2 == 1; trace = options / POLLS % 2 == 1 }
 
 -- a run from the start wrote this text and ended so
 abbrev pub RunsScript : Options → List ℕ → List ℕ → Result Summary ScriptFault → Type 0

@@ -10,6 +10,12 @@ use crate::status::{MEMORY, NO_ROOM, OK, REFUSED};
 use hid_script::{Options, ScriptFault, Summary, fault_line, run};
 use std::alloc::Global;
 
+/// An option: the layout of each device that is attached.
+pub const LAYOUTS: u32 = 1;
+
+/// An option: a line for each poll, and for each try of a transfer.
+pub const POLLS: u32 = 2;
+
 /// How a run ended.
 #[repr(C)]
 #[derive(Clone, Copy)]
@@ -22,13 +28,13 @@ pub struct HidRan {
     pub fault: u64,
 }
 
-/// Bit 0: the layout of each device; bit 1: a line for each poll, and for each try of a transfer.
+/// Each option has a bit of its own; the other bits do nothing.
 fn options_of(options: u32) -> Options
     ensures { result ≡ options_of options }
 {
     Options {
-        layout: options % 2 == 1,
-        trace: options / 2 % 2 == 1,
+        layout: options / LAYOUTS % 2 == 1,
+        trace: options / POLLS % 2 == 1,
     }
 }
 

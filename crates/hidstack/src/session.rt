@@ -84,13 +84,13 @@ pub extern "C" fn hidstack_open(
     ensures opened { result ≡ OK → Opens handle.old.kept descriptor.now handle.new.kept opened.new }
     ensures refused { result ≡ REFUSED
         → Refuses handle.old.kept descriptor.now handle.new.kept opened.new }
-    ensures busy { result ≡ BUSY → IsBusy handle.old.kept handle.new.kept opened.new }
+    ensures busy { result ≡ BUSY → IsBusy handle.old.kept handle.new.kept opened.old opened.new }
 {
-    *opened = nothing_opened();
     if let Some(session) = handle.take(alloc) {
         *handle = Handle::of(session);
         return BUSY;
     }
+    *opened = nothing_opened();
     match open_box(alloc, descriptor) {
         Ok(session) => {
             *opened = opened_as(&session);

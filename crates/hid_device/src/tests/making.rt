@@ -1,6 +1,6 @@
 //! Which devices there are, and why others aren't.
 
-use super::play::{act_of, config, round};
+use super::play::{act_of, config, round, rows_of};
 use crate::inputs::input_count;
 use crate::{Device, DeviceCause, DeviceFault, KEYBOARD, MOUSE};
 use hid_layout::{Cause, Layout};
@@ -86,7 +86,7 @@ fn made(alloc: Global, words: &[&str]) -> Result<String, Fail> {
 
 #[test]
 fn these_are_devices_or_not(rt: HostRuntime) -> Result<(), Fail> {
-    for row in MADE.trim().lines() {
+    for row in rows_of(MADE) {
         let (given, wanted) = row.split_once('>').unwrap_or((row, ""));
         let words: Vec<&str> = act_of(given).split_whitespace().collect(rt.alloc())?;
         let told = made(rt.alloc(), &words)?;

@@ -21,6 +21,7 @@ use hid_cells::Change;
 use hid_layout::{ControlId, ReportKind};
 use std::alloc::Global;
 use std::fmt::Write;
+use std::str::Lines;
 use std::test::Fail;
 use usb_control::{HostTransfer, Outcome, Requests, Setup};
 use usb_packet::{decode, encode};
@@ -308,9 +309,14 @@ fn wrong_of(alloc: Global, device: &mut Device, row: &str) -> Result<Option<Stri
     Ok(Some(format!(in alloc; "{row}, but {told}")?))
 }
 
+/// The rows of a table.
+pub fn rows_of(table: &str) -> Lines<'_> {
+    table.trim().lines()
+}
+
 /// Plays rows, a line each, and gives what is wrong with the first that is; nothing where none is.
 fn wrong_row(alloc: Global, device: &mut Device, rows: &str) -> Result<String, Fail> {
-    for row in rows.trim().lines() {
+    for row in rows_of(rows) {
         if let Some(wrong) = wrong_of(alloc, device, row)? {
             return Ok(wrong);
         }

@@ -19,14 +19,14 @@ use usb_transact::{Fate, Took};
 
 /// A device that answers with these bytes, whatever they are, and refuses what it has none for. It takes a write without data.
 #[derive(Clone, Copy)]
-struct Foreign<'a> {
+pub struct Foreign<'a> {
     configuration: &'a [u8],
     report: &'a [u8],
     answer: &'a [u8],
 }
 
 impl<'a> Foreign<'a> {
-    fn new(configuration: &'a [u8], report: &'a [u8]) -> DevControl<Foreign<'a>> {
+    pub fn new(configuration: &'a [u8], report: &'a [u8]) -> DevControl<Foreign<'a>> {
         DevControl::new(Foreign {
             configuration,
             report,
@@ -79,7 +79,7 @@ impl<'a> Requests for Foreign<'a> {
 }
 
 /// Plays a request without losses, up to its end or through so many tries: what its last try tells.
-fn asked<R: Requests>(
+pub fn asked<R: Requests>(
     host: &mut HostDevice,
     control: &mut DevControl<R>,
     request: &Request,

@@ -1,10 +1,14 @@
 //! Reports of more than a packet at a ready host (USB 2.0, 5.7.3, 8.6 and 9.4.5; HID 1.11, 5.6): what came of a report is kept
-//! until it ends, and forgotten where it is refused. What is wanted was worked out by hand from the descriptors.
+//! until it ends, and forgotten where it is refused and where a clear is done. What is wanted was worked out by hand from the
+//! descriptors.
 
+use super::foreign::{Foreign, asked};
 use super::{data, ready};
 use crate::{HostDevice, StackFault};
+use hid_requests::Request;
 use hid_usages::ReportFault;
 use std::test::Fail;
+use usb_control::Progress;
 use usb_transact::Took;
 
 /// 100 values of a byte each, in a report without an ID.
@@ -88,24 +92,47 @@ const ROWS: [Row; 9] = [
     ]),
 ];
 
-/// Whether a host that is ready for this descriptor tells so of each of these data.
-fn tells_all(
+/// Whether a host tells so of each of these data.
+fn tells_each(
     rt: &HostRuntime,
-    descriptor: &[u8],
+    host: &mut HostDevice,
     packets: &[(bool, u8, usize, Told)],
 ) -> Result<bool, Fail> {
-    let mut host = ready(rt, descriptor)?;
     for (one, first, count, told) in packets {
         let sent = Sent {
             one: *one,
             first: *first,
             count: *count,
         };
-        if !tells(rt, &mut host, &sent, told)? {
+        if !tells(rt, host, &sent, told)? {
             return Ok(false);
         }
     }
     Ok(true)
+}
+
+/// The same of a host that is ready for this descriptor.
+fn tells_all(
+    rt: &HostRuntime,
+    descriptor: &[u8],
+    packets: &[(bool, u8, usize, Told)],
+) -> Result<bool, Fail> {
+    let mut host = ready(rt, descriptor)?;
+    tells_each(rt, &mut host, packets)
+}
+
+/// The same, with a clear that is done behind the first of two lists.
+fn tells_around_a_clear(
+    rt: &HostRuntime,
+    descriptor: &[u8],
+    before: &[(bool, u8, usize, Told)],
+    after: &[(bool, u8, usize, Told)],
+) -> Result<bool, Fail> {
+    let mut host = ready(rt, descriptor)?;
+    let mut control = Foreign::new(&[], &[]);
+    let told = tells_each(rt, &mut host, before)?;
+    let cleared = asked(&mut host, &mut control, &Request::Clear)?;
+    Ok(told && cleared == Progress::Done && tells_each(rt, &mut host, after)?)
 }
 
 /// What the first row is about that isn't so.
@@ -121,5 +148,17 @@ fn first_wrong(rt: &HostRuntime, rows: &[Row]) -> Result<Option<&'static str>, F
 #[test]
 fn a_report_is_read_once_it_is_whole(rt: HostRuntime) -> Result<(), Fail> {
     assert_eq!(rt; first_wrong(&rt, &ROWS)?, None);
+    Ok(())
+}
+
+/// Behind it DATA0 comes again (USB 2.0, 9.4.5), with the first packet of a report.
+#[test]
+fn a_clear_forgets_what_came_of_a_report(rt: HostRuntime) -> Result<(), Fail> {
+    let before = [(false, 7, 64, Told::Fresh(0))];
+    let after = [
+        (false, 7, 64, Told::Fresh(0)),
+        (true, 0, 36, Told::Fresh(1)),
+    ];
+    assert!(rt; tells_around_a_clear(&rt, &LONG, &before, &after)?);
     Ok(())
 }

@@ -1,6 +1,6 @@
 //! What a host reads of descriptors: a keyboard's, and those bytes with some of them changed.
 use super::keyboard::{CONFIG, DEVICE};
-use super::text::{bytes_of, parts};
+use super::text::{bytes_of, parts, rows_of};
 use arrayvec::ArrayVec;
 use std::alloc::Global;
 use std::fmt::Write;
@@ -75,7 +75,7 @@ fn changed(words: &str) -> Result<[u8; 34], Fail> {
 
 #[test]
 fn a_configuration_is_read_or_has_its_first_fault(rt: HostRuntime) -> Result<(), Fail> {
-    for row in CHANGED.trim().lines() {
+    for row in rows_of(CHANGED) {
         let (given, wanted) = parts(row);
         let told = configuration(rt.alloc(), &changed(given)?)?;
         assert_eq!(rt; told.as_str(), wanted, "{row}");
@@ -131,7 +131,7 @@ fn joined(names: &str) -> ArrayVec<u8, 64> {
 
 #[test]
 fn the_first_hid_interface_is_read_as_far_as_the_next(rt: HostRuntime) -> Result<(), Fail> {
-    for row in ORDERS.trim().lines() {
+    for row in rows_of(ORDERS) {
         let (given, wanted) = parts(row);
         let told = configuration(rt.alloc(), &joined(given))?;
         assert_eq!(rt; told.as_str(), wanted, "{row}");
@@ -178,7 +178,7 @@ fn device(alloc: Global, count: usize, kind: u8) -> Result<String, Fail> {
 
 #[test]
 fn a_device_is_read_from_its_18_bytes(rt: HostRuntime) -> Result<(), Fail> {
-    for row in DEVICES.trim().lines() {
+    for row in rows_of(DEVICES) {
         let (given, wanted) = parts(row);
         let (count, kind) = given.split_once(' ').unwrap_or((given, ""));
         let told = device(rt.alloc(), count.parse()?, u8::from_str_radix(kind, 16)?)?;

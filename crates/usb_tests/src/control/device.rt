@@ -1,6 +1,6 @@
 //! The device's end against packets of any host.
 use super::keyboard::Keyboard;
-use super::text::{bytes_of, hex, parts};
+use super::text::{bytes_of, hex, parts, rows_of};
 use arrayvec::ArrayVec;
 use std::alloc::Global;
 use std::fmt::Write;
@@ -105,7 +105,7 @@ fn heard(alloc: Global, words: &str) -> Result<String, Fail> {
 
 #[test]
 fn any_packet_is_answered_or_ignored(rt: HostRuntime) -> Result<(), Fail> {
-    for row in HEARD.trim().lines() {
+    for row in rows_of(HEARD) {
         let (given, wanted) = parts(row);
         let told = heard(rt.alloc(), given)?;
         assert_eq!(rt; told.trim(), wanted, "{row}");

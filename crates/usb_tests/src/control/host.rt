@@ -1,5 +1,5 @@
 //! The host's end against packets of a foreign device.
-use super::text::{begin, bytes_of, hex, outcome, parts, request_of};
+use super::text::{begin, bytes_of, hex, outcome, parts, request_of, rows_of};
 use arrayvec::ArrayVec;
 use std::alloc::Global;
 use std::test::Fail;
@@ -36,7 +36,7 @@ fn fields(alloc: Global, bytes: &[u8; 8]) -> Result<String, Fail> {
 
 #[test]
 fn a_request_is_spelled_by_eight_bytes(rt: HostRuntime) -> Result<(), Fail> {
-    for row in SPELLED.trim().lines() {
+    for row in rows_of(SPELLED) {
         let (given, wanted) = parts(row);
         let told = fields(rt.alloc(), &request_of(given))?;
         assert_eq!(rt; told.as_str(), wanted, "{row}");
@@ -116,7 +116,7 @@ fn taken(alloc: Global, words: &str) -> Result<String, Fail> {
 
 #[test]
 fn foreign_packets_are_taken_or_refused(rt: HostRuntime) -> Result<(), Fail> {
-    for row in FOREIGN.trim().lines() {
+    for row in rows_of(FOREIGN) {
         let (given, wanted) = parts(row);
         let told = taken(rt.alloc(), given)?;
         assert_eq!(rt; told.trim(), wanted, "{row}");
@@ -165,7 +165,7 @@ fn sent(alloc: Global, transfer: &HostTransfer) -> Result<String, Fail> {
 /// The first try in which something else is sent, and that; or how the transfer ends.
 fn sends(alloc: Global, request: &str, rows: &str) -> Result<String, Fail> {
     let mut transfer = begin(alloc, 5, &request_of(request), &[1, 2, 3, 4, 5, 6, 7, 8, 9])?;
-    for row in rows.trim().lines() {
+    for row in rows_of(rows) {
         let (wanted, came) = row.split_once('<').unwrap_or((row, ""));
         let told = sent(alloc, &transfer)?;
         if told.trim() != wanted.trim() {

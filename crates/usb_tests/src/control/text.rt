@@ -6,6 +6,7 @@ use super::keyboard::{CONFIG, DEVICE, REPORT};
 use arrayvec::ArrayVec;
 use std::alloc::Global;
 use std::fmt::Write;
+use std::str::Lines;
 use std::test::Fail;
 use usb_control::{ControlFault, HostTransfer, Outcome, Setup};
 use usb_packet::MAX_ADDRESS;
@@ -17,6 +18,11 @@ pub fn hex(alloc: Global, bytes: &[u8]) -> Result<String, Fail> {
         write!(text, "{byte:02X} ")?;
     }
     Ok(text)
+}
+
+/// The rows of a table.
+pub fn rows_of(table: &str) -> Lines<'_> {
+    table.trim().lines()
 }
 
 /// What a row gives and what is wanted: it has a name, `: `, what is given, `>`, and what is wanted.

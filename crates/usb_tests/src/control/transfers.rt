@@ -1,6 +1,6 @@
 //! Whole transfers between both ends, under fates.
 use super::keyboard::Keyboard;
-use super::text::{begin, outcome, parts, request_of};
+use super::text::{begin, outcome, parts, request_of, rows_of};
 use std::alloc::Global;
 use std::test::Fail;
 use usb_control::{ControlFault, DevControl, HostTransfer, Outcome};
@@ -127,7 +127,7 @@ fn told(alloc: Global, words: &str) -> Result<String, Fail> {
 
 #[test]
 fn a_transfer_ends_as_it_should_whatever_is_lost(rt: HostRuntime) -> Result<(), Fail> {
-    for row in TRANSFERS.trim().lines() {
+    for row in rows_of(TRANSFERS) {
         let (given, wanted) = parts(row);
         let told = told(rt.alloc(), given)?;
         assert_eq!(rt; told.trim(), wanted, "{row}");
@@ -157,7 +157,7 @@ fn ends(alloc: Global, request: &str) -> Result<String, Fail> {
 
 #[test]
 fn some_requests_are_refused_before_set_configuration(rt: HostRuntime) -> Result<(), Fail> {
-    for row in STATES.trim().lines() {
+    for row in rows_of(STATES) {
         let (given, wanted) = parts(row);
         let told = ends(rt.alloc(), given)?;
         assert_eq!(rt; told.as_str(), wanted, "{row}");

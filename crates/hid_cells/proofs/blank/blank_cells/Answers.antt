@@ -1,7 +1,7 @@
-use Rattle.std.proofs.Common.{◌∙◌, arith}
+use Rattle.std.proofs.Common.{◌∙◌, arith, sym, subst}
 use Rattle.hid_layout.specs.Controls.{items_of}
-use Rattle.hid_cells.specs.Cells.{blank_cell}
-use Rattle.hid_cells.proofs.BlankLemmas.{made_more, made_all}
+use Rattle.hid_cells.specs.Cells.{FitsView, blank_cell}
+use Rattle.hid_cells.proofs.BlankLemmas.{initial_fits, made_more, made_all}
 use Rattle.hid_cells.proofs.blank.blank_cells.Goals as goal
 
 pub loop-i-preserved : goal.loop-i-preserved
@@ -10,3 +10,8 @@ loop-i-preserved c =
 
 pub returns-clause-blank : goal.returns-clause-blank
 returns-clause-blank c = made_all blank_cell (items_of c.args.layout.now) c.loop-i.i c.loop-i.cells.items (omega arith) c.loop-i.invariant
+
+pub returns-clause-fits : goal.returns-clause-fits
+returns-clause-fits c =
+    subst (FitsView (items_of c.args.layout.now)) (sym (made_all blank_cell (items_of c.args.layout.now) c.loop-i.i c.loop-i.cells.items (omega arith) c.loop-i.invariant))
+    (initial_fits c.args.layout.now c.item_count.ensures.layout)

@@ -8,8 +8,8 @@ use Rattle.hid_parts.proofs.EncodingLemmas.{encoded, other_passed, shows_put, wh
 use Rattle.hid_parts.proofs.ReportLemmas.{can_send_all, only_one, bytes_are_of_part}
 use Rattle.hid_parts.proofs.encode.encode_report.Goals as goal
 
-pub bare_report-bytes-requires-clause-report : goal.bare_report-bytes-requires-clause-report
-bare_report-bytes-requires-clause-report g c = input_there c.args.layout.now c.args.report c.requires.input
+pub bare_report-requires-clause-report : goal.bare_report-requires-clause-report
+bare_report-requires-clause-report g c = input_there c.args.layout.now c.args.report c.requires.input
 
 pub show_item-requires-clause-part : goal.show_item-requires-clause-part
 show_item-requires-clause-part g c = can_send_all c.args.layout.now c.args.report c.args.shown.now c.plan_of-places.ensures.layout c.requires.input c.requires.fits

@@ -9,4 +9,4 @@ abbrev pub invariant-loop-i : goal.invariant-loop-i
 invariant-loop-i l =
     string_bytes l.text
     ≡ string_bytes l.fn.text
-    ++ joined_below l.i (λ i. field_lines l.r i (slice_get l.layout.items i) (slice_get l.layout.entries i))
+    ++ joined_below l.i (λ i. field_lines l.layout l.r i (slice_get l.layout.items i) (slice_get l.layout.entries i))

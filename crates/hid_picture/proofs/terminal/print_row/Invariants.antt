@@ -9,4 +9,4 @@ abbrev pub invariant-loop-k : goal.invariant-loop-k
 invariant-loop-k l =
     string_bytes l.text
     ≡ (string_bytes l.fn.text ++ line_above l.byte l.frames l.pieces)
-    ++ joined_below l.k (row_line l.layout l.r l.byte l.frames l.pieces)
+    ++ joined_below l.k (row_line l.layout l.r l.bytes l.byte l.frames l.pieces)

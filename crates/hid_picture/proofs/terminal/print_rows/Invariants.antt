@@ -7,4 +7,4 @@ use Rattle.hid_picture.proofs.terminal.print_rows.Given as goal
 -- the rows so far
 abbrev pub invariant-loop-byte : goal.invariant-loop-byte
 invariant-loop-byte l =
-    string_bytes l.text ≡ string_bytes l.fn.text ++ joined_below l.byte (row_text l.layout l.r l.frames l.pieces)
+    string_bytes l.text ≡ string_bytes l.fn.text ++ joined_below l.byte (row_text l.layout l.r l.bytes l.frames l.pieces)

@@ -13,7 +13,7 @@ use Rattle.hid_recording.proofs.runs.play_lines.Goals as goal
 pub returns-then-is_err-clause-ran : goal.returns-then-is_err-clause-ran
 returns-then-is_err-clause-ran g c =
     let before = c.loop.invariant.0 in
-    cut_run c.args.options _ _ _ _ _ before.0 before.1 (place_of c.loop.recording) c.fault.result before.2 before.3 before.4 c.flush.ensures.bytes c.fault.ensures.1 c.fault.ensures.0
+    cut_run c.args.options _ _ _ _ _ before.0 before.1 (place_of c.loop.recording) c.fault.result before.2 before.3 before.4 c.flush.ensures.bytes c.fault.ensures.1 c.fault.ensures.0 c.fault.ensures.2
 
 pub returns-in-Ok-eq0-clause-ran : goal.returns-in-Ok-eq0-clause-ran
 returns-in-Ok-eq0-clause-ran g c =
@@ -35,7 +35,7 @@ unfolding ending_of
 returns-in-Err-2-clause-ran g c =
     let before = c.loop.invariant.0 in
     let kept = kept_written _ _ _ before.1 before.3 c.flush.ensures.bytes in
-    outside_run c.args.options _ _ _ _ before.0 before.1 (place_of c.loop.recording) c.fault-in-Err-2.result before.2 kept before.4 (rw c.fault-in-Err-2.ensures.1 refl) c.fault-in-Err-2.ensures.0
+    outside_run c.args.options _ _ _ _ before.0 before.1 (place_of c.loop.recording) c.fault-in-Err-2.result before.2 kept before.4 (rw c.fault-in-Err-2.ensures.1 refl) c.fault-in-Err-2.ensures.0 c.fault-in-Err-2.ensures.2
 
 pub loop-preserved : goal.loop-preserved
 loop-preserved g c =
@@ -60,10 +60,10 @@ pub returns-clause-ran : goal.returns-clause-ran
 unfolding ending_of
 returns-clause-ran g c =
     let before = c.loop.invariant.0 in
-    outside_run c.args.options _ _ _ _ before.0 before.1 (place_of c.loop.recording) c.fault-2.result before.2 before.3 before.4 (rw c.fault-2.ensures.1 refl) c.fault-2.ensures.0
+    outside_run c.args.options _ _ _ _ before.0 before.1 (place_of c.loop.recording) c.fault-2.result before.2 before.3 before.4 (rw c.fault-2.ensures.1 refl) c.fault-2.ensures.0 c.fault-2.ensures.2
 
 pub returns-in-Err-clause-ran : goal.returns-in-Err-clause-ran
-returns-in-Err-clause-ran g c = never_begun c.args.options _ _ _ refl c.in-Err.ensures.memory
+returns-in-Err-clause-ran g c = never_begun c.args.options _ _ _ refl c.in-Err.ensures.memory c.none.ensures
 
 -- no byte of the recording has come
 abbrev first_place : Session → Place

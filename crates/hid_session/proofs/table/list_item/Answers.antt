@@ -1,9 +1,9 @@
-use Rattle.std.proofs.Common.{◌≡◌, ◌++◌, [], None, length, arith, sym}
+use Rattle.std.proofs.Common.{◌≡◌, None, length, sym}
 use Rattle.std.specs.Prelude.{slice_get}
 use Rattle.std.proofs.lemmas.Bool.{ltb-false}
 use Rattle.std.proofs.lemmas.List.{append-nil}
 use Rattle.std.proofs.lemmas.Option.{slice_get_past}
-use Rattle.hid_session.specs.Tables.{elements_of_item, elements_in}
+use Rattle.hid_session.specs.Tables.{elements_of_item}
 use Rattle.hid_session.proofs.table.list_item.Goals as goal
 
 -- past the last item there are no elements

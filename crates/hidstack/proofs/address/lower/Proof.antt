@@ -40,7 +40,7 @@ use Rattle.std_alloc.proofs.boxed.Box.into_raw.Met as raw_met
 use Rattle.std_heap.proofs.GlobalAllocator.TheImpl.Met as allocator
 use Rattle.std_heap.specs.contracts.GlobalAllocator.TheImpl.{ghosts, dict}
 use Rattle.hidstack.specs.Held.{block_right}
-use Rattle.hidstack.proofs.Steps.{Heap, Passed, passed_laws, undropped, on_heap, At, alone, address_good, address_in}
+use Rattle.hidstack.proofs.Steps.{Heap, Passed, passed_laws, undropped, on_heap, alone, address_good, address_in}
 use Rattle.hidstack.specs.contracts.address.lower as F
 use Rattle.hidstack.specs.contracts.address.lower.Key.{name as #self}
 use Rattle.hidstack.proofs.address.lower.Statement.{statement}

@@ -33,7 +33,7 @@ use Rattle.core.proofs.alloc.Shapes.{after}
 use Rattle.core.proofs.atomic.Steps.{Ptr-Good, fm}
 use Rattle.core.proofs.cell.Inside.{Good}
 use Rattle.std_alloc.specs.Box.Ownership.{box_owns}
-use Rattle.std_alloc.proofs.BoxSteps.Form.{B, word, box_typed}
+use Rattle.std_alloc.proofs.BoxSteps.Form.{B, box_typed}
 use Rattle.std_alloc.proofs.BoxSteps.Steps.{box_out, box_in}
 use Rattle.std_alloc.specs.contracts.boxed.Box as box
 use Rattle.std_alloc.specs.contracts.boxed.Box.from_raw as Raw

@@ -15,10 +15,10 @@ invariant_of-self c =
     let frames : length c.self.inside.frames.items ≡ length c.args.self.now.standing.frames = ap (λ (core : CoreState). length core.standing.frames) c.self.view_is in
     let going : c.arm.new.self.halted ≡ false = ap (λ (pipe : DevPipeState). pipe.halted) c.arm.ensures ∙ ap (λ (core : CoreState). core.halted) c.self.view_is ∙ c.requires.going in
     let part : List ℕ = part_bytes c.self.inside.layout c.args.report c.shown.new.parts in
-    let is : c.encode_report-self-inside.result.items ≡ part = c.encode_report-self-inside.ensures.bytes in
-    let are_bytes : AreBytes c.encode_report-self-inside.result.items = subst AreBytes c.deref.ensures.0 c.are_bytes.ensures in
-    let shows : AreBytesOf c.self.inside.layout c.shown.new.parts c.args.report c.encode_report-self-inside.result.items
-    = record { are_bytes = are_bytes; shows = c.encode_report-self-inside.ensures.shows; only = c.encode_report-self-inside.ensures.only } in
+    let is : c.encode_report.new.bytes.items ≡ part = c.encode_report.ensures.bytes in
+    let are_bytes : AreBytes c.encode_report.new.bytes.items = subst AreBytes c.deref.ensures.0 c.are_bytes.ensures in
+    let shows : AreBytesOf c.self.inside.layout c.shown.new.parts c.args.report c.encode_report.new.bytes.items
+    = record { are_bytes = are_bytes; shows = c.encode_report.ensures.shows; only = c.encode_report.ensures.only } in
     let sent : c.piece_of.result.now ≡ piece_of part 0 = c.piece_of.ensures.piece ∙ ap (λ (bytes : List ℕ). piece_of bytes 0) (c.deref-2.ensures.0 ∙ is) in
     record {
       sound = record {

@@ -4,7 +4,7 @@ use Rattle.std.proofs.lemmas.Bool.{eqb-true, eqb-false}
 use Rattle.std.proofs.lemmas.List.{nil_from_length}
 use Rattle.hid_recording.specs.Player.{session_of}
 use Rattle.hid_recording.specs.Recording.{place_of}
-use Rattle.hid_recording.proofs.PlaceLemmas.{last_line_told, last_line_stops, no_last_line}
+use Rattle.hid_recording.proofs.PlaceLemmas.{stopped_at, last_line_told, last_line_stops, no_last_line}
 use Rattle.hid_recording.proofs.recording.Recording.finish.Goals as goal
 
 pub returns-then-is_empty-clause-ran : goal.returns-then-is_empty-clause-ran
@@ -13,7 +13,8 @@ returns-then-is_empty-clause-ran g c = ([], Appends-nil _, no_last_line (place_o
 pub returns-in-Err-clause-ran : goal.returns-in-Err-clause-ran
 returns-in-Err-clause-ran g c =
     let told = rw c.as_slice.ensures.value at c.in-Err.ensures in
-    (told.0, told.1, last_line_stops (place_of c.args.self.now) (session_of c.line.new.self) told.0 c.in-Err.cause c.fault.result c.args.self.now.unbroken (omega (arith, eqb-false _ _ (sym c.if-is_empty.ensures))) told.2 c.fault.ensures.0 c.fault.ensures.1)
+    let at = stopped_at (session_of c.args.self.now.player) c.args.self.now.lines c.summary-played.result c.stopped.result c.summary-played.ensures.lines c.summary-played.ensures.counts c.stopped.ensures.0 c.stopped.ensures.2 in
+    (told.0, told.1, last_line_stops (place_of c.args.self.now) (session_of c.line.new.self) told.0 c.in-Err.cause c.stopped.result c.args.self.now.unbroken (omega (arith, eqb-false _ _ (sym c.if-is_empty.ensures))) told.2 at.0 c.stopped.ensures.1 at.1)
 
 pub returns-clause-ran : goal.returns-clause-ran
 returns-clause-ran g c =

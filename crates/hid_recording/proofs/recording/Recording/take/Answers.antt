@@ -10,5 +10,5 @@ returns-then-is_full-clause-taken g c = (
   [],
   Appends-nil _,
   λ more.
-      long_stops (place_of c.args.self.now) c.args.byte more c.fault.result c.args.self.now.unbroken (ne_eqb c.args.byte 10 c.if-byte-eq-LINE_FEED.false) (omega (arith, eqb-true _ _ (sym c.if-is_full.ensures.value))) c.fault.ensures.0 c.fault.ensures.1,
+      long_stops (place_of c.args.self.now) c.args.byte more c.fault.result c.args.self.now.unbroken (ne_eqb c.args.byte 10 c.if-byte-eq-LINE_FEED.false) (omega (arith, eqb-true _ _ (sym c.if-is_full.ensures.value))) c.fault.ensures.0 c.fault.ensures.1 c.fault.ensures.2,
 )

@@ -41,12 +41,12 @@ returns-in-Move g c =
 
 pub returns-in-Poll : goal.returns-in-Poll
 unfolding Once
-returns-in-Poll g c = rw c.in-Poll.is c.step-in-Poll.ensures
+returns-in-Poll g c = rw c.in-Poll.is c.poll.ensures
 
 pub returns-in-Control : goal.returns-in-Control
 unfolding Once
-returns-in-Control g c = rw c.in-Control.is c.step-in-Control.ensures
+returns-in-Control g c = rw c.in-Control.is c.control.ensures
 
 pub returns-in-Begin : goal.returns-in-Begin
 unfolding Once
-returns-in-Begin g c = rw c.in-Begin.is (rw c.copied-request.ensures at c.step-in-Begin.ensures)
+returns-in-Begin g c = rw c.in-Begin.is c.begin.ensures

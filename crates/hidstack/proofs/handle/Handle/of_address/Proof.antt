@@ -18,7 +18,7 @@ use Rattle.std.specs.Prelude.{Some}
 use Rattle.std.proofs.raw_atomic.Walks.{proved_at}
 use Rattle.core.proofs.atomic.Steps.{Ptr-Good}
 use Rattle.hidstack.specs.Held.{held}
-use Rattle.hidstack.proofs.Steps.{Session, Handle, At, alone, address_good, handle_good, address_out, handle_in}
+use Rattle.hidstack.proofs.Steps.{Session, At, alone, address_good, handle_good, address_out, handle_in}
 use Rattle.hidstack.specs.contracts.handle.Handle.of_address as F
 use Rattle.hidstack.specs.contracts.handle.Handle.of_address.Key.{name as #self}
 use Rattle.hidstack.proofs.handle.Handle.of_address.Statement.{statement}

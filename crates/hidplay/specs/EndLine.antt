@@ -1,0 +1,43 @@
+-- The line of JSON that tells what ended a file early (RFC 8259; the members: our choice, docs/RECORDINGS.md).
+use Rattle.std.specs.Prelude.{ℕ, ◌+◌, ◌-◌, ◌^◌, min, List, [], ◌∷◌, ◌++◌, codes}
+use Rattle.std.specs.Fmt.{decimal}
+use Rattle.json.specs.Token.{Token, begin_object, end_object, key, string, number}
+use Rattle.hid_recording.specs.declared.fault.RecordingFault.{RecordingFault}
+use Rattle.hid_recording.specs.declared.fault.Cause.{Cause}
+use Rattle.hid_recording.specs.declared.fault.Cause.TheVariants.{Refused, LineTooLong, Read, Write, Memory, TooManyReads, Unended}
+use Rattle.hid_recording.specs.Refusals.{cause_text}
+
+-- one more, where what ended the file is a refusal; the count stops at the greatest number of 64 bits
+abbrev pub with_cause : Cause → ℕ → ℕ
+with_cause (Refused refusal) count = min (count + 1) (2 ^ 64 - 1)
+with_cause LineTooLong count = min (count + 1) (2 ^ 64 - 1)
+with_cause Unended count = min (count + 1) (2 ^ 64 - 1)
+with_cause Read count = count
+with_cause Write count = count
+with_cause Memory count = count
+with_cause TooManyReads count = count
+
+-- how many lines were refused, with what ended the file
+abbrev pub refusals_of : RecordingFault → ℕ
+refusals_of fault = with_cause fault.cause fault.played.refused
+
+-- "NAME":N
+abbrev pub count_tokens : List ℕ → ℕ → List Token
+count_tokens name count = key name ∷ number (decimal count) ∷ []
+
+-- "line":N,"ended":"CODE: WORDS"
+abbrev pub cause_tokens : ℕ → List ℕ → List Token
+cause_tokens line words = key (codes "line") ∷ number (decimal line) ∷ key (codes "ended") ∷ string words ∷ []
+
+-- "descriptors":N,"reports":N,"events":N,"refusals":N
+abbrev pub played_tokens : RecordingFault → List Token
+played_tokens fault =
+    key (codes "descriptors") ∷ number (decimal fault.played.descriptors)
+    ∷ key (codes "reports") ∷ number (decimal fault.played.reports)
+    ∷ key (codes "events") ∷ number (decimal fault.played.events)
+    ∷ key (codes "refusals") ∷ number (decimal (refusals_of fault)) ∷ []
+
+-- all of it, as an object
+unfoldable pub end_tokens : RecordingFault → List Token
+end_tokens fault =
+    begin_object ∷ cause_tokens fault.line (cause_text fault.cause) ++ played_tokens fault ++ end_object ∷ []

@@ -1,0 +1,41 @@
+//! The codes of what is refused, as `--help` tells them.
+
+/// Each code with its words.
+#[rattlefmt::skip]
+pub const CODES: &str = "What is refused is told in its place, with its line, and the rest goes on:
+  R1: no line of a recording
+  R3: a byte isn't two hex digits
+  R4: the count isn't that of the bytes
+  R5: the device isn't a number from 0 to 15
+  R6: the time isn't digits and points
+  R7: the device has no descriptor
+  R12: no empty line ends the dump before
+  R13: a dump of over 4096 bytes
+  R14: dumps of over 16 interfaces
+  R15: a part of the report may be missing
+  U8: the report is too short
+  U9: the device has no such Input report
+and, with the byte at which a report descriptor is refused:
+  L1: the descriptor ends in the middle of an item
+  L2: a descriptor of over 4096 bytes
+  L3: a Pop without a Push
+  L4: over 8 open Pushes
+  L5: over 16 open collections
+  L6: an End Collection without its Collection
+  L7: a Collection is open at the end
+  L8: a Report ID of 0, or over 255
+  L9: some items have a Report ID, and some have none
+  L10: no number is in the range of a field
+  L11: a data field of 0 bits, or over 32
+  L12: a Usage Minimum over its Maximum, or on another page
+  L13: a Usage Minimum or Maximum without the other
+  L14: a Delimiter
+  L15: a report of over 256 bytes
+  L16: too many items, fields, usages or Report IDs
+These end a file, and R9 and the first refusal with --strict all of them:
+  R2: a line of over 16384 bytes
+  R8: the recording can't be read
+  R9: what it tells can't be written
+  R10: memory was wanting
+  R11: the end didn't come in 1000000000000 reads
+  R12: no empty line ends the last dump";

@@ -1,0 +1,81 @@
+//! The line of JSON that tells what ended a file early, and what was played of it.
+
+ghost use Rattle.std.specs.Prelude.{◌≡◌, ◌++◌, IfOk, OnOk, string_bytes};
+ghost use Rattle.hidplay.specs.EndLine.{count_tokens, cause_tokens, played_tokens, end_tokens, refusals_of};
+ghost use Rattle.hid_recording.specs.EventJson.{json_text};
+ghost use Rattle.hid_recording.specs.Refusals.{cause_text};
+
+use hid_recording::{Cause, RecordingFault};
+use json::Writer;
+use std::alloc::{AllocError, Global};
+
+/// How many lines were refused, with what ended the file if it is a refusal.
+pub fn refusals_of(fault: &RecordingFault) -> u64
+    ensures { result ≡ refusals_of fault.now }
+{
+    match fault.cause {
+        Cause::Refused(_) | Cause::LineTooLong | Cause::Unended => {
+            fault.played.refused.saturating_add(1)
+        }
+        Cause::Read | Cause::Write | Cause::Memory | Cause::TooManyReads => fault.played.refused,
+    }
+}
+
+/// A number with its name.
+fn put_count(json: &mut Writer, name: &str, count: u64) -> Result<(), AllocError>
+    ensures tokens { OnOk result (json.new.tokens ≡ json.old.tokens ++ count_tokens name.now count) }
+    ensures before { json.new.before ≡ json.old.before }
+{
+    json.key(name)?;
+    json.u64(count)
+}
+
+/// Where and why the file ended.
+fn put_cause(json: &mut Writer, line: u64, words: &str) -> Result<(), AllocError>
+    ensures tokens { OnOk result (json.new.tokens ≡ json.old.tokens ++ cause_tokens line words.now) }
+    ensures before { json.new.before ≡ json.old.before }
+{
+    put_count(json, "line", line)?;
+    json.key("ended")?;
+    json.string(words)
+}
+
+/// What was played of it.
+fn put_played(json: &mut Writer, fault: &RecordingFault) -> Result<(), AllocError>
+    ensures tokens { OnOk result (json.new.tokens ≡ json.old.tokens ++ played_tokens fault.now) }
+    ensures before { json.new.before ≡ json.old.before }
+{
+    put_count(json, "descriptors", fault.played.descriptors)?;
+    put_count(json, "reports", fault.played.reports)?;
+    put_count(json, "events", fault.played.events)?;
+    put_count(json, "refusals", refusals_of(fault))
+}
+
+/// All of it, as an object.
+fn put_end(json: &mut Writer, fault: &RecordingFault, words: &str) -> Result<(), AllocError>
+    requires { words.now ≡ cause_text fault.now.cause }
+    ensures tokens { OnOk result (json.new.tokens ≡ json.old.tokens ++ end_tokens fault.now) }
+    ensures before { json.new.before ≡ json.old.before }
+{
+    json.begin_object()?;
+    put_cause(json, fault.line, words)?;
+    put_played(json, fault)?;
+    json.end_object()
+}
+
+/// `{"line":N,"ended":"CODE: WORDS","descriptors":..,"reports":..,"events":..,"refusals":..}`, and the end of the line.
+pub fn end_line(alloc: Global, fault: &RecordingFault) -> Result<Vec<u8>, AllocError>
+    ensures { IfOk result (λ line. line.items ≡ json_text (end_tokens fault.now)) }
+{
+    let cause = fault.cause;
+    let words = format!(in alloc; "{cause}")?;
+    let mut json = Writer::new(Vec::new(alloc));
+    match put_end(&mut json, fault, words.as_str()) {
+        Ok(()) => {
+            let mut line = json.into_inner();
+            line.push(b'\n')?;
+            Ok(line)
+        }
+        Err(error) => Err(error),
+    }
+}
