@@ -1,4 +1,6 @@
-"""The repository's crates and its must-fail edits, and copies of both in a folder of their own.
+"""The repository's crates and its wrong bodies, and copies of both in a folder of their own.
+
+The gate tries those of must-fail/; the further ones of wrong-bodies/ are tried by `make refusals` alone.
 
 Nothing here writes to the work tree: an edit is applied in a copy, which goes when the tool ends."""
 import os
@@ -10,6 +12,7 @@ import tempfile
 
 ROOT = os.path.dirname(os.path.dirname(os.path.abspath(__file__)))
 SOURCES = ("src", "specs", "proofs")
+EDITS = ("must-fail", "wrong-bodies")
 
 
 def text_of(path):
@@ -44,10 +47,10 @@ def above(crate, known):
 class Edit:
     """A wrong body: texts of files, each in place of another that stands there once."""
 
-    def __init__(self, crate, name):
-        self.crate, self.name, self.pairs = crate, name, []
+    def __init__(self, crate, file):
+        self.crate, self.name, self.pairs = crate, os.path.basename(file).removesuffix(".edit"), []
         path = old = ""
-        for line in text_of(f"{ROOT}/crates/{crate}/must-fail/{name}.edit").splitlines():
+        for line in text_of(f"{ROOT}/crates/{crate}/{file}").splitlines():
             if line.startswith("file: "):
                 path = line[len("file: "):].strip()
             elif line.startswith("old: "):
@@ -62,9 +65,9 @@ class Edit:
         """The texts of the files that it changes, by path; or None where it does not apply."""
         texts = {}
         for path, old, new in self.pairs:
-            if path not in texts:
+            if path not in texts and os.path.isfile(f"{folder}/{path}"):
                 texts[path] = text_of(f"{folder}/{path}")
-            if texts[path].count(old) != 1:
+            if texts.get(path, "").count(old) != 1:
                 return None
             texts[path] = texts[path].replace(old, new)
         return texts or None
@@ -81,9 +84,9 @@ class Edit:
 
 
 def edits_of(crate):
-    folder = f"{ROOT}/crates/{crate}/must-fail"
-    names = sorted(os.listdir(folder)) if os.path.isdir(folder) else []
-    return [Edit(crate, it[: -len(".edit")]) for it in names if it.endswith(".edit")]
+    top = f"{ROOT}/crates/{crate}"
+    files = [f"{it}/{name}" for it in EDITS if os.path.isdir(f"{top}/{it}") for name in os.listdir(f"{top}/{it}")]
+    return sorted((Edit(crate, it) for it in files if it.endswith(".edit")), key=lambda it: it.name)
 
 
 def edits_named(words, known):
@@ -93,10 +96,10 @@ def edits_named(words, known):
         crate, _, name = word.rstrip("/").removeprefix("crates/").partition("/")
         if crate not in known:
             sys.exit(f"no crate {crate} stands in crates.txt")
-        name = name.removeprefix("must-fail/").removesuffix(".edit")
+        name = os.path.basename(name).removesuffix(".edit")
         those = [it for it in edits_of(crate) if name in ("", it.name)]
         if name and not those:
-            sys.exit(f"{crate} has no must-fail edit {name}")
+            sys.exit(f"{crate} has no wrong body {name}")
         found += those
     return found
 
