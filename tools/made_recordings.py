@@ -13,7 +13,7 @@ import subprocess
 from linux_guest import Missing
 from linux_sides import NULL, VARIABLE, Layout, usage_list
 
-MOST = 48                 # elements of a report, and steps of a recording, that are taken at most
+MOST = 48                 # elements of a report, and steps of a recording, that are taken at most; of a real device each one alone
 OURS = {
     # a hat from 0 to 7 and one from 1 to 8, both without Null State, and buttons
     "made_hats": "05 01 09 05 a1 01 09 39 15 00 25 07 75 04 95 01 81 02 09 39 15 01 25 08 81 02 05 09 19 01 29 08 15 00 25 01 75 01 95 08 81 02 c0",
@@ -81,8 +81,8 @@ def at_rest(item):
 class Reports:
     """The Input reports of a layout, by their numbers."""
 
-    def __init__(self, layout, random):
-        self.layout, self.random = layout, random
+    def __init__(self, layout, random, is_real):
+        self.layout, self.random, self.is_real = layout, random, is_real
         self.ids = [report for kind, report in layout.bits if kind == "input"]
 
     def bytes_of(self, report, numbers=()):
@@ -99,6 +99,10 @@ class Reports:
         things = list(things)
         return things if len(things) <= MOST else self.random.sample(things, MOST)
 
+    def each(self, things):
+        """All of a real device, else some."""
+        return list(things) if self.is_real else self.some(things)
+
     def elements(self, report, is_array):
         return [(item, j) for item in inputs(self.layout, report) if bool(item.flags & VARIABLE) != is_array for j in range(item.count)]
 
@@ -114,7 +118,7 @@ class Reports:
 
     def alone(self):
         for report in self.ids:
-            for item, j in self.some(self.elements(report, False)):
+            for item, j in self.each(self.elements(report, False)):
                 low, high = in_range(item)
                 yield self.bytes_of(report, {(item, j): self.random.choice([v for v in (low, high) if v != at_rest(item)] or [low])})
                 yield self.bytes_of(report)
@@ -122,7 +126,7 @@ class Reports:
     def keys_alone(self):
         for report in self.ids:
             for item in dict.fromkeys(item for item, _ in self.elements(report, True)):
-                for key in self.some(self.keys(item)):
+                for key in self.each(self.keys(item)):
                     yield self.bytes_of(report, {(item, self.random.randrange(item.count)): key})
                     yield self.bytes_of(report)
 
@@ -231,7 +235,7 @@ def made(seed, real):
     for name, descriptor in sorted({**real, **{name: bytes.fromhex(text) for name, text in OURS.items()}}.items()):
         layout = Layout(descriptor)
         for sort in SORTS:
-            reports = list(getattr(Reports(layout, random.Random("%s %s %s" % (seed, name, sort))), sort)())
+            reports = list(getattr(Reports(layout, random.Random("%s %s %s" % (seed, name, sort)), name in real), sort)())
             if reports:
                 yield "%s.%s" % (name, sort), recording(descriptor, reports)
 

@@ -49,12 +49,3 @@ pub use hid_descriptor::{
 pub use layout::Layout;
 pub use main_item::{Element, MainItem};
 pub use sent::Codes;
-
-#[cfg(test)]
-mod control_tests;
-#[cfg(test)]
-mod made_tests;
-#[cfg(test)]
-mod test_rows;
-#[cfg(test)]
-mod tests;

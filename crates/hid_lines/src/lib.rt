@@ -23,8 +23,6 @@ mod fault;
 mod line;
 mod numbers;
 mod requests;
-#[cfg(test)]
-mod tests;
 mod words;
 
 pub use fault::LineFault;

@@ -11,10 +11,6 @@ mod numbers;
 mod send;
 mod shown;
 mod snapshot;
-#[cfg(test)]
-mod snapshot_tests;
-#[cfg(test)]
-mod tests;
 
 pub use encode::{bare_report, encode_report, first_bit, is_data};
 pub use numbers::{MAX_NUMBERS, get_all};

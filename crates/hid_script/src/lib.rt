@@ -19,27 +19,13 @@
 //! of what the device lives through: law [`laws::lives_are_printed`].
 #![tactic(auto)]
 
-#[cfg(test)]
-mod device_tests;
 mod fault;
 mod fault_text;
-#[cfg(test)]
-mod flush_tests;
-#[cfg(test)]
-mod halt_tests;
 mod interpreter;
 pub mod laws;
 mod output;
-#[cfg(test)]
-mod reset_tests;
 mod runs;
 mod script;
-#[cfg(test)]
-mod stream_tests;
-#[cfg(test)]
-mod tests;
-#[cfg(test)]
-mod transfer_tests;
 mod wanted;
 
 pub use fault::{Cause, Options, ScriptFault, StepFault, Summary};

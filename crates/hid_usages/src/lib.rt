@@ -28,8 +28,3 @@ pub use hid_parts::{Shown, Snapshot, encode_report};
 pub use hid_views::{
     View, bytes_awaited, changes, changes_and_drops, element_value, input_report, laws,
 };
-
-#[cfg(test)]
-mod boot_tests;
-#[cfg(test)]
-mod view_tests;

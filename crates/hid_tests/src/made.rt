@@ -2,8 +2,8 @@
 //! descriptors and a few items again and again, each with up to three of its bytes changed. Each is laid out within the
 //! limits, or refused at a place that it has, and never for want of memory. Each run makes the same descriptors.
 
-use crate::boot::{KEYBOARD, MOUSE};
-use crate::{Cause, Layout, LayoutFault, MAX_DESCRIPTOR, MAX_ITEMS, MAX_REPORT_BYTES};
+use hid_layout::boot::{KEYBOARD, MOUSE};
+use hid_layout::{Cause, Layout, LayoutFault, MAX_DESCRIPTOR, MAX_ITEMS, MAX_REPORT_BYTES};
 use std::alloc::Global;
 use std::mem::replace;
 use std::test::Fail;

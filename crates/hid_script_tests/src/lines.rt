@@ -1,6 +1,6 @@
 //! Lines with what they say, worked out by hand from docs/SCRIPT.md.
 
-use crate::{Line, LineFault, parse_line};
+use hid_lines::{Line, LineFault, parse_line};
 use hid_descriptor::{ReportKind, Usage};
 use hid_device::Boot;
 use hid_host::Start;

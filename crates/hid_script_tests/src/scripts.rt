@@ -2,7 +2,7 @@
 //! The keyboard and the mouse are those of HID 1.11, appendix E.6 and E.10; the other descriptors, and every expected
 //! text, were worked out by hand from docs/FORMATS.md and docs/SCRIPT.md.
 
-use crate::{Options, Summary, fault_line, run};
+use hid_script::{Options, Summary, fault_line, run};
 use std::alloc::Global;
 use std::test::Fail;
 

@@ -2,7 +2,7 @@
 //! The keyboard and the mouse are those of HID 1.11, appendix E.6 and E.10; every expected text was worked out by hand from
 //! docs/SCRIPT.md.
 
-use crate::tests::{Accepted, QUIET, Refused, first_not_refused, first_wrong};
+use crate::scripts::{Accepted, QUIET, Refused, first_not_refused, first_wrong};
 use std::test::Fail;
 
 /// Scripts that run to their end.

@@ -1,7 +1,7 @@
 use Rattle.std.proofs.Common.{◌≡◌, vec_capacity}
 use Rattle.hid_layout.specs.Controls.{items_of}
 use Rattle.hid_cells.specs.Cells.{FitsView}
-use Rattle.hid_usages.proofs.view_tests.take_all.Given as goal
+use Rattle.hid_tests.proofs.views.take_all.Given as goal
 
 abbrev pub invariant-loop-report : goal.invariant-loop-report
 invariant-loop-report g l = record {

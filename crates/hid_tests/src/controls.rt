@@ -1,8 +1,8 @@
 //! The controls and codes of the HID specification's keyboard and mouse (HID 1.11, B.1, B.2 and E.10), and of short
 //! descriptors with one rule each, worked out by hand.
 
-use crate::test_rows::{descriptor_of, numbers_of, parts, rows_of};
-use crate::{Codes, ControlId, Controls, Layout, Usage};
+use crate::rows::{descriptor_of, numbers_of, parts, rows_of};
+use hid_layout::{Codes, ControlId, Controls, Layout, Usage};
 use std::alloc::Global;
 use std::test::Fail;
 

@@ -1,7 +1,7 @@
 //! In which order a run asks its reader and its writer, reads that are interrupted, and flushes that fail. Worked out by
 //! hand from docs/SCRIPT.md. A want of memory can't be had here: `make memory` refuses each allocation.
 
-use crate::{Cause, Options, ReportFault, ScriptFault, StepFault, Summary, run};
+use hid_script::{Cause, Options, ReportFault, ScriptFault, StepFault, Summary, run};
 use std::alloc::Global;
 use std::cell::RefCell;
 use std::io;

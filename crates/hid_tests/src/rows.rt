@@ -1,7 +1,7 @@
 //! Rows of the tests, a line each: a name and `: `, if it has one; a descriptor; behind `|` what is asked of its layout; and
 //! behind `>` what is wanted. A descriptor is words: bytes in hex, repeated where `*N` follows, or a descriptor's name.
 
-use crate::boot::{KEYBOARD, MOUSE};
+use hid_layout::boot::{KEYBOARD, MOUSE};
 use std::alloc::Global;
 use std::str::Lines;
 use std::test::Fail;
