@@ -58,6 +58,3 @@ pub use device::{Device, ENDPOINT};
 pub use fault::{DeviceCause, DeviceFault};
 pub use hid_layout::boot::{KEYBOARD, MOUSE};
 pub use state::Core;
-
-#[cfg(test)]
-mod tests;

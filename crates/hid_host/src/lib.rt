@@ -36,6 +36,3 @@ mod ready;
 pub use fault::{DescriptorFault, StackFault};
 pub use host::HostDevice;
 pub use phase::{HostState, Start};
-
-#[cfg(test)]
-mod tests;

@@ -45,6 +45,3 @@ pub use hid_requests::Request;
 pub use polls::poll;
 pub use rig::{MAX_DEVICES, Rig};
 pub use step::{Delivered, Step, Told};
-
-#[cfg(test)]
-mod tests;

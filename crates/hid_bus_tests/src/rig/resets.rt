@@ -5,11 +5,11 @@ use super::{
     Act, Asks, BRINGS_UP, CLEAN, Given, Row, Tells, Verdict, asked, bus_with, first_that_differs,
     is_brought_up, step_of,
 };
-use crate::{HostState, Request, Rig, RunFault, StackFault, Start, Step, Told};
 use arrayvec::ArrayVec;
 use hid_descriptor::ReportKind;
 use hid_device::{Boot, KEYBOARD, MOUSE};
 use hid_layout::ControlId;
+use hid_stack::{HostState, Request, Rig, RunFault, StackFault, Start, Step, Told};
 use hid_usages::{Change, ChangeFault};
 use std::test::Fail;
 use usb_control::{ControlFault, Progress};

@@ -2,8 +2,8 @@
 //! 1.11, 6.2.1 and 7.1). Zeros are items without meaning (6.2.2.2), so that as many as are allowed lay out no report.
 
 use super::{CONFIGURATION, Foreign, LENGTH_AT, asked};
-use crate::{DescriptorFault, HostDevice, HostState, StackFault};
 use hid_device::KEYBOARD;
+use hid_host::{DescriptorFault, HostDevice, HostState, StackFault};
 use hid_layout::{Cause, LayoutFault};
 use hid_requests::Request;
 use std::alloc::Global;

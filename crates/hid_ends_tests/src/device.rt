@@ -4,7 +4,6 @@
 mod captured;
 mod class;
 mod halts;
-mod idle;
 mod making;
 mod pieces;
 mod play;

@@ -4,7 +4,7 @@
 
 use super::foreign::{Foreign, asked};
 use super::{data, ready};
-use crate::{HostDevice, StackFault};
+use hid_host::{HostDevice, StackFault};
 use hid_requests::Request;
 use hid_usages::ReportFault;
 use std::test::Fail;

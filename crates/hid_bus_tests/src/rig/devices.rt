@@ -4,8 +4,8 @@
 use super::{
     Act, CLEAN, Given, X, X_USAGE, are_delivered_of, asked_of, attach_to, expects, step_at,
 };
-use crate::{Delivered, HostState, MAX_DEVICES, Request, Rig, StackFault, Start, Step, Told};
 use hid_device::{Boot, KEYBOARD, MOUSE};
+use hid_stack::{Delivered, HostState, MAX_DEVICES, Request, Rig, StackFault, Start, Step, Told};
 use hid_usages::ChangeFault;
 use std::test::Fail;
 use usb_control::Progress;

@@ -4,12 +4,12 @@
 ghost use Rattle.std.specs.Prelude.{IfOk};
 ghost use Rattle.hid_host.specs.Phase.{IsReady};
 
-use crate::{
+use hid_device::{Boot, Config, Device, KEYBOARD, MOUSE};
+use hid_layout::{ControlId, Usage};
+use hid_stack::{
     Delivered, HostDevice, HostState, MAX_DEVICES, Request, Rig, RunFault, StackFault, Start, Step,
     Told, poll,
 };
-use hid_device::{Boot, Config, Device, KEYBOARD, MOUSE};
-use hid_layout::{ControlId, Usage};
 use hid_usages::{Change, ChangeFault, Event, ReportFault};
 use std::test::Fail;
 use usb_control::{ControlFault, Outcome, Progress};

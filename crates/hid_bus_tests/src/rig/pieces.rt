@@ -2,9 +2,9 @@
 //! told whole or not at all, whatever comes between its pieces. What is wanted was worked out by hand from the definitions.
 
 use super::{Verdict, bus_with, is_verdict};
-use crate::{Delivered, Request, Rig, StackFault, Start, Step, Told};
 use hid_device::Boot;
 use hid_layout::{ControlId, Usage};
+use hid_stack::{Delivered, Request, Rig, StackFault, Start, Step, Told};
 use hid_usages::{Change, Event};
 use std::test::Fail;
 use usb_transact::Fate;

@@ -97,7 +97,7 @@ const SCHEDULES: [(&str, &str, &str); 13] = [
         ACK:                        D2                          >
         the next poll:              69 81 00                    > 5A
         on change alone:            ask 21 0A 00 00 00 00 00 00 >
-        4 ms:                       frames 4                    >
+        the longest idle time:      frames 1020                 >
         the next poll:              69 81 00                    > 5A
     "),
     ("frames are counted on when an idle time is set", "keyboard", "

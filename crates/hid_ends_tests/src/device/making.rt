@@ -1,9 +1,8 @@
 //! Which devices there are, and why others aren't.
 
 use super::play::{act_of, config, round, rows_of};
-use crate::inputs::input_count;
-use crate::{Device, DeviceCause, DeviceFault, KEYBOARD, MOUSE};
-use hid_layout::{Cause, Layout};
+use hid_device::{Device, DeviceCause, DeviceFault, KEYBOARD, MOUSE};
+use hid_layout::Cause;
 use std::alloc::Global;
 use std::fmt::Write;
 use std::test::Fail;
@@ -108,18 +107,5 @@ fn causes_are_printed_as_their_codes(rt: HostRuntime) -> Result<(), Fail> {
         write!(told, "{cause}, {fault}; ")?;
     }
     assert_eq!(rt; told.as_str(), "V16, V16 at 7; V17, V17; V21, V21; ");
-    Ok(())
-}
-
-/// The layout of a descriptor.
-fn layout_of(rt: &HostRuntime, descriptor: &[u8]) -> Result<Layout, Fail> {
-    Ok(Layout::parse(rt.alloc(), descriptor)?)
-}
-
-#[test]
-fn an_output_report_is_no_input_report(rt: HostRuntime) -> Result<(), Fail> {
-    let layout = layout_of(&rt, &KEYBOARD)?;
-    assert_eq!(rt; layout.reports().len(), 2);
-    assert_eq!(rt; input_count(&layout), 1);
     Ok(())
 }

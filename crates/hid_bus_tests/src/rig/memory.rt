@@ -2,9 +2,9 @@
 //! whichever growth of theirs is refused: `rt try --test --fail-alloc N` refuses the Nth one of each.
 
 use super::{attach_to, changes, config};
-use crate::{Delivered, HostState, Request, Rig, StackFault, Start, Step, Told};
 use hid_device::{Boot, Device, DeviceCause, DeviceFault, KEYBOARD};
 use hid_layout::{Cause, ControlId, Layout, LayoutFault, Usage};
+use hid_stack::{Delivered, HostState, Request, Rig, StackFault, Start, Step, Told};
 use hid_usages::{Change, Event, Shown, Snapshot, View};
 use std::test::Fail;
 use usb_control::{ControlFault, HostTransfer, Outcome, Progress, Setup};

@@ -4,8 +4,8 @@
 mod limits;
 
 use super::{A, CONFIGURATION, KEY, data, ready};
-use crate::{DescriptorFault, HostDevice, HostState, StackFault};
 use hid_device::KEYBOARD;
+use hid_host::{DescriptorFault, HostDevice, HostState, StackFault};
 use hid_layout::{Cause, ControlId, Layout, LayoutFault, Usage};
 use hid_requests::Request;
 use hid_usages::{Event, ReportFault};

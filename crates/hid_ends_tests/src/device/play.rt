@@ -15,9 +15,9 @@
 //! not the first of its pieces; and `halted` while the endpoint is halted. `07*9` are nine bytes 07, as more than eight of the
 //! same are written.
 
-use crate::{Boot, Config, Device, DeviceFault, KEYBOARD, MOUSE};
 use arrayvec::ArrayVec;
 use hid_cells::Change;
+use hid_device::{Boot, Config, Device, DeviceFault, KEYBOARD, MOUSE};
 use hid_layout::{ControlId, ReportKind};
 use std::alloc::Global;
 use std::fmt::Write;

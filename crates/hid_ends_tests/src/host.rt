@@ -7,10 +7,10 @@ ghost use Rattle.hid_host.specs.Phase.{IsReady};
 mod foreign;
 mod pieces;
 
-use crate::{DescriptorFault, HostDevice, HostState, StackFault};
 use arrayvec::ArrayVec;
 use hid_descriptor::ReportKind;
 use hid_device::{Boot, Config, Device, KEYBOARD};
+use hid_host::{DescriptorFault, HostDevice, HostState, StackFault};
 use hid_layout::{Cause, ControlId, LayoutFault, Usage};
 use hid_requests::Request;
 use hid_usages::{Change, Event, ReportFault};
@@ -147,27 +147,42 @@ const STATES: [(Request, [bool; 4]); 11] = [
     (Request::EndpointStatus,                                     [false, false, false, true]),
 ];
 
-/// In which states a request may begin.
-fn may_begin(request: &Request) -> [bool; 4] {
-    [
-        HostState::Cold.allows(request),
-        HostState::Described.allows(request),
-        HostState::Parsed.allows(request),
-        HostState::Ready.allows(request),
-    ]
+/// Whether a request begins at a new host behind the first so many of the requests that lead from `Cold` to `Ready`.
+fn begins(rt: &HostRuntime, behind: usize, request: &Request) -> Result<bool, Fail> {
+    let mut device = keyboard(rt)?;
+    let mut host = HostDevice::cold(rt.alloc(), 1);
+    for (asked, clean, last, ..) in BRINGS_UP.iter().skip(1).take(behind) {
+        host.begin(asked)?;
+        tried(&mut host, &mut device, *clean, *last)?;
+    }
+    match host.begin(request) {
+        Ok(()) => Ok(true),
+        Err(StackFault::NotReady) => Ok(false),
+        Err(fault) => Err(fault.into()),
+    }
+}
+
+/// In which states a request begins.
+fn begins_in(rt: &HostRuntime, request: &Request) -> Result<[bool; 4], Fail> {
+    let mut found = [false; 4];
+    for behind in 0..4 {
+        found[behind] = begins(rt, behind, request)?;
+    }
+    Ok(found)
 }
 
 #[test]
-fn a_request_waits_for_its_state(rt: HostRuntime) {
+fn a_request_waits_for_its_state(rt: HostRuntime) -> Result<(), Fail> {
     for (request, states) in STATES {
-        assert!(rt; may_begin(&request) == states, "{request:?}");
+        assert!(rt; begins_in(&rt, &request)? == states, "{request:?}");
     }
     let set = Request::SetReport {
         kind: ReportKind::Output,
         id: 0,
         bytes: ArrayVec::new(),
     };
-    assert!(rt; may_begin(&set) == [false, false, true, true]);
+    assert!(rt; begins_in(&rt, &set)? == [false, false, true, true]);
+    Ok(())
 }
 
 /// Whether a host refuses a request, as one that it can't begin in its state.

@@ -2,8 +2,8 @@
 //! worked out by hand from the definitions.
 
 use super::{Act, CLEAN, Cut, Given, NAK, Row, Tells, Verdict, bus_with, first_that_differs};
-use crate::{StackFault, Start};
 use hid_device::{Boot, KEYBOARD, MOUSE};
+use hid_stack::{StackFault, Start};
 use std::test::Fail;
 use usb_control::{ControlFault, Progress};
 use usb_transact::Fate;

@@ -1,0 +1,8 @@
+//! Tests of the two ends of the bus, `hid_device` and `hid_host`, by what they export. They stand here, since the gate
+//! proves a crate with tests twice. Each file says where its expected values come from.
+#![tactic(auto)]
+
+#[cfg(test)]
+mod device;
+#[cfg(test)]
+mod host;
