@@ -16,8 +16,6 @@ mod drawing;
 mod field_table;
 mod item_table;
 mod page;
-#[cfg(test)]
-mod tests;
 mod windows;
 
 pub use drawing::{Form, draw, draw_refused};

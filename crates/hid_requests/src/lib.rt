@@ -36,6 +36,3 @@ pub use asked::{Asked, what_is_asked};
 pub use class::Protocol;
 pub use descriptors::{configuration, device_descriptor, hid_descriptor};
 pub use request::{Asking, Request};
-
-#[cfg(test)]
-mod tests;

@@ -1,8 +1,12 @@
 //! Requests in the bytes of USB 2.0, 9.4, and HID 1.11, 7.1 and 7.2; descriptors in the layouts of USB 2.0, 9.6, and
 //! those of the keyboard and the mouse of HID 1.11, appendix E.
-use super::*;
+
 use arrayvec::ArrayVec;
 use hid_descriptor::ReportKind;
+use hid_requests::{
+    Asked, Asking, Protocol, Request, configuration, device_descriptor, hid_descriptor,
+    what_is_asked,
+};
 use usb_control::{ConfigInfo, DeviceInfo, Setup};
 
 /// What a host asks, with its eight bytes and what that asks of a device.

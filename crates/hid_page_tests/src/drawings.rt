@@ -1,8 +1,8 @@
 //! What is drawn of short descriptors: places by hand from HID 1.11, B.2 and 6.2.2, words from docs/PICTURES.md.
 
-use crate::{Form, draw, draw_refused};
 use hid_layout::boot::MOUSE;
 use hid_layout::{Layout, LayoutFault};
+use hid_page::{Form, draw, draw_refused};
 use std::alloc::{AllocError, Global};
 use std::test::Fail;
 
