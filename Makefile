@@ -3,6 +3,7 @@
 HIDRUN := bin/hidrun
 HIDPLAY := bin/hidplay
 HIDMAP := bin/hidmap
+BENCH := bin/hid_bench
 SCRIPT ?= examples/layouts/mouse.script
 ARGS ?=
 COUNT ?= 20000
@@ -12,7 +13,7 @@ DESTDIR ?=
 VERSION := 0.2.0
 MAJOR := $(firstword $(subst ., ,$(VERSION)))
 
-.PHONY: run test try hidrun hidplay hidmap examples library library-test library-check library-cost scale play-cost names install deb deb-test documents memory refusals mutants descriptors compare-linux clean
+.PHONY: run test try hidrun hidplay hidmap bench examples library library-test library-check library-cost scale play-cost names install deb deb-test documents memory refusals mutants descriptors compare-linux clean
 
 # Runs the mouse example on the proved program.
 run: $(HIDRUN)
@@ -77,6 +78,19 @@ scale: $(HIDPLAY)
 # How many instructions a report takes in hidplay, by callgrind, and how much memory a recording of 1 GB.
 play-cost: $(HIDPLAY)
 	tools/play-cost $(HIDPLAY)
+
+# How many instructions the stack's work takes, by callgrind: the table of docs/SPEED.md.
+bench: $(BENCH)
+	tools/bench $(BENCH)
+
+BENCHES := crates/hid_bench/out/hid_bench
+
+$(BENCHES): crates.txt $(SOURCES)
+	tools/build hid_bench
+
+$(BENCH): $(BENCHES)
+	mkdir -p bin
+	cp $(BENCHES) $@
 
 # Holds the names of usages against Debian's list (package usb.ids), where it is installed.
 names:

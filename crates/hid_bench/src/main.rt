@@ -1,0 +1,60 @@
+//! Does one piece of the stack's work many times over, so that it can be counted what it takes.
+//! ```text
+//!   hid_bench parse TURNS DESCRIPTOR             reads a report descriptor, and drops its layout
+//!   hid_bench read  TURNS DESCRIPTOR REPORT..    reads each Input report in turn in one view
+//!   hid_bench write TURNS DESCRIPTOR USAGE..     writes the report of the first usage, with each pressed, moved or set
+//! ```
+//! Descriptors and reports are hex digits; a usage has four digits of its page and four of its ID. What is told is how many
+//! items were listed, events came or bytes were written, in all turns together.
+//!
+//! The rule to know: a turn takes what two runs of a different number of turns differ in, divided by that number; `make
+//! bench` counts so.
+//!
+//! The exit status is 0; 1 where the descriptor, a report or a usage is refused; 2 for a wrong command line; 3 where memory
+//! was wanting or standard output can't be written.
+#![tactic(auto)]
+
+mod fault;
+mod reading;
+#[cfg(test)]
+mod tests;
+mod turns;
+mod words;
+mod writing;
+
+use fault::BenchFault;
+use std::env;
+use std::process::ExitCode;
+use turns::done;
+use words::asked_by;
+
+/// Standard output or memory failed.
+const OUTSIDE: u8 = 3;
+
+fn main(rt: HostRuntime) -> ExitCode {
+    let alloc = rt.alloc();
+    let Ok(args) = env::args(&rt) else {
+        return ExitCode::from(OUTSIDE);
+    };
+    let words: Result<Vec<String>, _> = args.collect(alloc);
+    let Ok(words) = words else {
+        return ExitCode::from(OUTSIDE);
+    };
+    let told = match asked_by(alloc, words.as_slice()) {
+        Ok(asked) => done(alloc, &asked),
+        Err(fault) => Err(fault),
+    };
+    match told {
+        Ok(told) => {
+            if println!(rt; "{told}").is_ok() {
+                ExitCode::SUCCESS
+            } else {
+                ExitCode::from(OUTSIDE)
+            }
+        }
+        Err(fault) => {
+            let _ = eprintln!(rt; "hid_bench: {fault}");
+            ExitCode::from(fault.status())
+        }
+    }
+}

@@ -1,0 +1,75 @@
+//! A device whose reports are read.
+
+ghost use Rattle.std.specs.Prelude.{◌≡◌, ◌<◌, ℕ, IfOk};
+
+use crate::fault::BenchFault;
+use hid_fields::WordCodec;
+use hid_layout::{Cause, Layout};
+use hid_usages::{Event, View};
+use std::alloc::Global;
+use std::marker::Model;
+
+/// A device's layout, what a host has read of it, and room for the events of a report.
+#[derive(Drop)]
+pub struct Reading {
+    layout: Layout,
+    view: View,
+    events: Vec<Event>,
+}
+
+impl Model for Reading {
+    ghost use Rattle.std.specs.Prelude.{◌≤◌, vec_capacity};
+    ghost use Rattle.hid_layout.specs.Controls.{items_of, max_events};
+    ghost use Rattle.hid_usages.specs.Cells.{FitsView};
+    ghost use Rattle.hid_bench.specs.Reading.{Seen};
+
+    ghost Value = { Seen };
+
+    ghost view = { λ r. record { layout = r.layout; view = r.view } };
+
+    ghost invariant = { λ r. FitsView (items_of r.layout) r.view
+        × (max_events (items_of r.layout) ≤ vec_capacity r.events) };
+}
+
+impl Reading {
+    ghost use Rattle.hid_bench.specs.Reading.{Reads};
+
+    /// Reads a report descriptor. Nothing is held, and values are those of a blank snapshot.
+    pub fn open(alloc: Global, descriptor: &[u8]) -> Result<Reading, BenchFault> {
+        let layout = parsed(alloc, descriptor)?;
+        let Ok(view) = View::initial(alloc, &layout) else {
+            return Err(BenchFault::Memory);
+        };
+        let events = Vec::with_capacity(alloc, layout.max_events())?;
+        Ok(Reading {
+            layout,
+            view,
+            events,
+        })
+    }
+
+    /// Reads an Input report, and says how many events it tells.
+    pub fn read(&mut self, report: &[u8]) -> Result<usize, BenchFault>
+        ensures { Reads self.old report.now result self.new }
+    {
+        self.events.clear();
+        match self
+            .view
+            .take_report::<WordCodec>(&self.layout, report, &mut self.events)
+        {
+            Ok(()) => Ok(self.events.len()),
+            Err(_) => Err(BenchFault::Report),
+        }
+    }
+}
+
+/// The layout of a report descriptor.
+pub fn parsed(alloc: Global, descriptor: &[u8]) -> Result<Layout, BenchFault> {
+    match Layout::parse(alloc, descriptor) {
+        Ok(layout) => Ok(layout),
+        Err(fault) => match fault.cause {
+            Cause::Memory => Err(BenchFault::Memory),
+            _ => Err(BenchFault::Descriptor),
+        },
+    }
+}

@@ -1,0 +1,59 @@
+//! The work of a number of turns.
+
+use crate::fault::BenchFault;
+use crate::reading::{Reading, parsed};
+use crate::words::{Asked, Work};
+use crate::writing::Writing;
+use arrayvec::ArrayVec;
+use std::alloc::Global;
+
+/// Does the work of all turns: how many items were listed, events came or bytes were written.
+pub fn done(alloc: Global, asked: &Asked) -> Result<u64, BenchFault> {
+    let descriptor = asked.descriptor.as_slice();
+    match asked.work {
+        Work::Parse => parses(alloc, descriptor, asked.turns),
+        Work::Read => reads(alloc, descriptor, asked.rest.as_slice(), asked.turns),
+        Work::Write => writes(alloc, descriptor, asked.rest.as_slice(), asked.turns),
+    }
+}
+
+fn parses(alloc: Global, descriptor: &[u8], turns: u32) -> Result<u64, BenchFault> {
+    let mut listed: u64 = 0;
+    for _ in 0..turns {
+        let layout = parsed(alloc, descriptor)?;
+        listed = listed.wrapping_add(layout.items().len() as u64);
+    }
+    Ok(listed)
+}
+
+fn reads(
+    alloc: Global,
+    descriptor: &[u8],
+    reports: &[Vec<u8>],
+    turns: u32,
+) -> Result<u64, BenchFault> {
+    let mut reading = Reading::open(alloc, descriptor)?;
+    let mut told: u64 = 0;
+    for _ in 0..turns {
+        for report in reports {
+            told = told.wrapping_add(reading.read(report)? as u64);
+        }
+    }
+    Ok(told)
+}
+
+fn writes(
+    alloc: Global,
+    descriptor: &[u8],
+    usages: &[Vec<u8>],
+    turns: u32,
+) -> Result<u64, BenchFault> {
+    let writing = Writing::open(alloc, descriptor, usages)?;
+    let mut bytes = ArrayVec::new();
+    let mut written: u64 = 0;
+    for _ in 0..turns {
+        writing.write(&mut bytes);
+        written = written.wrapping_add(bytes.len() as u64);
+    }
+    Ok(written)
+}
