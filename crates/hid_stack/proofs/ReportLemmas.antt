@@ -1,5 +1,5 @@
--- A poll delivers a whole part or nothing, and a step keeps the open round or ends it.
-use Rattle.std.proofs.Common.{◌≡◌, ◌∙◌, ◌⊎◌, ℕ, ◌+◌, Bool, true, false, cond, List, [], Option, Some, None, refl, ap, sym, subst, inl, inr}
+-- A poll delivers a whole part where the last piece crosses, else nothing, and a step keeps the open round or ends it.
+use Rattle.std.proofs.Common.{◌≡◌, ◌∙◌, ◌⊎◌, ℕ, Bool, true, false, ◌&&◌, cond, List, [], Option, Some, None, refl, ap, sym, subst, inl, inr}
 use Rattle.std.proofs.lemmas.Bool.{cases_Bool}
 use Rattle.hid_layout.specs.Controls.{Item, items_of}
 use Rattle.hid_cells.specs.declared.cell.Cell.{Cell}
@@ -8,11 +8,11 @@ use Rattle.hid_usages.specs.Views.{seen}
 use Rattle.usb_transact.specs.declared.transaction.Fate.{Fate}
 use Rattle.usb_transact.specs.declared.transaction.Fate.TheVariants.{Clean, TokenLost, ReplyLost, AckLost}
 use Rattle.hid_lives.specs.Lives.{Deed, Own, Idles, Configures, Halts, Clears, Resets, befallen}
-use Rattle.hid_lives.specs.Rounds.{OwnStep, Changes, Frame, Polls, part_events}
+use Rattle.hid_lives.specs.Rounds.{Changes, Frame, Polls, part_events, reaches_host}
 use Rattle.hid_lives.specs.Standing.{due_where}
-use Rattle.hid_lives.specs.Stations.{Open, Station, answered, arrived, completes, is_last, next_piece, opened, opened_by, open_next, round_events}
-use Rattle.hid_stack.specs.Members.{Member, MemberStep, Scheduled, befallen_by, deed_at, events_by, member_after, polled_deed, polls_it}
-use Rattle.hid_stack.specs.Reports.{IsSameRound, IsWholeOrNothing, KeepsToRound, TellsNothing, TellsPart}
+use Rattle.hid_lives.specs.Stations.{Open, Station, answered, arrived, completes, is_last, next_piece, opened, opened_by, round_events}
+use Rattle.hid_stack.specs.Members.{Member, MemberStep, Scheduled, befallen_by, deed_at, events_by, polled_deed, polls_it}
+use Rattle.hid_stack.specs.Reports.{IsSameRound, IsWholeOrNothing, KeepsToRound, TellsBy, is_missing_last}
 use Rattle.hid_stack.proofs.MemberLemmas.{station_is}
 use Rattle.hid_stack.proofs.SlotLemmas.{fixed_stays}
 
@@ -30,6 +30,10 @@ record Part (items : List Item) (s : Station) (fate : Fate) : Type 0 where
   events : round_events items s fate ≡ part_events items round.report s.view s.standing.fixed
   view : (answered items s fate).view ≡ seen items round.report s.view s.standing.fixed
 
+abbrev By : Bool → List Item → Station → Fate → Type 0
+By true items s fate = Part items s fate
+By false items s fate = Nothing items s fate
+
 abbrev with_open : Station → Option Open → Station
 with_open s current = record s { current = current }
 
@@ -40,25 +44,26 @@ told_if items s round b = cond b (part_events items round.report s.view s.standi
 abbrev seen_if : List Item → Station → Open → Bool → List Cell
 seen_if items s round b = cond b (seen items round.report s.view s.standing.fixed) s.view
 
-reaches : (items : List Item) (s : Station) (round : Open) (fate : Fate) → round_events items (with_open s (Some round)) fate ≡ told_if items s round (completes round)
-    → (answered items (with_open s (Some round)) fate).view ≡ seen_if items s round (completes round) → Nothing items (with_open s (Some round)) fate ⊎ Part items (with_open s (Some round)) fate
-reaches items s round fate told view = elim (cases_Bool (completes round)) [
-  | inl whole ↦ inr (record {
-    round = round;
-    is_open = refl;
-    crosses = whole;
-    events = told ∙ ap (told_if items s round) whole;
-    view = view ∙ ap (seen_if items s round) whole;
-  })
-  | inr more ↦ inl (record { events = told ∙ ap (told_if items s round) more; view = view ∙ ap (seen_if items s round) more })
-]
+reaches : (items : List Item) (s : Station) (round : Open) (fate : Fate) (whole : Bool) → completes round ≡ whole → round_events items (with_open s (Some round)) fate ≡ told_if items s round (completes round)
+    → (answered items (with_open s (Some round)) fate).view ≡ seen_if items s round (completes round) → By whole items (with_open s (Some round)) fate
+reaches items s round fate true whole told view = record {
+  round = round;
+  is_open = refl;
+  crosses = whole;
+  events = told ∙ ap (told_if items s round) whole;
+  view = view ∙ ap (seen_if items s round) whole;
+}
+reaches items s round fate false more told view = record { events = told ∙ ap (told_if items s round) more; view = view ∙ ap (seen_if items s round) more }
 
-answers : (items : List Item) (s : Station) (current : Option Open) (fate : Fate) → Nothing items (with_open s current) fate ⊎ Part items (with_open s current) fate
-answers items s None fate = inl (record { events = refl; view = refl })
-answers items s (Some round) TokenLost = inl (record { events = refl; view = refl })
-answers items s (Some round) ReplyLost = inl (record { events = refl; view = refl })
-answers items s (Some round) Clean = reaches items s round Clean refl refl
-answers items s (Some round) AckLost = reaches items s round AckLost refl refl
+answers : (items : List Item) (s : Station) (current : Option Open) (fate : Fate) → By (reaches_host fate && is_missing_last current) items (with_open s current) fate
+answers items s None Clean = record { events = refl; view = refl }
+answers items s None TokenLost = record { events = refl; view = refl }
+answers items s None ReplyLost = record { events = refl; view = refl }
+answers items s None AckLost = record { events = refl; view = refl }
+answers items s (Some round) TokenLost = record { events = refl; view = refl }
+answers items s (Some round) ReplyLost = record { events = refl; view = refl }
+answers items s (Some round) Clean = reaches items s round Clean (completes round) refl refl refl
+answers items s (Some round) AckLost = reaches items s round AckLost (completes round) refl refl refl
 
 -- opening a round leaves the view
 opened_if_view : (items : List Item) (s : Station) (due : Option ℕ) → (opened_by items s due).view ≡ s.view
@@ -76,32 +81,41 @@ arrived_view items s ReplyLost = opened_view items s s.current
 arrived_view items s AckLost = opened_view items s s.current
 
 -- a poll that is made
-polled_so : (m : Member) (fate : Fate) → polls_it m ≡ true → IsWholeOrNothing m fate
-polled_so m fate polls =
+made_by : (m : Member) (fate : Fate) (whole : Bool) → polls_it m ≡ true → By whole (items_of m.layout) (arrived (items_of m.layout) m.station fate) fate → TellsBy whole m fate
+made_by m fate true polls part =
     let items = items_of m.layout in
     let s = arrived items m.station fate in
     let stays = arrived_view items m.station fate in
     let deed : deed_at m (Scheduled (Polls fate)) ≡ Some (Own (Polls fate)) = ap (λ (b : Bool). polled_deed b fate) polls in
-    let told : events_by items m.station (deed_at m (Scheduled (Polls fate))) ≡ round_events items s fate = ap (events_by items m.station) deed in
-    let view : (member_after m (Scheduled (Polls fate))).station.view ≡ (answered items s fate).view
-    = ap (λ (o : Option Deed). (befallen_by items m.station o).view) deed in
-    elim (answers items s s.current fate) [
-      | inl none ↦ inl (record { events = told ∙ none.events; view = view ∙ none.view ∙ stays })
-      | inr part ↦ inr (record {
-        round = part.round;
-        is_open = part.is_open;
-        crosses = part.crosses;
-        events = told ∙ part.events ∙ ap (λ (v : List Cell). part_events items part.round.report v s.standing.fixed) stays;
-        view = view ∙ part.view ∙ ap (λ (v : List Cell). seen items part.round.report v s.standing.fixed) stays;
-      })
-    ]
+    record {
+      round = part.round;
+      is_open = part.is_open;
+      crosses = part.crosses;
+      events = ap (events_by items m.station) deed ∙ part.events ∙ ap (λ (v : List Cell). part_events items part.round.report v s.standing.fixed) stays;
+      view = ap (λ (o : Option Deed). (befallen_by items m.station o).view) deed ∙ part.view
+          ∙ ap (λ (v : List Cell). seen items part.round.report v s.standing.fixed) stays;
+    }
+made_by m fate false polls none =
+    let items = items_of m.layout in
+    let deed : deed_at m (Scheduled (Polls fate)) ≡ Some (Own (Polls fate)) = ap (λ (b : Bool). polled_deed b fate) polls in
+    record {
+      events = ap (events_by items m.station) deed ∙ none.events;
+      view = ap (λ (o : Option Deed). (befallen_by items m.station o).view) deed ∙ none.view ∙ arrived_view items m.station fate;
+    }
+
+-- whether the last piece is missing at a poll whose answer reaches the host
+abbrev missing_at : Member → Fate → Bool
+missing_at m fate = reaches_host fate && is_missing_last (arrived (items_of m.layout) m.station fate).current
 
 pub whole_or_nothing : (m : Member) (fate : Fate) → IsWholeOrNothing m fate
 whole_or_nothing m fate = elim (cases_Bool (polls_it m)) [
-  | inl polls ↦ polled_so m fate polls
+  | inl polls ↦
+      let s = arrived (items_of m.layout) m.station fate in
+      subst (λ (b : Bool). TellsBy (b && missing_at m fate) m fate) (sym polls)
+      (made_by m fate (missing_at m fate) polls (answers (items_of m.layout) s s.current fate))
   | inr silent ↦
       let deed : deed_at m (Scheduled (Polls fate)) ≡ None = ap (λ (b : Bool). polled_deed b fate) silent in
-      inl (record {
+      subst (λ (b : Bool). TellsBy (b && missing_at m fate) m fate) (sym silent) (record {
         events = ap (events_by (items_of m.layout) m.station) deed;
         view = ap (λ (o : Option Deed). (befallen_by (items_of m.layout) m.station o).view) deed;
       })

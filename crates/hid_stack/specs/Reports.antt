@@ -1,12 +1,12 @@
 -- A report of several packets on a bus: it is delivered whole or not at all, and never from two rounds (USB 2.0, 5.7.3, 8.5.4
 -- and 8.6; our choice).
-use Rattle.std.specs.Prelude.{◌≡◌, ◌⊎◌, ℕ, ◌+◌, true, List, [], Some, None}
-use Rattle.hid_layout.specs.Controls.{Item, items_of}
+use Rattle.std.specs.Prelude.{◌≡◌, ◌⊎◌, ◌+◌, Bool, true, false, ◌&&◌, [], Option, Some, None}
+use Rattle.hid_layout.specs.Controls.{items_of}
 use Rattle.hid_usages.specs.Views.{seen}
 use Rattle.usb_transact.specs.declared.transaction.Fate.{Fate}
-use Rattle.hid_lives.specs.Rounds.{Polls, part_events}
+use Rattle.hid_lives.specs.Rounds.{Polls, part_events, reaches_host}
 use Rattle.hid_lives.specs.Stations.{Open, Station, arrived, completes}
-use Rattle.hid_stack.specs.Members.{Member, MemberStep, Scheduled, deed_at, events_by, member_after}
+use Rattle.hid_stack.specs.Members.{Member, MemberStep, Scheduled, deed_at, events_by, member_after, polls_it}
 
 -- a step delivers nothing of a device, and leaves the view of its host
 pub record TellsNothing (m : Member) (x : MemberStep) : Type 0 where
@@ -24,9 +24,24 @@ pub record TellsPart (m : Member) (fate : Fate) : Type 0 where
   pub view : (member_after m (Scheduled (Polls fate))).station.view
       ≡ seen (items_of m.layout) round.report m.station.view (arrived (items_of m.layout) m.station fate).standing.fixed
 
--- A poll delivers a whole part or nothing.
+-- the piece at hand is the last one of an open round, and hasn't crossed yet
+abbrev pub is_missing_last : Option Open → Bool
+is_missing_last current = elim current [ None ↦ false | Some round ↦ completes round ]
+
+-- the last piece of the open round crosses with a poll: the host polls, what is sent reaches it, and it missed that piece alone
+abbrev pub last_crosses : Member → Fate → Bool
+last_crosses m fate =
+    polls_it m && (reaches_host fate && is_missing_last (arrived (items_of m.layout) m.station fate).current)
+
+-- what a poll delivers, by whether the last piece crosses with it
+abbrev pub TellsBy : Bool → Member → Fate → Type 0
+TellsBy true m fate = TellsPart m fate
+TellsBy false m fate = TellsNothing m (Scheduled (Polls fate))
+
+-- A poll delivers a whole part exactly where the last piece of its round crosses with it: before that, and where that piece is
+-- repeated, nothing.
 abbrev pub IsWholeOrNothing : Member → Fate → Type 0
-IsWholeOrNothing m fate = TellsNothing m (Scheduled (Polls fate)) ⊎ TellsPart m fate
+IsWholeOrNothing m fate = TellsBy (last_crosses m fate) m fate
 
 -- the open round is the one that it was: of its report, with the part that was fixed as it opened, and the piece at hand is
 -- the same or the next one

@@ -1,7 +1,7 @@
 //! Reports of more than a packet on the bus, which go in pieces of 64 bytes (USB 2.0, 5.7.3, 8.5.4, 8.6 and 9.4.5): each is
 //! told whole or not at all, whatever comes between its pieces. What is wanted was worked out by hand from the definitions.
 
-use super::{Verdict, bus_with, is_verdict};
+use super::{Asks, Verdict, bus_with, is_brought_up, is_verdict};
 use hid_device::Boot;
 use hid_layout::{ControlId, Usage};
 use hid_stack::{Delivered, Request, Rig, StackFault, Start, Step, Told};
@@ -243,5 +243,81 @@ fn first_wrong(rt: &HostRuntime, schedules: &[Schedule]) -> Result<Option<&'stat
 #[test]
 fn a_report_is_told_whole_or_not_at_all(rt: HostRuntime) -> Result<(), Fail> {
     assert_eq!(rt; first_wrong(&rt, &SCHEDULES)?, None);
+    Ok(())
+}
+
+/// What a schedule is about, the descriptor of its device, its steps up to a reset, and those behind the next configuration.
+type Reset = (&'static str, &'static [u8], &'static [Row], &'static [Row]);
+
+#[rattlefmt::skip]
+const RESETS: [Reset; 3] = [
+    ("a value", &VALUES, &[
+        (Does::Set(7),                Tells::Any,                               None,    &[]),
+        (CLEAN,                       Tells::Data(0xC3, 7, 64, Verdict::Fresh), Some(1), &[]),
+        (Does::Set(8),                Tells::Any,                               Some(1), &[]),
+        (Does::Reset,                 Tells::Any,                               None,    &[]),
+    ], &[
+        (CLEAN,                       Tells::Data(0xC3, 8, 64, Verdict::Fresh), Some(1), &[]),
+        (CLEAN,                       Tells::Data(0x4B, 0, 36, Verdict::Fresh), None,    &[Given::Value(8)]),
+    ]),
+    ("a piece that closes later", &VALUES, &[
+        (Does::Set(7),                Tells::Any,                               None,    &[]),
+        (Does::Poll(Fate::AckLost),   Tells::Data(0xC3, 7, 64, Verdict::Fresh), Some(0), &[]),
+        (Does::Reset,                 Tells::Any,                               None,    &[]),
+        (Does::Set(8),                Tells::Any,                               None,    &[]),
+    ], &[
+        (Does::Poll(Fate::AckLost),   Tells::Data(0xC3, 8, 64, Verdict::Fresh), Some(0), &[]),
+        (CLEAN,                       Tells::Data(0xC3, 8, 64, Verdict::Again), Some(1), &[]),
+        (CLEAN,                       Tells::Data(0x4B, 0, 36, Verdict::Fresh), None,    &[Given::Value(8)]),
+    ]),
+    ("a motion", &MOTIONS, &[
+        (Does::Move(5),               Tells::Any,                               None,    &[]),
+        (CLEAN,                       Tells::Data(0xC3, 5, 64, Verdict::Fresh), Some(1), &[]),
+        (Does::Reset,                 Tells::Any,                               None,    &[Given::Dropped(5)]),
+        (Does::Move(3),               Tells::Any,                               None,    &[]),
+    ], &[
+        (CLEAN,                       Tells::Data(0xC3, 3, 64, Verdict::Fresh), Some(1), &[]),
+        (CLEAN,                       Tells::Data(0x4B, 0, 36, Verdict::Fresh), None,    &[Given::Motion(3)]),
+    ]),
+];
+
+/// The requests that bring such a device up: its report descriptor has 14 or 15 bytes, which go in two pieces of endpoint 0.
+const BRINGS_UP: [Asks; 3] = [
+    (Request::Config, 7),
+    (Request::Report, 4),
+    (Request::Configure, 2),
+];
+
+/// Whether each step of a device goes as it says, up to a reset and behind the next configuration.
+fn goes_on(
+    rt: &HostRuntime,
+    descriptor: &[u8],
+    before: &[Row],
+    requests: &[Asks],
+    behind: &[Row],
+) -> Result<bool, Fail> {
+    let mut rig = bus_with(rt, Boot::No, descriptor, Start::Ready)?;
+    if first_that_differs(rt, &mut rig, before)?.is_some() {
+        return Ok(false);
+    }
+    Ok(
+        is_brought_up(rt, &mut rig, requests)?
+            && first_that_differs(rt, &mut rig, behind)?.is_none(),
+    )
+}
+
+/// What the first of them is about that doesn't go on so.
+fn first_that_stays(rt: &HostRuntime, resets: &[Reset]) -> Result<Option<&'static str>, Fail> {
+    for (name, descriptor, before, behind) in resets {
+        if !goes_on(rt, descriptor, before, &BRINGS_UP, behind)? {
+            return Ok(Some(*name));
+        }
+    }
+    Ok(None)
+}
+
+#[test]
+fn behind_a_reset_nothing_is_left_of_a_report(rt: HostRuntime) -> Result<(), Fail> {
+    assert_eq!(rt; first_that_stays(&rt, &RESETS)?, None);
     Ok(())
 }

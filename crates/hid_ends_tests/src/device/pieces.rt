@@ -65,6 +65,8 @@ const SCHEDULES: [(&str, &str, &str); 9] = [
         another value:            set 0 0 8                   > halted
         the halt is ended:        ask 02 01 00 00 81 00 00 00 >
         a round from its begin:   69 81 00                    > C3 08 00*63 round 0.0
+        ACK:                      D2                          > round 0.1 piece 1
+        the rest of it:           69 81 00                    > 4B 00*36 round 0.1 piece 1
     "),
     ("a clear between two pieces", "129 bytes", "
         a configuration:          configure                   >
@@ -75,14 +77,24 @@ const SCHEDULES: [(&str, &str, &str); 9] = [
         the same from its begin:  69 81 00                    > C3 07 00*63 round 0.0
         ACK:                      D2                          > round 0.1 piece 1
         its second piece:         69 81 00                    > 4B 00*64 round 0.1 piece 1
+        ACK:                      D2                          > round 0.0 piece 2
+        its third:                69 81 00                    > C3 00 round 0.0 piece 2
+        ACK:                      D2                          >
+        nothing is due:           69 81 00                    > 5A
     "),
     ("a configuration between two pieces", "100 bytes", "
         a configuration:          configure   >
         a value:                  set 0 0 7   >
         its piece:                69 81 00    > C3 07 00*63 round 0.0
         ACK:                      D2          > round 0.1 piece 1
-        another configuration:    configure   >
-        a round from its begin:   69 81 00    > C3 07 00*63 round 0.0
+        SET_CONFIGURATION:        ask 00 09 01 00 00 00 00 00 >
+        another value:            set 0 0 8   >
+        the other value:          set 0 99 9  >
+        a round from its begin:   69 81 00    > C3 08 00*63 round 0.0
+        ACK:                      D2          > round 0.1 piece 1
+        its last value:           69 81 00    > 4B 00*35 09 round 0.1 piece 1
+        ACK:                      D2          >
+        nothing is due:           69 81 00    > 5A
     "),
     ("a reset between two pieces", "100 bytes", "
         a configuration:          configure   >
@@ -90,8 +102,14 @@ const SCHEDULES: [(&str, &str, &str); 9] = [
         its piece:                69 81 00    > C3 07 00*63 round 0.0
         ACK:                      D2          > round 0.1 piece 1
         a reset:                  bus reset   >
+        another value:            set 0 0 8   >
         a configuration:          configure   >
-        a round from its begin:   69 81 00    > C3 07 00*63 round 0.0
+        the other value:          set 0 99 9  >
+        a round from its begin:   69 81 00    > C3 08 00*63 round 0.0
+        ACK:                      D2          > round 0.1 piece 1
+        its last value:           69 81 00    > 4B 00*35 09 round 0.1 piece 1
+        ACK:                      D2          >
+        nothing is due:           69 81 00    > 5A
     "),
     ("an idle time between two pieces", "100 bytes", "
         a configuration:          configure                   >

@@ -153,7 +153,7 @@ fn a_wrong_configuration_is_refused_and_asked_for_again(rt: HostRuntime) -> Resu
 }
 
 /// A keyboard's configuration, of which one byte is another.
-fn configuration_with(at: usize, byte: u8) -> [u8; 34] {
+pub fn configuration_with(at: usize, byte: u8) -> [u8; 34] {
     let mut bytes = CONFIGURATION;
     if let Some(place) = bytes.get_mut(at) {
         *place = byte;
@@ -162,7 +162,7 @@ fn configuration_with(at: usize, byte: u8) -> [u8; 34] {
 }
 
 /// Where in a keyboard's configuration the length of its report descriptor stands.
-const LENGTH_AT: usize = 25;
+pub const LENGTH_AT: usize = 25;
 
 /// How many bytes a device announces of its report descriptor, whose first bytes it has, how many of them, and why they are
 /// refused.

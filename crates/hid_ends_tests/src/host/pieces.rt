@@ -1,14 +1,17 @@
 //! Reports of more than a packet at a ready host (USB 2.0, 5.7.3, 8.6 and 9.4.5; HID 1.11, 5.6): what came of a report is kept
-//! until it ends, and forgotten where it is refused and where a clear is done. What is wanted was worked out by hand from the
-//! descriptors.
+//! until it ends, and forgotten where it is refused, where a clear is done, and at a reset of the bus. What is wanted was worked
+//! out by hand from the descriptors.
 
-use super::foreign::{Foreign, asked};
+use super::foreign::{Foreign, LENGTH_AT, asked, configuration_with};
 use super::{data, ready};
 use hid_host::{HostDevice, StackFault};
+use hid_layout::laws::one_reading;
+use hid_layout::{ControlId, Layout};
 use hid_requests::Request;
-use hid_usages::ReportFault;
+use hid_usages::{Event, ReportFault, Shown};
 use std::test::Fail;
 use usb_control::Progress;
+use usb_packet::Packet;
 use usb_transact::Took;
 
 /// 100 values of a byte each, in a report without an ID.
@@ -24,87 +27,103 @@ const NUMBERED: [u8; 25] = [
     0x85, 0x02, 0x09, 0x31, 0x95, 0x01, 0x81, 0x02,
 ];
 
-/// So many bytes, of which the first is this, and the others 0.
-#[derive(Clone, Copy)]
-struct Sent {
-    one: bool,
-    first: u8,
-    count: usize,
-}
+/// A value that is told of a control, by its item and index.
+type Given = (usize, usize, i64);
 
-/// What a host tells of them.
+/// What a host tells of data.
 #[derive(Clone, Copy)]
 enum Told {
-    /// Fresh data, with so many events.
-    Fresh(usize),
+    /// They are fresh, with these values.
+    Fresh(&'static [Given]),
     Again,
     Refused(ReportFault),
 }
+
+/// Data that come to a host: whether as DATA1, their first byte, what each of the others is, how many they are, and what the
+/// host tells of them.
+type Came = (bool, u8, u8, usize, Told);
+
+const QUIET: Told = Told::Fresh(&[]);
 
 const SHORT: Told = Told::Refused(ReportFault::Short);
 
 const UNKNOWN: Told = Told::Refused(ReportFault::UnknownReport);
 
+/// Whether these events are all those values, in their order.
+fn are_given(out: &[Event], wanted: &[Given]) -> bool {
+    out.len() == wanted.len()
+        && out
+            .iter()
+            .zip(wanted.iter())
+            .all(|(event, given)| is_given(event, given))
+}
+
+fn is_given(event: &Event, given: &Given) -> bool {
+    let (item, index, wanted) = *given;
+    match event {
+        Event::Value { control, value, .. } => {
+            *control == ControlId { item, index } && *value == wanted
+        }
+        _ => false,
+    }
+}
+
 /// Whether a host that is given these data tells so, and takes no event where it doesn't.
-fn tells(rt: &HostRuntime, host: &mut HostDevice, sent: &Sent, told: &Told) -> Result<bool, Fail> {
+fn tells(rt: &HostRuntime, host: &mut HostDevice, came: &Came) -> Result<bool, Fail> {
+    let (one, first, rest, count, told) = came;
     host.token()?;
-    let mut bytes = [0; 64];
-    bytes[0] = sent.first;
-    let packet = data(sent.one, &bytes[..sent.count.min(64)]);
+    let mut bytes = [*rest; 64];
+    bytes[0] = *first;
+    let packet = data(*one, &bytes[..(*count).min(64)]);
     let mut out = Vec::with_capacity(rt.alloc(), host.max_events())?;
     let took = host.reply(packet.as_ref(), &mut out);
     Ok(match (told, took) {
-        (Told::Fresh(count), Ok(Took::Fresh(_))) => out.len() == *count,
+        (Told::Fresh(values), Ok(Took::Fresh(_))) => are_given(&out, values),
         (Told::Again, Ok(Took::Again)) => out.is_empty(),
         (Told::Refused(fault), Err(StackFault::Report(found))) => found == *fault && out.is_empty(),
         _ => false,
     })
 }
 
-/// Data that come to a host one behind the other, and what it tells of each.
-type Row = (
-    &'static str,
-    &'static [u8],
-    &'static [(bool, u8, usize, Told)],
-);
+/// Data that come to a host one behind the other.
+type Row = (&'static str, &'static [u8], &'static [Came]);
 
 #[rattlefmt::skip]
 const ROWS: [Row; 9] = [
     ("a report in two packets", &LONG, &[
-        (false, 7, 64, Told::Fresh(0)), (true, 0, 36, Told::Fresh(1)), (false, 7, 64, Told::Fresh(0)), (true, 0, 36, Told::Fresh(0)),
+        (false, 7, 0, 64, QUIET), (true, 0, 0, 36, Told::Fresh(&[(0, 0, 7)])), (false, 7, 0, 64, QUIET), (true, 0, 0, 36, QUIET),
     ]),
     ("the same data again", &LONG, &[
-        (false, 7, 64, Told::Fresh(0)), (false, 7, 64, Told::Again), (true, 0, 36, Told::Fresh(1)), (true, 0, 36, Told::Again),
+        (false, 7, 0, 64, QUIET), (false, 7, 0, 64, Told::Again), (true, 0, 0, 36, Told::Fresh(&[(0, 0, 7)])), (true, 0, 0, 36, Told::Again),
     ]),
-    ("63 bytes end it", &LONG, &[(false, 7, 63, SHORT), (true, 7, 64, Told::Fresh(0)), (false, 0, 36, Told::Fresh(1))]),
-    ("no byte ends it", &LONG, &[(false, 7, 64, Told::Fresh(0)), (true, 0, 0, SHORT), (false, 7, 64, Told::Fresh(0)), (true, 0, 36, Told::Fresh(1))]),
-    ("35 bytes too few", &LONG, &[(false, 7, 64, Told::Fresh(0)), (true, 0, 35, SHORT), (false, 8, 64, Told::Fresh(0)), (true, 0, 36, Told::Fresh(1))]),
-    ("a longer packet", &LONG, &[(false, 7, 64, Told::Fresh(0)), (true, 0, 64, Told::Fresh(1)), (false, 8, 64, Told::Fresh(0)), (true, 0, 64, Told::Fresh(1))]),
+    ("63 bytes end it", &LONG, &[
+        (false, 7, 5, 63, SHORT), (true, 8, 0, 64, QUIET), (false, 0, 0, 36, Told::Fresh(&[(0, 0, 8)])),
+    ]),
+    ("no byte ends it", &LONG, &[
+        (false, 7, 5, 64, QUIET), (true, 5, 5, 0, SHORT), (false, 8, 0, 64, QUIET), (true, 0, 0, 36, Told::Fresh(&[(0, 0, 8)])),
+    ]),
+    ("35 bytes too few", &LONG, &[
+        (false, 7, 5, 64, QUIET), (true, 5, 5, 35, SHORT), (false, 8, 0, 64, QUIET), (true, 0, 0, 36, Told::Fresh(&[(0, 0, 8)])),
+    ]),
+    ("a longer packet", &LONG, &[
+        (false, 7, 0, 64, QUIET), (true, 0, 0, 64, Told::Fresh(&[(0, 0, 7)])), (false, 8, 0, 64, QUIET), (true, 0, 0, 64, Told::Fresh(&[(0, 0, 8)])),
+    ]),
     ("by its first byte", &NUMBERED, &[
-        (false, 1, 64, Told::Fresh(0)), (true, 9, 37, Told::Fresh(1)), (false, 2, 2, Told::Fresh(0)), (true, 2, 64, Told::Fresh(0)),
+        (false, 1, 0, 64, QUIET), (true, 9, 0, 37, Told::Fresh(&[(0, 63, 9)])), (false, 2, 0, 2, QUIET), (true, 2, 0, 64, QUIET),
     ]),
     ("an ID of none, 256 bytes", &NUMBERED, &[
-        (false, 3, 64, Told::Fresh(0)), (true, 1, 64, Told::Fresh(0)), (false, 1, 64, Told::Fresh(0)), (true, 1, 64, UNKNOWN),
-        (false, 1, 64, Told::Fresh(0)), (true, 9, 37, Told::Fresh(1)),
+        (false, 3, 5, 64, QUIET), (true, 1, 5, 64, QUIET), (false, 1, 5, 64, QUIET), (true, 1, 5, 64, UNKNOWN),
+        (false, 1, 0, 64, QUIET), (true, 9, 0, 37, Told::Fresh(&[(0, 63, 9)])),
     ]),
     ("an ID of none, a short packet", &NUMBERED, &[
-        (false, 3, 64, Told::Fresh(0)), (true, 1, 63, UNKNOWN), (false, 1, 64, Told::Fresh(0)), (true, 9, 37, Told::Fresh(1)),
+        (false, 3, 5, 64, QUIET), (true, 1, 5, 63, UNKNOWN), (false, 1, 0, 64, QUIET), (true, 9, 0, 37, Told::Fresh(&[(0, 63, 9)])),
     ]),
 ];
 
 /// Whether a host tells so of each of these data.
-fn tells_each(
-    rt: &HostRuntime,
-    host: &mut HostDevice,
-    packets: &[(bool, u8, usize, Told)],
-) -> Result<bool, Fail> {
-    for (one, first, count, told) in packets {
-        let sent = Sent {
-            one: *one,
-            first: *first,
-            count: *count,
-        };
-        if !tells(rt, host, &sent, told)? {
+fn tells_each(rt: &HostRuntime, host: &mut HostDevice, packets: &[Came]) -> Result<bool, Fail> {
+    for came in packets {
+        if !tells(rt, host, came)? {
             return Ok(false);
         }
     }
@@ -112,21 +131,25 @@ fn tells_each(
 }
 
 /// The same of a host that is ready for this descriptor.
-fn tells_all(
-    rt: &HostRuntime,
-    descriptor: &[u8],
-    packets: &[(bool, u8, usize, Told)],
-) -> Result<bool, Fail> {
+fn tells_all(rt: &HostRuntime, descriptor: &[u8], packets: &[Came]) -> Result<bool, Fail> {
     let mut host = ready(rt, descriptor)?;
     tells_each(rt, &mut host, packets)
 }
+
+/// A piece of a report, and all pieces of another one, which begins with DATA0 behind a clear and behind a reset.
+const BEFORE: [Came; 1] = [(false, 7, 5, 64, QUIET)];
+
+const BEHIND: [Came; 2] = [
+    (false, 8, 0, 64, QUIET),
+    (true, 0, 0, 36, Told::Fresh(&[(0, 0, 8)])),
+];
 
 /// The same, with a clear that is done behind the first of two lists.
 fn tells_around_a_clear(
     rt: &HostRuntime,
     descriptor: &[u8],
-    before: &[(bool, u8, usize, Told)],
-    after: &[(bool, u8, usize, Told)],
+    before: &[Came],
+    after: &[Came],
 ) -> Result<bool, Fail> {
     let mut host = ready(rt, descriptor)?;
     let mut control = Foreign::new(&[], &[]);
@@ -154,11 +177,55 @@ fn a_report_is_read_once_it_is_whole(rt: HostRuntime) -> Result<(), Fail> {
 /// Behind it DATA0 comes again (USB 2.0, 9.4.5), with the first packet of a report.
 #[test]
 fn a_clear_forgets_what_came_of_a_report(rt: HostRuntime) -> Result<(), Fail> {
-    let before = [(false, 7, 64, Told::Fresh(0))];
-    let after = [
-        (false, 7, 64, Told::Fresh(0)),
-        (true, 0, 36, Told::Fresh(1)),
-    ];
-    assert!(rt; tells_around_a_clear(&rt, &LONG, &before, &after)?);
+    assert!(rt; tells_around_a_clear(&rt, &LONG, &BEFORE, &BEHIND)?);
+    Ok(())
+}
+
+/// A host that was reset once it had taken this packet, with no round open at its device then, and whether it told nothing.
+fn reset_behind(
+    rt: &HostRuntime,
+    descriptor: &[u8],
+    packet: Option<&Packet>,
+) -> Result<(HostDevice, bool), Fail> {
+    let layout = Layout::parse(rt.alloc(), descriptor)?;
+    let fixed = Shown::blank(rt.alloc(), &layout)?;
+    let mut host = HostDevice::ready(rt.alloc(), 1, descriptor)?;
+    let mut out = Vec::with_capacity(rt.alloc(), host.max_events())?;
+    let took = host.reply(packet, &mut out)?;
+    let is_quiet = matches!(took, Took::Fresh(_)) && out.is_empty();
+    out.clear();
+    one_reading();
+    host.reset(None, None, &fixed, &mut out);
+    Ok((host, is_quiet && out.is_empty()))
+}
+
+/// Whether the requests that bring a device up are done; its report descriptor has so many bytes.
+fn is_brought_up(host: &mut HostDevice, descriptor: &[u8], length: u8) -> Result<bool, StackFault> {
+    let configuration = configuration_with(LENGTH_AT, length);
+    let mut control = Foreign::new(&configuration, descriptor);
+    for request in [Request::Config, Request::Report, Request::Configure] {
+        if asked(host, &mut control, &request)? != Progress::Done {
+            return Ok(false);
+        }
+    }
+    Ok(true)
+}
+
+/// Whether a host tells so of these data that was reset behind a piece of a report, and whose device was configured then.
+fn tells_behind_a_reset(
+    rt: &HostRuntime,
+    descriptor: &[u8],
+    length: u8,
+    after: &[Came],
+) -> Result<bool, Fail> {
+    let piece = data(false, &[5; 64]);
+    let (mut host, is_quiet) = reset_behind(rt, descriptor, piece.as_ref())?;
+    let is_up = is_brought_up(&mut host, descriptor, length)?;
+    Ok(is_quiet && is_up && tells_each(rt, &mut host, after)?)
+}
+
+#[test]
+fn a_reset_and_a_configuration_forget_what_came_of_a_report(rt: HostRuntime) -> Result<(), Fail> {
+    assert!(rt; tells_behind_a_reset(&rt, &LONG, 15, &BEHIND)?);
     Ok(())
 }
