@@ -2,8 +2,8 @@
 //! The keyboard and the mouse are those of HID 1.11, appendix E.6 and E.10; the other descriptors, and every expected
 //! text, were worked out by hand from docs/SCRIPT.md.
 
-use hid_script::run;
 use crate::scripts::{Accepted, LAYOUT, QUIET, Refused, TRACE, first_not_refused, first_wrong};
+use hid_script::run;
 use std::alloc::Global;
 use std::test::Fail;
 

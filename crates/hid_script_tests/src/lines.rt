@@ -1,9 +1,9 @@
 //! Lines with what they say, worked out by hand from docs/SCRIPT.md.
 
-use hid_lines::{Line, LineFault, parse_line};
 use hid_descriptor::{ReportKind, Usage};
 use hid_device::Boot;
 use hid_host::Start;
+use hid_lines::{Line, LineFault, parse_line};
 use hid_requests::Request;
 use std::test::Fail;
 use usb_transact::Fate;

@@ -1,7 +1,7 @@
 //! Readers and writers that give and take little, or fail; long lines, and codes. Worked out by hand from docs/SCRIPT.md.
 
-use hid_script::{Cause, Options, ReportFault, ScriptFault, StepFault, fault_line, run};
 use hid_device::{DeviceCause, DeviceFault};
+use hid_script::{Cause, Options, ReportFault, ScriptFault, StepFault, fault_line, run};
 use hid_stack::{DescriptorFault, StackFault};
 use hid_usages::ChangeFault;
 use std::alloc::{AllocError, Global};

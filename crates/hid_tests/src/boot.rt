@@ -1,8 +1,8 @@
 //! Reports of the boot keyboard and mouse (HID 1.11, appendix B), worked out by hand from the tables of that appendix.
 
+use hid_layout::{ControlId, Layout, Usage};
 use hid_usages::ReportFault;
 use hid_usages::boot::{KEYBOARD, KeyboardReport, MOUSE, MouseReport};
-use hid_layout::{ControlId, Layout, Usage};
 use std::test::Fail;
 
 /// Reports of eight bytes, an ID, and whether it is held.

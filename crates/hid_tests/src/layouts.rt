@@ -1,8 +1,8 @@
 //! Readers of a layout, on the HID specification's mouse (HID 1.11, E.10), and descriptors that are refused, each beside the
 //! nearest one that is accepted. What descriptors lay out stands in the examples, worked out by hand.
 
-use hid_layout::boot::{KEYBOARD, MOUSE};
 use crate::rows::{descriptor_of, numbers_of, parts, rows_of};
+use hid_layout::boot::{KEYBOARD, MOUSE};
 use hid_layout::{Cause, Layout, LayoutFault};
 use std::alloc::Global;
 use std::test::Fail;

@@ -4,11 +4,11 @@
 ghost use Rattle.hid_layout.specs.Controls.{items_of};
 ghost use Rattle.hid_cells.specs.Cells.{FitsSnapshot, FitsShown};
 
-use hid_parts::{Shown, Snapshot, encode_report};
 use arrayvec::ArrayVec;
 use hid_cells::{Change, ChangeFault, has_empty_codes, has_keys, has_zeros, is_input};
 use hid_fields::{BitCodec, FieldCodec, WordCodec};
 use hid_layout::{ControlId, Layout};
+use hid_parts::{Shown, Snapshot, encode_report};
 use std::alloc::Global;
 use std::test::Fail;
 

@@ -5,13 +5,13 @@ ghost use Rattle.std.specs.Prelude.{◌≡◌, ◌≤◌, vec_capacity};
 ghost use Rattle.hid_layout.specs.Controls.{items_of, max_events};
 ghost use Rattle.hid_cells.specs.Cells.{FitsView};
 
+use hid_fields::{BitCodec, FieldCodec, WordCodec};
+use hid_layout::{ControlId, Layout, Usage};
 use hid_usages::boot::{KEYBOARD, MOUSE};
 use hid_usages::{
     Event, ReportFault, Shown, Snapshot, View, bytes_awaited, changes, changes_and_drops, has_keys,
     has_zeros, input_report, is_input,
 };
-use hid_fields::{BitCodec, FieldCodec, WordCodec};
-use hid_layout::{ControlId, Layout, Usage};
 use std::alloc::Global;
 use std::test::Fail;
 
