@@ -14,7 +14,7 @@ use Rattle.hid_recording.specs.declared.fault.RecordingFault.{RecordingFault}
 use Rattle.hid_recording.specs.declared.fault.Summary.{Summary}
 use Rattle.hid_recording.specs.Output.{IsFront}
 use Rattle.hid_recording.specs.Session.{Session, Member, Outcome, accepted, refused, at_first}
-use Rattle.hid_recording.specs.Records.{Said, Nothing, Blank, Device, Descriptor, Report, Begins, Bytes, record_of}
+use Rattle.hid_recording.specs.Records.{Said, Nothing, Blank, Device, Descriptor, Unread, Report, Begins, Bytes, record_of}
 use Rattle.hid_recording.specs.Words.{time_of}
 use Rattle.hid_recording.specs.Dumps.{numbered}
 use Rattle.hid_recording.specs.Joining.{bytes_with, ends_with, kept_of}
@@ -55,13 +55,13 @@ no_slot_text : (session : Session) (time bytes text : List ℕ) (cause : Cause) 
 no_slot_text session time bytes text cause None e = no_refusal_text session _ text cause e
 no_slot_text session time bytes text cause (Some member) e = no_report_text session time bytes text cause member (report_named member.layout bytes) e
 
-no_begun_text : (content : Option Content) (next : Session) (text : List ℕ) (cause : Cause) → ended_with text cause ≡ begins_behind content next → text ≡ []
-no_begun_text None next text cause e = not_accepted text _ cause _ e
-no_begun_text (Some content) next text cause e = no_refusal_text _ _ text cause e
+no_begun_text : (content : Option Content) (session next : Session) (text : List ℕ) (cause : Cause) → ended_with text cause ≡ begins_behind content session next → text ≡ []
+no_begun_text None session next text cause e = not_accepted text _ cause _ e
+no_begun_text (Some content) session next text cause e = no_refusal_text _ _ text cause e
 
 no_begin_text : (session : Session) (address : Address) (content : Content) (time : List ℕ) (device : Option ℕ) (text : List ℕ) (cause : Cause) → ended_with text cause ≡ begins_of session address content time device → text ≡ []
 no_begin_text session address content time None text cause e = no_refusal_text _ _ text cause e
-no_begin_text session address content time (Some device) text cause e = no_begun_text session.gathered.content _ text cause e
+no_begin_text session address content time (Some device) text cause e = no_begun_text session.gathered.content session _ text cause e
 
 room_text : (long : Bool) (session next : Session) (why : Why) (text : List ℕ) (cause : Cause) → ended_with text cause ≡ cond long (refuses session why) (accepted [] next) → text ≡ []
 room_text true session next why text cause e = no_refusal_text session why text cause e
@@ -104,6 +104,7 @@ no_said_text session (Bytes bytes) text cause e = no_gathered_text session bytes
 no_said_text session (Device device) text cause e = not_accepted text _ cause _ e
 no_said_text session (Descriptor bytes) text cause (inl h) = not_accepted text _ cause _ h.2
 no_said_text session (Descriptor bytes) text cause (inr h) = no_refusal_text _ _ text cause h.2
+no_said_text session (Unread interface why) text cause e = no_refusal_text _ why text cause e
 no_said_text session (Report time bytes) text cause e = no_slot_text session time bytes text cause (known_at (slice_get session.devices session.current)) e
 
 no_meant_text : (session : Session) (meant : Result Said Why) (text : List ℕ) (cause : Cause) → Means session meant (ended_with text cause) → text ≡ []

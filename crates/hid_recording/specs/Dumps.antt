@@ -2,6 +2,7 @@
 use Rattle.std.specs.Prelude.{ℕ, ◌==◌, Bool, false, true, ◌&&◌, nat_lt, List, [], ◌∷◌, ◌++◌, length, position, if◌then◌else◌, Option, None, Some}
 use Rattle.hid_recording.specs.declared.dump.Address.{Address}
 use Rattle.hid_recording.specs.declared.dump.Content.{Content}
+use Rattle.hid_recording.specs.declared.dump.Content.TheVariants.{Descriptor, Stream}
 
 -- what came of a dump: of what it is, if one is open, or whether one was dropped, whose bytes are passed over; of which
 -- device it is, when it came, and its bytes so far
@@ -24,6 +25,12 @@ left_out = record { content = None; is_dropped = true; device = 0; time = []; by
 abbrev pub opened : Content → ℕ → List ℕ → Gathered
 opened content device time =
     record { content = Some content; is_dropped = false; device = device; time = time; bytes = [] }
+
+-- the device whose descriptor a dump of this is to be, if it is to be one
+abbrev pub described_by : Option Content → ℕ → Option ℕ
+described_by None device = None
+described_by (Some Descriptor) device = Some device
+described_by (Some Stream) device = None
 
 -- the same interface of the same device
 abbrev pub is_same : Address → Address → Bool

@@ -5,6 +5,7 @@ use Rattle.std.specs.Option.{option_map}
 use Rattle.hid_lines.specs.Words.{Word, words_of}
 use Rattle.hid_recording.specs.declared.dump.Address.{Address}
 use Rattle.hid_recording.specs.declared.dump.Content.{Content}
+use Rattle.hid_recording.specs.declared.dump.Content.TheVariants as contents
 use Rattle.hid_recording.specs.declared.fault.Cause.{Cause}
 use Rattle.hid_recording.specs.declared.fault.Cause.TheVariants.{Refused, LineTooLong, Read, Write, Memory, TooManyReads, Unended}
 use Rattle.hid_recording.specs.declared.fault.Refusal.{Refusal}
@@ -13,13 +14,15 @@ use Rattle.hid_recording.specs.declared.record.Record.{Record}
 use Rattle.hid_recording.specs.declared.record.Record.TheVariants as records
 use Rattle.hid_recording.specs.Words.{bytes_of, is_count, device_of, time_of, is_colon, address_of, content_of}
 
--- what a line says: nothing, or nothing but the end of a dump; which device the next lines are of; its report descriptor;
--- a report and when it came; that a dump begins; or bytes of one, if each word is a byte
+-- what a line says: nothing, or nothing but the end of a dump; which device the next lines are of; its report descriptor, or
+-- why the bytes of one can't be read, with the interface that it is of, if it is a dump; a report and when it came; that a
+-- dump begins; or bytes of one, if each word is a byte
 pub data Said : Type 0 where
   Nothing : Said
   Blank : Said
   Device : ℕ → Said
   Descriptor : List ℕ → Said
+  Unread : Option Address → Refusal → Said
   Report : List ℕ → List ℕ → Said
   Begins : Address → Content → List ℕ → Said
   Bytes : Option (List ℕ) → Said
@@ -30,6 +33,7 @@ said_in records.Nothing = Nothing
 said_in records.Blank = Blank
 said_in (records.Device device) = Device device.number
 said_in (records.Descriptor bytes) = Descriptor bytes.items
+said_in (records.Unread interface refusal) = Unread interface refusal
 said_in (records.Report time bytes) = Report time.now bytes.items
 said_in (records.Begins address content time) = Begins address content time.now
 said_in (records.Bytes bytes) = Bytes (option_map (λ b. b.items) bytes)
@@ -58,10 +62,15 @@ abbrev pub device_said : List Word → Result Said Refusal
 device_said (word ∷ []) = or_no_device (device_of word)
 device_said _ = Err BadDevice
 
+-- the bytes of a descriptor, or why there are none
+abbrev pub or_unread : Result (List ℕ) Refusal → Said
+or_unread (Ok bytes) = Descriptor bytes
+or_unread (Err refusal) = Unread None refusal
+
 -- COUNT HEX
-abbrev pub descriptor_said : List Word → Result Said Refusal
-descriptor_said (count ∷ hex) = of_bytes Descriptor (counted_bytes count hex)
-descriptor_said [] = Err BadCount
+abbrev pub descriptor_said : List Word → Said
+descriptor_said (count ∷ hex) = or_unread (counted_bytes count hex)
+descriptor_said [] = Unread None BadCount
 
 -- what came at a time that there may be
 abbrev pub came_at : Option (List ℕ) → Word → List Word → Result Said Refusal
@@ -78,7 +87,7 @@ unfoldable pub said_by : ℕ → List Word → Result Said Refusal
 said_by letter words =
     if letter == 78 || letter == 80 || letter == 73 then Ok Nothing
     else if letter == 68 then device_said words
-    else if letter == 82 then descriptor_said words
+    else if letter == 82 then Ok (descriptor_said words)
     else if letter == 69 then report_said words
     else Err Syntax
 
@@ -91,23 +100,38 @@ lettered letter (colon ∷ rest) = if colon == 58 then said_by letter (words_of 
 abbrev pub dumped : List Word → Result Said Refusal
 dumped hex = Ok (Bytes (bytes_of hex))
 
--- a dump of what there may be, at a time that there may be
-abbrev pub begun : Option Address → Option Content → Option (List ℕ) → Result Said Refusal
-begun None content time = Err Syntax
-begun (Some address) None time = Err Syntax
-begun (Some address) (Some content) None = Err BadTime
-begun (Some address) (Some content) (Some time) = Ok (Begins address content time)
+-- a time that there may be
+abbrev pub or_no_time : Option (List ℕ) → Result (List ℕ) Refusal
+or_no_time None = Err BadTime
+or_no_time (Some time) = Ok time
 
--- the parts of an address, and TIME
-abbrev pub begins_at : List Word → Word → Result Said Refusal
+-- TIME, and nothing more
+abbrev pub time_said : List Word → Result (List ℕ) Refusal
+time_said (time ∷ []) = or_no_time (time_of time)
+time_said _ = Err Syntax
+
+-- a dump of an interface, or why it doesn't begin: then a descriptor can't be read
+abbrev pub begun : Address → Content → Result (List ℕ) Refusal → Result Said Refusal
+begun address content (Ok time) = Ok (Begins address content time)
+begun address contents.Descriptor (Err refusal) = Ok (Unread (Some address) refusal)
+begun address contents.Stream (Err refusal) = Err refusal
+
+-- a dump of what there may be
+abbrev pub begun_of : Option Address → Option Content → Result (List ℕ) Refusal → Result Said Refusal
+begun_of None content time = Err Syntax
+begun_of (Some address) None time = Err Syntax
+begun_of (Some address) (Some content) time = begun address content time
+
+-- the parts of an address, and what stands behind them
+abbrev pub begins_at : List Word → Result (List ℕ) Refusal → Result Said Refusal
 begins_at (bus ∷ device ∷ interface ∷ content ∷ []) time =
-    begun (address_of bus device interface) (content_of content) (time_of time)
+    begun_of (address_of bus device interface) (content_of content) time
 begins_at _ time = Err Syntax
 
 -- BUS:DEVICE:INTERFACE:CONTENT TIME
 abbrev pub header_said : List Word → Result Said Refusal
-header_said (address ∷ time ∷ []) = begins_at (slice_split is_colon address) time
-header_said _ = Err Syntax
+header_said (address ∷ time) = begins_at (slice_split is_colon address) (time_said time)
+header_said [] = Err Syntax
 
 -- a digit
 abbrev pub is_digit : ℕ → Bool

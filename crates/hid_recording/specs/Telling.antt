@@ -21,9 +21,9 @@ use Rattle.hid_recording.specs.Taking.{read_member, member_events}
 use Rattle.hid_recording.specs.Joining.{doubted_slot, past_chunk, bytes_with, ends_with, kept_of}
 use Rattle.hid_recording.specs.EventLines.{event_lines}
 use Rattle.hid_recording.specs.Refusals.{refusal_line}
-use Rattle.hid_recording.specs.Records.{Said, Nothing, Blank, Device, Descriptor, Report, Begins, Bytes, record_of}
+use Rattle.hid_recording.specs.Records.{Said, Nothing, Blank, Device, Descriptor, Unread, Report, Begins, Bytes, record_of}
 use Rattle.hid_recording.specs.Words.{time_of}
-use Rattle.hid_recording.specs.Dumps.{nothing, left_out, opened, numbered, with_address}
+use Rattle.hid_recording.specs.Dumps.{nothing, left_out, opened, described_by, numbered, with_address}
 
 -- ---- refusals
 
@@ -41,6 +41,11 @@ refuses session refusal = if session.options.strict then refused (Refused refusa
 -- the device is this from now on
 abbrev pub with_device : Session → Option Member → Session
 with_device session member = record session { devices = set session.devices session.current member }
+
+-- a device that there may be has none from now on
+abbrev pub forgotten : List (Option Member) → Option ℕ → List (Option Member)
+forgotten devices None = devices
+forgotten devices (Some device) = set devices device None
 
 -- with --layout the number of the device, and its layout
 abbrev pub described_text : Options → ℕ → Contents → List ℕ
@@ -116,13 +121,27 @@ report_told time bytes session = reads_of session time bytes (known_at (slice_ge
 abbrev pub closed : Session → Session
 closed session = record session { gathered = nothing }
 
--- a part of a report may be missing: of any device, since it isn't known of which the line was
-abbrev pub in_doubt : Session → Session
-in_doubt session = record session { devices = map doubted_slot session.devices }
+-- The devices behind a dump that may be open, and is dropped. The one whose descriptor it was to be has none. A part of a
+-- report may be missing: of any device, since it isn't known of which the line was.
+abbrev pub devices_behind : Session → List (Option Member)
+devices_behind session =
+    map doubted_slot (forgotten session.devices (described_by session.gathered.content session.gathered.device))
 
 -- a dump that is open is dropped, and its further bytes are passed over
 abbrev pub dropped : Session → Session
-dropped session = record session { devices = map doubted_slot session.devices; gathered = left_out }
+dropped session = record session { devices = devices_behind session; gathered = left_out }
+
+-- the device of these lines has no descriptor, or that of an interface, which has come
+abbrev pub undescribed : Session → Option Address → Session
+undescribed session None = with_device session None
+undescribed session (Some address) = record session {
+  devices = forgotten session.devices (numbered session.addresses address);
+  addresses = with_address session.addresses address;
+}
+
+-- a descriptor can't be read: the device that it was for has none
+abbrev pub unread : Session → Option Address → Refusal → Outcome
+unread session interface refusal = refuses (dropped (undescribed session interface)) refusal
 
 -- a dump is open, of which no byte came yet
 abbrev pub with_dump : Session → Address → Content → List ℕ → ℕ → Session
@@ -130,15 +149,15 @@ with_dump session address content time device =
     record session { addresses = with_address session.addresses address; gathered = opened content device time }
 
 -- the dump before it should have been ended
-abbrev pub begins_behind : Option Content → Session → Outcome
-begins_behind None next = accepted [] next
-begins_behind (Some content) next = refuses (in_doubt next) refusals.Unended
+abbrev pub begins_behind : Option Content → Session → Session → Outcome
+begins_behind None session next = accepted [] next
+begins_behind (Some content) session next = refuses (record next { devices = devices_behind session }) refusals.Unended
 
 -- a dump of a device that may have a number
 abbrev pub begins_of : Session → Address → Content → List ℕ → Option ℕ → Outcome
 begins_of session address content time None = refuses (dropped session) refusals.TooManyDevices
 begins_of session address content time (Some device) =
-    begins_behind session.gathered.content (with_dump session address content time device)
+    begins_behind session.gathered.content session (with_dump session address content time device)
 
 -- a dump begins
 abbrev pub begins : Session → Address → Content → List ℕ → Outcome
@@ -215,6 +234,7 @@ SaidTells session (Begins address content time) o = o ≡ begins session address
 SaidTells session (Bytes bytes) o = o ≡ gathers session bytes session.gathered.content
 SaidTells session (Device device) o = o ≡ accepted [] (record session { current = device })
 SaidTells session (Descriptor bytes) o = TellsDescriptor bytes session o
+SaidTells session (Unread interface refusal) o = o ≡ unread session interface refusal
 SaidTells session (Report time bytes) o = o ≡ report_told time bytes session
 
 -- A line tells what it says. One that is refused drops the dump in which it stands.

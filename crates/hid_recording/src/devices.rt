@@ -1,16 +1,17 @@
 //! The devices of a recording.
 
 ghost use Rattle.std.specs.Prelude.{◌≡◌, ◌<◌, Option, length, map, set, slice_get, string_bytes, IfOk};
+ghost use Rattle.std.specs.Option.{option_map};
 ghost use Rattle.hid_recording.specs.Session.{Member, no_devices};
 ghost use Rattle.hid_recording.specs.Joining.{doubted_slot, Joins};
-ghost use Rattle.hid_recording.specs.Telling.{known_at};
+ghost use Rattle.hid_recording.specs.Telling.{known_at, forgotten};
 ghost use Rattle.hid_recording.specs.Playing.{PlaysAt, PlaysReport};
 ghost use Rattle.hid_recording.specs.declared.words.TheConstants.{MAX_DEVICES};
 
 use super::event_line::Source;
 use super::fault::{Cause, Options, Refusal};
 use super::recorded::{Joined, Recorded};
-use super::words::MAX_DEVICES;
+use super::words::{DeviceNumber, MAX_DEVICES};
 use std::alloc::{AllocError, Global};
 
 /// What is known of each device, and which one the next lines are of.
@@ -57,6 +58,17 @@ impl Devices {
     {
         let i = usize::from(self.current);
         self.slots[i] = recorded;
+    }
+
+    /// Nothing is known of this device from now on, if it is one.
+    pub fn forget(&mut self, device: Option<DeviceNumber>)
+        ensures { (self.new.current ≡ self.old.current) × (self.new.slots.items
+            ≡ forgotten self.old.slots.items (option_map (λ some. some.number) device)) }
+    {
+        if let Some(device) = device {
+            let i = usize::from(device.number);
+            self.slots[i] = None;
+        }
     }
 
     /// A part of a report may have been left out, of any device.

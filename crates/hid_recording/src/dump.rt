@@ -2,7 +2,7 @@
 
 ghost use Rattle.std.specs.Prelude.{◌≡◌, ◌≤◌, ◌<◌, false, true, [], Some, None, IfOk, OnOk, length, position};
 ghost use Rattle.std.specs.Option.{option_map};
-ghost use Rattle.hid_recording.specs.Dumps.{is_same, numbered, with_address};
+ghost use Rattle.hid_recording.specs.Dumps.{is_same, described_by, numbered, with_address};
 ghost use Rattle.hid_recording.specs.declared.words.TheConstants.{MAX_DEVICES};
 
 use super::words::{DeviceNumber, MAX_DEVICES};
@@ -84,6 +84,19 @@ impl Dump {
             time,
             bytes: Vec::new(alloc),
         })
+    }
+
+    /// The device whose descriptor it is to be, if it is to be one.
+    pub fn described(&self) -> Option<DeviceNumber>
+        ensures { option_map (λ device. device.number) result
+            ≡ described_by self.now.content self.now.device }
+    {
+        match self.content {
+            Some(Content::Descriptor) => Some(DeviceNumber {
+                number: self.device,
+            }),
+            Some(Content::Stream) | None => None,
+        }
     }
 }
 

@@ -4,7 +4,7 @@ ghost use Rattle.std.specs.Prelude.{◌≡◌, ◌++◌, None, Option, List, ℕ
 ghost use Rattle.std.specs.Option.{option_map};
 ghost use Rattle.hid_recording.specs.Session.{at_first};
 ghost use Rattle.hid_recording.specs.Records.{record_of};
-ghost use Rattle.hid_recording.specs.Telling.{described_text, LineTells, LineBegins, Means, TellsDescriptor, EndTells, advanced, with_device, installs, refuses, dropped, begins, gathers, gathers_none, chunk_told, stream_told, report_told};
+ghost use Rattle.hid_recording.specs.Telling.{described_text, LineTells, LineBegins, Means, TellsDescriptor, EndTells, advanced, with_device, installs, refuses, dropped, unread, begins, gathers, gathers_none, chunk_told, stream_told, report_told};
 ghost use Rattle.hid_recording.specs.Words.{time_of};
 ghost use Rattle.hid_recording.specs.Player.{summary_of};
 ghost use Rattle.hid_recording.specs.Refusals.{is_memory, refusal_line};
@@ -158,6 +158,7 @@ impl Player {
                 Ok(())
             }
             Ok(Record::Descriptor(bytes)) => self.describe(bytes.as_slice()),
+            Ok(Record::Unread { interface, refusal }) => self.lose(interface, refusal),
             Ok(Record::Report { time, bytes }) => self.report(time, bytes.as_slice()),
             Ok(
                 Record::Begins {
@@ -177,9 +178,25 @@ impl Player {
         ensures { Gathers (λ o. o ≡ refuses (dropped (session_of self.old)) refusal) result
             (string_bytes self.new.text) (session_of self.new) }
     {
-        self.dump = Dump::left_out(self.alloc);
+        self.devices.forget(self.dump.described());
         self.devices.doubt();
+        self.dump = Dump::left_out(self.alloc);
         self.refuse(refusal)
+    }
+
+    /// A descriptor can't be read: the device that it was for has none.
+    fn lose(&mut self, interface: Option<Address>, refusal: Refusal) -> Result<(), Cause>
+        ensures { Gathers (λ o. o ≡ unread (session_of self.old) interface refusal) result
+            (string_bytes self.new.text) (session_of self.new) }
+    {
+        match interface {
+            None => self.devices.put(None),
+            Some(address) => {
+                let device = self.addresses.number(address)?;
+                self.devices.forget(device);
+            }
+        }
+        self.drop_dump(refusal)
     }
 
     /// What is told is that a line is refused.
@@ -260,13 +277,13 @@ impl Player {
         ensures { Gathers (λ o. o ≡ begins (session_of self.old) address content time.now) result
             (string_bytes self.new.text) (session_of self.new) }
     {
-        let behind = self.dump.content.is_some();
-        self.dump = Dump::none(self.alloc);
         let Some(device) = self.addresses.number(address)? else {
             return self.drop_dump(Refusal::TooManyDevices);
         };
-        self.dump = Dump::begin(self.alloc, content, device, time)?;
-        if behind {
+        let begun = Dump::begin(self.alloc, content, device, time)?;
+        let before = mem::replace(&mut self.dump, begun);
+        if before.content.is_some() {
+            self.devices.forget(before.described());
             self.devices.doubt();
             return self.refuse(Refusal::Unended);
         }

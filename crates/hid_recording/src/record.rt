@@ -1,7 +1,7 @@
 //! What a line of a recording says.
 
-ghost use Rattle.std.specs.Prelude.{◌≡◌, Ok, MatchResult, map};
-ghost use Rattle.hid_recording.specs.Records.{record_of, said_by, device_said, descriptor_said, report_said, counted_bytes, dumped, header_said, begins_at, ReadsRecord, IsNone};
+ghost use Rattle.std.specs.Prelude.{◌≡◌, Ok, Err, MatchResult, map};
+ghost use Rattle.hid_recording.specs.Records.{record_of, said_by, device_said, descriptor_said, report_said, counted_bytes, dumped, header_said, begins_at, begun, time_said, ReadsRecord, IsNone};
 
 use super::dump::{Address, Content};
 use super::fault::{Cause, Refusal};
@@ -23,6 +23,11 @@ pub enum Record<'a> {
     Device(DeviceNumber),
     /// `R: COUNT HEX`: the report descriptor of the device.
     Descriptor(Vec<u8>),
+    /// The same, whose bytes can't be read; or a head of a descriptor's dump that is refused, which is of an interface.
+    Unread {
+        interface: Option<Address>,
+        refusal: Refusal,
+    },
     /// `E: TIME COUNT HEX`: a report of the device.
     Report {
         time: &'a str,
@@ -104,13 +109,22 @@ fn read_counted(alloc: Global, count: &[u8], words: &[&[u8]]) -> Result<Vec<u8>,
 
 /// `COUNT HEX`
 fn read_descriptor<'a>(alloc: Global, words: &[&'a [u8]]) -> Result<Record<'a>, Cause>
-    ensures { ReadsRecord result (descriptor_said (map (λ word. word.now) words.now)) }
+    ensures { ReadsRecord result (Ok (descriptor_said (map (λ word. word.now) words.now))) }
 {
     let [count, hex @ ..] = words else {
-        return Err(Cause::Refused(Refusal::BadCount));
+        return Ok(Record::Unread {
+            interface: None,
+            refusal: Refusal::BadCount,
+        });
     };
-    let bytes = read_counted(alloc, count, hex)?;
-    Ok(Record::Descriptor(bytes))
+    match read_counted(alloc, count, hex) {
+        Ok(bytes) => Ok(Record::Descriptor(bytes)),
+        Err(Cause::Refused(refusal)) => Ok(Record::Unread {
+            interface: None,
+            refusal,
+        }),
+        Err(cause) => Err(cause),
+    }
 }
 
 /// `TIME COUNT HEX`
@@ -142,7 +156,7 @@ fn read_dumped<'a>(alloc: Global, words: &[&'a [u8]]) -> Result<Record<'a>, Caus
 fn read_header<'a>(alloc: Global, words: &[&'a [u8]]) -> Result<Record<'a>, Cause>
     ensures { ReadsRecord result (header_said (map (λ word. word.now) words.now)) }
 {
-    let [address, time] = words else {
+    let [address, time @ ..] = words else {
         return Err(Cause::Refused(Refusal::Syntax));
     };
     let parts = parts_of_word(alloc, address)?;
@@ -150,8 +164,9 @@ fn read_header<'a>(alloc: Global, words: &[&'a [u8]]) -> Result<Record<'a>, Caus
 }
 
 /// The parts of an address, and TIME.
-fn read_begin<'a>(parts: &[&[u8]], time: &'a [u8]) -> Result<Record<'a>, Cause>
-    ensures { ReadsRecord result (begins_at (map (λ part. part.now) parts.now) time.now) }
+fn read_begin<'a>(parts: &[&[u8]], time: &[&'a [u8]]) -> Result<Record<'a>, Cause>
+    ensures { ReadsRecord result (begins_at (map (λ part. part.now) parts.now)
+        (time_said (map (λ word. word.now) time.now))) }
 {
     let [bus, device, interface, content] = parts else {
         return Err(Cause::Refused(Refusal::Syntax));
@@ -162,12 +177,40 @@ fn read_begin<'a>(parts: &[&[u8]], time: &'a [u8]) -> Result<Record<'a>, Cause>
     let Some(content) = read_content(content) else {
         return Err(Cause::Refused(Refusal::Syntax));
     };
-    match read_time(time) {
-        Some(time) => Ok(Record::Begins {
+    match read_begin_time(time) {
+        Ok(time) => Ok(Record::Begins {
             address,
             content,
             time,
         }),
-        None => Err(Cause::Refused(Refusal::BadTime)),
+        Err(refusal) => unbegun(address, content, refusal),
+    }
+}
+
+/// TIME, and nothing more.
+fn read_begin_time<'a>(words: &[&'a [u8]]) -> Result<&'a str, Refusal>
+    ensures { MatchResult result
+        (λ time. time_said (map (λ word. word.now) words.now) ≡ Ok time.now)
+        (λ refusal. time_said (map (λ word. word.now) words.now) ≡ Err refusal) }
+{
+    let [time] = words else {
+        return Err(Refusal::Syntax);
+    };
+    match read_time(time) {
+        Some(time) => Ok(time),
+        None => Err(Refusal::BadTime),
+    }
+}
+
+/// A dump that doesn't begin: of a descriptor, its bytes can't be read.
+fn unbegun<'a>(address: Address, content: Content, refusal: Refusal) -> Result<Record<'a>, Cause>
+    ensures { ReadsRecord result (begun address content (Err refusal)) }
+{
+    match content {
+        Content::Descriptor => Ok(Record::Unread {
+            interface: Some(address),
+            refusal,
+        }),
+        Content::Stream => Err(Cause::Refused(refusal)),
     }
 }

@@ -51,7 +51,7 @@ type Recorded = (&'static str, Options, &'static str, &'static str);
 
 /// Recordings with what they tell.
 #[rattlefmt::skip]
-const TOLD: [Recorded; 28] = [
+const TOLD: [Recorded; 42] = [
     ("a mouse that clicks and moves", PLAIN,
         "# a mouse\nD: 0\nR: 50 05 01 09 02 A1 01 09 01 A1 00 05 09 19 01 29 03 15 00 25 01 95 03 75 01 81 02 95 01 75 05 81 01 05 01 09 30 09 31 15 81 25 7F 75 08 95 02 81 06 C0 C0\nN: mouse\nI: 3 046d c077\nE: 000000.000000 3 01 05 00\nE: 000000.010000 3 00 00 FF\n",
         "000000.000000 0 down 09:01\n000000.000000 0 motion 01:30 5\n000000.010000 0 up 09:01\n000000.010000 0 motion 01:31 -1\n"),
@@ -131,6 +131,48 @@ const TOLD: [Recorded; 28] = [
     ("two refused lines in a dump", PLAIN,
         "1:1:0:STREAM 1\n 0g\n 0h\n\n",
         "line 2: R3: a byte isn't two hex digits\n"),
+    ("a descriptor with a wrong count, and reports behind it", PLAIN,
+        "R: 14 05 09 09 01 15 00 25 01 75 01 95 01 81 02\nE: 1 1 01\nR: 15 05 09 09 01 15 00 25 01 75 01 95 01 81 02\nE: 2 1 00\nR: 14 05 09 09 01 15 00 25 01 75 01 95 01 81 02\nE: 3 1 01\n",
+        "1 0 down 09:01\nline 3: R4: the count isn't that of the bytes\nline 4: R7: the device has no descriptor\n3 0 down 09:01\n"),
+    ("a descriptor with a word that is no byte, of one of two devices", PLAIN,
+        "R: 14 05 09 09 01 15 00 25 01 75 01 95 01 81 02\nE: 1 1 01\nD: 1\nR: 14 05 09 09 01 15 00 25 01 75 01 95 01 81 02\nE: 2 1 01\nR: 14 05 09 09 01 15 00 25 01 75 01 95 01 81 0\nE: 3 1 00\nD: 0\nE: 4 1 00\n",
+        "1 0 down 09:01\n2 1 down 09:01\nline 6: R3: a byte isn't two hex digits\nline 7: R7: the device has no descriptor\n4 0 up 09:01\n"),
+    ("an R with nothing behind it", PLAIN,
+        "R: 14 05 09 09 01 15 00 25 01 75 01 95 01 81 02\nR:\nE: 1 1 01\n",
+        "line 2: R4: the count isn't that of the bytes\nline 3: R7: the device has no descriptor\n"),
+    ("a letter that isn't R", PLAIN,
+        "R: 14 05 09 09 01 15 00 25 01 75 01 95 01 81 02\nr: 14 05 09 09 01 15 00 25 01 75 01 95 01 81 02\nE: 1 1 01\n",
+        "line 2: R1: no line of a recording\n1 0 down 09:01\n"),
+    ("a second descriptor of which a line is refused, of one of two interfaces", PLAIN,
+        "1:1:0:DESCRIPTOR 1\n 05 09 09 01 15 00 25 01 75 01 95 01 81 02\n\n1:1:1:DESCRIPTOR 1\n 05 09 09 01 15 00 25 01 75 01 95 01 81 02\n\n1:1:0:DESCRIPTOR 2\n 05 09 0\n 05\n\n1:1:0:STREAM 3\n 01\n\n1:1:1:STREAM 4\n 01\n\n",
+        "line 8: R3: a byte isn't two hex digits\nline 13: R7: the device has no descriptor\n4 1 down 09:01\n"),
+    ("a second descriptor that no empty line ends", PLAIN,
+        "1:1:0:DESCRIPTOR 1\n 05 09 09 01 15 00 25 01 75 01 95 01 81 02\n\n1:1:1:DESCRIPTOR 1\n 05 09 09 01 15 00 25 01 75 01 95 01 81 02\n\n1:1:0:DESCRIPTOR 2\n 05 09 09 01 15 00 25 01 75 01 95 01 81 02\n1:1:1:STREAM 3\n 01\n\n1:1:0:STREAM 4\n 01\n\n",
+        "line 9: R12: no empty line ends the dump before\n3 1 down 09:01\nline 14: R7: the device has no descriptor\n"),
+    ("a line of another kind that is refused in a second descriptor", PLAIN,
+        "1:1:0:DESCRIPTOR 1\n 05 09 09 01 15 00 25 01 75 01 95 01 81 02\n\n1:1:1:DESCRIPTOR 1\n 05 09 09 01 15 00 25 01 75 01 95 01 81 02\n\n1:1:0:DESCRIPTOR 2\nX\n 05 09 09 01 15 00 25 01 75 01 95 01 81 02\n\n1:1:0:STREAM 3\n 01\n\n1:1:1:STREAM 4\n 01\n\n",
+        "line 8: R1: no line of a recording\nline 13: R7: the device has no descriptor\n4 1 down 09:01\n"),
+    ("a head of a second descriptor whose time is no time", PLAIN,
+        "1:1:0:DESCRIPTOR 1\n 05 09 09 01 15 00 25 01 75 01 95 01 81 02\n\n1:1:1:DESCRIPTOR 1\n 05 09 09 01 15 00 25 01 75 01 95 01 81 02\n\n1:1:0:DESCRIPTOR x\n 05 09 09 01 15 00 25 01 75 01 95 01 81 02\n\n1:1:0:STREAM 3\n 01\n\n1:1:1:STREAM 4\n 01\n\n",
+        "line 7: R6: the time isn't digits and points\nline 12: R7: the device has no descriptor\n4 1 down 09:01\n"),
+    ("a head of a second descriptor without its time", PLAIN,
+        "1:1:0:DESCRIPTOR 1\n 05 09 09 01 15 00 25 01 75 01 95 01 81 02\n\n1:1:1:DESCRIPTOR 1\n 05 09 09 01 15 00 25 01 75 01 95 01 81 02\n\n1:1:0:DESCRIPTOR\n 05 09 09 01 15 00 25 01 75 01 95 01 81 02\n\n1:1:0:STREAM 3\n 01\n\n1:1:1:STREAM 4\n 01\n\n",
+        "line 7: R1: no line of a recording\nline 12: R7: the device has no descriptor\n4 1 down 09:01\n"),
+    ("heads of an interface that can't be known, and of chunks", PLAIN,
+        "1:1:0:DESCRIPTOR 1\n 05 09 09 01 15 00 25 01 75 01 95 01 81 02\n\n1:1:1:DESCRIPTOR 1\n 05 09 09 01 15 00 25 01 75 01 95 01 81 02\n\n1:1:x:DESCRIPTOR 2\n 05 09 09 01 15 00 25 01 75 01 95 01 81 02\n\n1:1:0:DESCR 2\n 05 09 09 01 15 00 25 01 75 01 95 01 81 02\n\n1:1:0:STREAM\n 01\n\n1:1:0:STREAM 3\n 01\n\n1:1:1:STREAM 4\n 01\n\n",
+        "line 7: R1: no line of a recording\nline 10: R1: no line of a recording\nline 13: R1: no line of a recording\n3 0 down 09:01\n4 1 down 09:01\n"),
+    ("a head of a descriptor that is refused, and its interface comes first in it", PLAIN,
+        "R: 14 05 09 09 01 15 00 25 01 75 01 95 01 81 02\nE: 1 1 01\n1:1:5:DESCRIPTOR x\n 05 09 09 01 15 00 25 01 75 01 95 01 81 02\n\n1:1:5:STREAM 2\n 01\n\n1:1:6:DESCRIPTOR 1\n 05 09 09 01 15 00 25 01 75 01 95 01 81 02\n\n1:1:6:STREAM 3\n 01\n\n",
+        "1 0 down 09:01\nline 3: R6: the time isn't digits and points\nline 8: R7: the device has no descriptor\n3 1 down 09:01\n"),
+    ("a head of a seventeenth interface in a second descriptor", PLAIN,
+        "1:1:0:DESCRIPTOR 1\n 05 09 09 01 15 00 25 01 75 01 95 01 81 02\n\n1:1:1:DESCRIPTOR 1\n\n1:1:2:DESCRIPTOR 1\n\n1:1:3:DESCRIPTOR 1\n\n1:1:4:DESCRIPTOR 1\n\n1:1:5:DESCRIPTOR 1\n\n1:1:6:DESCRIPTOR 1\n\n1:1:7:DESCRIPTOR 1\n\n1:1:8:DESCRIPTOR 1\n\n1:1:9:DESCRIPTOR 1\n\n1:1:10:DESCRIPTOR 1\n\n1:1:11:DESCRIPTOR 1\n\n1:1:12:DESCRIPTOR 1\n\n1:1:13:DESCRIPTOR 1\n\n1:1:14:DESCRIPTOR 1\n\n1:1:15:DESCRIPTOR 1\n\n1:1:0:DESCRIPTOR 2\n1:1:16:STREAM 3\n\n1:1:0:STREAM 4\n 01\n\n",
+        "line 35: R14: dumps of over 16 interfaces\nline 39: R7: the device has no descriptor\n"),
+    ("a head of a descriptor of a seventeenth interface that is refused", PLAIN,
+        "1:1:0:DESCRIPTOR 1\n 05 09 09 01 15 00 25 01 75 01 95 01 81 02\n\n1:1:1:DESCRIPTOR 1\n\n1:1:2:DESCRIPTOR 1\n\n1:1:3:DESCRIPTOR 1\n\n1:1:4:DESCRIPTOR 1\n\n1:1:5:DESCRIPTOR 1\n\n1:1:6:DESCRIPTOR 1\n\n1:1:7:DESCRIPTOR 1\n\n1:1:8:DESCRIPTOR 1\n\n1:1:9:DESCRIPTOR 1\n\n1:1:10:DESCRIPTOR 1\n\n1:1:11:DESCRIPTOR 1\n\n1:1:12:DESCRIPTOR 1\n\n1:1:13:DESCRIPTOR 1\n\n1:1:14:DESCRIPTOR 1\n\n1:1:15:DESCRIPTOR 1\n\n1:1:16:DESCRIPTOR\n\n1:1:0:STREAM 4\n 01\n\n",
+        "line 34: R1: no line of a recording\n4 0 down 09:01\n"),
+    ("what came of a report in front of a descriptor that can't be read", PLAIN,
+        "1:1:0:DESCRIPTOR 1\n 85 01 05 01 09 30 15 00 26 FF 00 75 08 95 50 81 02 85 02 05 09 09 01 25 01 75 01 95 01 81 02\n\n1:1:0:STREAM 2\n 01 00 00 00 00 00 00 00 00 00 00 00 00 00 00 00 00 00 00 00 00 00 00 00 00 00 00 00 00 00 00 00\n 00 00 00 00 00 00 00 00 00 00 00 00 00 00 00 00 00 00 00 00 00 00 00 00 00 00 00 00 00 00 00 00\n\nR: 1\n1:1:0:STREAM 3\n 02 01 00 00 00 00 00 00 00 00 00 00 00 00 00 00 00\n\n1:1:0:DESCRIPTOR 1\n 85 01 05 01 09 30 15 00 26 FF 00 75 08 95 50 81 02 85 02 05 09 09 01 25 01 75 01 95 01 81 02\n\n1:1:0:STREAM 4\n 02 01\n\n",
+        "line 8: R4: the count isn't that of the bytes\nline 11: R7: the device has no descriptor\n4 0 down 09:01\n"),
     ("a strict run of what isn't refused", STRICT,
         "R: 14 05 09 09 01 15 00 25 01 75 01 95 01 81 02\nE: 1 1 01",
         "1 0 down 09:01\n"),
@@ -167,12 +209,15 @@ fn recordings_tell_their_events(rt: HostRuntime) -> Result<(), Fail> {
 /// Recordings that end early, the options, what they tell, and where and why they end: a button is pressed, and then comes
 /// what ends them.
 #[rattlefmt::skip]
-const EARLY: [(&str, Options, &str, &str, u64, Cause); 3] = [
+const EARLY: [(&str, Options, &str, &str, u64, Cause); 4] = [
     ("a dump that is cut off", PLAIN,
         "R: 14 05 09 09 01 15 00 25 01 75 01 95 01 81 02\nE: 1 1 01\nX\n001:003:000:STREAM 1\n 00\n",
         "1 0 down 09:01\nline 3: R1: no line of a recording\n", 6, Cause::Unended),
     ("the first refusal of a strict run", STRICT,
         "R: 14 05 09 09 01 15 00 25 01 75 01 95 01 81 02\nE: 1 1 01\nE: 2 2 00\nE: 3 1 00\n",
+        "1 0 down 09:01\n", 3, Cause::Refused(Refusal::BadCount)),
+    ("a descriptor of a strict run that can't be read", STRICT,
+        "R: 14 05 09 09 01 15 00 25 01 75 01 95 01 81 02\nE: 1 1 01\nR: 2 05\nE: 2 1 00\n",
         "1 0 down 09:01\n", 3, Cause::Refused(Refusal::BadCount)),
     ("a refused line in a dump of a strict run", STRICT,
         "R: 14 05 09 09 01 15 00 25 01 75 01 95 01 81 02\nE: 1 1 01\n001:003:000:STREAM 1\n 0\n\n",
@@ -205,9 +250,10 @@ fn runs_that_end_early_tell_where_and_what_was_played(rt: HostRuntime) {
 /// Recordings of a head, a piece that is repeated, and a tail, with what they tell and the line at which they end, if they
 /// end early.
 #[rattlefmt::skip]
-const LONG: [(&str, &str, &str, u32, &str, &str, Option<u64>); 4] = [
+const LONG: [(&str, &str, &str, u32, &str, &str, Option<u64>); 5] = [
     ("a dump of 4,096 bytes", "1:1:0:STREAM 1\n", " 00\n", 4096, "\n", "line 4098: R7: the device has no descriptor\n", None),
     ("bytes more",            "1:1:0:STREAM 1\n", " 00\n", 4100, "\n", "line 4098: R13: a dump of over 4096 bytes\n", None),
+    ("a second descriptor of as many", "1:1:0:DESCRIPTOR 1\n 05 09 09 01 15 00 25 01 75 01 95 01 81 02\n\n1:1:0:DESCRIPTOR 2\n", " 00\n", 4100, "\n1:1:0:STREAM 3\n 01\n\n", "line 4101: R13: a dump of over 4096 bytes\nline 4108: R7: the device has no descriptor\n", None),
     ("a line of 16,384 bytes", "#", "x", 16383, "\r\nX\n", "line 2: R1: no line of a recording\n", None),
     ("a byte more",            "#", "x", 16384, "\r\nX\n", "", Some(1)),
 ];
