@@ -1,9 +1,9 @@
-//! What is shown of the controls at first, once more in the same room.
+//! What is kept and shown of the controls at first, once more in the same room.
 
-ghost use Rattle.std.specs.Prelude.{◌≡◌, length, pos, replicate};
-ghost use Rattle.hid_layout.specs.Controls.{items_of};
+ghost use Rattle.std.specs.Prelude.{◌≡◌, ◌<◌, Bool, List, false, length, pos, replicate};
+ghost use Rattle.hid_layout.specs.Controls.{items_of, form_at, head_of};
 ghost use Rattle.hid_layout.specs.Reports.{IsLayout};
-ghost use Rattle.hid_cells.specs.Cells.{blank_cell, FitsShown, HasRoom};
+ghost use Rattle.hid_cells.specs.Cells.{blank, blank_cell, FitsShown, FitsView, HasRoom, HaveRoom};
 ghost use Rattle.hid_cells.specs.Parts.{blank_parts, shown_cell};
 
 use crate::blank::first_value;
@@ -45,35 +45,60 @@ pub(crate) fn reset_motions(motions: &mut Motions)
     motions.clamp(&0, &0);
 }
 
-/// Makes what is kept of an item's controls what it was at first.
-fn reset_cell(cell: &mut Cell, controls: &Controls)
-    requires { HasRoom controls.now cell.old }
-    ensures { cell.new ≡ blank_cell controls.now }
+/// None is pressed of an array that rolled over.
+fn release_all(cell: &mut Cell)
+    ensures { (ps : List Bool) → cell.old ≡ Cell.RolledOver ps
+        → cell.new ≡ Cell.Pressed (replicate (length ps) false) }
 {
     match mem::replace(cell, Cell::Vacant) {
-        Cell::Vacant => {}
-        Cell::Pressed(mut flags) | Cell::RolledOver(mut flags) => {
+        Cell::RolledOver(mut flags) => {
             flags.release_all();
             *cell = Cell::Pressed(flags);
         }
-        Cell::Holding(mut values) => {
-            reset_values(&mut values, controls);
-            *cell = Cell::Holding(values);
-        }
-        Cell::Moved(mut motions) => {
-            reset_motions(&mut motions);
-            *cell = Cell::Moved(motions);
-        }
+        Cell::Vacant | Cell::Pressed(_) | Cell::Holding(_) | Cell::Moved(_) => {}
     }
 }
 
-/// Makes what is shown of an item's controls what it was at first.
-fn reset_part(part: &mut Cell, controls: &Controls)
-    requires { HasRoom controls.now part.old }
-    ensures { part.new ≡ shown_cell controls.now (blank_cell controls.now) }
+/// Makes what is kept of a listed item what it was at first. The controls are looked up where it has values.
+fn reset_cell(layout: &Layout, i: usize, cell: &mut Cell)
+    requires listed { i < length layout.now.items }
+    requires room { HasRoom (head_of (form_at (items_of layout.now) i)) cell.old }
+    ensures { cell.new ≡ blank_cell (head_of (form_at (items_of layout.now) i)) }
 {
-    reset_cell(part, controls);
-    show_cell(part, controls);
+    match cell {
+        Cell::Vacant => {}
+        Cell::Pressed(flags) => flags.release_all(),
+        Cell::Holding(values) => reset_values(values, &layout.controls(i)),
+        Cell::Moved(motions) => reset_motions(motions),
+        Cell::RolledOver(_) => release_all(cell),
+    }
+}
+
+/// Makes what is shown of a listed item what it was at first. Of the initial cells motion alone is shown otherwise, where it
+/// can't be 0.
+#[tactic(auto, using(crate::proofs::ResetLemmas::shown_blank))]
+fn reset_part(layout: &Layout, i: usize, part: &mut Cell)
+    requires listed { i < length layout.now.items }
+    requires room { HasRoom (head_of (form_at (items_of layout.now) i)) part.old }
+    ensures { part.new ≡ shown_cell (head_of (form_at (items_of layout.now) i))
+        (blank_cell (head_of (form_at (items_of layout.now) i))) }
+{
+    reset_cell(layout, i, part);
+    match part {
+        Cell::Moved(_) => show_cell(part, &layout.controls(i)),
+        Cell::Vacant | Cell::Pressed(_) | Cell::Holding(_) | Cell::RolledOver(_) => {}
+    }
+}
+
+/// Makes what is kept of each item's controls what it was at first. No memory is taken.
+pub fn reset_cells(layout: &Layout, cells: &mut [Cell])
+    requires { HaveRoom (items_of layout.now) cells.old }
+    ensures blank { cells.new ≡ blank (items_of layout.now) }
+    ensures fits { FitsView (items_of layout.now) cells.new }
+{
+    for i in 0..item_count(layout) {
+        reset_cell(layout, i, &mut cells[i]);
+    }
 }
 
 /// Makes what is shown of each item's controls what it was at first. No memory is taken.
@@ -83,6 +108,6 @@ pub fn reset_parts(layout: &Layout, parts: &mut [Cell])
     ensures layout { IsLayout layout.now }
 {
     for i in 0..item_count(layout) {
-        reset_part(&mut parts[i], &layout.controls(i));
+        reset_part(layout, i, &mut parts[i]);
     }
 }

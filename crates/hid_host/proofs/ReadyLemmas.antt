@@ -3,21 +3,18 @@ use Rattle.std.proofs.Common.{◌≡◌, ◌∙◌, ◌≤◌, ◌+◌, ℕ, Lis
 use Rattle.std.proofs.lemmas.List.{append-nil}
 use Rattle.hid_descriptor.specs.declared.fault.Cause.{Cause}
 use Rattle.hid_descriptor.specs.declared.fault.Cause.TheVariants.{Memory}
-use Rattle.hid_layout.specs.Controls.{Item, items_of, max_events}
+use Rattle.hid_layout.specs.Controls.{items_of, max_events}
 use Rattle.hid_descriptor.specs.Faults.{Explains, Refuses}
 use Rattle.hid_layout.specs.Layout.{Contents}
 use Rattle.hid_layout.specs.Reports.{IsLayout}
 use Rattle.hid_cells.specs.declared.cell.Cell.{Cell}
 use Rattle.hid_cells.specs.declared.event.Event.{Event}
-use Rattle.hid_usages.specs.Cells.{FitsShown, FitsView}
+use Rattle.hid_usages.specs.Cells.{FitsView}
 use Rattle.hid_cells.specs.declared.fault.ReportFault.{ReportFault}
 use Rattle.hid_usages.specs.Reading.{report_named}
 use Rattle.hid_usages.specs.Taking.{TakesReport, read_events, read_view}
 use Rattle.hid_host.specs.Ready.{events_read, read_or_fault, view_read}
-use Rattle.hid_views.proofs.DropLemmas.{drops_are, drops_few}
 use Rattle.hid_views.proofs.TakeLemmas.{named_input, read_events_few}
-use Rattle.hid_views.proofs.ViewLemmas.{changes_few}
-use Rattle.hid_cells.specs.Views.{changes_between, drops_between}
 
 -- memory aside, a descriptor without a layout is refused
 pub refused_unless : (bytes : List ℕ) (cause : Cause) (at : ℕ) → (cause ≡ Memory → ⊥) → Explains bytes cause at → Refuses bytes cause at
@@ -55,17 +52,3 @@ is_read layout bytes view view' out out' (Err fault) (named, same, told) = recor
   view_then = same ∙ sym (ap (view_by layout bytes view) named);
   events = told ∙ sym (append-nil out) ∙ sym (ap (λ (o : Result ℕ ReportFault). out ++ events_by layout bytes view o) named);
 }
-
--- neither does what changes from one view to another
-pub changed_few : (items : List Item) (before after : List Cell) (out out' : List Event) → FitsView items before → FitsView items after → out' ≡ out ++ changes_between items before after
-    → length out' ≤ length out + max_events items
-changed_few items before after out out' fits there is =
-    let few = changes_few 0 items before after fits there in
-    omega (arith, few, ap (λ (es : List Event). length es) is, length-append out (changes_between items before after))
-
--- and what is dropped of a part with it
-pub dropped_few : (items : List Item) (r : ℕ) (before after parts : List Cell) (out out' : List Event) → FitsView items before → FitsView items after → FitsShown items parts
-    → out' ≡ out ++ drops_between items r before after parts → length out' ≤ length out + max_events items
-dropped_few items r before after parts out out' fits there shown is =
-    let few = drops_few 0 r items before after parts fits there shown in
-    omega (arith, few, ap (λ (es : List Event). length es) is, ap (λ (es : List Event). length es) (drops_are items r before after parts), length-append out (drops_between items r before after parts))

@@ -26,12 +26,10 @@ pub record Known : Type 0 where
   pub view : List Cell
   pub collected : List ℕ
 
--- a view of the controls of a layout, and the initial one
-pub record AreViews (layout : Contents) (view first : List Cell) : Type 0 where
+-- a view of the controls of a layout
+pub record IsViewed (layout : Contents) (view : List Cell) : Type 0 where
   pub laid : IsLayout layout
   pub fits : FitsView (items_of layout) view
-  pub initial : first ≡ blank (items_of layout)
-  pub room : FitsView (items_of layout) first
 
 -- full packets, and fewer bytes than the longest report has
 pub record ArePackets (bytes : List ℕ) : Type 0 where

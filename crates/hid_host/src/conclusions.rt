@@ -1,8 +1,6 @@
 //! What a host makes of the answer to a request that is done.
 ghost use Rattle.std.specs.Prelude.{◌≡◌, ◌≤◌, ℕ, List, [], Ok, Err, IfOk, IfErr, OnOk, OnErr};
 ghost use Rattle.hid_descriptor.specs.Faults.{Explains};
-ghost use Rattle.hid_layout.specs.Controls.{items_of};
-ghost use Rattle.hid_cells.specs.Cells.{FitsView, blank};
 ghost use Rattle.usb_packet.specs.declared.packet.TheConstants.{MAX_ENDPOINT};
 ghost use Rattle.hid_device.specs.Laying.{Lays};
 ghost use Rattle.hid_requests.specs.declared.request.Request.TheVariants.{Configure};
@@ -12,10 +10,9 @@ ghost use Rattle.hid_host.specs.Phase.{HasEndpoint};
 use crate::fault::{DescriptorFault, StackFault};
 use crate::phase::HostPhase;
 use crate::ready::ReadyHost;
-use hid_cells::blank_cells;
 use hid_layout::{Cause, Layout, LayoutFault};
 use hid_requests::Request;
-use hid_usages::{Cell, View};
+use hid_usages::View;
 use std::alloc::Global;
 use std::mem;
 use usb_control::{ConfigInfo, DeviceInfo};
@@ -39,18 +36,6 @@ pub(crate) fn layout_of(alloc: Global, descriptor: &[u8]) -> Result<Layout, Stac
     match Layout::parse(alloc, descriptor) {
         Ok(layout) => Ok(layout),
         Err(fault) => Err(no_layout(fault)),
-    }
-}
-
-/// The cells of a view at first.
-pub(crate) fn cells_at_first(alloc: Global, layout: &Layout) -> Result<Vec<Cell>, StackFault>
-    ensures blank { IfOk result (λ cells. cells.items ≡ blank (items_of layout.now)) }
-    ensures fits { IfOk result (λ cells. FitsView (items_of layout.now) cells.items) }
-    ensures memory { IfErr result (λ fault. fault ≡ StackFault.Memory) }
-{
-    match blank_cells(alloc, layout) {
-        Ok(cells) => Ok(cells),
-        Err(_) => Err(StackFault::Memory),
     }
 }
 
@@ -81,6 +66,7 @@ fn read_report(alloc: Global, info: &ConfigInfo, bytes: &[u8]) -> Result<Layout,
 }
 
 /// A host whose device was configured becomes ready. It keeps its layout where no memory is found.
+#[inline(never)] // no other request makes room for a ready host
 fn configured(alloc: Global, addr: u8, phase: &mut HostPhase) -> Result<(), StackFault>
     requires addr { addr ≤ MAX_ADDRESS }
     requires endpoint { HasEndpoint phase.old }
@@ -93,15 +79,15 @@ fn configured(alloc: Global, addr: u8, phase: &mut HostPhase) -> Result<(), Stac
     };
     let endpoint = info.endpoint;
     let view = View::initial(alloc, layout)?;
-    let initial = cells_at_first(alloc, layout)?;
     let HostPhase::Parsed(_, layout) = mem::replace(phase, HostPhase::Cold) else {
         unreachable!()
     };
-    *phase = HostPhase::Ready(ReadyHost::new(addr, endpoint, layout, view, initial));
+    *phase = HostPhase::Ready(ReadyHost::new(addr, endpoint, layout, view));
     Ok(())
 }
 
 /// Concludes on the answer to a request that is done: the next phase, or why the answer is refused.
+#[inline(never)] // a try that ends no request makes no room for a phase
 pub(crate) fn conclude(
     alloc: Global,
     addr: u8,

@@ -13,7 +13,7 @@ ghost use Rattle.hid_host.specs.Phase.{HasEndpoint, IsReady, IfReady, may_poll, 
 ghost use Rattle.hid_host.specs.Ready.{told_of, events_behind};
 ghost use Rattle.hid_host.specs.Resetting.{SuitsRound, cut_told, reset_told};
 
-use crate::conclusions::{cells_at_first, conclude, layout_of};
+use crate::conclusions::{conclude, layout_of};
 use crate::fault::StackFault;
 use crate::phase::{HostPhase, HostState};
 use crate::ready::ReadyHost;
@@ -97,8 +97,7 @@ impl HostDevice {
     {
         let layout = layout_of(alloc, descriptor)?;
         let view = View::initial(alloc, &layout)?;
-        let initial = cells_at_first(alloc, &layout)?;
-        let host = ReadyHost::new(addr, REPORT_ENDPOINT, layout, view, initial);
+        let host = ReadyHost::new(addr, REPORT_ENDPOINT, layout, view);
         Ok(HostDevice {
             alloc,
             addr,
@@ -213,7 +212,7 @@ impl HostDevice {
             ≤ length out.old.items + max_events (items_of host.layout)) }
         ensures room { vec_capacity out.new ≡ vec_capacity out.old }
     {
-        match &self.phase {
+        match &mut self.phase {
             HostPhase::Cold | HostPhase::Described(_) | HostPhase::Parsed(..) => {} // it has told nothing
             HostPhase::Ready(host) => host.tell_back(round, piece, fixed, out),
         }

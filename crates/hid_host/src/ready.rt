@@ -20,9 +20,7 @@ use arrayvec::ArrayVec;
 use hid_cells::pieces_of;
 use hid_fields::WordCodec;
 use hid_layout::Layout;
-use hid_usages::{
-    Cell, Event, ReportFault, Shown, View, bytes_awaited, changes, changes_and_drops,
-};
+use hid_usages::{Event, ReportFault, Shown, View, bytes_awaited, changes_and_drops};
 use std::marker::Model;
 use usb_packet::{MAX_ADDRESS, MAX_ENDPOINT, MAX_PAYLOAD, Packet};
 use usb_transact::{HostPipe, Took};
@@ -33,14 +31,12 @@ pub struct ReadyHost {
     layout: Layout,
     pipe: HostPipe,
     view: View,
-    /// The cells of the initial view, to which a reset of the bus goes back.
-    initial: Vec<Cell>,
     /// What came of a report that isn't whole yet: full packets.
     collected: ArrayVec<u8, 256>,
 }
 
 impl Model for ReadyHost {
-    ghost use Rattle.hid_host.specs.Ready.{ArePackets, AreViews, Known};
+    ghost use Rattle.hid_host.specs.Ready.{ArePackets, IsViewed, Known};
 
     ghost Value = { Known };
 
@@ -51,7 +47,7 @@ impl Model for ReadyHost {
       collected = h.collected.items;
     } };
 
-    ghost invariant = { λ h. AreViews h.layout h.view h.initial.items × ArePackets h.collected.items };
+    ghost invariant = { λ h. IsViewed h.layout h.view × ArePackets h.collected.items };
 }
 
 /// Whether a report ends with these bytes, of which so many came last: it is as long as it should be, or the last packet isn't
@@ -84,25 +80,17 @@ fn read_report(
 
 impl ReadyHost {
     /// A host that polls this endpoint from the initial view on.
-    pub(crate) fn new(
-        addr: u8,
-        endpoint: u8,
-        layout: Layout,
-        view: View,
-        initial: Vec<Cell>,
-    ) -> ReadyHost
+    pub(crate) fn new(addr: u8, endpoint: u8, layout: Layout, view: View) -> ReadyHost
         requires addr { addr ≤ MAX_ADDRESS }
         requires endpoint { endpoint ≤ MAX_ENDPOINT }
         requires layout { IsLayout layout }
         requires view { (view ≡ blank (items_of layout)) × FitsView (items_of layout) view }
-        requires initial { (initial.items ≡ blank (items_of layout)) × FitsView (items_of layout) initial.items }
         ensures { result ≡ known_at_start addr endpoint layout }
     {
         ReadyHost {
             layout,
             pipe: HostPipe::new(addr, endpoint),
             view,
-            initial,
             collected: ArrayVec::new(),
         }
     }
@@ -240,31 +228,27 @@ impl ReadyHost {
     /// Tells what changes until the view is the initial one again, and drops the motion of the round that is open at the
     /// device, where its data haven't all come. There is reserved room for `max_events` more.
     pub(crate) fn tell_back(
-        &self,
+        &mut self,
         round: Option<(usize, bool)>,
         piece: Option<usize>,
         fixed: &Shown,
         out: &mut Vec<Event>,
     )
-        requires suits { SuitsRound self.now.layout round fixed.now }
-        requires room { vec_len out.old + max_events (items_of self.now.layout)
+        requires suits { SuitsRound self.old.layout round fixed.now }
+        requires room { vec_len out.old + max_events (items_of self.old.layout)
             ≤ vec_capacity out.old }
+        ensures host { self.new ≡ self.old }
         ensures events { out.new.items
-            ≡ out.old.items ++ known_told_back self.now round piece fixed.now }
+            ≡ out.old.items ++ known_told_back self.old round piece fixed.now }
         ensures few { length out.new.items
-            ≤ length out.old.items + max_events (items_of self.now.layout) }
+            ≤ length out.old.items + max_events (items_of self.old.layout) }
         ensures room { vec_capacity out.new ≡ vec_capacity out.old }
     {
         match self.awaited(round, piece) {
-            Some(report) => changes_and_drops(
-                &self.layout,
-                self.view.cells(),
-                &self.initial,
-                report,
-                fixed,
-                out,
-            ),
-            None => changes(&self.layout, self.view.cells(), &self.initial, out),
+            Some(report) => self
+                .view
+                .changes_back_and_drops(&self.layout, report, fixed, out),
+            None => self.view.changes_back(&self.layout, out),
         }
     }
 

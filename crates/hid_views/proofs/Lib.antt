@@ -13,3 +13,4 @@ pub mod CrossingLemmas
 pub mod OneReportLemmas
 pub mod CrossingVectors
 pub mod DropLemmas
+pub mod InitialLemmas

@@ -6,14 +6,16 @@ ghost use Rattle.hid_cells.specs.Cells.{blank, FitsShown, FitsView};
 ghost use Rattle.hid_cells.specs.Parts.{IsInput};
 ghost use Rattle.hid_cells.specs.Snapshots.{is_pressed, cell_at};
 ghost use Rattle.hid_cells.specs.Keys.{keys_at, has_keys_at, key_words, AreKeyWords};
-ghost use Rattle.hid_views.specs.Taking.{TakesReport};
+ghost use Rattle.hid_views.specs.Taking.{ArePairs, TakesReport};
 ghost use Rattle.hid_cells.specs.Views.{value_in, changes_between, drops_between};
 
 use crate::differences::all_changes;
 use crate::drops::{Dropped, all_changes_and_drops};
 use crate::input::input_report;
 use crate::take::{Received, take_items};
-use hid_cells::{Cell, Event, MemoryFault, ReportFault, blank_cells, key_words, plan_of};
+use hid_cells::{
+    Cell, Event, MemoryFault, ReportFault, blank_pairs, key_words, plan_of, reset_cells,
+};
 use hid_fields::FieldCodec;
 use hid_layout::{ControlId, Layout};
 use hid_parts::{MAX_NUMBERS, Shown};
@@ -51,12 +53,8 @@ impl View {
         ensures initial { IfOk result (λ view. view ≡ blank (items_of layout.now)) }
         ensures fits { IfOk result (λ view. FitsView (items_of layout.now) view) }
     {
-        let cells = match blank_cells(alloc, layout) {
-            Ok(cells) => cells,
-            Err(_) => return Err(MemoryFault),
-        };
-        let nexts = match blank_cells(alloc, layout) {
-            Ok(nexts) => nexts,
+        let (cells, nexts) = match blank_pairs(alloc, layout) {
+            Ok(pairs) => pairs,
             Err(_) => return Err(MemoryFault),
         };
         match Vec::with_capacity(alloc, MAX_NUMBERS) {
@@ -109,6 +107,43 @@ impl View {
         }
     }
 
+    /// Appends what changes until the view is the initial one again, as [`changes`] does, and leaves the view. There is
+    /// reserved room for `max_events` more; no memory is taken.
+    pub fn changes_back(&mut self, layout: &Layout, out: &mut Vec<Event>)
+        requires fits { FitsView (items_of layout.now) self.old }
+        requires room { vec_len out.old + max_events (items_of layout.now) ≤ vec_capacity out.old }
+        ensures view { self.new ≡ self.old }
+        ensures events { out.new.items
+            ≡ out.old.items ++ changes_between (items_of layout.now) self.old (blank (items_of layout.now)) }
+        ensures few { vec_len out.new ≤ vec_len out.old + max_events (items_of layout.now) }
+        ensures room { vec_capacity out.new ≡ vec_capacity out.old }
+    {
+        make_initial(layout, &self.cells, &mut self.nexts);
+        changes(layout, &self.cells, &self.nexts, out);
+    }
+
+    /// The same, and the motion of an Input report's part as dropped, as [`changes_and_drops`] does.
+    pub fn changes_back_and_drops(
+        &mut self,
+        layout: &Layout,
+        report: usize,
+        shown: &Shown,
+        out: &mut Vec<Event>,
+    )
+        requires input { IsInput layout.now report }
+        requires fits { FitsView (items_of layout.now) self.old }
+        requires shown { FitsShown (items_of layout.now) shown.now }
+        requires room { vec_len out.old + max_events (items_of layout.now) ≤ vec_capacity out.old }
+        ensures view { self.new ≡ self.old }
+        ensures events { out.new.items ≡ out.old.items ++ drops_between (items_of layout.now) report
+            self.old (blank (items_of layout.now)) shown.now }
+        ensures few { vec_len out.new ≤ vec_len out.old + max_events (items_of layout.now) }
+        ensures room { vec_capacity out.new ≡ vec_capacity out.old }
+    {
+        make_initial(layout, &self.cells, &mut self.nexts);
+        changes_and_drops(layout, &self.cells, &self.nexts, report, shown, out);
+    }
+
     /// Whether a switch is held; false for another kind.
     pub fn held(&self, control: ControlId) -> bool
         ensures { result ≡ is_pressed (cell_at self.now control.item) control.index }
@@ -150,6 +185,18 @@ impl View {
     }
 }
 
+/// Makes the cells of the initial view in the room for what the next report makes of these.
+#[tactic(auto, using(crate::proofs::InitialLemmas::rooms))]
+fn make_initial(layout: &Layout, cells: &[Cell], nexts: &mut [Cell])
+    requires fits { FitsView (items_of layout.now) cells.now }
+    requires pairs { ArePairs cells.now nexts.old }
+    ensures blank { nexts.new ≡ blank (items_of layout.now) }
+    ensures fits { FitsView (items_of layout.now) nexts.new }
+    ensures pairs { ArePairs cells.now nexts.new }
+{
+    reset_cells(layout, nexts);
+}
+
 /// Appends what changes from the cells of one view to those of another: of a variable item by rising index, of an array
 /// each release by rising index and then each press. There is reserved room for `max_events` more; no memory is taken.
 #[tactic(auto, using(crate::proofs::ViewLemmas::few_changes))]
@@ -159,6 +206,8 @@ pub fn changes(layout: &Layout, before: &[Cell], after: &[Cell], out: &mut Vec<E
     requires room { vec_len out.old + max_events (items_of layout.now) ≤ vec_capacity out.old }
     ensures events { out.new.items
         ≡ out.old.items ++ changes_between (items_of layout.now) before.now after.now }
+    // At most so many events, in the room that was there.
+    ensures few { vec_len out.new ≤ vec_len out.old + max_events (items_of layout.now) }
     ensures room { vec_capacity out.new ≡ vec_capacity out.old }
 {
     all_changes(layout, before, after, out);

@@ -1,0 +1,15 @@
+use Rattle.std.proofs.Common.{◌≡◌, ◌≤◌, take, length, vec_capacity}
+use Rattle.hid_layout.specs.Controls.{items_of}
+use Rattle.hid_cells.specs.Cells.{blank}
+use Rattle.hid_cells.proofs.blank.blank_pairs.Given as goal
+
+abbrev pub invariant-loop-i : goal.invariant-loop-i
+invariant-loop-i l = record {
+  cells : l.cells.items ≡ blank (take l.i (items_of l.layout));
+  others : l.others.items ≡ blank (take l.i (items_of l.layout));
+  count_is : l.count ≡ length (items_of l.layout);
+  long : length l.cells.items ≡ l.i;
+  long_too : length l.others.items ≡ l.i;
+  room : l.count ≤ vec_capacity l.cells;
+  room_too : l.count ≤ vec_capacity l.others;
+}
