@@ -35,8 +35,6 @@ mod record;
 mod recorded;
 mod recording;
 mod runs;
-#[cfg(test)]
-mod tests;
 mod words;
 
 pub use binary::descriptor_line;

@@ -2,7 +2,7 @@
 //! The mouse is that of HID 1.11, appendix E.10; its reports were worked out by hand from appendix B.2, and every expected
 //! text from docs/RECORDINGS.md.
 
-use crate::{Cause, Options, RecordingFault, Refusal, Summary, play};
+use hid_recording::{Cause, Options, RecordingFault, Refusal, Summary, play};
 use std::alloc::{AllocError, Global};
 use std::test::Fail;
 
