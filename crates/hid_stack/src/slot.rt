@@ -230,7 +230,10 @@ impl Slot {
         &self.host
     }
 
+    // A step of one sort makes no room for what those of another sort need.
+
     /// The host polls the device, and this fate befalls the poll. The room for what it gives is reserved first.
+    #[inline(never)]
     pub(crate) fn poll(
         &mut self,
         dev: u8,
@@ -264,6 +267,7 @@ impl Slot {
     }
 
     /// The bus of the device is reset. The room for what this tells is reserved first.
+    #[inline(never)]
     pub(crate) fn reset(&mut self, dev: u8, out: &mut Vec<Delivered>) -> Result<Told, StackFault>
         ensures told { IfOk result (λ told. told ≡ Tellings.Quiet) }
         ensures after { OnOk result (self.new ≡ member_after self.old Resets) }
@@ -287,6 +291,7 @@ impl Slot {
     }
 
     /// The device halts its endpoint by itself. The room for what this drops is reserved first.
+    #[inline(never)]
     pub(crate) fn halt(&mut self, dev: u8, out: &mut Vec<Delivered>) -> Result<Told, StackFault>
         ensures told { IfOk result (λ told. told ≡ Tellings.Quiet) }
         ensures after { OnOk result (self.new ≡ member_after self.old Halts) }
@@ -310,6 +315,7 @@ impl Slot {
     }
 
     /// The host begins a request.
+    #[inline(never)]
     pub(crate) fn begin(&mut self, request: &Request) -> Result<(), StackFault>
         ensures after { OnOk result (self.new ≡ member_after self.old (Begins request.now)) }
         ensures refused { (e : Refusal) → begin_refusal_at self.old request.now ≡ Some e → result ≡ Err e }
@@ -324,6 +330,7 @@ impl Slot {
 
     /// The host makes a try of the transfer that runs, and this fate befalls it. Where a round may be ended by it, the room
     /// for what is dropped then is reserved first.
+    #[inline(never)]
     pub(crate) fn control(
         &mut self,
         dev: u8,
