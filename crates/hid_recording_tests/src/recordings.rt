@@ -51,7 +51,7 @@ type Recorded = (&'static str, Options, &'static str, &'static str);
 
 /// Recordings with what they tell.
 #[rattlefmt::skip]
-const TOLD: [Recorded; 42] = [
+const TOLD: [Recorded; 28] = [
     ("a mouse that clicks and moves", PLAIN,
         "# a mouse\nD: 0\nR: 50 05 01 09 02 A1 01 09 01 A1 00 05 09 19 01 29 03 15 00 25 01 95 03 75 01 81 02 95 01 75 05 81 01 05 01 09 30 09 31 15 81 25 7F 75 08 95 02 81 06 C0 C0\nN: mouse\nI: 3 046d c077\nE: 000000.000000 3 01 05 00\nE: 000000.010000 3 00 00 FF\n",
         "000000.000000 0 down 09:01\n000000.000000 0 motion 01:30 5\n000000.010000 0 up 09:01\n000000.010000 0 motion 01:31 -1\n"),
@@ -131,6 +131,14 @@ const TOLD: [Recorded; 42] = [
     ("two refused lines in a dump", PLAIN,
         "1:1:0:STREAM 1\n 0g\n 0h\n\n",
         "line 2: R3: a byte isn't two hex digits\n"),
+    ("a strict run of what isn't refused", STRICT,
+        "R: 14 05 09 09 01 15 00 25 01 75 01 95 01 81 02\nE: 1 1 01",
+        "1 0 down 09:01\n"),
+];
+
+/// Recordings of descriptors that can't be read, with what they tell.
+#[rattlefmt::skip]
+const UNREAD: [Recorded; 14] = [
     ("a descriptor with a wrong count, and reports behind it", PLAIN,
         "R: 14 05 09 09 01 15 00 25 01 75 01 95 01 81 02\nE: 1 1 01\nR: 15 05 09 09 01 15 00 25 01 75 01 95 01 81 02\nE: 2 1 00\nR: 14 05 09 09 01 15 00 25 01 75 01 95 01 81 02\nE: 3 1 01\n",
         "1 0 down 09:01\nline 3: R4: the count isn't that of the bytes\nline 4: R7: the device has no descriptor\n3 0 down 09:01\n"),
@@ -173,9 +181,6 @@ const TOLD: [Recorded; 42] = [
     ("what came of a report in front of a descriptor that can't be read", PLAIN,
         "1:1:0:DESCRIPTOR 1\n 85 01 05 01 09 30 15 00 26 FF 00 75 08 95 50 81 02 85 02 05 09 09 01 25 01 75 01 95 01 81 02\n\n1:1:0:STREAM 2\n 01 00 00 00 00 00 00 00 00 00 00 00 00 00 00 00 00 00 00 00 00 00 00 00 00 00 00 00 00 00 00 00\n 00 00 00 00 00 00 00 00 00 00 00 00 00 00 00 00 00 00 00 00 00 00 00 00 00 00 00 00 00 00 00 00\n\nR: 1\n1:1:0:STREAM 3\n 02 01 00 00 00 00 00 00 00 00 00 00 00 00 00 00 00\n\n1:1:0:DESCRIPTOR 1\n 85 01 05 01 09 30 15 00 26 FF 00 75 08 95 50 81 02 85 02 05 09 09 01 25 01 75 01 95 01 81 02\n\n1:1:0:STREAM 4\n 02 01\n\n",
         "line 8: R4: the count isn't that of the bytes\nline 11: R7: the device has no descriptor\n4 0 down 09:01\n"),
-    ("a strict run of what isn't refused", STRICT,
-        "R: 14 05 09 09 01 15 00 25 01 75 01 95 01 81 02\nE: 1 1 01",
-        "1 0 down 09:01\n"),
 ];
 
 fn played(
@@ -203,6 +208,14 @@ fn first_wrong(alloc: Global, rows: &[Recorded]) -> Result<Option<&'static str>,
 #[test]
 fn recordings_tell_their_events(rt: HostRuntime) -> Result<(), Fail> {
     assert_eq!(rt; first_wrong(rt.alloc(), &TOLD)?, None);
+    Ok(())
+}
+
+#[test]
+fn descriptors_that_cannot_be_read_take_the_place_of_those_before(
+    rt: HostRuntime,
+) -> Result<(), Fail> {
+    assert_eq!(rt; first_wrong(rt.alloc(), &UNREAD)?, None);
     Ok(())
 }
 
