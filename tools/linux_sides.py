@@ -241,7 +241,8 @@ class Map:
             self.usages[item, j] = usage
             return (KEY, code) if kind == "Key" else None
         if kind == "Relative":
-            usage = spread(item)[j] if item.flags & VARIABLE and j < item.count else None
+            usages = spread(item) if item.flags & VARIABLE else usage_list(item)
+            usage = usages[j] if j < len(usages) else None
             return REL, WHEELS.get(usage, 11) if name == "?" else MOTIONS.index(name)
         return (ABS, AXES.index(name)) if kind == "Absolute" and name in AXES else POWER if kind == "Power" else (kind, name)
 

@@ -31,12 +31,17 @@ struct device { int uhid, nodes[NODES], count; };
 static struct device devices[DEVICES];
 static int uevents;
 
+/* How many bytes stand behind their number, or -1 where a word isn't two hex digits or the number isn't theirs: such a line
+ * says nothing. */
 static int bytes(char *text, unsigned char *into, int room)
 {
-    int count = 0;
-    for (char *word = strtok(text, " \t\r\n"); word && count < room; word = strtok(NULL, " \t\r\n"))
+    char *word = text ? strtok(text, " \t\r\n") : NULL;
+    int count = 0, wanted = word ? atoi(word) : -1;
+    while (word && count < room && (word = strtok(NULL, " \t\r\n"))) {
+        if (strlen(word) != 2 || strspn(word, "0123456789abcdefABCDEF") != 2) return -1;
         into[count++] = strtol(word, NULL, 16);
-    return count;
+    }
+    return count == wanted ? count : -1;
 }
 
 /* Answers what the kernel asks of the device: it takes each report that is set, and has none to give. */
@@ -169,7 +174,9 @@ static void plug(int number, int line, char *text)
     event.type = UHID_CREATE2;
     strcpy((char *)event.u.create2.name, "played");
     snprintf((char *)event.u.create2.phys, sizeof event.u.create2.phys, "played/%d", number);
-    event.u.create2.rd_size = bytes(text, event.u.create2.rd_data, HID_MAX_DESCRIPTOR_SIZE);
+    int size = bytes(text, event.u.create2.rd_data, HID_MAX_DESCRIPTOR_SIZE);
+    if (size < 0) return;
+    event.u.create2.rd_size = size;
     event.u.create2.bus = BUS_USB;
     event.u.create2.vendor = VENDOR;
     event.u.create2.product = number + 1;
@@ -197,7 +204,9 @@ static void send_report(int number, int line, char *text)
     if (device->uhid <= 0) return;
     memset(&event, 0, sizeof event);
     event.type = UHID_INPUT2;
-    event.u.input2.size = text ? bytes(text, event.u.input2.data, UHID_DATA_MAX) : 0;
+    int size = bytes(text, event.u.input2.data, UHID_DATA_MAX);
+    if (size < 0) return;
+    event.u.input2.size = size;
     printf("report %d %d\n", number, line);
     if (write(device->uhid, &event, sizeof event) < 0) perror("report");
     for (int i = 0; i < device->count; i++)
@@ -227,8 +236,8 @@ static void play(const char *path)
     while (getline(&line, &room, file) > 0) {
         count++;
         if (!strncmp(line, "D:", 2) && atoi(line + 2) < DEVICES) number = atoi(line + 2);
-        else if (!strncmp(line, "R:", 2)) plug(number, count, behind(line, 2));
-        else if (!strncmp(line, "E:", 2)) send_report(number, count, behind(line, 3));
+        else if (!strncmp(line, "R:", 2)) plug(number, count, behind(line, 1));
+        else if (!strncmp(line, "E:", 2)) send_report(number, count, behind(line, 2));
     }
     for (int i = 0; i < DEVICES; i++) unplug(&devices[i]);
     free(line);
