@@ -110,7 +110,7 @@ class There:
         if item.flags & VARIABLE:
             value = self.ranged(item, j, value)
         elif code[0] == REL:
-            self.fire(item, j, "a key of an array is a motion")
+            self.fired.setdefault((node, *code), []).append("a key of an array is a motion")
         if value is None or usage in TOOLS and code[0] == KEY and not self.digitizer(item, node, usage, code, value):
             return
         if code[0] == REL and code[1] in (11, 12):

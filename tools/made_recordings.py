@@ -147,7 +147,8 @@ class Reports:
     def null(self):
         for report in self.ids:
             for item, j in self.elements(report, False):
-                for number in range(*in_range(item))[:MOST] if item.flags & NULL and outside(item) else ():
+                low, high = in_range(item)
+                for number in range(low, high + 1)[:MOST] if item.flags & NULL and outside(item) else ():
                     yield self.bytes_of(report, {(item, j): number})
                     yield self.bytes_of(report, {(item, j): self.random.choice(outside(item))})
 

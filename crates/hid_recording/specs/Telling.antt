@@ -237,7 +237,7 @@ SaidTells session (Descriptor bytes) o = TellsDescriptor bytes session o
 SaidTells session (Unread interface refusal) o = o ≡ unread session interface refusal
 SaidTells session (Report time bytes) o = o ≡ report_told time bytes session
 
--- A line tells what it says. One that is refused drops the dump in which it stands.
+-- A line tells what it says. One that can't be read drops the dump in which it stands.
 abbrev pub Means : Session → Result Said Refusal → Outcome → Type 0
 Means session (Ok said) o = SaidTells session said o
 Means session (Err refusal) o = o ≡ refuses (dropped session) refusal

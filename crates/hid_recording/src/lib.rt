@@ -14,9 +14,9 @@
 //!                                              1263214174.456 0 down 09:01, at the empty line that ends it
 //! ```
 //! A line is read whole and played, and its text is written at once. A line that is refused tells its place and why, and
-//! the next ones go on; of a strict run it is the end. A dump in which it stands is dropped. A device whose descriptor is
-//! refused or can't be read has none, up to its next one. A report that comes in chunks is joined as a host joins packets
-//! (`specs/Joining.antt`).
+//! the next ones go on; of a strict run it is the end. A dump in which a line stands that can't be read is dropped. A device
+//! whose descriptor is refused or can't be read has none, up to its next one. A report that comes in chunks is joined as a
+//! host joins packets (`specs/Joining.antt`).
 //! The rule to know: each device has a view of its own, and an event is a change from the view that its reports made
 //! before.
 //! `play` writes exactly the text that the recording tells: the clause on [`play`].

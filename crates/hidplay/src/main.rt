@@ -187,7 +187,11 @@ fn play_named<W: Write>(
     let Ok(file) = fs::open(rt, name) else {
         return Err(before_all(Cause::Read));
     };
-    let size = file.metadata().ok().map(|metadata| metadata.len());
+    // (a pipe has no size)
+    let size = match file.metadata() {
+        Ok(metadata) if metadata.len() > 0 => Some(metadata.len()),
+        _ => None,
+    };
     let mut progress = Progress::new(terminal(rt), size);
     let end = play_source(
         rt.alloc(),
