@@ -12,7 +12,8 @@ import tempfile
 
 ROOT = os.path.dirname(os.path.dirname(os.path.abspath(__file__)))
 SOURCES = ("src", "specs", "proofs")
-EDITS = ("must-fail", "wrong-bodies")
+GATED = ("must-fail",)
+EDITS = (*GATED, "wrong-bodies")
 
 
 def text_of(path):
@@ -83,13 +84,13 @@ class Edit:
         return found
 
 
-def edits_of(crate):
+def edits_of(crate, folders=EDITS):
     top = f"{ROOT}/crates/{crate}"
-    files = [f"{it}/{name}" for it in EDITS if os.path.isdir(f"{top}/{it}") for name in os.listdir(f"{top}/{it}")]
+    files = [f"{it}/{name}" for it in folders if os.path.isdir(f"{top}/{it}") for name in os.listdir(f"{top}/{it}")]
     return sorted((Edit(crate, it) for it in files if it.endswith(".edit")), key=lambda it: it.name)
 
 
-def edits_named(words, known):
+def edits_named(words, known, folders=EDITS):
     """The edits that these words name, each a crate or CRATE/EDIT; all for no word."""
     found = []
     for word in words or known:
@@ -97,14 +98,14 @@ def edits_named(words, known):
         if crate not in known:
             sys.exit(f"no crate {crate} stands in crates.txt")
         name = os.path.basename(name).removesuffix(".edit")
-        those = [it for it in edits_of(crate) if name in ("", it.name)]
+        those = [it for it in edits_of(crate, folders) if name in ("", it.name)]
         if name and not those:
             sys.exit(f"{crate} has no wrong body {name}")
         found += those
     return found
 
 
-FUNCTION = re.compile(r"( *)(?:pub(?:\([^)]*\))? )?(?:const )?(?:unsafe )?fn (\w+)")
+FUNCTION = re.compile(r"( *)(?:pub(?:\([^)]*\))? )?(?:const )?(?:unsafe )?(?:extern \"C\" )?fn (\w+)")
 OWNER = re.compile(r"(?:pub(?:\([^)]*\))? )?(impl|trait)\b(?:<[^>]*>)?\s*(.*)")
 
 
