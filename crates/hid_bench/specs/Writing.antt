@@ -1,4 +1,4 @@
--- What is written of a device.
+-- What is written of a device: the parts that one of its reports shows (HID 1.11, 5.6 and 8).
 use Rattle.std.specs.Prelude.{ℕ, List}
 use Rattle.hid_layout.specs.Layout.{Contents}
 use Rattle.hid_cells.specs.declared.cell.Cell.{Cell}

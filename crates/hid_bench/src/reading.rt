@@ -1,6 +1,6 @@
 //! A device whose reports are read.
 
-ghost use Rattle.std.specs.Prelude.{◌≡◌, ◌<◌, ℕ, IfOk};
+ghost use Rattle.std.specs.Prelude.{◌<◌};
 
 use crate::fault::BenchFault;
 use hid_fields::WordCodec;

@@ -1,6 +1,6 @@
 //! A device whose report is written.
 
-ghost use Rattle.std.specs.Prelude.{◌≡◌, ◌<◌, length, IfOk};
+ghost use Rattle.std.specs.Prelude.{◌≡◌, ◌<◌, IfOk};
 ghost use Rattle.hid_layout.specs.Controls.{items_of};
 ghost use Rattle.hid_cells.specs.Parts.{IsInput};
 ghost use Rattle.hid_usages.specs.Cells.{FitsSnapshot};

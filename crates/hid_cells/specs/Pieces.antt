@@ -1,5 +1,5 @@
--- The pieces in which a report goes: the packets of an interrupt endpoint have 64 bytes at most (USB 2.0, 5.7.3; the size
--- is our choice).
+-- The pieces in which a report goes: the packets of an interrupt endpoint have 64 bytes at most (USB 2.0, 5.7.3; the
+-- size is our choice).
 use Rattle.std.specs.Prelude.{ℕ, ◌+◌, ◌-◌, ◌*◌, ◌/◌, if◌then◌else◌, List, [], ◌∷◌, take, drop}
 use Rattle.hid_layout.specs.Controls.{Item}
 use Rattle.hid_cells.specs.Parts.{is_of}

@@ -31,8 +31,8 @@ pub enum Event {
         usage: Usage,
         by: i64,
     },
-    /// A relative control had moved by this amount in a report that didn't reach the host before a reset of the bus: no
-    /// report brings it again.
+    /// A relative control had moved by this amount in a report that a reset, a halt or a clear ended before it reached the
+    /// host: no report brings it again.
     Dropped {
         control: ControlId,
         usage: Usage,

@@ -40,4 +40,5 @@ pub record IsPlayed (config : Config) (descriptor : List ℕ) (steps : List Step
   pub layout : Contents
   pub suits : Suits 1 config descriptor layout
   pub events : HasOnlySchedule 1 steps → from_device 1 given ≡ events_played layout steps
-  pub held : HasOnlySchedule 1 steps → is_held ≡ is_pressed (cell_at (view_played layout steps) control.item) control.index
+  pub held : HasOnlySchedule 1 steps
+      → is_held ≡ is_pressed (cell_at (view_played layout steps) control.item) control.index

@@ -149,7 +149,8 @@ IsRefusedAsWhole bytes cause at = ⊥
 abbrev pub Refuses : List ℕ → Cause → ℕ → Type 0
 Refuses bytes cause at = IsRefusedAtItem bytes cause at ⊎ IsRefusedAsWhole bytes cause at
 
--- why parse gave no layout: want of memory, which is told at 0 and of no descriptor that is too long, or the one refusal
+-- why parse gave no layout: want of memory, which is told at 0 and of no descriptor that is too long, or the one
+-- refusal
 abbrev pub Explains : List ℕ → Cause → ℕ → Type 0
 Explains bytes Memory at = (length bytes ≤ MAX_DESCRIPTOR) × (at ≡ 0)
 Explains bytes cause at = Refuses bytes cause at

@@ -25,9 +25,9 @@ cut_core core Halt = halted_core core
 cut_core core Clear = cleared_core core
 cut_core core _ = core
 
--- What polls go by stays: the snapshot, the parts last fixed, the frames that were counted, which rounds were cut, the open
--- round and its piece, the toggle, and whether the device is configured and its endpoint halted. What requests set, and the
--- request itself, may be others.
+-- What polls go by stays: the snapshot, the parts last fixed, the frames that were counted, which rounds were cut, the
+-- open round and its piece, the toggle, and whether the device is configured and its endpoint halted. What requests
+-- set, and the request itself, may be others.
 abbrev pub LeavesRounds : CoreState → CoreState → Type 0
 LeavesRounds old new =
     new ≡ record old {

@@ -23,9 +23,9 @@ use Rattle.hid_device.specs.Inputs.{input_count, AreInputsFirst}
 use Rattle.hid_device.specs.Outputs.{AreOutputs, bare_outputs}
 use Rattle.hid_device.specs.Standing.{Standing, configured, cut_at, due_where, after_change, after_frame, after_opening, no_idle}
 
--- Its layout, its configuration and its descriptor; whether SET_CONFIGURATION took effect; how it stands; the
--- report of the round that is open, where one is, and which of its pieces goes out, from 0; whether data go out as DATA1,
--- and whether the endpoint that they go out of is halted; its protocol, and its Output and Feature reports as they were set
+-- Its layout, its configuration and its descriptor; whether SET_CONFIGURATION took effect; how it stands; the report of
+-- the round that is open, where one is, and which of its pieces goes out, from 0; whether data go out as DATA1, and
+-- whether the endpoint that they go out of is halted; its protocol, and its Output and Feature reports as they were set
 -- last; and of the last request the answer, where it has one, and what is carried out when its status is asked for.
 pub record CoreState : Type 0 where
   pub layout : Contents
@@ -93,7 +93,8 @@ closed_core core = record core {
   piece = unwrap_or (next_of core) 0;
 }
 
--- SET_CONFIGURATION takes effect: no round is open, data begin with DATA0, and a halt ends (USB 2.0, 9.1.1.5 and 9.4.5).
+-- SET_CONFIGURATION takes effect: no round is open, data begin with DATA0, and a halt ends (USB 2.0, 9.1.1.5 and
+-- 9.4.5).
 abbrev pub configured_core : CoreState → CoreState
 configured_core core = record core {
   is_configured = true;
@@ -110,8 +111,8 @@ abbrev pub halted_core : CoreState → CoreState
 halted_core core =
     record core { standing = cut_at core.current core.standing; current = None; piece = 0; halted = true }
 
--- The halt is ended, where there is one: the round that is open ends all the same, its report is due, and data begin with
--- DATA0 (USB 2.0, 9.4.5).
+-- The halt is ended, where there is one: the round that is open ends all the same, its report is due, and data begin
+-- with DATA0 (USB 2.0, 9.4.5).
 abbrev pub cleared_core : CoreState → CoreState
 cleared_core core = record core {
   standing = cut_at core.current core.standing;
@@ -121,9 +122,9 @@ cleared_core core = record core {
   halted = false;
 }
 
--- The bus is reset: the device isn't configured (USB 2.0, 9.1.1.3), no round is open, its endpoint isn't halted, no idle
--- time is set (our choice), reports are in the report protocol (HID 1.11, 7.2.6), Output and Feature reports are zeros (our
--- choice), and the last request is forgotten. What its controls show stays: the snapshot.
+-- The bus is reset: the device isn't configured (USB 2.0, 9.1.1.3), no round is open, its endpoint isn't halted, no
+-- idle time is set (our choice), reports are in the report protocol (HID 1.11, 7.2.6), Output and Feature reports are
+-- zeros (our choice), and the last request is forgotten. What its controls show stays: the snapshot.
 abbrev pub reset_core : CoreState → CoreState
 reset_core core = record core {
   is_configured = false;

@@ -108,10 +108,10 @@ sets_idle core id time =
     if id == 0 then Writes (Idle None time)
     else sets_idle_of time (number_of core.layout.reports Input id)
 
--- The answer or effect of each row. A status is two bytes of zeros: neither powered by itself nor able to wake its host,
--- and endpoint 0 is never halted; that of the other endpoint tells its halt (9.4.5). There is no such endpoint, and so no
--- halt of it, before a device is configured (9.4.1, 9.4.5 and 9.4.9). Protocols are those of boot devices alone (HID 1.11,
--- 7.2.5 and 7.2.6), and are set before a device is configured (our choice).
+-- The answer or effect of each row. A status is two bytes of zeros: neither powered by itself nor able to wake its
+-- host, and endpoint 0 is never halted; that of the other endpoint tells its halt (9.4.5). There is no such endpoint,
+-- and so no halt of it, before a device is configured (9.4.1, 9.4.5 and 9.4.9). Protocols are those of boot devices
+-- alone (HID 1.11, 7.2.5 and 7.2.6), and are set before a device is configured (our choice).
 abbrev pub decided_row : CoreState → Asked → Decided
 decided_row core Status = Reads (0 ∷ 0 ∷ [])
 decided_row core InterfaceStatus = reads_if core.is_configured (0 ∷ 0 ∷ [])

@@ -59,7 +59,8 @@ of_idle_of :
 of_idle_of setup time None writes none = tt
 of_idle_of setup time (Some r) writes none = of_write setup (Idle (Some r) time) writes none
 
-of_either : (setup : Setup) (test : Bool) (one other : Decided) → IsOf setup one → IsOf setup other → IsOf setup (if test then one else other)
+of_either : (setup : Setup) (test : Bool) (one other : Decided) → IsOf setup one → IsOf setup other
+    → IsOf setup (if test then one else other)
 of_either setup true one other h k = h
 of_either setup false one other h k = k
 
@@ -67,7 +68,8 @@ of_idle :
     (core : CoreState) (setup : Setup) (id time : ℕ) → reads setup ≡ false → setup.length ≡ 0
     → IsOf setup (sets_idle core id time)
 of_idle core setup id time writes none =
-    of_either setup (id == 0) (Writes (Idle None time)) (sets_idle_of time (number_of core.layout.reports Input id)) (of_write setup (Idle None time) writes none)
+    of_either setup (id == 0) (Writes (Idle None time)) (sets_idle_of time (number_of core.layout.reports Input id))
+    (of_write setup (Idle None time) writes none)
     (of_idle_of setup time (number_of core.layout.reports Input id) writes none)
 
 of_row : (core : CoreState) (setup : Setup) (asked : Asked) → IsSorted setup asked → IsOf setup (decided_row core asked)
@@ -111,7 +113,8 @@ answer_there :
     (s t : CoreState) (setup : Setup) (d : Decided) → IsOf setup d → true ≡ is_accepted d → t ≡ left_by s d
     → reads setup ≡ true → IsSome t.answer
 answer_there s t setup Refuses of accepted left is_read = absurd (cc)
-answer_there s t setup (Reads bytes) of accepted left is_read = subst (λ (x : CoreState). IsSome x.answer) (sym left) refl
+answer_there s t setup (Reads bytes) of accepted left is_read =
+    subst (λ (x : CoreState). IsSome x.answer) (sym left) refl
 answer_there s t setup (Writes pending) of accepted left is_read = let no = of.0 in absurd (cc)
 
 pub read_has_answer :
@@ -130,10 +133,11 @@ pub write_is_short :
     → setup.length ≤ MAX_WRITE
 write_is_short s t setup h writes = short_there setup (decide s setup) (decides s setup) h.0 writes
 
--- the same but for the request
+-- the same with another answer and another effect of the last request
 abbrev pub with_request : CoreState → Option (List ℕ) → Pending → CoreState
 with_request core answer pending = record core { answer = answer; pending = pending }
 
+-- the same but for what the last request left
 abbrev pub SameButRequest : CoreState → CoreState → Type 0
 SameButRequest s t = t ≡ with_request s t.answer t.pending
 
@@ -194,7 +198,8 @@ forgotten :
     → PreparesBy core_table (with_request s answer pending) setup said u → PreparesBy core_table s setup said u
 forgotten s u answer pending setup said h = (
   h.0 ∙ ap is_accepted (same_decided s answer pending setup),
-  h.1 ∙ same_left s answer pending (decide (with_request s answer pending) setup) ∙ ap (left_by s) (same_decided s answer pending setup),
+  h.1 ∙ same_left s answer pending (decide (with_request s answer pending) setup)
+      ∙ ap (left_by s) (same_decided s answer pending setup),
 )
 
 pub prepare_forgets :
@@ -203,7 +208,8 @@ pub prepare_forgets :
 prepare_forgets s t u setup said same h =
     forgotten s u t.answer t.pending setup said (subst (λ (x : CoreState). PreparesBy core_table x setup said u) same h)
 
-nothing_pending : (s : CoreState) (setup : Setup) (d : Decided) → IsOf setup d → reads setup ≡ true → (left_by s d).pending ≡ Nothing
+nothing_pending : (s : CoreState) (setup : Setup) (d : Decided) → IsOf setup d → reads setup ≡ true
+    → (left_by s d).pending ≡ Nothing
 nothing_pending s setup Refuses of is_read = refl
 nothing_pending s setup (Reads bytes) of is_read = refl
 nothing_pending s setup (Writes pending) of is_read = let no = of.0 in absurd (cc)

@@ -10,11 +10,12 @@ pub data Decided : Type 0 where
   Reads : List ℕ → Decided
   Writes : Pending → Decided
 
--- a read, or a write, that is accepted where this holds
+-- a read that is accepted where this holds
 abbrev pub reads_if : Bool → List ℕ → Decided
 reads_if true bytes = Reads bytes
 reads_if false bytes = Refuses
 
+-- a write that is accepted where this holds
 abbrev pub writes_if : Bool → Pending → Decided
 writes_if true pending = Writes pending
 writes_if false pending = Refuses

@@ -98,14 +98,14 @@ device_answer d packet =
 abbrev pub configured_device : DeviceState → DeviceState
 configured_device d = record (with_core d (configured_core (core_of d))) { waits = false }
 
--- A device that is configured halts its endpoint: its pipe awaits no ACK. One that isn't has none to halt (USB 2.0, 9.4.5;
--- our choice).
+-- A device that is configured halts its endpoint: its pipe awaits no ACK. One that isn't has none to halt (USB 2.0,
+-- 9.4.5; our choice).
 abbrev pub halted_device : DeviceState → DeviceState
 halted_device d =
     if (core_of d).is_configured then record (with_core d (halted_core (core_of d))) { waits = false } else d
 
--- The device behind a reset of the bus: no request is open, no ACK is awaited, and it keeps its address (USB 2.0, 7.1.7.5
--- and 9.1.1.3; our choice).
+-- The device behind a reset of the bus: no request is open, no ACK is awaited, and it keeps its address (USB 2.0,
+-- 7.1.7.5 and 9.1.1.3; our choice).
 abbrev pub reset_device : DeviceState → DeviceState
 reset_device d = record { addr = d.addr; control = idle (reset_core (core_of d)); waits = false }
 

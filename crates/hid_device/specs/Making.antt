@@ -22,8 +22,8 @@ use Rattle.hid_device.specs.Core.{CoreState}
 use Rattle.hid_device.specs.Standing.{Standing}
 use Rattle.hid_device.specs.Device.{DeviceState, with_core}
 
--- A device that isn't configured yet: nothing is pressed and nothing has moved, no idle time is set (our choice), reports
--- are in the report protocol (HID 1.11, 7.2.6), and Output and Feature reports are zeros.
+-- A device that isn't configured yet: nothing is pressed and nothing has moved, no idle time is set (our choice),
+-- reports are in the report protocol (HID 1.11, 7.2.6), and Output and Feature reports are zeros.
 abbrev pub new_core : Config → List ℕ → Contents → CoreState
 new_core config descriptor layout = record {
   layout = layout;

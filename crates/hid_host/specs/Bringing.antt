@@ -110,8 +110,8 @@ brought_about fate ends control = carried_out (effect_reached core_table ends co
 
 -- A try of the transfer that runs leads both ends on by functions; where its request is done the host goes on too, but
 -- for want of memory. What is carried out of a write is all that changes at the device, but for what it answers; a
--- configuration takes effect for a host that is `Parsed`, an open round is cut by a Halt or a Clear alone, and a halt ended by
--- a Clear. Where that is done, the device's pipe begins anew.
+-- configuration takes effect for a host that is `Parsed`, an open round is cut by a Halt or a Clear alone, and a halt
+-- ended by a Clear. Where that is done, the device's pipe begins anew.
 pub record IsComputed (fate : Fate) (host : HostEnd) (transfer : Transfer) (old : DevControlState CoreState)
     (result : Result Progress StackFault) (after : HostEnd) (new : DevControlState CoreState) : Type 0 where
   pub device_then : new ≡ control_tried core_table fate transfer.ends old

@@ -1,5 +1,5 @@
--- What a host makes of the answer to a request that is done (USB 2.0, 9.1.1.5, 9.4.5 and 9.6; HID 1.11, 6.2.1 and 6.2.2;
--- the phases are our choice).
+-- What a host makes of the answer to a request that is done (USB 2.0, 9.1.1.5, 9.4.5 and 9.6; HID 1.11, 6.2.1 and
+-- 6.2.2; the phases are our choice).
 use Rattle.std.specs.Prelude.{◌≡◌, ◌≢◌, ℕ, ◌<◌, ◌≤◌, List, length, Result, Ok, Err}
 use Rattle.hid_layout.specs.Layout.{Contents}
 use Rattle.hid_descriptor.specs.declared.limits.TheConstants.{MAX_DESCRIPTOR}
@@ -54,8 +54,8 @@ leads_to next (Ok read) = Ok (next read)
 leads_to next (Err fault) = Err fault
 
 -- The phase behind a request that is done, or why its answer is refused: nothing is kept of a device descriptor, what a
--- configuration says and the layout are kept, a device that is configured is polled, and one whose endpoint was cleared is
--- expected to begin with DATA0.
+-- configuration says and the layout are kept, a device that is configured is polled, and one whose endpoint was cleared
+-- is expected to begin with DATA0.
 abbrev pub Makes : ℕ → Request → HostPhase → List ℕ → Result HostPhase StackFault → Type 0
 Makes addr requests.Device phase bytes made =
     (read : Result (Unit {0}) StackFault) × DeviceRead bytes read × (made ≡ leads_to (λ _. phase) read)

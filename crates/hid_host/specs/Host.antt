@@ -81,6 +81,7 @@ begin_refusal_in transfer host request =
     else if may_begin request host then None
     else Some NotReady
 
+-- the same of a host, by its transfer and its state
 abbrev pub begin_refusal : HostEnd → Request → Option StackFault
 begin_refusal host request = begin_refusal_in host.transfer (state_of host.phase) request
 

@@ -1,5 +1,5 @@
--- A host and the virtual device that it brings up: what it knows is what the device was made with, and a transfer between
--- the two is the one of a request (USB 2.0, 8.5.3, 9.1.1, 9.4 and 9.4.5).
+-- A host and the virtual device that it brings up: what it knows is what the device was made with, and a transfer
+-- between the two is the one of a request (USB 2.0, 8.5.3, 9.1.1, 9.4 and 9.4.5).
 use Rattle.std.specs.Prelude.{◌≡◌, ℕ, Bool, true, false, length, Some, None, Result, Err, IfSome}
 use Rattle.usb_control.specs.declared.descriptors.ConfigInfo.{ConfigInfo}
 use Rattle.usb_control.specs.declared.host.Progress.{Progress}
@@ -73,19 +73,22 @@ HasEffect requests.Configure core = core.is_configured ≡ true
 HasEffect requests.Clear core = BeginsAnew core
 HasEffect _ core = Unit {0}
 
--- what the host asked with: the length of the report descriptor and the endpoint of Input reports, as the device has them
+-- what the host asked with: the length of the report descriptor and the endpoint of Input reports, as the device has
+-- them
 abbrev pub asking_of : CoreState → Asking
 asking_of core = record { report_length = length core.descriptor; endpoint = ENDPOINT }
 
 -- A transfer is the one of its request, and both ends stand somewhere in it.
 pub record Carries (phase : HostPhase) (transfer : Transfer) (control : DevControlState CoreState) : Type 0 where
   pub place : Place
-  pub stands : Stands core_table.answer_of (shape_of transfer.ends.setup) (sends_of transfer.request) place transfer.ends control
+  pub stands : Stands core_table.answer_of (shape_of transfer.ends.setup) (sends_of transfer.request) place
+      transfer.ends control
   pub asked : transfer.ends.setup ≡ setup_for transfer.request (asking_of control.requests)
   pub fits : FitsRequest transfer.request
   -- it began in the state that its request needs
   pub needs : IsRunning transfer.ends.stage → may_begin transfer.request (state_of phase) ≡ true
-  -- what the device decided behind SETUP, and has done while it runs where it took effect, as it has where the write is done
+  -- what the device decided behind SETUP, and has done while it runs where it took effect, as it has where the write is
+  -- done
   pub decided : IsBehindSetup place.host → IsDecided transfer.request control.requests place.decision
   pub effect : IsRunning transfer.ends.stage → place.applied ≡ true → HasEffect transfer.request control.requests
   pub applied : IsDone place → (shape_of transfer.ends.setup).reads ≡ false → place.applied ≡ true

@@ -56,8 +56,8 @@ abbrev pub may_poll : HostState → Bool → Bool
 may_poll states.Ready clearing = not clearing
 may_poll _ clearing = false
 
--- What a request is asked with: the length of the report descriptor and the endpoint of reports, where the configuration
--- told them; a host that polls has the endpoint alone.
+-- What a request is asked with: the length of the report descriptor and the endpoint of reports, where the
+-- configuration told them; a host that polls has the endpoint alone.
 abbrev pub asking_at : HostPhase → Asking
 asking_at Cold = record { report_length = 0; endpoint = 0 }
 asking_at (Described info) = record { report_length = info.report_length; endpoint = info.endpoint }

@@ -1,5 +1,5 @@
--- What a ready host keeps, and what it makes of the answers to its polls (USB 2.0, 5.7.3, 8.5.4, 8.6 and 9.4.5; HID 1.11,
--- 5.6).
+-- What a ready host keeps, and what it makes of the answers to its polls (USB 2.0, 5.7.3, 8.5.4, 8.6 and 9.4.5; HID
+-- 1.11, 5.6).
 use Rattle.std.specs.Prelude.{◌≡◌, ℕ, ◌%◌, ◌<◌, Bool, false, ◌||◌, nat_le, nat_lt, if◌then◌else◌, List, [], ◌++◌, length, Result, Ok, Err}
 use Rattle.hid_layout.specs.Layout.{Contents}
 use Rattle.hid_layout.specs.Controls.{items_of}
@@ -18,8 +18,8 @@ use Rattle.usb_transact.specs.Taken.{host_after}
 use Rattle.hid_host.specs.declared.fault.StackFault.{StackFault}
 use Rattle.hid_host.specs.declared.fault.StackFault.TheVariants.{Report}
 
--- the layout of the reports, the pipe that is polled, the host's view of the controls, and the bytes that came of a report
--- that isn't whole yet
+-- the layout of the reports, the pipe that is polled, the host's view of the controls, and the bytes that came of a
+-- report that isn't whole yet
 pub record Known : Type 0 where
   pub layout : Contents
   pub pipe : HostPipeState

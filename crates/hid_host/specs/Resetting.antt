@@ -14,8 +14,8 @@ use Rattle.hid_host.specs.declared.phase.HostPhase.{HostPhase}
 use Rattle.hid_host.specs.declared.phase.HostPhase.TheVariants.{Ready}
 use Rattle.hid_host.specs.Ready.{Known}
 
--- The report of a round that is open at the device, where the host hasn't got all of its data: those of the piece at this
--- place go out under the toggle that the host expects (USB 2.0, 8.6), or others are behind them.
+-- The report of a round that is open at the device, where the host hasn't got all of its data: those of the piece at
+-- this place go out under the toggle that the host expects (USB 2.0, 8.6), or others are behind them.
 abbrev pub awaited : List Item → Bool → Option (ℕ × Bool) → Option ℕ → Option ℕ
 awaited items expects None piece = None
 awaited items expects (Some round) piece =
@@ -39,8 +39,8 @@ abbrev pub reset_told : HostPhase → Option (ℕ × Bool) → Option ℕ → Li
 reset_told (Ready known) round piece parts = known_told_back known round piece parts
 reset_told _ round piece parts = []
 
--- What is told where a round is cut: the view stays, and the motions of these parts that a report shows which is awaited
--- are dropped.
+-- What is told where a round is cut: the view stays, and the motions of these parts that a report shows which is
+-- awaited are dropped.
 abbrev pub told_cut : List Item → List Cell → List Cell → Option ℕ → List Event
 told_cut items view parts None = []
 told_cut items view parts (Some r) = drops_between items r view view parts
@@ -51,8 +51,8 @@ known_cut known round piece parts =
     told_cut (items_of known.layout) known.view parts
     (awaited (items_of known.layout) known.pipe.expects round piece)
 
--- What a host tells where this round is cut that was open at its device, of which this piece went out, and these parts were
--- fixed last: one that isn't ready has polled none.
+-- What a host tells where this round is cut that was open at its device, of which this piece went out, and these parts
+-- were fixed last: one that isn't ready has polled none.
 abbrev pub cut_told : HostPhase → Option (ℕ × Bool) → Option ℕ → List Cell → List Event
 cut_told (Ready known) round piece parts = known_cut known round piece parts
 cut_told _ round piece parts = []

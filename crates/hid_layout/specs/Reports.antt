@@ -54,8 +54,8 @@ pub record HasElements (item : MainItem) : Type 0 where
   pub not_low : neg_ℤ (pos (2 ^ 32)) ≤ℤ item.min
   pub not_high : item.min ≤ℤ pos (2 ^ 32)
 
--- What holds of every layout: fields lie behind one another in their report, each report has an item, reports are short,
--- and no two of them have the same kind and ID.
+-- What holds of every layout: fields lie behind one another in their report, each report has an item, reports are
+-- short, and no two of them have the same kind and ID.
 pub record IsLayout (layout : Contents) : Type 0 where
   pub entries_there : length layout.entries ≡ length layout.items
   pub few_entries : (i : ℕ) (es : List Entry) → slice_get layout.entries i ≡ Some es → length es ≤ MAX_ENTRIES

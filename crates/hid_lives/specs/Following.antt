@@ -10,8 +10,8 @@ use Rattle.hid_lives.specs.Rounds.{OwnStep, Polls, Round, Course, ahead_in, piec
 use Rattle.hid_lives.specs.Stations.{Station, Open, after, events_at, expected}
 use Rattle.hid_lives.specs.Lives.{Deed, Happening, happenings, rounds_ended, course_behind, told_from, view_from, flips, toggle_from, befallen_all, told_in}
 
--- what a station keeps of the round that is open: its report, in how many pieces that goes, which of them is at hand, and
--- whether that one has crossed
+-- what a station keeps of the round that is open: its report, in how many pieces that goes, which of them is at hand,
+-- and whether that one has crossed
 abbrev pub open_of : Round → Open
 open_of round = record {
   report = round.report;

@@ -46,15 +46,16 @@ AreWithoutRound items r s [] = Unit {0}
 AreWithoutRound items r s (x ∷ deeds) =
     IsWithoutRound items r s x × AreWithoutRound items r (befallen items s x) deeds
 
--- A report whose round this deed cuts is due behind it, whatever befalls the device, until a round of it opens: changes,
--- frames, idle times, further halts and clears, and polls that open no round of it.
+-- A report whose round this deed cuts is due behind it, whatever befalls the device, until a round of it opens:
+-- changes, frames, idle times, further halts and clears, and polls that open no round of it.
 abbrev pub StaysDue : List Item → Station → Deed → List Deed → Type 0
 StaysDue items s cuts deeds =
-    (round : Open) → s.current ≡ Some round → HasCuts s → AreWithoutRound items round.report (befallen items s cuts) deeds
+    (round : Open) → s.current ≡ Some round → HasCuts s
+    → AreWithoutRound items round.report (befallen items s cuts) deeds
     → is_due items (befallen_all items s (cuts ∷ deeds)).standing round.report ≡ true
 
--- Where no round is open, the endpoint isn't halted and a report is due, the next token that arrives opens a round, of this
--- report or of a due one before it.
+-- Where no round is open, the endpoint isn't halted and a report is due, the next token that arrives opens a round, of
+-- this report or of a due one before it.
 abbrev pub OpensNext : List Item → Station → ℕ → Type 0
 OpensNext items s r =
     s.current ≡ None → s.halted ≡ false → r < length s.standing.frames → is_due items s.standing r ≡ true

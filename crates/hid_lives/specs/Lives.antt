@@ -10,8 +10,8 @@ use Rattle.hid_lives.specs.Standing.{with_idle, no_idle, cut_at}
 use Rattle.hid_lives.specs.Rounds.{OwnStep, Round, Course, has_crossed, round_report, fresh_course, after_step, closed_by, still_open, part_events}
 use Rattle.hid_lives.specs.Stations.{Station, report_open, is_whole, fresh, after, events_at}
 
--- What befalls a device: what happens at it by itself, idle times are set, a configuration takes effect, its endpoint is
--- halted or cleared of a halt, or the bus is reset.
+-- What befalls a device: what happens at it by itself, idle times are set, a configuration takes effect, its endpoint
+-- is halted or cleared of a halt, or the bus is reset.
 pub data Deed : Type 0 where
   Own : OwnStep → Deed
   Idles : List ℕ → Deed
@@ -24,9 +24,9 @@ pub data Deed : Type 0 where
 abbrev pub owns : List OwnStep → List Deed
 owns steps = map (λ x. Own x) steps
 
--- What comes of it: a round ends, by its polls or by a configuration; both ends begin anew, with toggles at DATA0 and the
--- initial view; a halt or a clear cuts the round that is open, where one is; toggles alone begin anew, at DATA0; or the bus
--- is reset, and the round that is open goes with it.
+-- What comes of it: a round ends, by its polls or by a configuration; both ends begin anew, with toggles at DATA0 and
+-- the initial view; a halt or a clear cuts the round that is open, where one is; toggles alone begin anew, at DATA0; or
+-- the bus is reset, and the round that is open goes with it.
 pub data Happening : Type 0 where
   Ended : Round → Happening
   Began : Happening
@@ -58,8 +58,8 @@ course_behind items (x ∷ deeds) c = course_behind items deeds (course_after it
 abbrev pub ended : List Round → List Happening
 ended rounds = map (λ round. Ended round) rounds
 
--- what comes of one deed: a poll ends the round that it closes, a configuration, a halt, a clear and a reset the one that
--- is open
+-- what comes of one deed: a poll ends the round that it closes, a configuration, a halt, a clear and a reset the one
+-- that is open
 abbrev pub happens_by : List Item → Course → Deed → List Happening
 happens_by items c (Own x) = ended (closed_by items c x)
 happens_by items c (Idles idle) = []
@@ -104,8 +104,8 @@ round_told items view crossed round = if crossed then part_events items round.re
 abbrev pub view_past : List Item → List Cell → Bool → Round → List Cell
 view_past items view crossed round = if crossed then seen items round.report view round.parts else view
 
--- What a halt or a clear tells of the round that it cuts: its part, where it crossed, else its motion, which is dropped;
--- the view stays.
+-- What a halt or a clear tells of the round that it cuts: its part, where it crossed, else its motion, which is
+-- dropped; the view stays.
 abbrev pub round_cut : List Item → List Cell → Bool → Round → List Event
 round_cut items view crossed round =
     if crossed then part_events items round.report view round.parts
@@ -192,8 +192,8 @@ abbrev pub befallen_all : List Item → Station → List Deed → Station
 befallen_all items s [] = s
 befallen_all items s (x ∷ deeds) = befallen_all items (befallen items s x) deeds
 
--- what a halt or a clear tells: the motion of an open round that hasn't crossed, which is dropped, also where some of its
--- pieces have
+-- what a halt or a clear tells: the motion of an open round that hasn't crossed, which is dropped, also where some of
+-- its pieces have
 abbrev pub cut_events : List Item → Station → List Event
 cut_events items s = elim s.current [
   | None ↦ []

@@ -145,7 +145,8 @@ accepted_in items s (Halts ∷ deeds) = accepted_in items (befallen items s Halt
 accepted_in items s (Clears ∷ deeds) = accepted_in items (befallen items s Clears) deeds
 accepted_in items s (Resets ∷ deeds) = accepted_in items (befallen items s Resets) deeds
 
--- no round is open where a device is configured; a halt, a clear and a reset may end one, and tell its motion as dropped
+-- no round is open where a device is configured; a halt, a clear and a reset may end one, and tell its motion as
+-- dropped
 abbrev pub IsBetweenRounds : Station → Deed → Type 0
 IsBetweenRounds s (Own x) = Unit {0}
 IsBetweenRounds s (Idles idle) = Unit {0}

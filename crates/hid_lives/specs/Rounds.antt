@@ -20,8 +20,8 @@ pub data OwnStep : Type 0 where
   Frame : OwnStep
   Polls : Fate → OwnStep
 
--- A round: its report and in how many pieces that goes, the parts as they were fixed when it opened, and the fates of its
--- polls, the opening one first.
+-- A round: its report and in how many pieces that goes, the parts as they were fixed when it opened, and the fates of
+-- its polls, the opening one first.
 pub record Round : Type 0 where
   pub report : ℕ
   pub pieces : ℕ
@@ -47,8 +47,8 @@ abbrev pub closed_in : List Fate → ℕ
 closed_in [] = 0
 closed_in (fate ∷ polls) = (if is_clean fate then 1 else 0) + closed_in polls
 
--- A piece crosses at its first poll that reaches the host: whether the piece at hand has, once one more poll came. Where
--- that closed one, the next is at hand.
+-- A piece crosses at its first poll that reaches the host: whether the piece at hand has, once one more poll came.
+-- Where that closed one, the next is at hand.
 abbrev pub ahead_after : Bool → Fate → Bool
 ahead_after ahead Clean = false
 ahead_after ahead TokenLost = ahead

@@ -13,44 +13,55 @@ use Rattle.hid_lives.specs.Rounds.{OwnStep, Changes, fresh_course}
 use Rattle.hid_lives.specs.Stations.{Station, Open, fresh, after_all}
 use Rattle.hid_lives.specs.Lives.{Deed, happenings, told_from, befallen_all}
 
+-- the control at place j of item i is pressed
 abbrev pub press : ℕ → ℕ → OwnStep
 press i j = Changes (change.Press (at i j))
 
+-- it is released
 abbrev pub release : ℕ → ℕ → OwnStep
 release i j = Changes (change.Release (at i j))
 
+-- it moves by so much
 abbrev pub move : ℕ → ℕ → ℤ → OwnStep
 move i j by = Changes (change.Move (at i j) by)
 
+-- it is set to a value
 abbrev pub set : ℕ → ℕ → ℤ → OwnStep
 set i j v = Changes (change.Set (at i j) v)
 
--- a keyboard's key is a place of its item 4; the mouse has its first button in item 0, and moves to the right by item 2
+-- a key of the keyboard goes down: it is a place of item 4
 abbrev pub key_down : ℕ → Event
 key_down id = event.Down (at 4 id) (usage 7 id)
 
+-- it goes up
 abbrev pub key_up : ℕ → Event
 key_up id = event.Up (at 4 id) (usage 7 id)
 
+-- the first button of the mouse goes down: it is in item 0
 abbrev pub button_down : Event
 button_down = event.Down (at 0 0) (usage 9 1)
 
+-- it goes up
 abbrev pub button_up : Event
 button_up = event.Up (at 0 0) (usage 9 1)
 
+-- the mouse moves to the right, by item 2
 abbrev pub motion_x : ℤ → Event
 motion_x by = event.Motion (at 2 0) (usage 1 0x30) by
 
+-- such a motion is dropped
 abbrev pub drop_x : ℤ → Event
 drop_x by = event.Dropped (at 2 0) (usage 1 0x30) by
 
--- the first of many values or motions along x in one report
+-- the first of many values along x in one report
 abbrev pub value_x : ℤ → Event
 value_x v = event.Value (at 0 0) (usage 1 0x30) v
 
+-- the first of many motions along x in one report
 abbrev pub first_motion_x : ℤ → Event
 first_motion_x by = event.Motion (at 0 0) (usage 1 0x30) by
 
+-- the first of many such motions is dropped
 abbrev pub first_drop_x : ℤ → Event
 first_drop_x by = event.Dropped (at 0 0) (usage 1 0x30) by
 
@@ -59,8 +70,8 @@ abbrev pub open_at : ℕ → ℕ → Bool → Open
 open_at pieces piece crossed = record { report = 0; pieces = pieces; piece = piece; crossed = crossed }
 
 -- what is told of a device that was just configured, with nothing pressed or moved, one report and this idle time
-abbrev pub Tells : List Item → ℕ → List Deed → List Event → Type 0
-Tells items idle deeds events =
+abbrev pub LifeTells : List Item → ℕ → List Deed → List Event → Type 0
+LifeTells items idle deeds events =
     told_from items (blank items) (happenings items deeds (fresh_course items (blank items) (idle ∷ []))) ≡ events
 
 -- how both ends stand behind such a life

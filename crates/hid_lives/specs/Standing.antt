@@ -9,8 +9,8 @@ use Rattle.hid_cells.specs.Snapshots.{changed}
 use Rattle.hid_cells.specs.Parts.{blank_parts, shown, taken, is_changed}
 
 -- The controls as they are now; the parts that were fixed last, blank where none was; and for each Input report the
--- frames since its last round opened, or since the configuration, its idle time in units of four frames, and whether its
--- round was cut: a halt or a clear ended its last one, and none opened since, nor did a configuration take effect.
+-- frames since its last round opened, or since the configuration, its idle time in units of four frames, and whether
+-- its round was cut: a halt or a clear ended its last one, and none opened since, nor did a configuration take effect.
 pub record Standing : Type 0 where
   pub snapshot : List Cell
   pub fixed : List Cell
@@ -84,8 +84,8 @@ cut_at None d = d
 cut_at (Some r) d =
     record { snapshot = d.snapshot; fixed = d.fixed; frames = d.frames; idle = d.idle; cut = slice_set d.cut r true }
 
--- these parts are fixed for a report, their motion is taken out of the snapshot, its frames are counted anew, and no round
--- of it is cut
+-- these parts are fixed for a report, their motion is taken out of the snapshot, its frames are counted anew, and no
+-- round of it is cut
 abbrev pub fixed_with : List Item → ℕ → Standing → List Cell → Standing
 fixed_with items r d parts = record {
   snapshot = taken items r d.snapshot parts;

@@ -21,8 +21,8 @@ pub record Open : Type 0 where
   pub piece : ℕ
   pub crossed : Bool
 
--- How the device stands, the round that is open, whether the pieces closed since the configuration or the last clear are
--- odd in number, what the host holds, and whether the endpoint is halted.
+-- How the device stands, the round that is open, whether the pieces closed since the configuration or the last clear
+-- are odd in number, what the host holds, and whether the endpoint is halted.
 pub record Station : Type 0 where
   pub standing : Standing
   pub current : Option Open
@@ -39,7 +39,8 @@ HasPieces items s =
 abbrev pub report_open : Option Open → Option ℕ
 report_open current = option_map (λ round. round.report) current
 
--- both ends freshly configured: no round is open, none has closed, the host's view is the initial one, and no halt stands
+-- both ends freshly configured: no round is open, none has closed, the host's view is the initial one, and no halt
+-- stands
 abbrev pub fresh : List Item → List Cell → List ℕ → Station
 fresh items snapshot idle = record {
   standing = configured items snapshot idle;
@@ -146,8 +147,8 @@ abbrev pub events_in : List Item → Station → List OwnStep → List Event
 events_in items s [] = []
 events_in items s (x ∷ steps) = events_at items s x ++ events_in items (after items s x) steps
 
--- The toggle that a host expects which knows what became of its polls: the device's, or the other one where the piece at
--- hand has crossed. (A host isn't told that its endpoint halted, nor that a clear took effect which isn't done: until it is
--- done its host keeps the toggle that it had.)
+-- The toggle that a host expects which knows what became of its polls: the device's, or the other one where the piece
+-- at hand has crossed. (A host isn't told that its endpoint halted, nor that a clear took effect which isn't done:
+-- until it is done its host keeps the toggle that it had.)
 abbrev pub expected : Station → Bool
 expected s = elim s.current [ None ↦ s.odd | Some round ↦ (if round.crossed then not s.odd else s.odd) ]

@@ -7,13 +7,13 @@ ghost use Rattle.usb_transact.specs.declared.transaction.Fate.TheVariants as fat
 ghost use Rattle.hid_lives.specs.Lives.{Clears, Configures, Halts, Idles, Resets, owns};
 ghost use Rattle.hid_lives.specs.Motion.{station_motion};
 ghost use Rattle.hid_lives.specs.Rounds.{Frame as AFrame, Polls};
-ghost use Rattle.hid_lives.specs.Rows.{Tells, behind, counted, press, release, move, set, key_down, key_up, button_down, button_up, motion_x, drop_x, value_x, first_motion_x, first_drop_x, open_at, stands_after};
+ghost use Rattle.hid_lives.specs.Rows.{LifeTells, behind, counted, press, release, move, set, key_down, key_up, button_down, button_up, motion_x, drop_x, value_x, first_motion_x, first_drop_x, open_at, stands_after};
 ghost use Rattle.hid_lives.specs.Standing.{after_frame, cut_at, due_where, first_due, with_idle};
 ghost use Rattle.hid_lives.specs.Stations.{expected};
 
 /// A lost acknowledgement: the report goes once more, and is told once.
 pub fn acknowledgement_is_lost()
-    ensures told_once { Tells keyboard 0
+    ensures told_once { LifeTells keyboard 0
         (owns (press 4 4 ∷ Polls fate.AckLost ∷ press 4 5 ∷ Polls fate.Clean ∷ Polls fate.Clean
         ∷ []))
         (key_down 4 ∷ key_down 5 ∷ []) }
@@ -25,10 +25,10 @@ pub fn acknowledgement_is_lost()
 
 /// A second configuration: both ends begin anew, so what is pressed is told again, and what was let go is told no more.
 pub fn device_is_configured_again()
-    ensures pressed_still { Tells keyboard 0
+    ensures pressed_still { LifeTells keyboard 0
         (owns (press 4 4 ∷ Polls fate.Clean ∷ []) ++ Configures ∷ owns (Polls fate.Clean ∷ []))
         (key_down 4 ∷ key_down 4 ∷ []) }
-    ensures let_go_meanwhile { Tells keyboard 0
+    ensures let_go_meanwhile { LifeTells keyboard 0
         (owns (press 4 4 ∷ Polls fate.Clean ∷ release 4 4 ∷ []) ++ Configures
         ∷ owns (Polls fate.Clean ∷ press 4 5 ∷ Polls fate.Clean ∷ []))
         (key_down 4 ∷ key_down 5 ∷ []) }
@@ -39,12 +39,12 @@ pub fn device_is_configured_again()
 
 /// A configuration ends the round that is open: its part is told where it crossed, and only there.
 pub fn device_is_configured_in_a_round()
-    ensures crossed { Tells mouse 0
+    ensures crossed { LifeTells mouse 0
         (owns (press 0 0 ∷ move 2 0 (pos 5) ∷ Polls fate.AckLost ∷ []) ++ Configures
         ∷ owns (Polls fate.Clean ∷ []))
         (button_down ∷ motion_x (pos 5) ∷ button_down
         ∷ []) }
-    ensures its_motion_is_lost { Tells mouse 0
+    ensures its_motion_is_lost { LifeTells mouse 0
         (owns (press 0 0 ∷ move 2 0 (pos 5) ∷ Polls fate.ReplyLost ∷ []) ++ Configures
         ∷ owns (Polls fate.Clean ∷ []))
         (button_down ∷ []) }
@@ -52,7 +52,7 @@ pub fn device_is_configured_in_a_round()
         (owns (move 2 0 (pos 5) ∷ Polls fate.ReplyLost ∷ []) ++ Configures ∷ [])) (at 2 0) ≡ pos 0 }
     ensures no_round_is_open { (behind mouse 0
         (owns (move 2 0 (pos 5) ∷ Polls fate.ReplyLost ∷ []) ++ Configures ∷ [])).current ≡ None }
-    ensures motion_between_rounds_stays { Tells mouse 0
+    ensures motion_between_rounds_stays { LifeTells mouse 0
         (owns (move 2 0 (pos 5) ∷ []) ++ Configures ∷ owns (Polls fate.Clean ∷ []))
         (motion_x (pos 5) ∷ []) }
 {}
@@ -61,13 +61,13 @@ pub fn device_is_configured_in_a_round()
 /// round is told once, or dropped once where the round hadn't crossed; what no round carried stays. No idle time and no
 /// odd toggle is left, and a second reset tells nothing.
 pub fn bus_is_reset()
-    ensures crossed { Tells mouse 0
+    ensures crossed { LifeTells mouse 0
         (owns (press 0 0 ∷ move 2 0 (pos 5) ∷ Polls fate.AckLost ∷ []) ++ Resets ∷ Configures
         ∷ owns (Polls fate.Clean ∷ []))
         (button_down ∷ motion_x (pos 5) ∷ button_up ∷ button_down ∷ []) }
-    ensures not_crossed { Tells mouse 0
+    ensures not_crossed { LifeTells mouse 0
         (owns (move 2 0 (pos 5) ∷ Polls fate.ReplyLost ∷ []) ++ Resets ∷ []) (drop_x (pos 5) ∷ []) }
-    ensures rest_stays { Tells mouse 0
+    ensures rest_stays { LifeTells mouse 0
         (owns (press 0 0 ∷ Polls fate.Clean ∷ move 2 0 (pos 200) ∷ Polls fate.ReplyLost ∷ [])
         ++ Resets ∷ Configures ∷ owns (Polls fate.Clean ∷ []))
         (button_down ∷ button_up ∷ drop_x (pos 127) ∷ button_down ∷ motion_x (pos 73) ∷ []) }
@@ -78,7 +78,7 @@ pub fn bus_is_reset()
         ∷ owns (Polls fate.Clean ∷ replicate 4 AFrame ++ Polls fate.Clean ∷ []))).odd ≡ true }
     ensures host_is_even { expected (behind keyboard 0
         (owns (press 4 4 ∷ Polls fate.AckLost ∷ []) ++ Resets ∷ [])) ≡ false }
-    ensures nothing_twice { Tells keyboard 0
+    ensures nothing_twice { LifeTells keyboard 0
         (owns (press 4 4 ∷ Polls fate.Clean ∷ []) ++ Resets ∷ Resets ∷ [])
         (key_down 4 ∷ key_up 4 ∷ []) }
 {}
@@ -86,26 +86,26 @@ pub fn bus_is_reset()
 /// The endpoint is halted in a round: its motion is dropped where the round hadn't crossed, and told once where it had. What
 /// is pressed is told behind the clear, a key that was let go meanwhile goes up, and one that never crossed is never told.
 pub fn endpoint_is_halted_in_a_round()
-    ensures not_crossed { Tells mouse 0
+    ensures not_crossed { LifeTells mouse 0
         (owns (press 0 0 ∷ move 2 0 (pos 5) ∷ Polls fate.ReplyLost ∷ []) ++ Halts
         ∷ owns (Polls fate.Clean ∷ []) ++ Clears ∷ owns (Polls fate.Clean ∷ []))
         (drop_x (pos 5) ∷ button_down ∷ []) }
-    ensures crossed { Tells mouse 0
+    ensures crossed { LifeTells mouse 0
         (owns (move 2 0 (pos 5) ∷ Polls fate.AckLost ∷ []) ++ Halts ∷ Clears
         ∷ owns (Polls fate.Clean ∷ []))
         (motion_x (pos 5) ∷ []) }
-    ensures no_key_is_lost { Tells keyboard 0
+    ensures no_key_is_lost { LifeTells keyboard 0
         (owns (press 4 4 ∷ Polls fate.Clean ∷ press 4 5 ∷ Polls fate.ReplyLost ∷ []) ++ Halts
         ∷ owns (release 4 4 ∷ Polls fate.Clean ∷ []) ++ Clears ∷ owns (Polls fate.Clean ∷ []))
         (key_down 4 ∷ key_up 4 ∷ key_down 5 ∷ []) }
-    ensures never_seen { Tells keyboard 0
+    ensures never_seen { LifeTells keyboard 0
         (owns (press 4 4 ∷ Polls fate.ReplyLost ∷ []) ++ Halts
         ∷ owns (release 4 4 ∷ []) ++ Clears ∷ owns (Polls fate.Clean ∷ [])) [] }
-    ensures rest_goes_on { Tells mouse 0
+    ensures rest_goes_on { LifeTells mouse 0
         (owns (move 2 0 (pos 200) ∷ Polls fate.ReplyLost ∷ []) ++ Halts ∷ Clears
         ∷ owns (Polls fate.Clean ∷ []))
         (drop_x (pos 127) ∷ motion_x (pos 73) ∷ []) }
-    ensures nothing_twice { Tells mouse 0
+    ensures nothing_twice { LifeTells mouse 0
         (owns (move 2 0 (pos 5) ∷ Polls fate.ReplyLost ∷ []) ++ Halts ∷ Halts ∷ Clears ∷ [])
         (drop_x (pos 5) ∷ []) }
     ensures nothing_is_left { station_motion mouse (behind mouse 0
@@ -121,12 +121,12 @@ pub fn halted_endpoint_is_silent()
         (Halts ∷ owns (press 4 4 ∷ Polls fate.Clean ∷ []))).standing ≡ Some 0 }
     ensures none_goes { due_where keyboard true (behind keyboard 0
         (Halts ∷ owns (press 4 4 ∷ []))).standing ≡ None }
-    ensures nothing_is_told { Tells keyboard 0
+    ensures nothing_is_told { LifeTells keyboard 0
         (Halts ∷ owns (press 4 4 ∷ Polls fate.Clean ∷ Polls fate.AckLost ∷ [])) [] }
-    ensures cleared { Tells keyboard 0
+    ensures cleared { LifeTells keyboard 0
         (Halts ∷ owns (press 4 4 ∷ Polls fate.Clean ∷ []) ++ Clears ∷ owns (Polls fate.Clean ∷ []))
         (key_down 4 ∷ []) }
-    ensures configured { Tells keyboard 0
+    ensures configured { LifeTells keyboard 0
         (Halts ∷ owns (press 4 4 ∷ []) ++ Configures ∷ owns (Polls fate.Clean ∷ []))
         (key_down 4 ∷ []) }
     ensures reset { (behind keyboard 0 (Halts ∷ Resets ∷ [])).halted ≡ false }
@@ -168,7 +168,7 @@ pub fn toggles_begin_anew_at_a_clear()
     ensures counted_anew { (behind mouse 0
         (owns (move 2 0 (pos 1) ∷ Polls fate.Clean ∷ []) ++ Clears
         ∷ owns (move 2 0 (pos 2) ∷ Polls fate.Clean ∷ []))).odd ≡ true }
-    ensures both_are_told { Tells mouse 0
+    ensures both_are_told { LifeTells mouse 0
         (owns (move 2 0 (pos 1) ∷ Polls fate.Clean ∷ []) ++ Clears
         ∷ owns (move 2 0 (pos 2) ∷ Polls fate.Clean ∷ []))
         (motion_x (pos 1) ∷ motion_x (pos 2) ∷ []) }
@@ -177,21 +177,21 @@ pub fn toggles_begin_anew_at_a_clear()
 /// A report of a hundred bytes goes in two pieces, of 64 bytes and of 36: it is told once, with its last piece, whatever is
 /// lost on the way, and as it was when its round opened; what is set meanwhile goes into the next round.
 pub fn report_goes_in_pieces()
-    ensures as_it_was { Tells (byte_values 100) 0
+    ensures as_it_was { LifeTells (byte_values 100) 0
         (owns (set 0 0 (pos 7) ∷ Polls fate.AckLost ∷ set 0 0 (pos 9) ∷ Polls fate.Clean
         ∷ Polls fate.Clean ∷ []))
         (value_x (pos 7) ∷ []) }
-    ensures next_round { Tells (byte_values 100) 0
+    ensures next_round { LifeTells (byte_values 100) 0
         (owns (set 0 0 (pos 7) ∷ Polls fate.AckLost ∷ set 0 0 (pos 9) ∷ Polls fate.Clean
         ∷ replicate 4 (Polls fate.Clean)))
         (value_x (pos 7) ∷ value_x (pos 9) ∷ []) }
-    ensures nothing_before_the_last { Tells (byte_values 100) 0
+    ensures nothing_before_the_last { LifeTells (byte_values 100) 0
         (owns (set 0 0 (pos 7) ∷ Polls fate.Clean ∷ Polls fate.ReplyLost ∷ [])) [] }
-    ensures last_piece_twice { Tells (byte_values 100) 0
+    ensures last_piece_twice { LifeTells (byte_values 100) 0
         (owns (set 0 0 (pos 7) ∷ Polls fate.Clean ∷ Polls fate.AckLost ∷ Polls fate.AckLost
         ∷ Polls fate.Clean ∷ []))
         (value_x (pos 7) ∷ []) }
-    ensures motion_once { Tells (byte_motions 100) 0
+    ensures motion_once { LifeTells (byte_motions 100) 0
         (owns (move 0 0 (pos 200) ∷ Polls fate.AckLost ∷ replicate 3 (Polls fate.Clean)))
         (first_motion_x (pos 127) ∷ []) }
 {}
@@ -218,14 +218,14 @@ pub fn each_piece_changes_the_toggle()
 
 /// A report of 64 bytes is one piece, and one of 65 bytes two; the longest one has four.
 pub fn full_packet_is_one_piece()
-    ensures one_piece { Tells (byte_values 64) 0
+    ensures one_piece { LifeTells (byte_values 64) 0
         (owns (set 0 0 (pos 7) ∷ Polls fate.Clean ∷ set 0 0 (pos 9) ∷ Polls fate.Clean ∷ []))
         (value_x (pos 7) ∷ value_x (pos 9) ∷ []) }
-    ensures two_pieces { Tells (byte_values 65) 0
+    ensures two_pieces { LifeTells (byte_values 65) 0
         (owns (set 0 0 (pos 7) ∷ Polls fate.Clean ∷ [])) [] }
-    ensures three_of_four { Tells (byte_values 256) 0
+    ensures three_of_four { LifeTells (byte_values 256) 0
         (owns (set 0 0 (pos 7) ∷ replicate 3 (Polls fate.Clean))) [] }
-    ensures four_of_four { Tells (byte_values 256) 0
+    ensures four_of_four { LifeTells (byte_values 256) 0
         (owns (set 0 0 (pos 7) ∷ replicate 4 (Polls fate.Clean)))
         (value_x (pos 7) ∷ []) }
 {}
@@ -234,20 +234,20 @@ pub fn full_packet_is_one_piece()
 /// crossed, and what was to come with its last piece is never told. Behind a clear the report goes again from its first
 /// piece, so that no report is made of two rounds.
 pub fn round_ends_between_its_pieces()
-    ensures reset { Tells (byte_motions 100) 0
+    ensures reset { LifeTells (byte_motions 100) 0
         (owns (move 0 0 (pos 5) ∷ Polls fate.Clean ∷ []) ++ Resets ∷ [])
         (first_drop_x (pos 5) ∷ []) }
-    ensures reset_behind_the_last { Tells (byte_motions 100) 0
+    ensures reset_behind_the_last { LifeTells (byte_motions 100) 0
         (owns (move 0 0 (pos 5) ∷ Polls fate.Clean ∷ Polls fate.AckLost ∷ []) ++ Resets ∷ [])
         (first_motion_x (pos 5) ∷ []) }
-    ensures halted { Tells (byte_motions 100) 0
+    ensures halted { LifeTells (byte_motions 100) 0
         (owns (move 0 0 (pos 5) ∷ Polls fate.AckLost ∷ []) ++ Halts ∷ Clears
         ∷ owns (Polls fate.Clean ∷ Polls fate.Clean ∷ []))
         (first_drop_x (pos 5) ∷ []) }
-    ensures from_its_first_piece { Tells (byte_values 100) 0
+    ensures from_its_first_piece { LifeTells (byte_values 100) 0
         (owns (set 0 0 (pos 7) ∷ Polls fate.Clean ∷ []) ++ Clears
         ∷ owns (set 0 0 (pos 9) ∷ Polls fate.Clean ∷ [])) [] }
-    ensures as_it_is_then { Tells (byte_values 100) 0
+    ensures as_it_is_then { LifeTells (byte_values 100) 0
         (owns (set 0 0 (pos 7) ∷ Polls fate.Clean ∷ []) ++ Clears
         ∷ owns (set 0 0 (pos 9) ∷ Polls fate.Clean ∷ Polls fate.Clean ∷ []))
         (value_x (pos 9) ∷ []) }
@@ -257,7 +257,7 @@ pub fn round_ends_between_its_pieces()
         (owns (move 0 0 (pos 200) ∷ Polls fate.Clean ∷ []))) (at 0 0) ≡ pos 200 }
     ensures rest_stays { station_motion (byte_motions 100) (behind (byte_motions 100) 0
         (owns (move 0 0 (pos 200) ∷ Polls fate.Clean ∷ []) ++ Halts ∷ [])) (at 0 0) ≡ pos 73 }
-    ensures configured { Tells (byte_values 100) 0
+    ensures configured { LifeTells (byte_values 100) 0
         (owns (set 0 0 (pos 7) ∷ Polls fate.Clean ∷ []) ++ Configures
         ∷ owns (Polls fate.Clean ∷ Polls fate.Clean ∷ []))
         (value_x (pos 7) ∷ []) }
@@ -266,7 +266,7 @@ pub fn round_ends_between_its_pieces()
 /// A configuration keeps the idle time: four frames behind a report it goes again, and tells nothing new. Two rounds closed
 /// since then, and one where the idle time is forgotten.
 pub fn idle_time_outlives_a_configuration()
-    ensures nothing_new { Tells keyboard 1
+    ensures nothing_new { LifeTells keyboard 1
         (owns (press 4 4 ∷ Polls fate.Clean ∷ []) ++ Configures
         ∷ owns (Polls fate.Clean ∷ replicate 4 AFrame ++ Polls fate.Clean ∷ []))
         (key_down 4 ∷ key_down 4 ∷ []) }
@@ -280,7 +280,7 @@ pub fn idle_time_outlives_a_configuration()
 
 /// An idle time of four frames is set: four frames after its round opened the report goes again, and tells nothing new.
 pub fn idle_time_is_set()
-    ensures nothing_new { Tells keyboard 0
+    ensures nothing_new { LifeTells keyboard 0
         (Idles (1 ∷ []) ∷ owns (press 4 4 ∷ Polls fate.Clean
         ∷ replicate 3 AFrame ++ Polls fate.Clean ∷ AFrame ∷ Polls fate.Clean ∷ []))
         (key_down 4 ∷ []) }
@@ -299,11 +299,11 @@ pub fn idle_time_is_set()
 /// An idle time is set while a round is open: its part and its motion stay, and its report goes once more where the
 /// time since the round opened is over.
 pub fn idle_time_is_set_in_a_round()
-    ensures crossed { Tells mouse 0
+    ensures crossed { LifeTells mouse 0
         (owns (press 0 0 ∷ move 2 0 (pos 5) ∷ Polls fate.AckLost ∷ []) ++ Idles (1 ∷ [])
         ∷ owns (move 2 0 (pos 3) ∷ Polls fate.Clean ∷ Polls fate.Clean ∷ []))
         (button_down ∷ motion_x (pos 5) ∷ motion_x (pos 3) ∷ []) }
-    ensures not_crossed { Tells mouse 0
+    ensures not_crossed { LifeTells mouse 0
         (owns (move 2 0 (pos 5) ∷ Polls fate.ReplyLost ∷ []) ++ Idles (1 ∷ [])
         ∷ owns (move 2 0 (pos 3) ∷ Polls fate.Clean ∷ []))
         (motion_x (pos 5) ∷ []) }
@@ -312,7 +312,7 @@ pub fn idle_time_is_set_in_a_round()
     ensures goes_again { (behind keyboard 0
         (owns (press 4 4 ∷ Polls fate.AckLost ∷ []) ++ Idles (1 ∷ [])
         ∷ owns (replicate 4 AFrame ++ Polls fate.Clean ∷ Polls fate.Clean ∷ []))).odd ≡ false }
-    ensures nothing_new { Tells keyboard 0
+    ensures nothing_new { LifeTells keyboard 0
         (owns (press 4 4 ∷ Polls fate.AckLost ∷ []) ++ Idles (1 ∷ [])
         ∷ owns (replicate 4 AFrame ++ Polls fate.Clean ∷ Polls fate.Clean ∷ []))
         (key_down 4 ∷ []) }

@@ -105,8 +105,8 @@ place_cells layout i item =
 -- what a field means: its usages, its range and its flags
 unfoldable pub meaning_cells : Bool → MainItem → List Entry → List ℕ
 meaning_cells input item entries =
-    meaning_cell item.shape entries ++ NEXT.now ++ range_cell item.shape item ++ NEXT.now ++ flags_text input item.flags.0
-    ++ NEXT.now
+    meaning_cell item.shape entries ++ NEXT.now ++ range_cell item.shape item ++ NEXT.now
+    ++ flags_text input item.flags.0 ++ NEXT.now
 
 -- where a field comes from: the collections round it, and its items
 unfoldable pub origin_cells : List Item → ℕ → List Collection → List ℕ
@@ -115,7 +115,8 @@ origin_cells items m path = path_cell path ++ NEXT.now ++ links_cell items m ++ 
 -- the row of a field
 unfoldable pub field_row : Contents → List Item → List ℕ → ℕ → MainItem → List Entry → List Collection → List ℕ
 field_row layout items mains i item entries path =
-    place_cells layout i item ++ meaning_cells (is_input_item layout item) item entries ++ origin_cells items (main_at mains i) path
+    place_cells layout i item ++ meaning_cells (is_input_item layout item) item entries
+    ++ origin_cells items (main_at mains i) path
 
 -- the row of a listed item that there may be, where it stands in the report
 abbrev pub field_row_at : Contents → List Item → List ℕ → ℕ → ℕ
@@ -127,7 +128,8 @@ field_row_at layout items mains r i _ _ _ = []
 -- the row of the listed item at a place
 abbrev pub field_row_of : Contents → List Item → List ℕ → ℕ → ℕ → List ℕ
 field_row_of layout items mains r i =
-    field_row_at layout items mains r i (slice_get layout.items i) (slice_get layout.entries i) (slice_get layout.paths i)
+    field_row_at layout items mains r i (slice_get layout.items i) (slice_get layout.entries i)
+    (slice_get layout.paths i)
 
 -- the rows of a report's fields
 unfoldable pub field_rows : Contents → List Item → List ℕ → ℕ → List ℕ
@@ -140,7 +142,8 @@ field_table layout items mains r = FIELDS_HEAD.now ++ field_rows layout items ma
 -- the heading of a report
 unfoldable pub heading : Bool → ℕ → Report → List ℕ
 heading numbered bytes report =
-    codes "<h2>" ++ report_name numbered report ++ codes ": " ++ count_text bytes (codes "byte") ++ codes "</h2>" ++ 10 ∷ []
+    codes "<h2>" ++ report_name numbered report ++ codes ": " ++ count_text bytes (codes "byte") ++ codes "</h2>"
+    ++ 10 ∷ []
 
 -- the heading of a report that there may be
 abbrev pub heading_at : Contents → ℕ → Option Report → List ℕ

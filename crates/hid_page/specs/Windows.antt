@@ -1,5 +1,5 @@
--- The windows of a picture: its parts of so many bytes, printed in its place, since a sheet of paper may be shorter than a
--- report (our choice: docs/PICTURES.md).
+-- The windows of a picture: its parts of so many bytes, printed in its place, since a sheet of paper may be shorter
+-- than a report (our choice: docs/PICTURES.md).
 use Rattle.std.specs.Prelude.{ℕ, zero, suc, ◌+◌, ◌-◌, ◌*◌, ◌/◌, nat_lt, if◌then◌else◌, List, [], ◌∷◌, ◌++◌, codes}
 use Rattle.std.specs.Fmt.{decimal}
 use Rattle.hid_layout.specs.Layout.{Contents}

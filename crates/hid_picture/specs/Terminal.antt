@@ -71,7 +71,8 @@ bracket on above below =
 -- the frame of a level on the line above a byte
 unfoldable pub bracket_at : List Frame → ℕ → ℕ → List ℕ
 bracket_at frames level byte =
-    bracket (is_held_on frames level byte) (nat_lt 0 byte && is_held frames level (byte - 1)) (is_held frames level byte)
+    bracket (is_held_on frames level byte) (nat_lt 0 byte && is_held frames level (byte - 1))
+    (is_held frames level byte)
 
 -- the frames on the line above a byte, the innermost first
 unfoldable pub brackets : List Frame → ℕ → ℕ → List ℕ
@@ -125,8 +126,8 @@ line_number bytes byte k = if k == 0 then row_number bytes byte else codes "   "
 -- a line of a row
 unfoldable pub row_line : Contents → ℕ → ℕ → ℕ → List Frame → List Piece → ℕ → List ℕ
 row_line layout r bytes byte frames pieces k =
-    line_number bytes byte k ++ cells_line layout r k byte pieces ++ glyphs.SIDE.now ++ sides frames (deepest frames) byte
-    ++ 10 ∷ []
+    line_number bytes byte k ++ cells_line layout r k byte pieces ++ glyphs.SIDE.now
+    ++ sides frames (deepest frames) byte ++ 10 ∷ []
 
 -- a row: the line above it, and the lines of its cells
 unfoldable pub row_text : Contents → ℕ → ℕ → List Frame → List Piece → ℕ → List ℕ
@@ -137,8 +138,8 @@ row_text layout r bytes frames pieces byte =
 -- a frame by its name and its bytes, indented by its level as far as the columns have room for it
 unfoldable pub frame_line : Contents → Frame → List ℕ
 frame_line layout frame =
-    joined_below (min (frame.level - 1) MOST_STEPS) (λ i. codes "  ") ++ frame_name layout frame ++ codes ": bytes " ++ decimal frame.first
-    ++ codes " to " ++ decimal frame.last ++ 10 ∷ []
+    joined_below (min (frame.level - 1) MOST_STEPS) (λ i. codes "  ") ++ frame_name layout frame ++ codes ": bytes "
+    ++ decimal frame.first ++ codes " to " ++ decimal frame.last ++ 10 ∷ []
 
 -- the usages of a field, a line each
 unfoldable pub usage_lines : List Entry → List ℕ
@@ -158,7 +159,8 @@ field_lines layout r i _ _ = []
 -- the fields of a report
 unfoldable pub fields_text : Contents → ℕ → List ℕ
 fields_text layout r =
-    joined_below (length layout.items) (λ i. field_lines layout r i (slice_get layout.items i) (slice_get layout.entries i))
+    joined_below (length layout.items)
+    (λ i. field_lines layout r i (slice_get layout.items i) (slice_get layout.entries i))
 
 -- what the picture of a report begins with
 unfoldable pub terminal_head : Bool → ℕ → Report → List ℕ

@@ -1,8 +1,7 @@
 //! Words in lines of so many columns, and how high they make a row.
 
-ghost use Rattle.std.specs.Prelude.{◌≡◌, ◌≤◌, ◌<◌, ◌++◌, ◌^◌, length, slice_get, Some, IfOk};
-ghost use Rattle.hid_pieces.specs.Words.{piece_name, part_details};
-ghost use Rattle.hid_picture.specs.Lines.{byte_at, last_space, first_width, behind_line, behind_lines, line_at, line_count, columns_of, both_counts, piece_lines, byte_lines, row_lines, line_of, name_lines, lines_in_front, drawn_lines, rows_of};
+ghost use Rattle.std.specs.Prelude.{◌≡◌, ◌≤◌, ◌<◌, length, Some, IfOk};
+ghost use Rattle.hid_picture.specs.Lines.{byte_at, last_space, first_width, behind_line, line_at, line_count, columns_of, both_counts, piece_lines, row_lines, line_of, name_lines, lines_in_front, rows_of};
 
 use crate::words::print_frame_name;
 use hid_layout::Layout;

@@ -1,6 +1,6 @@
 //! The picture of a report in characters: a row for each byte, ten columns for each bit.
 
-ghost use Rattle.std.specs.Prelude.{◌≡◌, ◌++◌, ◌-◌, ◌<◌, min, codes, length, slice_get, unwrap_or, Some, OnOk, string_bytes};
+ghost use Rattle.std.specs.Prelude.{◌≡◌, ◌++◌, ◌-◌, ◌<◌, min, codes, length, slice_get, Some, OnOk, string_bytes};
 ghost use Rattle.hid_notation.specs.Text.{joined_below};
 ghost use Rattle.hid_pieces.specs.Pieces.{LiesIn};
 ghost use Rattle.hid_picture.specs.declared.terminal.TheConstants.{MOST_STEPS};

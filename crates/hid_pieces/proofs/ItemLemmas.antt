@@ -4,8 +4,7 @@ use Rattle.hid_items.specs.declared.spelling.Item.{Item}
 use Rattle.hid_items.specs.declared.reading.Items.{Items}
 use Rattle.hid_items.specs.Spelling.{IsSpelling}
 use Rattle.hid_items.specs.Reading.{GivesItem, left, place}
-use Rattle.hid_pieces.specs.Items.{ArePlaced, bytes_in}
-use Rattle.hid_pieces.specs.Items.{IsWhole}
+use Rattle.hid_pieces.specs.Items.{ArePlaced, IsWhole, bytes_in}
 
 -- the items read so far, with what is left
 pub record HaveRead (descriptor : List ℕ) (items : List Item) (iterator : Items) : Type 0 where

@@ -1,6 +1,6 @@
 //! The collections of a report, and the bytes that they take.
 
-ghost use Rattle.std.specs.Prelude.{◌≡◌, ◌+◌, ◌++◌, ◌<◌, ◌≤◌, ◌^◌, length, slice_get, Some, IfOk, OnOk};
+ghost use Rattle.std.specs.Prelude.{◌≡◌, ◌+◌, ◌++◌, ◌<◌, ◌≤◌, length, slice_get, Some, IfOk, OnOk};
 ghost use Rattle.hid_pieces.specs.Pieces.{LiesIn};
 ghost use Rattle.hid_pieces.specs.Frames.{first_byte, last_byte, main_at, reaching, frame_with, frame_below, open_below, round_at, frame_at, frames_of, deepest};
 

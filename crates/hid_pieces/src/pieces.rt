@@ -1,6 +1,6 @@
 //! Where the fields of a report stand, byte by byte.
 
-ghost use Rattle.std.specs.Prelude.{◌≡◌, ◌++◌, ◌+◌, ◌<◌, ◌≤◌, [], ◌∷◌, ◌/◌, ◌%◌, ◌^◌, length, slice_get, Some, IfOk, OnOk};
+ghost use Rattle.std.specs.Prelude.{◌≡◌, ◌++◌, ◌+◌, ◌<◌, ◌≤◌, ◌/◌, ◌%◌, ◌^◌, length, slice_get, Some, IfOk, OnOk};
 ghost use Rattle.hid_layout.specs.Reports.{first_bit, element_of};
 ghost use Rattle.hid_pieces.specs.Pieces.{LiesIn, gathered, piece_of, stretch_pieces, element_pieces, shape_pieces, item_pieces, id_pieces, filler_pieces, pieces_of};
 

@@ -1,9 +1,9 @@
 //! What is said of fields, collections and reports, in words.
 
-ghost use Rattle.std.specs.Prelude.{◌≡◌, ◌++◌, ◌*◌, ◌<◌, ◌≤◌, length, slice_get, Some, OnOk, string_bytes};
+ghost use Rattle.std.specs.Prelude.{◌≡◌, ◌++◌, ◌*◌, ◌<◌, ◌≤◌, length, Some, OnOk, string_bytes};
 ghost use Rattle.std.specs.List.{flat_map};
 ghost use Rattle.hid_descriptor.specs.declared.limits.TheConstants.{MAX_ENTRIES, MAX_REPORT_BYTES};
-ghost use Rattle.hid_pieces.specs.Words.{flag_words, bit_7_words, flags_text, is_input, is_input_at, is_input_item, kind_name, report_name, count_text, collection_name, purpose_text, collection_text, entry_text, choice_from, choice_text, field_usage, usage_words, name_in, part_name, share_text, piece_name, range_text, details_in, part_details, part_flags, bit_text, place_text};
+ghost use Rattle.hid_pieces.specs.Words.{flag_words, bit_7_words, flags_text, is_input, is_input_item, kind_name, report_name, count_text, collection_name, purpose_text, collection_text, entry_text, choice_from, choice_text, field_usage, usage_words, name_in, part_name, share_text, piece_name, range_text, details_in, part_details, part_flags, bit_text, place_text};
 
 use crate::label::UsageLabel;
 use crate::listed::{item_at, report_at};

@@ -22,8 +22,8 @@ abbrev pub left_out : Gathered
 left_out = record { content = None; is_dropped = true; device = 0; time = []; bytes = [] }
 
 -- a dump of which no byte came yet
-abbrev pub opened : Content → ℕ → List ℕ → Gathered
-opened content device time =
+abbrev pub empty_dump : Content → ℕ → List ℕ → Gathered
+empty_dump content device time =
     record { content = Some content; is_dropped = false; device = device; time = time; bytes = [] }
 
 -- the device whose descriptor a dump of this is to be, if it is to be one

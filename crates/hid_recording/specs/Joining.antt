@@ -20,8 +20,8 @@ is_long numbered report = same_kind report.kind Input && nat_lt (if numbered the
 abbrev pub has_long : Contents → Bool
 has_long layout = list_any (is_long layout.numbered) layout.reports
 
--- A device of which a part of a report may have been left out: what came of the report is dropped, and the next chunk may
--- be the rest of one, where it has a long one.
+-- A device of which a part of a report may have been left out: what came of the report is dropped, and the next chunk
+-- may be the rest of one, where it has a long one.
 abbrev pub doubted : Member → Member
 doubted member = record member { collected = []; in_doubt = has_long member.layout }
 

@@ -14,9 +14,9 @@ use Rattle.hid_recording.specs.declared.record.Record.{Record}
 use Rattle.hid_recording.specs.declared.record.Record.TheVariants as records
 use Rattle.hid_recording.specs.Words.{bytes_of, is_count, device_of, time_of, is_colon, address_of, content_of}
 
--- what a line says: nothing, or nothing but the end of a dump; which device the next lines are of; its report descriptor, or
--- why the bytes of one can't be read, with the interface that it is of, if it is a dump; a report and when it came; that a
--- dump begins; or bytes of one, if each word is a byte
+-- what a line says: nothing, or nothing but the end of a dump; which device the next lines are of; its report
+-- descriptor, or why the bytes of one can't be read, with the interface that it is of, if it is a dump; a report and
+-- when it came; that a dump begins; or bytes of one, if each word is a byte
 pub data Said : Type 0 where
   Nothing : Said
   Blank : Said
@@ -137,8 +137,8 @@ header_said [] = Err Syntax
 abbrev pub is_digit : ℕ → Bool
 is_digit b = nat_le 48 b && nat_le b 57
 
--- An empty line ends a dump, and one that begins with `#` says nothing; a space stands before the bytes of a dump, and a
--- digit begins its head.
+-- An empty line ends a dump, and one that begins with `#` says nothing; a space stands before the bytes of a dump, and
+-- a digit begins its head.
 unfoldable pub record_of : List ℕ → Result Said Refusal
 record_of [] = Ok Blank
 record_of (first ∷ rest) =

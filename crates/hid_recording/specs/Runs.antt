@@ -12,8 +12,8 @@ use Rattle.hid_recording.specs.Player.{summary_of}
 use Rattle.hid_recording.specs.Session.{Session, Outcome, accepted, at_first}
 use Rattle.hid_recording.specs.Telling.{LineTells, LineBegins}
 
--- How a run ends early at a line: it is refused; memory was wanting in it; the writer cut its text off; it wasn't run at
--- all; or no line ends so.
+-- How a run ends early at a line: it is refused; memory was wanting in it; the writer cut its text off; it wasn't run
+-- at all; or no line ends so.
 pub data Ending : Type 0 where
   Refusal : Ending
   Want : Ending
@@ -31,8 +31,8 @@ ending_of Read = Silence
 ending_of TooManyReads = Silence
 ending_of Unended = Never
 
--- What was written of the line at which the run ended: what it tells up to its refusal; nothing or all; a front of that;
--- or nothing.
+-- What was written of the line at which the run ended: what it tells up to its refusal; nothing or all; a front of
+-- that; or nothing.
 abbrev pub EndsAs : Ending → (Outcome → Type 0) → (List ℕ → Type 0) → List ℕ → Cause → Type 0
 EndsAs Refusal Tells Begun written cause = Tells (record { text = written; end = Err cause })
 EndsAs Want Tells Begun written cause = Begun written
@@ -63,8 +63,8 @@ AllTell session (line ∷ more) text last =
     × AllTell next more rest last
     × (text ≡ first ++ rest)
 
--- All these lines were run, and no dump is open behind them. So many lines came before them. The counts are those of the
--- session behind them.
+-- All these lines were run, and no dump is open behind them. So many lines came before them. The counts are those of
+-- the session behind them.
 pub record Finishes (session : Session) (recording : List (List ℕ)) (before : ℕ) (written : List ℕ)
     (summary : Summary) : Type 0 where
   pub last : Session

@@ -10,8 +10,8 @@ use Rattle.hid_recording.specs.Dumps.{Gathered, nothing}
 use Rattle.hid_recording.specs.declared.fault.Options.{Options}
 use Rattle.hid_recording.specs.declared.fault.Cause.{Cause}
 
--- a device: its layout, the view that its reports made, what came of a report that the next chunk of a dump goes on with, and
--- whether a part of a report may be missing before that
+-- a device: its layout, the view that its reports made, what came of a report that the next chunk of a dump goes on
+-- with, and whether a part of a report may be missing before that
 pub record Member : Type 0 where
   pub layout : Contents
   pub cells : List Cell
@@ -24,8 +24,8 @@ fresh_member layout =
     record { layout = layout; cells = blank (items_of layout); collected = []; in_doubt = false }
 
 -- The options, the device of the next lines, the descriptors that were accepted last with what their reports made, the
--- interfaces of which dumps came, what came of a dump that isn't ended, and counts: of lines, of descriptors, of reports,
--- of events, and of lines that were refused.
+-- interfaces of which dumps came, what came of a dump that isn't ended, and counts: of lines, of descriptors, of
+-- reports, of events, and of lines that were refused.
 pub record Session : Type 0 where
   pub options : Options
   pub current : ℕ

@@ -23,14 +23,15 @@ use Rattle.hid_recording.specs.EventLines.{event_lines}
 use Rattle.hid_recording.specs.Refusals.{refusal_line}
 use Rattle.hid_recording.specs.Records.{Said, Nothing, Blank, Device, Descriptor, Unread, Report, Begins, Bytes, record_of}
 use Rattle.hid_recording.specs.Words.{time_of}
-use Rattle.hid_recording.specs.Dumps.{nothing, left_out, opened, described_by, numbered, with_address}
+use Rattle.hid_recording.specs.Dumps.{nothing, left_out, empty_dump, described_by, numbered, with_address}
 
 -- ---- refusals
 
 -- a line that is refused tells its place and why, and is counted
 abbrev pub goes_on : Session → Refusal → Outcome
 goes_on session refusal =
-    accepted (refusal_line session.options.json session.lines refusal) (record session { refused = counted session.refused 1 })
+    accepted (refusal_line session.options.json session.lines refusal)
+    (record session { refused = counted session.refused 1 })
 
 -- of a strict run it is the end
 abbrev pub refuses : Session → Refusal → Outcome
@@ -121,8 +122,8 @@ report_told time bytes session = reads_of session time bytes (known_at (slice_ge
 abbrev pub closed : Session → Session
 closed session = record session { gathered = nothing }
 
--- The devices behind a dump that may be open, and is dropped. The one whose descriptor it was to be has none. A part of a
--- report may be missing: of any device, since it isn't known of which the line was.
+-- The devices behind a dump that may be open, and is dropped. The one whose descriptor it was to be has none. A part of
+-- a report may be missing: of any device, since it isn't known of which the line was.
 abbrev pub devices_behind : Session → List (Option Member)
 devices_behind session =
     map doubted_slot (forgotten session.devices (described_by session.gathered.content session.gathered.device))
@@ -146,7 +147,7 @@ unread session interface refusal = refuses (dropped (undescribed session interfa
 -- a dump is open, of which no byte came yet
 abbrev pub with_dump : Session → Address → Content → List ℕ → ℕ → Session
 with_dump session address content time device =
-    record session { addresses = with_address session.addresses address; gathered = opened content device time }
+    record session { addresses = with_address session.addresses address; gathered = empty_dump content device time }
 
 -- the dump before it should have been ended
 abbrev pub begins_behind : Option Content → Session → Session → Outcome

@@ -18,11 +18,11 @@ abbrev pub is_bare_row : Setup → ℕ → ℕ → ℕ → ℕ → Bool
 is_bare_row setup type number value index = is_row setup type number value index && (setup.length == 0)
 
 -- Its row among the standard requests. bmRequestType is 0x80, 0x81 or 0x82 to read of the device, an interface or an
--- endpoint, and 0x00 or 0x02 to write to the device or an endpoint (table 9-2). bRequest is 0 GET_STATUS, 1 CLEAR_FEATURE,
--- 3 SET_FEATURE, 6 GET_DESCRIPTOR, 8 GET_CONFIGURATION, 9 SET_CONFIGURATION or 10 GET_INTERFACE (table 9-4). wValue of
--- GET_DESCRIPTOR has the type in its high byte, 1 device or 2 configuration (table 9-5), 0x21 HID or 0x22 report (HID
--- 1.11, 7.1), and in its low byte which of that type. The one feature is 0, ENDPOINT_HALT (table 9-6), of endpoint 1 to
--- the host.
+-- endpoint, and 0x00 or 0x02 to write to the device or an endpoint (table 9-2). bRequest is 0 GET_STATUS, 1
+-- CLEAR_FEATURE, 3 SET_FEATURE, 6 GET_DESCRIPTOR, 8 GET_CONFIGURATION, 9 SET_CONFIGURATION or 10 GET_INTERFACE (table
+-- 9-4). wValue of GET_DESCRIPTOR has the type in its high byte, 1 device or 2 configuration (table 9-5), 0x21 HID or
+-- 0x22 report (HID 1.11, 7.1), and in its low byte which of that type. The one feature is 0, ENDPOINT_HALT (table 9-6),
+-- of endpoint 1 to the host.
 abbrev pub standard_row : Setup → Option Asked
 standard_row setup =
     if is_row setup 0x80 0 0 0 then Some Status
@@ -58,16 +58,17 @@ high_of setup = setup.value / 2 ^ 8
 abbrev pub low_of : Setup → ℕ
 low_of setup = setup.value % 2 ^ 8
 
--- Its row among the class requests, all of interface 0. bmRequestType is 0xA1 to read and 0x21 to write (HID 1.11, 7.2).
--- bRequest is 1 GET_REPORT, 2 GET_IDLE, 3 GET_PROTOCOL, 9 SET_REPORT, 10 SET_IDLE or 11 SET_PROTOCOL. wValue has a Report
--- ID in its low byte, and in its high byte the type of that report (7.2.1, 7.2.2), 0 (7.2.3) or the idle time (7.2.4);
--- or it is the protocol (7.2.6).
+-- Its row among the class requests, all of interface 0. bmRequestType is 0xA1 to read and 0x21 to write (HID 1.11,
+-- 7.2). bRequest is 1 GET_REPORT, 2 GET_IDLE, 3 GET_PROTOCOL, 9 SET_REPORT, 10 SET_IDLE or 11 SET_PROTOCOL. wValue has
+-- a Report ID in its low byte, and in its high byte the type of that report (7.2.1, 7.2.2), 0 (7.2.3) or the idle time
+-- (7.2.4); or it is the protocol (7.2.6).
 abbrev pub class_row : Setup → Option Asked
 class_row setup =
     if is_class setup 0xA1 1 then option_map (λ kind. GetReport kind (low_of setup)) (kind_of (high_of setup))
     else if is_row setup 0xA1 2 (low_of setup) 0 then Some (GetIdle (low_of setup))
     else if is_row setup 0xA1 3 0 0 then Some GetProtocol
-    else if is_class setup 0x21 9 then option_map (λ kind. SetReport kind (low_of setup) setup.length) (kind_of (high_of setup))
+    else if is_class setup 0x21 9
+    then option_map (λ kind. SetReport kind (low_of setup) setup.length) (kind_of (high_of setup))
     else if is_bare_class setup 0x21 10 then Some (SetIdle (low_of setup) (high_of setup))
     else if is_bare_row setup 0x21 11 0 0 then Some (SetProtocol Boot)
     else if is_bare_row setup 0x21 11 1 0 then Some (SetProtocol Report)

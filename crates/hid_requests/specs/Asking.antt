@@ -30,9 +30,9 @@ abbrev pub protocol_of : Bool → Protocol
 protocol_of true = protocols.Boot
 protocol_of false = protocols.Report
 
--- The setup data of each request: the status is two bytes (9.4.5) and the configuration's number one (9.4.2), as an idle
--- time and a protocol are (HID 1.11, 7.2.3 and 7.2.5). A configuration is asked for with 255 bytes and a report with 256
--- (our choice). The feature that is set and cleared is 0, ENDPOINT_HALT (table 9-6).
+-- The setup data of each request: the status is two bytes (9.4.5) and the configuration's number one (9.4.2), as an
+-- idle time and a protocol are (HID 1.11, 7.2.3 and 7.2.5). A configuration is asked for with 255 bytes and a report
+-- with 256 (our choice). The feature that is set and cleared is 0, ENDPOINT_HALT (table 9-6).
 abbrev pub setup_for : Request → Asking → Setup
 setup_for Device asking = asks 0x80 6 0x0100 18
 setup_for Config asking = asks 0x80 6 0x0200 255

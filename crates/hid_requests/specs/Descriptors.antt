@@ -30,8 +30,8 @@ configuration_descriptor = descriptor 2 (word 34 ++ 1 ∷ 1 ∷ 0 ∷ 0x80 ∷ 5
 abbrev pub interface_descriptor : ℕ → ℕ → List ℕ
 interface_descriptor subclass protocol = descriptor 4 (0 ∷ 0 ∷ 1 ∷ 3 ∷ subclass ∷ protocol ∷ 0 ∷ [])
 
--- The interface's HID descriptor: bcdHID 1.11; no country; one entry, of type 0x22, a report descriptor, with its length
--- (HID 1.11, 6.2.1 and 7.1).
+-- The interface's HID descriptor: bcdHID 1.11; no country; one entry, of type 0x22, a report descriptor, with its
+-- length (HID 1.11, 6.2.1 and 7.1).
 abbrev pub hid_bytes : ℕ → List ℕ
 hid_bytes report_length = descriptor 0x21 (word 0x0111 ++ 0 ∷ 1 ∷ 0x22 ∷ word report_length)
 

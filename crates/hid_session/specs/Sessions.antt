@@ -16,7 +16,8 @@ use Rattle.hid_session.specs.States.{State}
 -- a device of which nothing was read yet: the layout of an accepted descriptor's items, and a blank view
 abbrev pub IsFirst : List ℕ → State → Type 0
 IsFirst bytes s =
-    (before : List Spelled) × Accepts bytes before × (s.layout ≡ layout_of before) × (s.view ≡ blank (items_of s.layout))
+    (before : List Spelled) × Accepts bytes before × (s.layout ≡ layout_of before)
+    × (s.view ≡ blank (items_of s.layout))
 
 -- the most events that a report of the device tells
 abbrev pub room_of : State → ℕ

@@ -1,6 +1,6 @@
 //! Events as records.
 
-ghost use Rattle.std.specs.Prelude.{◌≡◌, ◌≤◌, ◌++◌, ℤ, length, map, drop};
+ghost use Rattle.std.specs.Prelude.{◌≡◌, ◌≤◌, ◌++◌, length, map, drop};
 ghost use Rattle.hid_session.specs.Events.{told_as, event_of};
 
 use hid_layout::{ControlId, Usage};

@@ -1,6 +1,6 @@
 //! A device whose reports are read: its descriptor once, then one report at a time.
 
-ghost use Rattle.std.specs.Prelude.{◌≡◌, ◌≤◌, length, IfOk, IfErr, vec_capacity};
+ghost use Rattle.std.specs.Prelude.{◌≡◌, ◌≤◌, IfOk, IfErr, vec_capacity};
 ghost use Rattle.hid_descriptor.specs.Faults.{Explains};
 ghost use Rattle.hid_layout.specs.Controls.{items_of, max_events};
 ghost use Rattle.hid_cells.specs.Snapshots.{is_pressed, cell_at};

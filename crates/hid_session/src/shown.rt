@@ -1,8 +1,7 @@
 //! Reports, collections and usages as records (HID 1.11, 5.6, 6.2.2.6 and 6.2.2.8).
 
 ghost use Rattle.std.specs.Prelude.{◌≡◌};
-ghost use Rattle.hid_layout.specs.Reports.{usage_of};
-ghost use Rattle.hid_session.specs.Shown.{report_at, collection_at, told_collection, usage_at, told_usage};
+ghost use Rattle.hid_session.specs.Shown.{report_at, collection_at, told_collection, usage_at};
 
 use crate::element::{kind_number, one_of};
 use hid_layout::{Collection, Layout, Usage};

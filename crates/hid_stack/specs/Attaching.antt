@@ -35,8 +35,8 @@ wants_memory causes.NoEmptyCode = false
 wants_memory causes.RelativeWithoutZero = false
 wants_memory causes.Memory = true
 
--- why there is no device, and no host for it: the device is refused, or its address and configuration fit, its descriptor
--- isn't too long, and memory was wanting
+-- why there is no device, and no host for it: the device is refused, or its address and configuration fit, its
+-- descriptor isn't too long, and memory was wanting
 abbrev pub IsNoPair : ℕ → Config → List ℕ → StackFault → Type 0
 IsNoPair addr config descriptor (BadDescriptor (Device fault)) =
     making.Refuses addr config descriptor fault.cause fault.at × (wants_memory fault.cause ≡ false)

@@ -19,9 +19,9 @@ pub record AreFresh (m : Member) (snapshot : List Cell) (idle : List ℕ) : Type
   pub clear : m.clearing ≡ false
   pub station : m.station ≡ fresh (items_of m.layout) snapshot idle
 
--- The headline: of each device that was just configured the events delivered are exactly the changes
--- between the successive parts that crossed, in order, none twice. (No request of it is begun or tried meanwhile, and it
--- is neither halted nor reset: these end rounds.)
+-- The headline: of each device that was just configured the events delivered are exactly the changes between the
+-- successive parts that crossed, in order, none twice. (No request of it is begun or tried meanwhile, and it is neither
+-- halted nor reset: these end rounds.)
 abbrev pub DeliversChanges : List Member → List Step → List Delivered → List Delivered → Type 0
 DeliversChanges before steps old new =
     (device : ℕ) (m : Member) (snapshot : List Cell) (idle : List ℕ)
@@ -41,7 +41,8 @@ KeepsToRounds before steps after =
 
 -- What a device lives through, whatever befalls it: from any state without an open round on, the events delivered of it
 -- are those of its rounds that crossed, of its halts and clears, and of its resets, and its station stands as they say;
--- toggles and views are counted since a configuration took effect last, or the bus was reset, and toggles since a clear.
+-- toggles and views are counted since a configuration took effect last, or the bus was reset, and toggles since a
+-- clear.
 abbrev pub LivesThrough : Member → List Deed → Member → List Event → Type 0
 LivesThrough m deeds n told =
     FollowsLife (items_of m.layout) m.station.view m.station.odd

@@ -58,7 +58,8 @@ pub record IsPollOfPair (fate : Fate) (device : DeviceState) (host : HostEnd)
   pub told : (told : Told) × (result ≡ Ok told)
       × TellsPoll (core_of device).layout (station_of (core_of device) host.phase) fate told
   pub after : joint device_then host_then ≡ member_after (joint device host) (Scheduled (Polls fate))
-  pub delivers : events ≡ events_at (items_of (core_of device).layout) (station_of (core_of device) host.phase) (Polls fate)
+  pub delivers : events
+      ≡ events_at (items_of (core_of device).layout) (station_of (core_of device) host.phase) (Polls fate)
   pub pair : IsPair device_then host_then.clearing host_then.phase
 
 -- the packets that a fate lets arrive come to that

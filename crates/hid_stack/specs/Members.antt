@@ -1,5 +1,5 @@
--- A device of a bus with its host, and what each step of the bus makes of the two (USB 2.0, 8.5, 9.1.1, 9.4.5 and 9.4.7;
--- our choice).
+-- A device of a bus with its host, and what each step of the bus makes of the two (USB 2.0, 8.5, 9.1.1, 9.4.5 and
+-- 9.4.7; our choice).
 use Rattle.std.specs.Prelude.{ℕ, ◌*◌, Bool, true, false, ◌||◌, if◌then◌else◌, List, [], ◌∷◌, replicate, take, Option, Some, None}
 use Rattle.std.specs.List.{cons_option}
 use Rattle.std.specs.Option.{option_map}
@@ -54,9 +54,9 @@ pub record Endpoint : Type 0 where
   pub stage : Stage
 
 -- A device with its host: its address, the configuration and the descriptor that it was made with, its layout, how the
--- two stand, the device's endpoint 0, how far the host has come with it, the transfer that the host began last, whether a
--- clear is pending, and the toggle that is held then or while the endpoint is halted: the one that its ready host expects,
--- of which a round that was ended so tells no more.
+-- two stand, the device's endpoint 0, how far the host has come with it, the transfer that the host began last, whether
+-- a clear is pending, and the toggle that is held then or while the endpoint is halted: the one that its ready host
+-- expects, of which a round that was ended so tells no more.
 pub record Member : Type 0 where
   pub addr : ℕ
   pub config : Config
@@ -138,8 +138,8 @@ piece_open (Some round) = round.piece
 abbrev pub got_in : List ℕ → Open → List ℕ
 got_in bytes round = if is_whole round then [] else take (64 * crossed_with round.piece round.crossed) bytes
 
--- What a host has of a report that isn't whole yet: of these parts, which were fixed as its round opened, the pieces that
--- crossed.
+-- What a host has of a report that isn't whole yet: of these parts, which were fixed as its round opened, the pieces
+-- that crossed.
 abbrev pub got_of : Contents → List Cell → Option Open → List ℕ
 got_of layout parts None = []
 got_of layout parts (Some round) = got_in (part_bytes layout round.report parts) round
@@ -274,7 +274,8 @@ expects_behind stage request expects = expects
 abbrev pub begin_refusal_at : Member → Request → Option StackFault
 begin_refusal_at m request = begin_refusal_in m.transfer m.host request
 
--- a request begins unless it is refused: its transfer has yet to make its first try, and a clear is pending from then on
+-- a request begins unless it is refused: its transfer has yet to make its first try, and a clear is pending from then
+-- on
 abbrev pub begun_unless : Option StackFault → Member → Request → Member
 begun_unless (Some fault) m request = m
 begun_unless None m request =
@@ -324,7 +325,8 @@ abbrev pub halted_if : Bool → Member → Member
 halted_if true m = holding (expects_of m) (record m { station = befallen (items_of m.layout) m.station deeds.Halts })
 halted_if false m = m
 
--- a reset: the device isn't configured, its host knows nothing of it, and the transfer and what is pending are forgotten
+-- a reset: the device isn't configured, its host knows nothing of it, and the transfer and what is pending are
+-- forgotten
 abbrev pub reset_of : Member → Member
 reset_of m = record {
   addr = m.addr;
@@ -348,8 +350,8 @@ member_after m (Controls fate) = tried_of fate m (running m.transfer)
 member_after m Halts = halted_if m.endpoint.is_configured m
 member_after m Resets = reset_of m
 
--- The same where memory is wanting: for what may be dropped, and then nothing is tried, or for what a request that is done
--- gives, and then the host stays where it is.
+-- The same where memory is wanting: for what may be dropped, and then nothing is tried, or for what a request that is
+-- done gives, and then the host stays where it is.
 abbrev pub unconcluded_of : Fate → Member → Option Transfer → Member
 unconcluded_of fate m None = m
 unconcluded_of fate m (Some t) = if cuts_round t.request then m else tried_to fate m t m.host

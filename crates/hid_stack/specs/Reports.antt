@@ -1,5 +1,5 @@
--- A report of several packets on a bus: it is delivered whole or not at all, and never from two rounds (USB 2.0, 5.7.3, 8.5.4
--- and 8.6; our choice).
+-- A report of several packets on a bus: it is delivered whole or not at all, and never from two rounds (USB 2.0, 5.7.3,
+-- 8.5.4 and 8.6; our choice).
 use Rattle.std.specs.Prelude.{◌≡◌, ◌⊎◌, ◌+◌, Bool, true, false, ◌&&◌, [], Option, Some, None}
 use Rattle.hid_layout.specs.Controls.{items_of}
 use Rattle.hid_usages.specs.Views.{seen}
@@ -13,7 +13,8 @@ pub record TellsNothing (m : Member) (x : MemberStep) : Type 0 where
   pub events : events_by (items_of m.layout) m.station (deed_at m x) ≡ []
   pub view : (member_after m x).station.view ≡ m.station.view
 
--- with a poll the last piece of the open round crosses: the part that was fixed as that opened is told, and the view sees it
+-- with a poll the last piece of the open round crosses: the part that was fixed as that opened is told, and the view
+-- sees it
 pub record TellsPart (m : Member) (fate : Fate) : Type 0 where
   pub round : Open
   pub is_open : (arrived (items_of m.layout) m.station fate).current ≡ Some round
@@ -28,7 +29,8 @@ pub record TellsPart (m : Member) (fate : Fate) : Type 0 where
 abbrev pub is_missing_last : Option Open → Bool
 is_missing_last current = elim current [ None ↦ false | Some round ↦ completes round ]
 
--- the last piece of the open round crosses with a poll: the host polls, what is sent reaches it, and it missed that piece alone
+-- the last piece of the open round crosses with a poll: the host polls, what is sent reaches it, and it missed that
+-- piece alone
 abbrev pub last_crosses : Member → Fate → Bool
 last_crosses m fate =
     polls_it m && (reaches_host fate && is_missing_last (arrived (items_of m.layout) m.station fate).current)
@@ -38,13 +40,13 @@ abbrev pub TellsBy : Bool → Member → Fate → Type 0
 TellsBy true m fate = TellsPart m fate
 TellsBy false m fate = TellsNothing m (Scheduled (Polls fate))
 
--- A poll delivers a whole part exactly where the last piece of its round crosses with it: before that, and where that piece is
--- repeated, nothing.
+-- A poll delivers a whole part exactly where the last piece of its round crosses with it: before that, and where that
+-- piece is repeated, nothing.
 abbrev pub IsWholeOrNothing : Member → Fate → Type 0
 IsWholeOrNothing m fate = TellsBy (last_crosses m fate) m fate
 
--- the open round is the one that it was: of its report, with the part that was fixed as it opened, and the piece at hand is
--- the same or the next one
+-- the open round is the one that it was: of its report, with the part that was fixed as it opened, and the piece at
+-- hand is the same or the next one
 pub record IsSameRound (round : Open) (before after : Station) : Type 0 where
   pub now : Open
   pub is_open : after.current ≡ Some now

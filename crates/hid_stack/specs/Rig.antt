@@ -129,8 +129,8 @@ GivesMore fate m (Some t) = ((ends_tried_at fate m t).stage ≡ Done) × TakesMe
 abbrev pub TriesWithMemory : Fate → Member → Option Transfer → Type 0
 TriesWithMemory fate m o = GivesMore fate m o ⊎ (may_cut o ≡ true)
 
--- What takes memory: the room for what a poll, a halt, its end or a reset delivers, and for the bytes of a request, a layout
--- and a view.
+-- What takes memory: the room for what a poll, a halt, its end or a reset delivers, and for the bytes of a request, a
+-- layout and a view.
 abbrev pub TakesMemory : List Member → Step → Type 0
 TakesMemory members (Change dev change) = ⊥
 TakesMemory members Frame = ⊥

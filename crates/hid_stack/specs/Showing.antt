@@ -16,9 +16,9 @@ use Rattle.hid_device.specs.Deciding.{config_info}
 use Rattle.hid_stack.specs.Members.{Member, endpoint_of, expects_of, got_of}
 use Rattle.hid_stack.specs.Rig.{member_at}
 
--- The device of a member: it was made as the member says and stands as its station does, the round that is open there is
--- open here, with the same piece at hand, its toggle is set where the pieces closed are odd in number, it is halted where the
--- station is, and its endpoint 0 is the member's.
+-- The device of a member: it was made as the member says and stands as its station does, the round that is open there
+-- is open here, with the same piece at hand, its toggle is set where the pieces closed are odd in number, it is halted
+-- where the station is, and its endpoint 0 is the member's.
 pub record ShowsDevice (m : Member) (d : DeviceState) : Type 0 where
   pub home : d.addr ≡ m.addr
   pub config : (core_of d).config ≡ m.config
@@ -31,9 +31,9 @@ pub record ShowsDevice (m : Member) (d : DeviceState) : Type 0 where
   pub halted : (core_of d).halted ≡ m.station.halted
   pub endpoint : endpoint_of d.control ≡ m.endpoint
 
--- What its ready host keeps: the toggle that it expects is the other one exactly while the piece at hand has crossed, or the
--- one that is held. Where none is held it has got of the open round the pieces that crossed, while not all have, and nothing
--- of any other.
+-- What its ready host keeps: the toggle that it expects is the other one exactly while the piece at hand has crossed,
+-- or the one that is held. Where none is held it has got of the open round the pieces that crossed, while not all have,
+-- and nothing of any other.
 pub record ShowsKnown (m : Member) (known : Known) : Type 0 where
   pub layout : known.layout ≡ m.layout
   pub polls : known.pipe ≡ record { addr = m.addr; endp = ENDPOINT; expects = expects_of m }
@@ -47,8 +47,8 @@ ShowsPhase m (Described info) = info ≡ config_info m.config (length m.descript
 ShowsPhase m (Parsed info layout) = (info ≡ config_info m.config (length m.descriptor)) × (layout ≡ m.layout)
 ShowsPhase m (Ready known) = ShowsKnown m known
 
--- Its host: it is the one of the device at the member's address, has come as far, and knows what is so there. It is ready
--- only where the device is configured, and then has its layout.
+-- Its host: it is the one of the device at the member's address, has come as far, and knows what is so there. It is
+-- ready only where the device is configured, and then has its layout.
 pub record ShowsHost (m : Member) (h : HostEnd) : Type 0 where
   pub home : h.addr ≡ m.addr
   pub state : state_of h.phase ≡ m.host

@@ -89,8 +89,8 @@ HasGotUnless true layout parts current bytes = Unit {0}
 HasGotUnless false layout parts current bytes = bytes ≡ got_of layout parts current
 
 -- A device that is configured, and what its ready host keeps, with a clear that is pending or not: the host polls the
--- device, has its layout, expects the device's toggle where no round is open, and has got the pieces that crossed of the
--- one that is open, and nothing else.
+-- device, has its layout, expects the device's toggle where no round is open, and has got the pieces that crossed of
+-- the one that is open, and nothing else.
 pub record ArePaired (device : DeviceState) (known : Known) (clearing : Bool) : Type 0 where
   pub configured : (core_of device).is_configured ≡ true
   pub layout : known.layout ≡ (core_of device).layout
@@ -120,8 +120,8 @@ abbrev pub StandTogether : DeviceState → Bool → HostPhase → Type 0
 StandTogether device clearing (Ready known) = ArePaired device known clearing
 StandTogether device clearing _ = IsUntouched (core_of device)
 
--- A try of the transfer that runs, at the two ends: both go on, but that the host stays where memory is wanting for what
--- its request gives.
+-- A try of the transfer that runs, at the two ends: both go on, but that the host stays where memory is wanting for
+-- what its request gives.
 abbrev pub TriesOnPair : Fate → Member → Option Transfer → Result Progress StackFault → Member → Type 0
 TriesOnPair fate m None result new = (result ≡ Err (Control NoTransfer)) × (new ≡ m)
 TriesOnPair fate m (Some t) (Ok progress) new =

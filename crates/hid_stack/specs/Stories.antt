@@ -23,7 +23,8 @@ bus_behind members (Taken step ∷ acts) = bus_behind (bus_after members step) a
 abbrev pub delivered_behind : List Member → List Act → List Delivered
 delivered_behind members [] = []
 delivered_behind members (Attached m ∷ acts) = delivered_behind (members ++ m ∷ []) acts
-delivered_behind members (Taken step ∷ acts) = delivered_at members step ++ delivered_behind (bus_after members step) acts
+delivered_behind members (Taken step ∷ acts) =
+    delivered_at members step ++ delivered_behind (bus_after members step) acts
 
 -- the steps of it
 abbrev pub steps_of : List Act → List Step
@@ -39,8 +40,8 @@ next_number before = length (bus_behind [] before) + 1
 abbrev pub own_story : List Act → List Act → List MemberStep
 own_story before since = member_steps (next_number before) (steps_of since)
 
--- A device is a function of its attach and of its own steps alone, whatever came before it and comes between them: how it
--- stands with its host, and all that is delivered under its number. That is what its life tells.
+-- A device is a function of its attach and of its own steps alone, whatever came before it and comes between them: how
+-- it stands with its host, and all that is delivered under its number. That is what its life tells.
 pub record IsItsOwn (before : List Act) (m : Member) (since : List Act) : Type 0 where
   pub state : member_at (bus_behind [] (before ++ Attached m ∷ since)) (next_number before)
       ≡ Some (member_after_all m (own_story before since))

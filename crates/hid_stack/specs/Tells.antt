@@ -31,8 +31,8 @@ piece_shown layout s = elim s.current [
   | Some round ↦ piece_of (part_bytes layout round.report s.standing.fixed) round.piece
 ]
 
--- The device sends STALL where its endpoint is halted; else the piece at hand of the open round, as DATA1 where the pieces
--- closed are odd in number; else NAK.
+-- The device sends STALL where its endpoint is halted; else the piece at hand of the open round, as DATA1 where the
+-- pieces closed are odd in number; else NAK.
 abbrev pub sent : Station → List ℕ → Packet
 sent s piece =
     if s.halted then packets.Stall

@@ -118,8 +118,8 @@ IsUnconcludedOnce m request steps =
 abbrev pub IsWhole : Member → Request → List MemberStep → Type 0
 IsWhole m request steps = IsWholeFrom m request steps (member_after m (Begins request))
 
--- A reset ends the transfer: its write took effect before it once or not at all, and takes none behind it while no other
--- begins.
+-- A reset ends the transfer: its write took effect before it once or not at all, and takes none behind it while no
+-- other begins.
 pub record IsEndedByReset (m : Member) (request : Request) (steps later : List MemberStep) : Type 0 where
   pub at_most_once : effects_in (member_after m (Begins request)) steps ≤ 1
   pub none_behind : effects_in (member_after m (Begins request)) (steps ++ Resets ∷ later)
@@ -141,8 +141,8 @@ pub record IsEvenAgain (m : Member) : Type 0 where
   pub expects : expects_of m ≡ false
   pub clearing : m.clearing ≡ false
 
--- The end of a halt, from its begin on, whatever is lost of it and befalls the device meanwhile: no poll is sent while it
--- isn't done, also where it failed, and where a try ends it both ends begin anew (9.4.5).
+-- The end of a halt, from its begin on, whatever is lost of it and befalls the device meanwhile: no poll is sent while
+-- it isn't done, also where it failed, and where a try ends it both ends begin anew (9.4.5).
 abbrev pub IsClearing : Member → List MemberStep → Type 0
 IsClearing m steps =
     let n = member_after_all (member_after m (Begins Clear)) steps in IsUndone n.transfer

@@ -25,5 +25,5 @@ count_of s (Err (Refused fault)) = 0
 abbrev pub FeedsHandle : Option State → List ℕ → List HidEvent → ℕ → Option State → List HidEvent → ℕ → Type 0
 FeedsHandle None bytes out status after out' count = (status ≡ CLOSED) × (after ≡ None) × (out' ≡ out) × (count ≡ 0)
 FeedsHandle (Some s) bytes out status after out' count =
-    (answer : Result ℕ FeedFault) × (s' : State) × Feeds s bytes out answer s' out' × (after ≡ Some s') × (status ≡ status_of answer)
-    × (count ≡ count_of s answer)
+    (answer : Result ℕ FeedFault) × (s' : State) × Feeds s bytes out answer s' out' × (after ≡ Some s')
+    × (status ≡ status_of answer) × (count ≡ count_of s answer)

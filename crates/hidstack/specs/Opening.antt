@@ -25,12 +25,14 @@ refused_as cause at = record { at = at; room = 0; reports = 0; items = 0; cause 
 
 -- the handle was closed, and has a session of which nothing was read yet
 abbrev pub Opens : Option State → List ℕ → Option State → HidOpened → Type 0
-Opens before bytes after told = (before ≡ None) × (s : State) × (after ≡ Some s) × IsFirst bytes s × (told ≡ opened_as s)
+Opens before bytes after told =
+    (before ≡ None) × (s : State) × (after ≡ Some s) × IsFirst bytes s × (told ≡ opened_as s)
 
 -- the handle was closed and is so, and this is the one refusal, or memory was wanting
 abbrev pub Refuses : Option State → List ℕ → Option State → HidOpened → Type 0
 Refuses before bytes after told =
-    (before ≡ None) × (after ≡ None) × (cause : Cause) × (at : ℕ) × Explains bytes cause at × (told ≡ refused_as (cause_number cause) at)
+    (before ≡ None) × (after ≡ None) × (cause : Cause) × (at : ℕ) × Explains bytes cause at
+    × (told ≡ refused_as (cause_number cause) at)
 
 -- the handle was open and stays as it was, and so does what was told
 abbrev pub IsBusy : Option State → Option State → HidOpened → HidOpened → Type 0

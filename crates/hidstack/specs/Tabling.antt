@@ -19,6 +19,7 @@ HasElements bytes elements =
     (before : List Spelled) × Accepts bytes before
     × (elements ≡ elements_of (layout_of before) (length (layout_of before).items))
 
+-- what is told where the descriptor is accepted: so many elements
 abbrev pub counted : ℕ → HidTabled
 counted n = record { at = 0; elements = n; cause = 0; spare = 0 }
 
@@ -50,6 +51,7 @@ NumberTold old status new (Ok number) = (status ≡ OK) × (new ≡ number)
 NumberTold old status new (Err Short) = (status ≡ SHORT) × (new ≡ old)
 NumberTold old status new (Err UnknownReport) = (status ≡ UNKNOWN) × (new ≡ old)
 
+-- the element's number in these bytes is told, or why there is none
 abbrev pub NumberAnswers : HidElement → List ℕ → ℤ → ℕ → ℤ → Type 0
 NumberAnswers element bytes old status new =
     (answer : Result ℤ ReportFault) × HoldsNumber element bytes answer × NumberTold old status new answer

@@ -12,8 +12,8 @@ abbrev pub Written : List ℕ → List ℕ → List ℕ → Type 0
 Written text out out' = (length text ≤ length out) × (out' ≡ text ++ drop (length text) out)
 
 -- the text is written, or too long and nothing is; its length is told either way
-abbrev pub Tells : List ℕ → List ℕ → ℕ → List ℕ → ℕ → Type 0
-Tells text out status out' told =
+abbrev pub TellsText : List ℕ → List ℕ → ℕ → List ℕ → ℕ → Type 0
+TellsText text out status out' told =
     (told ≡ length text)
     × (((status ≡ OK) × Written text out out') ⊎ ((status ≡ NO_ROOM) × (length out < length text) × (out' ≡ out)))
 
@@ -24,21 +24,22 @@ Leaves why out status out' told = (status ≡ why) × (out' ≡ out) × (told �
 -- the code of the cause with this number; none has it, or memory was wanting
 abbrev pub TellsCause : ℕ → List ℕ → ℕ → List ℕ → ℕ → Type 0
 TellsCause number out status out' told =
-    ((cause : Cause) × (cause_number cause ≡ number) × Tells (code_of cause) out status out' told)
+    ((cause : Cause) × (cause_number cause ≡ number) × TellsText (code_of cause) out status out' told)
     ⊎ ((((cause : Cause) → cause_number cause ≡ number → ⊥) × Leaves NONE out status out' told)
     ⊎ Leaves MEMORY out status out' told)
 
 -- the text of a usage, or memory was wanting
 abbrev pub TellsUsage : List ℕ → List ℕ → ℕ → List ℕ → ℕ → Type 0
-TellsUsage text out status out' told = Tells text out status out' told ⊎ Leaves MEMORY out status out' told
+TellsUsage text out status out' told = TellsText text out status out' told ⊎ Leaves MEMORY out status out' told
 
 -- the words of the cause with this number; or none has it
 abbrev pub TellsWords : ℕ → List ℕ → ℕ → List ℕ → ℕ → Type 0
 TellsWords number out status out' told =
-    ((cause : Cause) × (cause_number cause ≡ number) × Tells (layout_words cause) out status out' told)
+    ((cause : Cause) × (cause_number cause ≡ number) × TellsText (layout_words cause) out status out' told)
     ⊎ (((cause : Cause) → cause_number cause ≡ number → ⊥) × Leaves NONE out status out' told)
 
 -- a name, where there is one, or memory was wanting
 abbrev pub TellsName : Option Name → List ℕ → ℕ → List ℕ → ℕ → Type 0
-TellsName (Some name) out status out' told = Tells (name_text name) out status out' told ⊎ Leaves MEMORY out status out' told
+TellsName (Some name) out status out' told =
+    TellsText (name_text name) out status out' told ⊎ Leaves MEMORY out status out' told
 TellsName None out status out' told = Leaves NONE out status out' told

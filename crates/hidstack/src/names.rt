@@ -3,7 +3,7 @@
 ghost use Rattle.std.specs.Prelude.{◌≡◌, ◌≤◌, ◌++◌, length, drop};
 ghost use Rattle.hid_names.specs.Names.{name_of};
 ghost use Rattle.hid_notation.specs.Text.{usage_text};
-ghost use Rattle.hidstack.specs.Texts.{Tells, TellsCause, TellsName, TellsUsage, TellsWords};
+ghost use Rattle.hidstack.specs.Texts.{TellsText, TellsCause, TellsName, TellsUsage, TellsWords};
 
 use crate::status::{MEMORY, NO_ROOM, NONE, OK};
 use hid_layout::Usage;
@@ -24,7 +24,7 @@ pub(crate) fn put_text(text: &[u8], out: &mut [u8])
 
 /// Writes a text where there is room, and tells its length.
 fn tell(text: &[u8], out: &mut [u8], told: &mut u64) -> u32
-    ensures { Tells text.now out.old result out.new told.new }
+    ensures { TellsText text.now out.old result out.new told.new }
 {
     *told = text.len() as u64;
     if text.len() > out.len() {

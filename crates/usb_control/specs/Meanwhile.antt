@@ -85,9 +85,11 @@ abbrev pub act_now : {R : Type 0} → Table R → Place → Fate → Ends R → 
 act_now table place fate ends = act_of (shape_of ends.host.setup) fate (decision_now table ends) place
 
 -- A try does at the device what its place says, and leads both ends to the next place.
-pub record GoesBy {R : Type 0} (table : Table R) (sends : List ℕ) (place : Place) (fate : Fate) (ends : Ends R) : Type 0 where
-  pub acts : Acts (PreparesBy table) (AppliesBy table) table.answer_of ends.host.setup sends (act_now table place fate ends)
-      ends.control.requests (control_tried table fate ends.host ends.control).requests
+pub record GoesBy {R : Type 0} (table : Table R) (sends : List ℕ) (place : Place) (fate : Fate)
+    (ends : Ends R) : Type 0 where
+  pub acts : Acts (PreparesBy table) (AppliesBy table) table.answer_of ends.host.setup sends
+      (act_now table place fate ends) ends.control.requests (control_tried table fate ends.host ends.control).requests
   pub takes : takes_effect table fate ends.host ends.control ≡ is_effect (act_now table place fate ends)
   pub asked : (host_tried table fate ends.host ends.control).setup ≡ ends.host.setup
-  pub stands : StandAt table sends (tried (shape_of ends.host.setup) fate (decision_now table ends) place) (ends_tried table fate ends)
+  pub stands : StandAt table sends (tried (shape_of ends.host.setup) fate (decision_now table ends) place)
+      (ends_tried table fate ends)

@@ -1,6 +1,5 @@
 //! The device's end of endpoint 0 (USB 2.0, 8.5.3).
-ghost use Rattle.std.specs.Prelude.{◌≡◌, ◌≤◌, ◌+◌, None, Some, Option, List, ℕ, Bool, length, IfSome};
-ghost use Rattle.std.specs.Option.{option_copied};
+ghost use Rattle.std.specs.Prelude.{◌≡◌, ◌≤◌, ◌+◌, None, Some, Option, ℕ, Bool, length, IfSome};
 ghost use Rattle.usb_packet.specs.Spelling.{Fits};
 ghost use Rattle.usb_control.specs.SetupBytes.{reads};
 ghost use Rattle.usb_control.specs.Device.{Does, acknowledged, asked, begun, data_heard, effect, given, read_piece};

@@ -1,5 +1,5 @@
 //! What follows for whole transfers, and for lists of packets, from what single calls say.
-ghost use Rattle.std.specs.Prelude.{◌≡◌, ◌↔◌, ℕ, Bool, List, [], Option, length, take, unwrap_or, if◌then◌else◌, true, false};
+ghost use Rattle.std.specs.Prelude.{◌≡◌, ◌↔◌, ℕ, List, [], Option, length, take, unwrap_or, true, false};
 ghost use Rattle.std.specs.List.{concat};
 ghost use Rattle.usb_packet.specs.declared.packet.Packet.{Packet};
 ghost use Rattle.usb_transact.specs.declared.transaction.Fate.{Fate};

@@ -1,5 +1,5 @@
 //! Descriptors one after another (USB 2.0, 9.5): each begins with its length and its type.
-ghost use Rattle.std.specs.Prelude.{◌≡◌, ◌↔◌, ◌++◌, List, ℕ, true, length, IsTrue, IfSome, IfNone};
+ghost use Rattle.std.specs.Prelude.{◌≡◌, ◌↔◌, ◌++◌, List, ℕ, true, IsTrue, IfSome, IfNone};
 ghost use Rattle.usb_control.specs.Descriptors.{HasWalk, IsDescriptor, IsWalk};
 ghost use Rattle.usb_control.specs.Search.{Finds, is_wanted};
 

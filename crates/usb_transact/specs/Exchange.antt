@@ -8,8 +8,8 @@ use Rattle.usb_transact.specs.declared.transaction.Fate.TheVariants.{Clean, Toke
 use Rattle.usb_transact.specs.Host.{HostPipeState}
 use Rattle.usb_transact.specs.Device.{DevPipeState, closed}
 
--- what the host takes where the reply reaches it: by what it expects, and by whether the device is halted, its toggle and
--- what is armed
+-- what the host takes where the reply reaches it: by what it expects, and by whether the device is halted, its toggle
+-- and what is armed
 abbrev pub took_where : Bool → Bool → Bool → Option (List ℕ) → Took
 took_where expects true toggle armed = Stall
 took_where expects false toggle None = Nak

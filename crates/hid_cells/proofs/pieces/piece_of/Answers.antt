@@ -1,4 +1,4 @@
-use Rattle.std.proofs.Common.{◌≡◌, ◌≤◌, ◌*◌, ℕ, length, drop, take, ap, ◌∙◌, arith}
+use Rattle.std.proofs.Common.{◌≤◌, ◌*◌, ℕ, length, drop, take, ap, ◌∙◌, arith}
 use Rattle.hid_cells.proofs.PieceLemmas.{drop_min}
 use Rattle.hid_cells.proofs.pieces.piece_of.Goals as goal
 
