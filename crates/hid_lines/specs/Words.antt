@@ -1,10 +1,10 @@
 -- The words of a line, and the bytes that words of hex spell (our choice: the script language of docs/SCRIPT.md).
-use Rattle.std.specs.Prelude.{◌≡◌, ℕ, ◌/◌, ◌==◌, Bool, not, ◌||◌, List, [], ◌∷◌, length, filter, sum_by, if◌then◌else◌, Option, None, Some, Result, MatchResult, is_ok}
+use Rattle.std.specs.Prelude.{◌≡◌, ℕ, ◌+◌, ◌*◌, ◌/◌, ◌==◌, Bool, not, ◌||◌, List, [], ◌∷◌, length, filter, sum_by, if◌then◌else◌, Option, None, Some, Result, MatchResult, is_ok}
 use Rattle.std.specs.List.{slice_split, list_all, flat_map}
 use Rattle.std.specs.Result.{result_unwrap_or}
 use Rattle.std.specs.Str.{bytes_eq}
 use Rattle.arrayvec.specs.ArrayVec.{ArrayVec}
-use Rattle.hex.specs.Hex.{decode_of}
+use Rattle.hex.specs.Hex.{decode_of, hex_digit_value}
 use Rattle.hid_lines.specs.declared.fault.LineFault.{LineFault}
 use Rattle.hid_lines.specs.declared.fault.LineFault.TheVariants.{BadHex}
 
@@ -16,9 +16,18 @@ Word = List ℕ
 abbrev pub is_blank : ℕ → Bool
 is_blank b = b == 32 || b == 9
 
+-- neither
+abbrev pub is_no_blank : ℕ → Bool
+is_no_blank b = not (is_blank b)
+
 -- the words between blanks
 abbrev pub words_of : List ℕ → List Word
 words_of line = filter (λ word. not (length word == 0)) (slice_split is_blank line)
+
+-- words begin with a first one, before others, or there are none
+abbrev pub Parts : List Word → Option (Word × List Word) → Type 0
+Parts words None = words ≡ []
+Parts words (Some found) = words ≡ found.0 ∷ found.1
 
 -- what a table has under a word
 abbrev pub look_up : {X : Type 0} → List (Word × X) → Word → Option X
@@ -31,9 +40,14 @@ hex_of words =
     if list_all (λ word. is_ok (decode_of word)) words
     then Some (flat_map (λ word. result_unwrap_or (decode_of word) []) words) else None
 
--- the bytes of all words together
-abbrev pub total_length : List Word → ℕ
-total_length words = sum_by (λ word. length word) words
+-- the byte of two digits, of either case
+abbrev pub byte_from : Option ℕ → Option ℕ → Option ℕ
+byte_from (Some high) (Some low) = Some (high * 16 + low)
+byte_from (Some high) None = None
+byte_from None low = None
+
+abbrev pub pair_of : ℕ → ℕ → Option ℕ
+pair_of high low = byte_from (hex_digit_value high) (hex_digit_value low)
 
 -- how many bytes words of hex spell, one for two digits, whatever the digits are
 abbrev pub byte_count : List Word → ℕ

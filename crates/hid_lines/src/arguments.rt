@@ -1,10 +1,11 @@
 //! What the words behind a line's first one say.
 
-ghost use Rattle.std.specs.Prelude.{◌≡◌, map};
+ghost use Rattle.std.specs.Prelude.{◌≡◌};
+ghost use Rattle.hid_lines.specs.Words.{words_of};
 ghost use Rattle.hid_lines.specs.Arguments.{fate_of, boot_of, start_of, control_said, set_said, move_said, frame_said, poll_said, one_device_said};
 
 use super::numbers::{read_amount, read_count, read_device, read_signed, read_usage};
-use super::words::look_up;
+use super::words::{first_word, look_up};
 use hid_descriptor::Usage;
 use hid_device::Boot;
 use hid_host::Start;
@@ -48,12 +49,14 @@ fn read_fate(word: &[u8]) -> Option<Fate>
 
 /// `D U`: a control of a device, by its usage.
 #[tactic(auto, unfolding(crate::specs::Arguments::control_said))]
-pub fn read_control(words: &[&[u8]]) -> Option<(u8, Usage)>
-    ensures { result ≡ control_said (map (λ word. word.now) words.now) }
+pub fn read_control(text: &[u8]) -> Option<(u8, Usage)>
+    ensures { result ≡ control_said (words_of text.now) }
 {
-    let [dev, usage] = words else {
+    let (dev, text) = first_word(text)?;
+    let (usage, text) = first_word(text)?;
+    if first_word(text).is_some() {
         return None;
-    };
+    }
     let dev = read_device(dev)?;
     let usage = read_usage(usage)?;
     Some((dev, usage))
@@ -61,12 +64,15 @@ pub fn read_control(words: &[&[u8]]) -> Option<(u8, Usage)>
 
 /// `D U N`: a control, and what it is set to.
 #[tactic(auto, unfolding(crate::specs::Arguments::set_said))]
-pub fn read_set(words: &[&[u8]]) -> Option<(u8, Usage, i64)>
-    ensures { result ≡ set_said (map (λ word. word.now) words.now) }
+pub fn read_set(text: &[u8]) -> Option<(u8, Usage, i64)>
+    ensures { result ≡ set_said (words_of text.now) }
 {
-    let [dev, usage, value] = words else {
+    let (dev, text) = first_word(text)?;
+    let (usage, text) = first_word(text)?;
+    let (value, text) = first_word(text)?;
+    if first_word(text).is_some() {
         return None;
-    };
+    }
     let dev = read_device(dev)?;
     let usage = read_usage(usage)?;
     let value = read_signed(value)?;
@@ -75,12 +81,15 @@ pub fn read_set(words: &[&[u8]]) -> Option<(u8, Usage, i64)>
 
 /// `D U N`: a control, and by how much it moves.
 #[tactic(auto, unfolding(crate::specs::Arguments::move_said))]
-pub fn read_move(words: &[&[u8]]) -> Option<(u8, Usage, i32)>
-    ensures { result ≡ move_said (map (λ word. word.now) words.now) }
+pub fn read_move(text: &[u8]) -> Option<(u8, Usage, i32)>
+    ensures { result ≡ move_said (words_of text.now) }
 {
-    let [dev, usage, by] = words else {
+    let (dev, text) = first_word(text)?;
+    let (usage, text) = first_word(text)?;
+    let (by, text) = first_word(text)?;
+    if first_word(text).is_some() {
         return None;
-    };
+    }
     let dev = read_device(dev)?;
     let usage = read_usage(usage)?;
     let by = read_amount(by)?;
@@ -89,37 +98,44 @@ pub fn read_move(words: &[&[u8]]) -> Option<(u8, Usage, i32)>
 
 /// `[COUNT]`: how many frames pass.
 #[tactic(auto, unfolding(crate::specs::Arguments::frame_said))]
-pub fn read_frame(words: &[&[u8]]) -> Option<u16>
-    ensures { result ≡ frame_said (map (λ word. word.now) words.now) }
+pub fn read_frame(text: &[u8]) -> Option<u16>
+    ensures { result ≡ frame_said (words_of text.now) }
 {
-    match words {
-        [] => Some(1),
-        [count] => read_count(count),
-        _ => None,
+    let Some((count, text)) = first_word(text) else {
+        return Some(1);
+    };
+    if first_word(text).is_some() {
+        return None;
     }
+    read_count(count)
 }
 
 /// `D [FATE [COUNT]]`: a device, what is lost, and how often it is polled, or a transfer tried.
 #[tactic(auto, unfolding(crate::specs::Arguments::poll_said))]
-pub fn read_poll(words: &[&[u8]]) -> Option<(u8, Fate, u16)>
-    ensures { result ≡ poll_said (map (λ word. word.now) words.now) }
+pub fn read_poll(text: &[u8]) -> Option<(u8, Fate, u16)>
+    ensures { result ≡ poll_said (words_of text.now) }
 {
-    let (dev, fate, count) = match words {
-        [dev] => (read_device(dev)?, Fate::Clean, 1),
-        [dev, fate] => (read_device(dev)?, read_fate(fate)?, 1),
-        [dev, fate, count] => (read_device(dev)?, read_fate(fate)?, read_count(count)?),
-        _ => return None,
+    let (dev, text) = first_word(text)?;
+    let Some((fate, text)) = first_word(text) else {
+        return Some((read_device(dev)?, Fate::Clean, 1));
     };
-    Some((dev, fate, count))
+    let Some((count, text)) = first_word(text) else {
+        return Some((read_device(dev)?, read_fate(fate)?, 1));
+    };
+    if first_word(text).is_some() {
+        return None;
+    }
+    Some((read_device(dev)?, read_fate(fate)?, read_count(count)?))
 }
 
 /// `D`: a device alone, which is reset or halted.
 #[tactic(auto, unfolding(crate::specs::Arguments::one_device_said))]
-pub fn read_one_device(words: &[&[u8]]) -> Option<u8>
-    ensures { result ≡ one_device_said (map (λ word. word.now) words.now) }
+pub fn read_one_device(text: &[u8]) -> Option<u8>
+    ensures { result ≡ one_device_said (words_of text.now) }
 {
-    let [dev] = words else {
+    let (dev, more) = first_word(text)?;
+    if first_word(more).is_some() {
         return None;
-    };
+    }
     read_device(dev)
 }

@@ -1,7 +1,7 @@
 //! The lines of a script: their words, the numbers that words spell, and what a line says.
 //! ```text
-//!            words_of_line                read_words
-//!   line -------------------> words -----------------------> Line, or the first LineFault
+//!           first_word                    read_words
+//!   line ----------------> word by word ----------------> Line, or the first LineFault
 //!
 //!   press 1 07:04                        Press { dev: 1, usage: 07:04 }
 //!   poll 1 ack 2                         Poll { dev: 1, fate: AckLost, count: 2 }
@@ -14,8 +14,7 @@
 //!   values 0                             BadHex
 //! ```
 //! The rule to know: a line is read without its end, and alone: what came before it doesn't change what it says.
-//! [`parse_line`] gives exactly what the definition `meaning_of` says, want of memory aside (`Gives`), which hides no X2
-//! (`memory`).
+//! [`parse_line`] gives exactly what the definition `meaning_of` says (`exact`), and takes no memory.
 #![tactic(auto)]
 
 mod arguments;

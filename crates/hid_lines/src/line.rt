@@ -1,8 +1,8 @@
 //! The lines of a script.
 
-ghost use Rattle.std.specs.Prelude.{◌≡◌, ◌≤◌, Err, length, map};
+ghost use Rattle.std.specs.Prelude.{◌≡◌, ◌≤◌, Err, length};
 ghost use Rattle.hid_lines.specs.Arguments.{with_bytes};
-ghost use Rattle.hid_lines.specs.Words.{hex_of, total_length};
+ghost use Rattle.hid_lines.specs.Words.{hex_of, words_of};
 ghost use Rattle.hid_lines.specs.Line.{Gives, keyword_of, meaning_of, words_said, said_by, device_said};
 
 use super::arguments::{
@@ -11,7 +11,7 @@ use super::arguments::{
 };
 use super::fault::LineFault;
 use super::requests::read_begin;
-use super::words::{look_up, read_hex, words_of_line};
+use super::words::{first_word, look_up, read_hex};
 use arrayvec::ArrayVec;
 use hid_descriptor::Usage;
 use hid_device::Boot;
@@ -124,48 +124,67 @@ enum Keyword {
 fn read_keyword(word: &[u8]) -> Option<Keyword>
     ensures { result ≡ keyword_of word.now }
 {
-    look_up(
-        &[
-            (b"layout", Keyword::Layout),
-            (b"values", Keyword::Values),
-            (b"device", Keyword::Device),
-            (b"press", Keyword::Press),
-            (b"release", Keyword::Release),
-            (b"null", Keyword::Null),
-            (b"set", Keyword::Set),
-            (b"move", Keyword::Move),
-            (b"frame", Keyword::Frame),
-            (b"poll", Keyword::Poll),
-            (b"control", Keyword::Control),
-            (b"begin", Keyword::Begin),
-            (b"reset", Keyword::Reset),
-            (b"halt", Keyword::Halt),
-        ],
-        word,
-    )
+    match word.len() {
+        3 => look_up(&[(b"set", Keyword::Set)], word),
+        4 => look_up(
+            &[
+                (b"null", Keyword::Null),
+                (b"move", Keyword::Move),
+                (b"poll", Keyword::Poll),
+                (b"halt", Keyword::Halt),
+            ],
+            word,
+        ),
+        5 => look_up(
+            &[
+                (b"press", Keyword::Press),
+                (b"frame", Keyword::Frame),
+                (b"begin", Keyword::Begin),
+                (b"reset", Keyword::Reset),
+            ],
+            word,
+        ),
+        6 => look_up(
+            &[
+                (b"layout", Keyword::Layout),
+                (b"values", Keyword::Values),
+                (b"device", Keyword::Device),
+            ],
+            word,
+        ),
+        7 => look_up(
+            &[
+                (b"release", Keyword::Release),
+                (b"control", Keyword::Control),
+            ],
+            word,
+        ),
+        _ => None,
+    }
 }
 
-/// Reads one line, without its end. Of several causes the first is told: X2, X1, X3; a want of memory, X7, may come instead,
-/// but of no line that is too long.
+/// Reads one line, without its end. Of several causes the first is told: X2, X1, X3. No memory is taken: the words are read
+/// where they stand.
 #[tactic(auto, unfolding(crate::specs::Line::meaning_of))]
-pub fn parse_line(alloc: Global, line: &[u8]) -> Result<Line, LineFault>
+pub fn parse_line(_alloc: Global, line: &[u8]) -> Result<Line, LineFault>
     ensures says { Gives result (meaning_of line.now) }
     // Want of memory hides no X2: it is looked for only in a line that isn't too long.
     ensures memory { result ≡ Err LineFault.Memory → length line.now ≤ LINE_LIMIT }
+    // Nor does it hide another cause: none is taken.
+    ensures exact { result ≡ meaning_of line.now }
 {
     if line.len() > LINE_LIMIT {
         return Err(LineFault::LineTooLong);
     }
-    let words = words_of_line(alloc, line)?;
-    read_words(words.as_slice())
+    read_words(line)
 }
 
 #[tactic(auto, unfolding(crate::specs::Line::words_said))]
-fn read_words(words: &[&[u8]]) -> Result<Line, LineFault>
-    requires { total_length (map (λ word. word.now) words.now) ≤ 1024 }
-    ensures { result ≡ words_said (map (λ word. word.now) words.now) }
+fn read_words(text: &[u8]) -> Result<Line, LineFault>
+    requires { length text.now ≤ 1024 }
+    ensures { result ≡ words_said (words_of text.now) }
 {
-    let [first, rest @ ..] = words else {
+    let Some((first, rest)) = first_word(text) else {
         return Ok(Line::Nothing);
     };
     if let [b'#', ..] = first {
@@ -178,53 +197,53 @@ fn read_words(words: &[&[u8]]) -> Result<Line, LineFault>
 }
 
 #[tactic(auto, unfolding(crate::specs::Line::said_by))]
-fn read_arguments(keyword: Keyword, words: &[&[u8]]) -> Result<Line, LineFault>
-    requires { total_length (map (λ word. word.now) words.now) ≤ 1024 }
-    ensures { result ≡ said_by keyword (map (λ word. word.now) words.now) }
+fn read_arguments(keyword: Keyword, text: &[u8]) -> Result<Line, LineFault>
+    requires { length text.now ≤ 1024 }
+    ensures { result ≡ said_by keyword (words_of text.now) }
 {
     match keyword {
-        Keyword::Layout => read_layout(words),
-        Keyword::Values => read_values(words),
-        Keyword::Device => read_attachment(words),
+        Keyword::Layout => read_layout(text),
+        Keyword::Values => read_values(text),
+        Keyword::Device => read_attachment(text),
         Keyword::Press => {
-            let (dev, usage) = read_control(words).ok_or(LineFault::Syntax)?;
+            let (dev, usage) = read_control(text).ok_or(LineFault::Syntax)?;
             Ok(Line::Press { dev, usage })
         }
         Keyword::Release => {
-            let (dev, usage) = read_control(words).ok_or(LineFault::Syntax)?;
+            let (dev, usage) = read_control(text).ok_or(LineFault::Syntax)?;
             Ok(Line::Release { dev, usage })
         }
         Keyword::Null => {
-            let (dev, usage) = read_control(words).ok_or(LineFault::Syntax)?;
+            let (dev, usage) = read_control(text).ok_or(LineFault::Syntax)?;
             Ok(Line::Null { dev, usage })
         }
         Keyword::Set => {
-            let (dev, usage, value) = read_set(words).ok_or(LineFault::Syntax)?;
+            let (dev, usage, value) = read_set(text).ok_or(LineFault::Syntax)?;
             Ok(Line::Set { dev, usage, value })
         }
         Keyword::Move => {
-            let (dev, usage, by) = read_move(words).ok_or(LineFault::Syntax)?;
+            let (dev, usage, by) = read_move(text).ok_or(LineFault::Syntax)?;
             Ok(Line::Move { dev, usage, by })
         }
         Keyword::Frame => {
-            let count = read_frame(words).ok_or(LineFault::Syntax)?;
+            let count = read_frame(text).ok_or(LineFault::Syntax)?;
             Ok(Line::Frame { count })
         }
         Keyword::Poll => {
-            let (dev, fate, count) = read_poll(words).ok_or(LineFault::Syntax)?;
+            let (dev, fate, count) = read_poll(text).ok_or(LineFault::Syntax)?;
             Ok(Line::Poll { dev, fate, count })
         }
         Keyword::Control => {
-            let (dev, fate, count) = read_poll(words).ok_or(LineFault::Syntax)?;
+            let (dev, fate, count) = read_poll(text).ok_or(LineFault::Syntax)?;
             Ok(Line::Control { dev, fate, count })
         }
-        Keyword::Begin => read_begin(words),
+        Keyword::Begin => read_begin(text),
         Keyword::Reset => {
-            let dev = read_one_device(words).ok_or(LineFault::Syntax)?;
+            let dev = read_one_device(text).ok_or(LineFault::Syntax)?;
             Ok(Line::Reset { dev })
         }
         Keyword::Halt => {
-            let dev = read_one_device(words).ok_or(LineFault::Syntax)?;
+            let dev = read_one_device(text).ok_or(LineFault::Syntax)?;
             Ok(Line::Halt { dev })
         }
     }
@@ -232,34 +251,33 @@ fn read_arguments(keyword: Keyword, words: &[&[u8]]) -> Result<Line, LineFault>
 
 /// `HEX`: a report descriptor.
 #[inline(never)] // no other line makes room for its bytes
-fn read_layout(words: &[&[u8]]) -> Result<Line, LineFault>
-    requires { total_length (map (λ word. word.now) words.now) ≤ 1024 }
-    ensures { result ≡ with_bytes Line.Layout (hex_of (map (λ word. word.now) words.now)) }
+fn read_layout(text: &[u8]) -> Result<Line, LineFault>
+    requires { length text.now ≤ 1024 }
+    ensures { result ≡ with_bytes Line.Layout (hex_of (words_of text.now)) }
 {
-    let bytes = read_hex(words)?;
+    let bytes = read_hex(text)?;
     Ok(Line::Layout { bytes })
 }
 
 /// `HEX`: the bytes of an Input report.
 #[inline(never)]
-fn read_values(words: &[&[u8]]) -> Result<Line, LineFault>
-    requires { total_length (map (λ word. word.now) words.now) ≤ 1024 }
-    ensures { result ≡ with_bytes Line.Values (hex_of (map (λ word. word.now) words.now)) }
+fn read_values(text: &[u8]) -> Result<Line, LineFault>
+    requires { length text.now ≤ 1024 }
+    ensures { result ≡ with_bytes Line.Values (hex_of (words_of text.now)) }
 {
-    let bytes = read_hex(words)?;
+    let bytes = read_hex(text)?;
     Ok(Line::Values { bytes })
 }
 
 /// `START KIND HEX`: a device, with its report descriptor.
 #[inline(never)]
 #[tactic(auto, unfolding(crate::specs::Line::device_said))]
-fn read_attachment(words: &[&[u8]]) -> Result<Line, LineFault>
-    requires { total_length (map (λ word. word.now) words.now) ≤ 1024 }
-    ensures { result ≡ device_said (map (λ word. word.now) words.now) }
+fn read_attachment(text: &[u8]) -> Result<Line, LineFault>
+    requires { length text.now ≤ 1024 }
+    ensures { result ≡ device_said (words_of text.now) }
 {
-    let [start, kind, hex @ ..] = words else {
-        return Err(LineFault::Syntax);
-    };
+    let (start, text) = first_word(text).ok_or(LineFault::Syntax)?;
+    let (kind, hex) = first_word(text).ok_or(LineFault::Syntax)?;
     let start = read_start(start).ok_or(LineFault::Syntax)?;
     let boot = read_boot(kind).ok_or(LineFault::Syntax)?;
     let bytes = read_hex(hex)?;

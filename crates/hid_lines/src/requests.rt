@@ -1,13 +1,13 @@
 //! What the words behind `begin` say: a device, and what its host asks.
 
-ghost use Rattle.std.specs.Prelude.{◌≡◌, ◌≤◌, map};
-ghost use Rattle.hid_lines.specs.Words.{total_length};
+ghost use Rattle.std.specs.Prelude.{◌≡◌, ◌≤◌, length};
+ghost use Rattle.hid_lines.specs.Words.{words_of};
 ghost use Rattle.hid_lines.specs.Requests.{request_word_of, kind_of, boot_protocol_of, alone as alone_said, idle_said, id_said, protocol_said, report_said, set_report_said, asked_by, request_said, begin_said};
 
 use super::fault::LineFault;
 use super::line::Line;
 use super::numbers::{read_byte, read_device};
-use super::words::{count_bytes, look_up, read_hex};
+use super::words::{count_bytes, first_word, look_up, read_hex};
 use arrayvec::ArrayVec;
 use hid_descriptor::ReportKind;
 use hid_requests::Request;
@@ -82,10 +82,10 @@ fn read_boot_protocol(word: &[u8]) -> Option<bool>
 
 // A request with no words behind it.
 #[tactic(auto, unfolding(crate::specs::Requests::alone))]
-fn alone(request: Request, words: &[&[u8]]) -> Result<Request, LineFault>
-    ensures { result ≡ alone_said request (map (λ word. word.now) words.now) }
+fn alone(request: Request, text: &[u8]) -> Result<Request, LineFault>
+    ensures { result ≡ alone_said request (words_of text.now) }
 {
-    if words.is_empty() {
+    if first_word(text).is_none() {
         Ok(request)
     } else {
         Err(LineFault::Syntax)
@@ -94,12 +94,14 @@ fn alone(request: Request, words: &[&[u8]]) -> Result<Request, LineFault>
 
 /// `ID TIME`: an idle time that is set (7.2.4).
 #[tactic(auto, unfolding(crate::specs::Requests::idle_said))]
-fn read_idle(words: &[&[u8]]) -> Option<(u8, u8)>
-    ensures { result ≡ idle_said (map (λ word. word.now) words.now) }
+fn read_idle(text: &[u8]) -> Option<(u8, u8)>
+    ensures { result ≡ idle_said (words_of text.now) }
 {
-    let [id, time] = words else {
+    let (id, text) = first_word(text)?;
+    let (time, text) = first_word(text)?;
+    if first_word(text).is_some() {
         return None;
-    };
+    }
     let id = read_byte(id)?;
     let time = read_byte(time)?;
     Some((id, time))
@@ -107,34 +109,38 @@ fn read_idle(words: &[&[u8]]) -> Option<(u8, u8)>
 
 /// `ID`: a report by its Report ID.
 #[tactic(auto, unfolding(crate::specs::Requests::id_said))]
-fn read_id(words: &[&[u8]]) -> Option<u8>
-    ensures { result ≡ id_said (map (λ word. word.now) words.now) }
+fn read_id(text: &[u8]) -> Option<u8>
+    ensures { result ≡ id_said (words_of text.now) }
 {
-    let [id] = words else {
+    let (id, text) = first_word(text)?;
+    if first_word(text).is_some() {
         return None;
-    };
+    }
     read_byte(id)
 }
 
 /// `boot` or `report`: whether a protocol that is set is the boot protocol.
 #[tactic(auto, unfolding(crate::specs::Requests::protocol_said))]
-fn read_protocol(words: &[&[u8]]) -> Option<bool>
-    ensures { result ≡ protocol_said (map (λ word. word.now) words.now) }
+fn read_protocol(text: &[u8]) -> Option<bool>
+    ensures { result ≡ protocol_said (words_of text.now) }
 {
-    let [protocol] = words else {
+    let (protocol, text) = first_word(text)?;
+    if first_word(text).is_some() {
         return None;
-    };
+    }
     read_boot_protocol(protocol)
 }
 
 /// `TYPE ID`: a report that is asked for (7.2.1).
 #[tactic(auto, unfolding(crate::specs::Requests::report_said))]
-fn read_report(words: &[&[u8]]) -> Option<(ReportKind, u8)>
-    ensures { result ≡ report_said (map (λ word. word.now) words.now) }
+fn read_report(text: &[u8]) -> Option<(ReportKind, u8)>
+    ensures { result ≡ report_said (words_of text.now) }
 {
-    let [kind, id] = words else {
+    let (kind, text) = first_word(text)?;
+    let (id, text) = first_word(text)?;
+    if first_word(text).is_some() {
         return None;
-    };
+    }
     let kind = read_kind(kind)?;
     let id = read_byte(id)?;
     Some((kind, id))
@@ -142,13 +148,12 @@ fn read_report(words: &[&[u8]]) -> Option<(ReportKind, u8)>
 
 /// `TYPE ID HEX`: a report that is set (7.2.2). How many bytes there are is looked at before their digits.
 #[tactic(auto, unfolding(crate::specs::Requests::set_report_said))]
-fn read_set_report(words: &[&[u8]]) -> Result<Request, LineFault>
-    requires { total_length (map (λ word. word.now) words.now) ≤ 1024 }
-    ensures { result ≡ set_report_said (map (λ word. word.now) words.now) }
+fn read_set_report(text: &[u8]) -> Result<Request, LineFault>
+    requires { length text.now ≤ 1024 }
+    ensures { result ≡ set_report_said (words_of text.now) }
 {
-    let [kind, id, hex @ ..] = words else {
-        return Err(LineFault::Syntax);
-    };
+    let (kind, text) = first_word(text).ok_or(LineFault::Syntax)?;
+    let (id, hex) = first_word(text).ok_or(LineFault::Syntax)?;
     let kind = read_kind(kind).ok_or(LineFault::Syntax)?;
     let id = read_byte(id).ok_or(LineFault::Syntax)?;
     if count_bytes(hex) > REPORT_LIMIT {
@@ -161,50 +166,48 @@ fn read_set_report(words: &[&[u8]]) -> Result<Request, LineFault>
 
 // What the words behind the first one of a request say.
 #[tactic(auto, unfolding(crate::specs::Requests::asked_by))]
-fn read_asked(word: RequestWord, words: &[&[u8]]) -> Result<Request, LineFault>
-    requires { total_length (map (λ word. word.now) words.now) ≤ 1024 }
-    ensures { result ≡ asked_by word (map (λ word. word.now) words.now) }
+fn read_asked(word: RequestWord, text: &[u8]) -> Result<Request, LineFault>
+    requires { length text.now ≤ 1024 }
+    ensures { result ≡ asked_by word (words_of text.now) }
 {
     match word {
-        RequestWord::Device => alone(Request::Device, words),
-        RequestWord::Config => alone(Request::Config, words),
-        RequestWord::Report => alone(Request::Report, words),
-        RequestWord::Configure => alone(Request::Configure, words),
-        RequestWord::Status => alone(Request::Status, words),
-        RequestWord::GetConfiguration => alone(Request::GetConfiguration, words),
+        RequestWord::Device => alone(Request::Device, text),
+        RequestWord::Config => alone(Request::Config, text),
+        RequestWord::Report => alone(Request::Report, text),
+        RequestWord::Configure => alone(Request::Configure, text),
+        RequestWord::Status => alone(Request::Status, text),
+        RequestWord::GetConfiguration => alone(Request::GetConfiguration, text),
         RequestWord::Idle => {
-            let (id, time) = read_idle(words).ok_or(LineFault::Syntax)?;
+            let (id, time) = read_idle(text).ok_or(LineFault::Syntax)?;
             Ok(Request::Idle { id, time })
         }
         RequestWord::GetIdle => {
-            let id = read_id(words).ok_or(LineFault::Syntax)?;
+            let id = read_id(text).ok_or(LineFault::Syntax)?;
             Ok(Request::GetIdle { id })
         }
         RequestWord::Protocol => {
-            let boot = read_protocol(words).ok_or(LineFault::Syntax)?;
+            let boot = read_protocol(text).ok_or(LineFault::Syntax)?;
             Ok(Request::Protocol { boot })
         }
-        RequestWord::GetProtocol => alone(Request::GetProtocol, words),
+        RequestWord::GetProtocol => alone(Request::GetProtocol, text),
         RequestWord::GetReport => {
-            let (kind, id) = read_report(words).ok_or(LineFault::Syntax)?;
+            let (kind, id) = read_report(text).ok_or(LineFault::Syntax)?;
             Ok(Request::GetReport { kind, id })
         }
-        RequestWord::SetReport => read_set_report(words),
-        RequestWord::Halt => alone(Request::Halt, words),
-        RequestWord::Clear => alone(Request::Clear, words),
-        RequestWord::EndpointStatus => alone(Request::EndpointStatus, words),
+        RequestWord::SetReport => read_set_report(text),
+        RequestWord::Halt => alone(Request::Halt, text),
+        RequestWord::Clear => alone(Request::Clear, text),
+        RequestWord::EndpointStatus => alone(Request::EndpointStatus, text),
     }
 }
 
 /// `REQUEST`: what a host asks of its device (USB 2.0, 9.4; HID 1.11, 7.2).
 #[tactic(auto, unfolding(crate::specs::Requests::request_said))]
-fn read_request(words: &[&[u8]]) -> Result<Request, LineFault>
-    requires { total_length (map (λ word. word.now) words.now) ≤ 1024 }
-    ensures { result ≡ request_said (map (λ word. word.now) words.now) }
+fn read_request(text: &[u8]) -> Result<Request, LineFault>
+    requires { length text.now ≤ 1024 }
+    ensures { result ≡ request_said (words_of text.now) }
 {
-    let [first, rest @ ..] = words else {
-        return Err(LineFault::Syntax);
-    };
+    let (first, rest) = first_word(text).ok_or(LineFault::Syntax)?;
     let word = read_request_word(first).ok_or(LineFault::Syntax)?;
     read_asked(word, rest)
 }
@@ -212,13 +215,11 @@ fn read_request(words: &[&[u8]]) -> Result<Request, LineFault>
 /// `D REQUEST`: a device, and what its host asks.
 #[inline(never)] // no other line makes room for a request
 #[tactic(auto, unfolding(crate::specs::Requests::begin_said))]
-pub fn read_begin(words: &[&[u8]]) -> Result<Line, LineFault>
-    requires { total_length (map (λ word. word.now) words.now) ≤ 1024 }
-    ensures { result ≡ begin_said (map (λ word. word.now) words.now) }
+pub fn read_begin(text: &[u8]) -> Result<Line, LineFault>
+    requires { length text.now ≤ 1024 }
+    ensures { result ≡ begin_said (words_of text.now) }
 {
-    let [dev, request @ ..] = words else {
-        return Err(LineFault::Syntax);
-    };
+    let (dev, request) = first_word(text).ok_or(LineFault::Syntax)?;
     let dev = read_device(dev).ok_or(LineFault::Syntax)?;
     let request = read_request(request)?;
     Ok(Line::Begin { dev, request })

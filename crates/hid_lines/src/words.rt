@@ -1,23 +1,54 @@
 //! The words of a line, and the bytes that words of hex spell.
 
-ghost use Rattle.std.specs.Prelude.{◌≡◌, ◌+◌, ◌*◌, ◌/◌, ◌≤◌, IfOk, OnOk, IfErr, map, length, is_ok, [], ◌++◌};
+ghost use Rattle.std.specs.Prelude.{◌≡◌, ◌+◌, ◌*◌, ◌/◌, ◌<◌, ◌≤◌, IfOk, OnOk, IfErr, IfSome, map, length, position, is_ok, [], ◌++◌};
+ghost use Rattle.std.specs.Option.{option_map};
 ghost use Rattle.std.specs.Result.{result_unwrap_or};
-ghost use Rattle.hex.specs.Hex.{decode_of};
+ghost use Rattle.hex.specs.Hex.{decode_of, hex_digit_value};
 ghost use Rattle.arrayvec.specs.ArrayVec.{array_vec_len};
-ghost use Rattle.hid_lines.specs.Words.{words_of, look_up as under, hex_of, GivesHex, total_length, byte_count};
+ghost use Rattle.hid_lines.specs.Words.{Parts, is_blank, is_no_blank, words_of, look_up as under, hex_of, pair_of, GivesHex, byte_count};
 
 use super::fault::LineFault;
 use super::line::HEX_LIMIT;
 use arrayvec::ArrayVec;
 use std::alloc::{AllocError, Global};
 
+/// Where the first blank of a text stands.
+fn blank(text: &[u8]) -> Option<usize>
+    ensures { result ≡ position is_blank text.now }
+{
+    text.iter().position(|byte| *byte == b' ' || *byte == b'\t')
+}
+
+/// Where the first byte of a text stands that is no blank.
+fn no_blank(text: &[u8]) -> Option<usize>
+    ensures { result ≡ position is_no_blank text.now }
+{
+    text.iter().position(|byte| *byte != b' ' && *byte != b'\t')
+}
+
+/// The first word of a text and what stands behind it, where the text has a word. No memory is taken.
+pub fn first_word(text: &[u8]) -> Option<(&[u8], &[u8])>
+    ensures words { Parts (words_of text.now) (option_map (λ found. (found.0.now, words_of found.1.now)) result) }
+    ensures room { IfSome result (λ found. length found.0.now + length found.1.now ≤ length text.now) }
+    ensures some { IfSome result (λ found. 0 < length found.0.now) }
+{
+    let start = no_blank(text)?;
+    let text = &text[start..];
+    let end = blank(text).unwrap_or(text.len());
+    Some((&text[..end], &text[end..]))
+}
+
 /// The words between spaces and tabs.
 pub fn words_of_line(alloc: Global, line: &[u8]) -> Result<Vec<&[u8]>, AllocError>
     ensures { IfOk result (λ words. map (λ word. word.now) words.items ≡ words_of line.now) }
 {
-    line.split(|byte| *byte == b' ' || *byte == b'\t')
-        .filter(|word| !word.is_empty())
-        .collect(alloc)
+    let mut words = Vec::new(alloc);
+    let mut rest = line;
+    while let Some((word, more)) = first_word(rest) {
+        words.push(word)?;
+        rest = more;
+    }
+    Ok(words)
 }
 
 /// What a table has under a word.
@@ -33,6 +64,28 @@ pub fn look_up<T: Copy>(table: &[(&[u8], T)], word: &[u8]) -> Option<T>
     None
 }
 
+/// The value of a hex digit, of either case.
+fn hex_digit(byte: u8) -> Option<u8>
+    ensures value { result ≡ hex_digit_value byte }
+    ensures small { IfSome result (λ digit. digit < 16) }
+{
+    match byte {
+        b'0'..=b'9' => Some(byte - b'0'),
+        b'A'..=b'F' => Some(byte - b'A' + 10),
+        b'a'..=b'f' => Some(byte - b'a' + 10),
+        _ => None,
+    }
+}
+
+/// The byte that two hex digits spell.
+fn hex_pair(high: u8, low: u8) -> Option<u8>
+    ensures { result ≡ pair_of high low }
+{
+    let high = hex_digit(high)?;
+    let low = hex_digit(low)?;
+    Some(high * 16 + low)
+}
+
 /// Adds the bytes that a hex word spells.
 fn read_hex_word(word: &[u8], bytes: &mut ArrayVec<u8, HEX_LIMIT>) -> Result<(), LineFault>
     requires { 2 * array_vec_len bytes.old + length word.now ≤ 1024 }
@@ -43,36 +96,43 @@ fn read_hex_word(word: &[u8], bytes: &mut ArrayVec<u8, HEX_LIMIT>) -> Result<(),
         ≡ array_vec_len bytes.old + length word.now / 2) }
     ensures err { IfErr result (λ cause. cause ≡ LineFault.BadHex) }
 {
-    let count = word.len() / 2;
-    let mut room = [0u8; HEX_LIMIT];
-    hex::decode_to_slice(word, &mut room[..count]).map_err(|_| LineFault::BadHex)?;
-    bytes.try_extend_from_slice(&room[..count]).unwrap();
-    Ok(())
+    let mut rest = word;
+    while let [high, low, more @ ..] = rest {
+        let byte = hex_pair(*high, *low).ok_or(LineFault::BadHex)?;
+        bytes.push(byte);
+        rest = more;
+    }
+    if rest.is_empty() {
+        Ok(())
+    } else {
+        Err(LineFault::BadHex)
+    }
 }
 
 /// How many bytes hex words spell, one for two digits, whatever the digits are.
-pub fn count_bytes(words: &[&[u8]]) -> usize
-    requires { total_length (map (λ word. word.now) words.now) ≤ 1024 }
-    ensures { result ≡ byte_count (map (λ word. word.now) words.now) }
+pub fn count_bytes(text: &[u8]) -> usize
+    ensures { result ≡ byte_count (words_of text.now) }
 {
     let mut count = 0;
-    for word in words {
+    let mut rest = text;
+    while let Some((word, more)) = first_word(rest) {
         count += word.len() / 2;
+        rest = more;
     }
     count
 }
 
-/// The bytes that hex words spell, joined.
-#[tactic(auto, unfolding(crate::specs::Words::hex_of))]
-pub fn read_hex(words: &[&[u8]]) -> Result<ArrayVec<u8, HEX_LIMIT>, LineFault>
-    requires { total_length (map (λ word. word.now) words.now) ≤ 1024 }
-    ensures bytes { GivesHex result (hex_of (map (λ word. word.now) words.now)) }
-    ensures count { IfOk result (λ bytes. array_vec_len bytes
-        ≡ byte_count (map (λ word. word.now) words.now)) }
+/// The bytes that the hex words of a text spell, joined.
+pub fn read_hex(text: &[u8]) -> Result<ArrayVec<u8, HEX_LIMIT>, LineFault>
+    requires { length text.now ≤ 1024 }
+    ensures bytes { GivesHex result (hex_of (words_of text.now)) }
+    ensures count { IfOk result (λ bytes. array_vec_len bytes ≡ byte_count (words_of text.now)) }
 {
     let mut bytes = ArrayVec::new();
-    for word in words {
-        read_hex_word(*word, &mut bytes)?;
+    let mut rest = text;
+    while let Some((word, more)) = first_word(rest) {
+        read_hex_word(word, &mut bytes)?;
+        rest = more;
     }
     Ok(bytes)
 }

@@ -4,10 +4,11 @@ use Rattle.std.specs.List.{slice_split, onto_first, All}
 use Rattle.std.specs.Str.Lines.{lines, lines_of_parts, strip_carriage_return}
 use Rattle.std.specs.Io.KnownBytes.{Appends, Consumes, IsAtEnd}
 use Rattle.std.proofs.lemmas.List.Splits.{slice_split_none, slice_split-cons_no}
-use Rattle.std.proofs.lemmas.List.Elements.{All-head, All-tail, All-push}
-use Rattle.std.proofs.lemmas.List.{length-take-le, drop_more, take_more}
-use Rattle.std.proofs.lemmas.Bool.{cond-true, cond-false, cond_both, lt-ltb, ne_eqb}
+use Rattle.std.proofs.lemmas.List.Elements.{All-head, All-tail, All-append, All-from_get_or}
+use Rattle.std.proofs.lemmas.List.{length-take, length-take-le, length-drop, take_all, get_or-take, drop_more}
+use Rattle.std.proofs.lemmas.Bool.{cond-true, cond-false, cond_both, lt-ltb, ne_eqb, eqb-true}
 use Rattle.std.proofs.KnownBytes.{Consumes-trans, Consumes-whole, Appends-trans, Appends-nil}
+use Rattle.memchr.specs.Find.{IsFirstByte, is_byte}
 use Rattle.hid_script.specs.declared.fault.Cause.{Cause}
 use Rattle.hid_script.specs.declared.fault.Cause.TheVariants as causes
 use Rattle.hid_script.specs.declared.fault.ScriptFault.{ScriptFault}
@@ -81,10 +82,6 @@ advances_more p q r a b v w h k = record {
   split = λ more. ap (lines_at p) (append_assoc a b more) ∙ h.split (b ++ more) ∙ ap (λ l. h.ended ++ l) (k.split more) ∙ sym (append_assoc h.ended k.ended (lines_at r more));
 }
 
--- a byte that ends no line
-pub advances_byte : (session : Session) (begun : List ℕ) (n b : ℕ) → Advances (record { session = session; begun = begun; lines = n }) (b ∷ []) [] (record { session = session; begun = begun ++ b ∷ []; lines = n })
-advances_byte session begun n b = record { ended = []; all = (refl, refl); count = omega arith; split = λ more. ap lines (sym (append_assoc begun (b ∷ []) more)) }
-
 -- a line feed, where the line was told whole
 pub advances_line : (session next : Session) (begun line : List ℕ) (n : ℕ) (written : List ℕ) → IsUnbroken begun → line ≡ strip_carriage_return begun → LineTells session line (accepted written next)
     → Advances (record { session = session; begun = begun; lines = n }) (10 ∷ []) written (record { session = next; begun = []; lines = n + 1 })
@@ -94,6 +91,16 @@ advances_line session next begun line n written whole same told = record {
   count = omega arith;
   split = λ more. lines_first begun more whole ∙ ap (λ l. l ∷ lines more) (sym same);
 }
+
+-- a whole line with its line feed, where none had begun
+pub advances_whole : (session next : Session) (begun bytes line : List ℕ) (n : ℕ) (written : List ℕ) → begun ≡ [] → IsUnbroken bytes → line ≡ strip_carriage_return bytes → LineTells session line (accepted written next)
+    → Advances (record { session = session; begun = begun; lines = n }) (bytes ++ 10 ∷ []) written (record { session = next; begun = begun; lines = n + 1 })
+advances_whole session next begun bytes line n written first whole same told = rw first (record {
+  ended = line ∷ [];
+  all = one_tells session next line written told;
+  count = omega arith;
+  split = λ more. ap lines (append_assoc bytes (10 ∷ []) more) ∙ lines_first bytes more whole ∙ ap (λ l. l ∷ lines more) (sym same);
+})
 
 -- ---- ends
 
@@ -142,13 +149,13 @@ runs_after p q bytes more written text result h k =
     (runs_more p.session q.session h.ended (lines_at q more) p.lines q.lines written text result h.all h.count k)
 
 -- a line that is too long ends the run
-pub long_stops : (place : Place) (b : ℕ) (more : List ℕ) (fault : ScriptFault) → IsUnbroken place.begun → nat_eq b 10 ≡ false → 1025 ≤ length place.begun → fault.line ≡ place.lines + 1 → fault.cause ≡ causes.LineTooLong
-    → RunsFrom place (b ∷ more) [] (Err fault)
+pub long_stops : (place : Place) (bytes more : List ℕ) (fault : ScriptFault) → IsUnbroken place.begun → IsUnbroken bytes → 1025 < length place.begun + length bytes → fault.line ≡ place.lines + 1 → fault.cause ≡ causes.LineTooLong
+    → RunsFrom place (bytes ++ more) [] (Err fault)
 unfolding LineTells meaning_of ending_of
-long_stops place b more fault whole apart long at is =
-    let first = long_first (place.begun ++ b ∷ []) more (All-push (λ x. nat_eq x 10 ≡ false) place.begun b whole apart) (omega (arith, length-append place.begun (b ∷ []))) in
+long_stops place bytes more fault whole apart long at is =
+    let first = long_first (place.begun ++ bytes) more (All-append (λ x. nat_eq x 10 ≡ false) place.begun bytes whole apart) (omega (arith, length-append place.begun bytes)) in
     let meant : meaning_of first.0 ≡ Err line_faults.LineTooLong = cond-true (nat_lt 1024 (length first.0)) (Err line_faults.LineTooLong) (words_said (words_of first.0)) (lt-ltb 1024 (length first.0) first.3) in
-    line_stops place.session (lines_at place (b ∷ more)) first.1 place.lines first.0 [] causes.LineTooLong fault (ap lines (sym (append_assoc place.begun (b ∷ []) more)) ∙ first.2) at is
+    line_stops place.session (lines_at place (bytes ++ more)) first.1 place.lines first.0 [] causes.LineTooLong fault (ap lines (sym (append_assoc place.begun bytes more)) ∙ first.2) at is
     (subst (λ m. Means place.session m (refused causes.LineTooLong)) (sym meant) refl)
 
 -- a line that ended the run at its line feed
@@ -157,21 +164,62 @@ pub line_feed_stops : (place : Place) (next : Session) (line more written : List
 line_feed_stops place next line more written cause fault whole same told at is =
     line_stops place.session (lines_at place (10 ∷ more)) (lines more) place.lines line written cause fault (lines_first place.begun more whole ∙ ap (λ l. l ∷ lines more) (sym same)) at is told
 
--- ---- byte by byte
+-- a whole line that ended the run, where none had begun
+pub whole_stops : (place : Place) (next : Session) (bytes line more written : List ℕ) (cause : Cause) (fault : ScriptFault) → place.begun ≡ [] → IsUnbroken bytes → line ≡ strip_carriage_return bytes
+    → Writes (LineTells place.session line) (LineBegins place.session line) written (Err cause) next → fault.line ≡ place.lines + 1 → fault.cause ≡ cause → RunsFrom place ((bytes ++ 10 ∷ []) ++ more) written (Err fault)
+whole_stops place next bytes line more written cause fault first whole same told at is =
+    line_stops place.session (lines_at place ((bytes ++ 10 ∷ []) ++ more)) (lines more) place.lines line written cause fault
+    (ap (λ l. lines (l ++ ((bytes ++ 10 ∷ []) ++ more))) first ∙ ap lines (append_assoc bytes (10 ∷ []) more) ∙ lines_first bytes more whole ∙ ap (λ l. l ∷ lines more) (sym same)) at is told
 
-split_byte : (bytes : List ℕ) (i : ℕ) → i < length bytes → bytes ≡ take i bytes ++ get_or bytes i 0 ∷ drop (i + 1) bytes
-split_byte bytes i below = sym (take-append-drop i bytes) ∙ ap (λ l. take i bytes ++ l) (drop_more bytes i 0 below)
+-- ---- piece by piece
 
-pub takes_byte : (p q r : Place) (bytes v w : List ℕ) (i : ℕ) → i < length bytes → Advances p (take i bytes) v q → Advances q (get_or bytes i 0 ∷ []) w r → Advances p (take (i + 1) bytes) (v ++ w) r
-takes_byte p q r bytes v w i below h k = rw (take_more bytes i 0 below) (advances_more p q r (take i bytes) (get_or bytes i 0 ∷ []) v w h k)
+not_passing : (b : Bool) → (b ≡ true → ⊥) → b ≡ false
+not_passing true h = absurd (h refl)
+not_passing false h = refl
 
-pub stops_at_byte : (p q r : Place) (bytes v w : List ℕ) (i : ℕ) (fault : ScriptFault) (result : Result (Unit {0}) ScriptFault) → i < length bytes → Advances p (take i bytes) v q
-    → ((more : List ℕ) → RunsFrom q (get_or bytes i 0 ∷ more) w (Err fault)) → IsErrAnd result (λ e. e ≡ fault) → Takes p bytes (v ++ w) result r
-stops_at_byte p q r bytes v w i fault (Ok u) below h k is = absurd is
-stops_at_byte p q r bytes v w i fault (Err e) below h k is = λ more.
-    let rest = drop (i + 1) bytes ++ more in
-    let whole : bytes ++ more ≡ take i bytes ++ get_or bytes i 0 ∷ rest = ap (λ l. l ++ more) (split_byte bytes i below) ∙ append_assoc (take i bytes) (get_or bytes i 0 ∷ drop (i + 1) bytes) more in
-    rw is (subst (λ all. RunsFrom p all (v ++ w) (Err fault)) (sym whole) (runs_after p q (take i bytes) (get_or bytes i 0 ∷ rest) v w (Err fault) h (k rest)))
+-- what stands before the first line feed
+pub unbroken_before : (bytes : List ℕ) (end : ℕ) → IsFirstByte (is_byte 10) bytes (Some end) → IsUnbroken (take end bytes)
+unbroken_before bytes end first = All-from_get_or (λ b. nat_eq b 10 ≡ false) (take end bytes) 0 (λ i below.
+    let near : i < end = omega (arith, below, length-take end bytes) in
+    rw (get_or-take end bytes i 0 near) (not_passing (nat_eq (get_or bytes i 0) 10) (first.0.before i (omega arith) near)))
+
+-- all bytes, where there is none
+pub unbroken_all : (bytes : List ℕ) → IsFirstByte (is_byte 10) bytes None → IsUnbroken bytes
+unbroken_all bytes nowhere = All-from_get_or (λ b. nat_eq b 10 ≡ false) bytes 0 (λ i below. not_passing (nat_eq (get_or bytes i 0) 10) (nowhere i (omega arith) below))
+
+-- a piece up to its first line feed, and what is left
+pub piece_parts : (bytes : List ℕ) (end : ℕ) → IsFirstByte (is_byte 10) bytes (Some end) → bytes ≡ (take end bytes ++ 10 ∷ []) ++ drop (end + 1) bytes
+piece_parts bytes end first =
+    let feed : get_or bytes end 0 ≡ 10 = eqb-true (get_or bytes end 0) 10 first.1 in
+    sym (take-append-drop end bytes) ∙ ap (λ l. take end bytes ++ l) (drop_more bytes end 0 first.0.high ∙ ap (λ b. b ∷ drop (end + 1) bytes) feed) ∙ sym (append_assoc (take end bytes) (10 ∷ []) (drop (end + 1) bytes))
+
+-- what is left behind the first line feed
+pub left_parts : (bytes before rest : List ℕ) (end : ℕ) → bytes ≡ before ++ rest → IsFirstByte (is_byte 10) rest (Some end)
+    → bytes ≡ (before ++ (take end rest ++ 10 ∷ [])) ++ take (length rest - (end + 1)) (drop (end + 1) rest)
+left_parts bytes before rest end parts first =
+    let left : take (length rest - (end + 1)) (drop (end + 1) rest) ≡ drop (end + 1) rest = take_all (length rest - (end + 1)) (drop (end + 1) rest) (omega (arith, length-drop (end + 1) rest)) in
+    rw left (parts ∙ ap (λ l. before ++ l) (piece_parts rest end first) ∙ sym (append_assoc before (take end rest ++ 10 ∷ []) (drop (end + 1) rest)))
+
+pub left_length : (rest : List ℕ) (end : ℕ) → IsFirstByte (is_byte 10) rest (Some end) → length (take (length rest - (end + 1)) (drop (end + 1) rest)) + 1 ≤ length rest
+left_length rest end first = omega (arith, first.0.high, length-take (length rest - (end + 1)) (drop (end + 1) rest), length-drop (end + 1) rest)
+
+-- bytes that were taken behind others
+pub takes_more : (p q r : Place) (before bytes v w : List ℕ) (result : Result (Unit {0}) ScriptFault) → Advances p before v q → Takes q bytes w result r → Takes p (before ++ bytes) (v ++ w) result r
+takes_more p q r before bytes v w (Ok u) h k = advances_more p q r before bytes v w h k
+takes_more p q r before bytes v w (Err fault) h k = λ more.
+    subst (λ all. RunsFrom p all (v ++ w) (Err fault)) (sym (append_assoc before bytes more)) (runs_after p q before (bytes ++ more) v w (Err fault) h (k more))
+
+-- the last bytes of a piece
+pub takes_last : (p q r : Place) (bytes before rest v : List ℕ) (result : Result (Unit {0}) ScriptFault) → bytes ≡ before ++ rest → Advances p before v q → Takes q rest [] result r → Takes p bytes v result r
+takes_last p q r bytes before rest v result parts h k =
+    subst (λ all. Takes p all v result r) (sym parts) (subst (λ text. Takes p (before ++ rest) text result r) (append-nil v) (takes_more p q r before rest v [] result h k))
+
+-- a piece whose first bytes ended the run
+pub stops_early : (p r : Place) (bytes front rest written : List ℕ) (fault : ScriptFault) (result : Result (Unit {0}) ScriptFault) → bytes ≡ front ++ rest → ((more : List ℕ) → RunsFrom p (front ++ more) written (Err fault))
+    → IsErrAnd result (λ e. e ≡ fault) → Takes p bytes written result r
+stops_early p r bytes front rest written fault (Ok u) parts stops is = absurd is
+stops_early p r bytes front rest written fault (Err e) parts stops is = λ more.
+    rw is (subst (λ all. RunsFrom p all written (Err fault)) (sym (ap (λ l. l ++ more) parts ∙ append_assoc front rest more)) (stops (rest ++ more)))
 
 -- ---- whole runs
 

@@ -1,12 +1,13 @@
 //! The lines of a script, from bytes that come in pieces.
 
-ghost use Rattle.std.specs.Prelude.{◌≡◌, ◌+◌, ◌-◌, ◌^◌, ◌<◌, ◌≤◌, [], ◌∷◌, length, IfOk};
+ghost use Rattle.std.specs.Prelude.{◌≡◌, ◌+◌, ◌-◌, ◌^◌, ◌<◌, ◌≤◌, [], ◌∷◌, ◌++◌, length, IfOk};
 ghost use Rattle.std.specs.Str.Lines.{strip_carriage_return};
-ghost use Rattle.hid_script.specs.Place.{IsUnbroken, AppendsTaken, AppendsRun};
+ghost use Rattle.hid_script.specs.Place.{IsUnbroken, Takes, AppendsTaken, AppendsRun};
 
 use super::fault::{Cause, ScriptFault, Summary};
 use super::interpreter::Interpreter;
 use arrayvec::ArrayVec;
+use memchr::memchr;
 use std::io::Write;
 
 /// One byte more than a line has: a carriage return may stand before the end.
@@ -45,29 +46,61 @@ impl Script {
             (place_of self.old) bytes.now result (place_of self.new) }
         ensures count { self.new.lines ≤ self.old.lines + length bytes.now }
     {
-        for byte in bytes {
-            self.take(*byte, writer)?;
+        let mut rest = bytes;
+        while let Some(end) = memchr(LINE_FEED, rest) {
+            self.take_line(&rest[..end], writer)?;
+            rest = &rest[end + 1..];
         }
-        Ok(())
+        self.keep(rest)
     }
 
-    fn take<W: Write>(&mut self, byte: u8, writer: &mut W) -> Result<(), ScriptFault>
-        requires { self.old.lines < 2 ^ 64 - 1 }
+    // The last bytes of a line came, and its line feed.
+    fn take_line<W: Write>(&mut self, bytes: &[u8], writer: &mut W) -> Result<(), ScriptFault>
+        requires room { self.old.lines < 2 ^ 64 - 1 }
+        requires unbroken { IsUnbroken bytes.now }
         ensures taken { AppendsTaken (W.contents writer.old) (W.contents writer.new)
-            (place_of self.old) (byte ∷ []) result (place_of self.new) }
+            (place_of self.old) (bytes.now ++ 10 ∷ []) result (place_of self.new) }
         ensures count { self.new.lines ≤ self.old.lines + 1 }
     {
-        if byte == LINE_FEED {
-            return self.end_line(writer);
+        if self.begun.is_empty() {
+            return self.run_line(bytes, writer);
         }
-        if self.begun.is_full() {
-            return Err(self.fault(Cause::LineTooLong));
+        self.keep(bytes)?;
+        self.end_line(writer)
+    }
+
+    // A whole line came: it is run where it stands.
+    fn run_line<W: Write>(&mut self, bytes: &[u8], writer: &mut W) -> Result<(), ScriptFault>
+        requires room { self.old.lines < 2 ^ 64 - 1 }
+        requires unbroken { IsUnbroken bytes.now }
+        requires first { self.old.begun.items ≡ [] }
+        ensures taken { AppendsTaken (W.contents writer.old) (W.contents writer.new)
+            (place_of self.old) (bytes.now ++ 10 ∷ []) result (place_of self.new) }
+        ensures count { self.new.lines ≤ self.old.lines + 1 }
+    {
+        let line = without_return(bytes);
+        if let Err(cause) = self.interpreter.line(line, writer) {
+            return Err(self.fault(cause));
         }
-        self.begun.push(byte);
+        self.lines += 1;
         Ok(())
     }
 
-    // A line feed came.
+    // More bytes of a line came, which don't end it.
+    fn keep(&mut self, bytes: &[u8]) -> Result<(), ScriptFault>
+        requires room { self.old.lines < 2 ^ 64 - 1 }
+        requires unbroken { IsUnbroken bytes.now }
+        ensures taken { Takes (place_of self.old) bytes.now [] result (place_of self.new) }
+        ensures count { self.new.lines ≡ self.old.lines }
+    {
+        if bytes.len() > self.begun.remaining_capacity() {
+            return Err(self.fault(Cause::LineTooLong));
+        }
+        self.begun.try_extend_from_slice(bytes).unwrap();
+        Ok(())
+    }
+
+    // A line feed came behind the bytes that were kept.
     fn end_line<W: Write>(&mut self, writer: &mut W) -> Result<(), ScriptFault>
         requires { self.old.lines < 2 ^ 64 - 1 }
         ensures taken { AppendsTaken (W.contents writer.old) (W.contents writer.new)

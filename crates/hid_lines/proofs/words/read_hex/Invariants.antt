@@ -1,14 +1,14 @@
-use Rattle.std.proofs.Common.{◌≡◌, [], take, map, length, true}
-use Rattle.std.specs.Prelude.{is_ok}
-use Rattle.std.specs.List.{list_all, flat_map}
-use Rattle.std.specs.Result.{result_unwrap_or}
-use Rattle.hex.specs.Hex.{decode_of}
-use Rattle.hid_lines.specs.Words.{byte_count}
+use Rattle.std.proofs.Common.{◌≡◌, ◌+◌, ◌*◌, ◌≤◌, length}
+use Rattle.hid_lines.specs.Words.{words_of, hex_of, byte_count}
+use Rattle.hid_lines.proofs.WordLemmas.{before}
 use Rattle.hid_lines.proofs.words.read_hex.Given as goal
 
--- the words so far are pairs of digits, and their bytes are there
+-- the bytes so far are those of the words before what is left
 abbrev pub invariant-loop-word : goal.invariant-loop-word
 invariant-loop-word l =
-    (list_all (λ word. is_ok (decode_of word)) (map (λ word. word.now) (take l.word-index l.words)) ≡ true)
-    × (l.bytes.items ≡ flat_map (λ word. result_unwrap_or (decode_of word) []) (map (λ word. word.now) (take l.word-index l.words)))
-    × (length l.bytes.items ≡ byte_count (map (λ word. word.now) (take l.word-index l.words)))
+    (hex_of (words_of l.text) ≡ before l.bytes.items (hex_of (words_of l.rest)))
+    × (byte_count (words_of l.text) ≡ length l.bytes.items + byte_count (words_of l.rest))
+    × (2 * length l.bytes.items + length l.rest ≤ 1024)
+
+abbrev pub decreases-loop-word : goal.decreases-loop-word
+decreases-loop-word l = length l.rest
