@@ -17,7 +17,6 @@ use hid_descriptor::Usage;
 use hid_device::Boot;
 use hid_host::Start;
 use hid_requests::Request;
-use std::alloc::Global;
 use usb_transact::Fate;
 
 /// The most bytes of a line, without its end.
@@ -166,7 +165,7 @@ fn read_keyword(word: &[u8]) -> Option<Keyword>
 /// Reads one line, without its end. Of several causes the first is told: X2, X1, X3. No memory is taken: the words are read
 /// where they stand.
 #[tactic(auto, unfolding(crate::specs::Line::meaning_of))]
-pub fn parse_line(_alloc: Global, line: &[u8]) -> Result<Line, LineFault>
+pub fn parse_line(line: &[u8]) -> Result<Line, LineFault>
     ensures says { Gives result (meaning_of line.now) }
     // Want of memory hides no X2: it is looked for only in a line that isn't too long.
     ensures memory { result ≡ Err LineFault.Memory → length line.now ≤ LINE_LIMIT }

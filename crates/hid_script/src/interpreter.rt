@@ -116,7 +116,7 @@ impl Interpreter {
             (LineTells (session_of self.old) line.now)
             (LineBegins (session_of self.old) line.now) result (session_of self.new) }
     {
-        match &parse_line(self.alloc, line) {
+        match &parse_line(line) {
             Ok(line) => self.carry_out(line, writer),
             Err(fault) => Err(Cause::from(*fault)),
         }

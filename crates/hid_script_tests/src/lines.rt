@@ -10,11 +10,11 @@ use usb_transact::Fate;
 
 #[test]
 fn a_line_says_its_bytes(rt: HostRuntime) -> Result<(), Fail> {
-    match parse_line(rt.alloc(), b" values 0a  Ff10\t")? {
+    match parse_line(b" values 0a  Ff10\t")? {
         Line::Values { bytes } => assert_eq!(rt; bytes.as_slice(), [0x0A, 0xFF, 0x10].as_slice()),
         _ => assert!(rt; false, "values"),
     }
-    match parse_line(rt.alloc(), b"layout")? {
+    match parse_line(b"layout")? {
         Line::Layout { bytes } => assert!(rt; bytes.is_empty()),
         _ => assert!(rt; false, "layout"),
     }
@@ -23,21 +23,21 @@ fn a_line_says_its_bytes(rt: HostRuntime) -> Result<(), Fail> {
 
 #[test]
 fn a_line_says_its_words(rt: HostRuntime) -> Result<(), Fail> {
-    match parse_line(rt.alloc(), b"device ready keyboard 05 01")? {
+    match parse_line(b"device ready keyboard 05 01")? {
         Line::Device { start, boot, bytes } => {
             assert!(rt; start == Start::Ready && boot == Boot::Keyboard);
             assert_eq!(rt; bytes.as_slice(), [0x05, 0x01].as_slice());
         }
         _ => assert!(rt; false, "device"),
     }
-    match parse_line(rt.alloc(), b"press 1 07:04")? {
+    match parse_line(b"press 1 07:04")? {
         Line::Press { dev, usage } => assert!(rt;
             dev == 1 && usage == Usage { page: 7, id: 4 },
             "press"
         ),
         _ => assert!(rt; false, "press"),
     }
-    match parse_line(rt.alloc(), b"set 7 fF00:1 -999999999999999999")? {
+    match parse_line(b"set 7 fF00:1 -999999999999999999")? {
         Line::Set { dev, usage, value } => {
             let named = Usage {
                 page: 0xFF00,
@@ -50,18 +50,18 @@ fn a_line_says_its_words(rt: HostRuntime) -> Result<(), Fail> {
         }
         _ => assert!(rt; false, "set"),
     }
-    match parse_line(rt.alloc(), b"move 1 01:30 -2147483648")? {
+    match parse_line(b"move 1 01:30 -2147483648")? {
         Line::Move { by, .. } => assert_eq!(rt; by, i32::MIN),
         _ => assert!(rt; false, "move"),
     }
-    match parse_line(rt.alloc(), b"poll 1")? {
+    match parse_line(b"poll 1")? {
         Line::Poll { dev, fate, count } => assert!(rt;
             dev == 1 && fate == Fate::Clean && count == 1,
             "poll"
         ),
         _ => assert!(rt; false, "poll"),
     }
-    match parse_line(rt.alloc(), b"poll 2 ack 00010000")? {
+    match parse_line(b"poll 2 ack 00010000")? {
         Line::Poll { dev, fate, count } => assert!(rt;
             dev == 2 && fate == Fate::AckLost && count == 10_000,
             "polls"
@@ -73,35 +73,35 @@ fn a_line_says_its_words(rt: HostRuntime) -> Result<(), Fail> {
 
 #[test]
 fn a_line_says_its_request(rt: HostRuntime) -> Result<(), Fail> {
-    match parse_line(rt.alloc(), b"device cold plain")? {
+    match parse_line(b"device cold plain")? {
         Line::Device { start, boot, .. } => assert!(rt;
             start == Start::Cold && boot == Boot::No,
             "cold"
         ),
         _ => assert!(rt; false, "cold"),
     }
-    match parse_line(rt.alloc(), b"begin 2 get-configuration")? {
+    match parse_line(b"begin 2 get-configuration")? {
         Line::Begin { dev, request } => assert!(rt;
             dev == 2 && request == Request::GetConfiguration,
             "begin"
         ),
         _ => assert!(rt; false, "begin"),
     }
-    match parse_line(rt.alloc(), b"begin 7 idle 000 255")? {
+    match parse_line(b"begin 7 idle 000 255")? {
         Line::Begin { dev, request } => assert!(rt;
             dev == 7 && request == Request::Idle { id: 0, time: 255 },
             "idle"
         ),
         _ => assert!(rt; false, "idle"),
     }
-    match parse_line(rt.alloc(), b"begin 1 get-report feature 3")? {
+    match parse_line(b"begin 1 get-report feature 3")? {
         Line::Begin { request, .. } => {
             let kind = ReportKind::Feature;
             assert!(rt; request == Request::GetReport { kind, id: 3 }, "get-report");
         }
         _ => assert!(rt; false, "get-report"),
     }
-    match parse_line(rt.alloc(), b"begin 1 set-report output 2 0205 fF")? {
+    match parse_line(b"begin 1 set-report output 2 0205 fF")? {
         Line::Begin {
             request: Request::SetReport { kind, id, bytes },
             ..
@@ -111,14 +111,14 @@ fn a_line_says_its_request(rt: HostRuntime) -> Result<(), Fail> {
         }
         _ => assert!(rt; false, "set-report"),
     }
-    match parse_line(rt.alloc(), b"control 1 token 3")? {
+    match parse_line(b"control 1 token 3")? {
         Line::Control { dev, fate, count } => assert!(rt;
             dev == 1 && fate == Fate::TokenLost && count == 3,
             "control"
         ),
         _ => assert!(rt; false, "control"),
     }
-    match parse_line(rt.alloc(), b"reset\t7 ")? {
+    match parse_line(b"reset\t7 ")? {
         Line::Reset { dev } => assert_eq!(rt; dev, 7),
         _ => assert!(rt; false, "reset"),
     }
@@ -127,7 +127,7 @@ fn a_line_says_its_request(rt: HostRuntime) -> Result<(), Fail> {
 
 #[test]
 fn a_line_says_what_is_halted(rt: HostRuntime) -> Result<(), Fail> {
-    match parse_line(rt.alloc(), b"\thalt 6")? {
+    match parse_line(b"\thalt 6")? {
         Line::Halt { dev } => assert_eq!(rt; dev, 6),
         _ => assert!(rt; false, "halt"),
     }
@@ -137,7 +137,7 @@ fn a_line_says_what_is_halted(rt: HostRuntime) -> Result<(), Fail> {
         (b"begin 3 endpoint-status", Request::EndpointStatus),
     ];
     for (line, asked) in &requests {
-        match parse_line(rt.alloc(), line)? {
+        match parse_line(line)? {
             Line::Begin { dev, request } => assert!(rt; dev == 3 && request == *asked, "begin"),
             _ => assert!(rt; false, "begin"),
         }
@@ -163,7 +163,7 @@ const NO_LINES: [&str; 42] = [
 #[test]
 fn other_words_are_no_line(rt: HostRuntime) {
     for line in NO_LINES {
-        let result = parse_line(rt.alloc(), line.as_bytes());
+        let result = parse_line(line.as_bytes());
         assert!(rt; matches!(result, Err(LineFault::Syntax)), "{line}");
     }
 }
@@ -201,7 +201,7 @@ begin 1 set-report output 0 0000000000000000000000000000000000000000000000000000
 #[test]
 fn other_words_are_no_request(rt: HostRuntime) {
     for line in NO_REQUESTS.split('\n') {
-        let result = parse_line(rt.alloc(), line.as_bytes());
+        let result = parse_line(line.as_bytes());
         assert!(rt; matches!(result, Err(LineFault::Syntax)), "{line}");
     }
 }
@@ -216,7 +216,7 @@ begin 1 set-report output 0 0000000000000000000000000000000000000000000000000000
 #[test]
 fn other_digits_are_bad(rt: HostRuntime) {
     for line in BAD_DIGITS.split('\n') {
-        let result = parse_line(rt.alloc(), line.as_bytes());
+        let result = parse_line(line.as_bytes());
         assert!(rt; matches!(result, Err(LineFault::BadHex)), "{line}");
     }
 }
