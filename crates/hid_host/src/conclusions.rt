@@ -4,7 +4,7 @@ ghost use Rattle.hid_descriptor.specs.Faults.{Explains};
 ghost use Rattle.usb_packet.specs.declared.packet.TheConstants.{MAX_ENDPOINT};
 ghost use Rattle.hid_device.specs.Laying.{Lays};
 ghost use Rattle.hid_requests.specs.declared.request.Request.TheVariants.{Configure};
-ghost use Rattle.hid_host.specs.Conclusions.{ConfigRead, Configured, DeviceRead, IsNoLayout, Makes, ReportRead};
+ghost use Rattle.hid_host.specs.Conclusions.{ConfigRead, DeviceRead, IsNoLayout, Makes, ReportRead};
 ghost use Rattle.hid_host.specs.Phase.{HasEndpoint};
 
 use crate::fault::{DescriptorFault, StackFault};

@@ -14,7 +14,7 @@ ghost use Rattle.hid_host.specs.declared.fault.StackFault.{StackFault};
 ghost use Rattle.hid_host.specs.Host.{ControlSteps, HostEnd, begin_refusal, begun, cold_host, ready_after, ready_host, running};
 ghost use Rattle.hid_host.specs.Bringing.{IsComputed};
 ghost use Rattle.hid_host.specs.declared.host.Transfer.{Transfer};
-ghost use Rattle.hid_host.specs.Knowing.{IsNoRefusal, Knows, KnowsAt, LeavesTransfers, with_core};
+ghost use Rattle.hid_host.specs.Knowing.{IsNoRefusal, Knows, LeavesTransfers, with_core};
 ghost use Rattle.hid_host.specs.Phase.{IfReady};
 ghost use Rattle.hid_host.specs.Resetting.{SuitsRound};
 

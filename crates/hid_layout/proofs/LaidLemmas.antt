@@ -1,5 +1,5 @@
 -- What a layout shows is that of the listed fields.
-use Rattle.std.proofs.Common.{◌≡◌, Bool, List, [], ◌∷◌, map, refl, ◌∙◌, ap}
+use Rattle.std.proofs.Common.{◌≡◌, List, [], ◌∷◌, map, refl, ◌∙◌, ap}
 use Rattle.std.specs.List.{list_any}
 use Rattle.hid_layout.specs.declared.main_item.MainItem.{MainItem}
 use Rattle.hid_layout.specs.Layout.{item_of, main_item, layout_of}

@@ -19,7 +19,7 @@ use Rattle.std.proofs.lemmas.Grind.{same_number_lists}
 use Rattle.std.proofs.Math.Nat.{mul-le-mul_left}
 use Rattle.std.proofs.lemmas.Bool.{cases_lt}
 use Rattle.hid_fields.specs.Field.{bit_of, pattern_of, IsOutside}
-use Rattle.hid_fields.specs.Value.{is_negative}
+use Rattle.hid_fields.specs.Value.{is_negative, pattern_for}
 use Rattle.hid_fields.proofs.FieldLemmas.{pattern_of-lt, pattern_of-same}
 use Rattle.hid_fields.proofs.ValueLemmas.{pattern_for-only}
 use Rattle.hid_fields.proofs.WordLemmas.{bit_at-pattern_of, pattern_of-byte}
@@ -27,8 +27,6 @@ use Rattle.hid_parts.specs.Numbers.{number_at, numbers_in}
 use Rattle.hid_parts.specs.Encoded.{bit_among, bit_sent, packed, packed_bytes, part_bytes}
 use Rattle.std.specs.Prelude.{nat_le, nat_lt, if◌then◌else◌}
 use Rattle.std.proofs.lemmas.Bool.Decides.{nat_tests}
-use Rattle.hid_layout.specs.Reports.{report_bytes}
-use Rattle.hid_fields.specs.Value.{pattern_for}
 use Rattle.hid_parts.proofs.NumberLemmas.{numbers_in-length}
 use Rattle.hid_parts.proofs.EncodingLemmas.{cell_numbers, data_if, no_data_if}
 use Rattle.hid_cells.proofs.ItemLemmas.{items_from-at, items_of-length, got}
