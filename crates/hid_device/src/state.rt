@@ -11,7 +11,7 @@ ghost use Rattle.hid_device.specs.Standing.{is_due, due_where};
 ghost use Rattle.hid_device.specs.Core.{IsSound, armed_of, opened_core, opening_of, closed_core, configured_core, halted_core, cleared_core, piece_at, poll_answer, reset_core, changed_core, framed_core, next_of, round_of};
 ghost use Rattle.hid_device.specs.declared.decisions.Pending.TheVariants.{Keep, Nothing};
 ghost use Rattle.hid_device.specs.Decisions.{Reads, Refuses, Writes, reads_if, writes_if};
-ghost use Rattle.hid_device.specs.Deciding.{Decides, decided_row, effected, idle_told, keeps, left_by, output_of, reads_any, report_now, sets_idle, still_bytes};
+ghost use Rattle.hid_device.specs.Deciding.{Decides, decided_row, effected, idle_told, keeps, output_of, reads_any, report_now, sets_idle, still_bytes};
 ghost use Rattle.hid_device.specs.Outputs.{kept_place};
 ghost use Rattle.hid_device.specs.Making.{no_memory, new_core, CanServe, RefusesDescriptor, MakesCore};
 

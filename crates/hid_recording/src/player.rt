@@ -1,10 +1,10 @@
 //! A session: what stands between two lines, and how a line is played.
 
-ghost use Rattle.std.specs.Prelude.{◌≡◌, ◌++◌, None, Option, List, ℕ, IfOk, IfErr, OnOk, is_some, string_bytes};
+ghost use Rattle.std.specs.Prelude.{◌≡◌, ◌++◌, None, Option, IfOk, IfErr, OnOk, is_some, string_bytes};
 ghost use Rattle.std.specs.Option.{option_map};
 ghost use Rattle.hid_recording.specs.Session.{at_first};
 ghost use Rattle.hid_recording.specs.Records.{record_of};
-ghost use Rattle.hid_recording.specs.Telling.{described_text, LineTells, LineBegins, Means, TellsDescriptor, EndTells, advanced, with_device, installs, refuses, dropped, unread, begins, gathers, gathers_none, chunk_told, stream_told, report_told};
+ghost use Rattle.hid_recording.specs.Telling.{described_text, LineTells, LineBegins, Means, TellsDescriptor, EndTells, with_device, installs, refuses, dropped, unread, begins, gathers, gathers_none, chunk_told, stream_told, report_told};
 ghost use Rattle.hid_recording.specs.Words.{time_of};
 ghost use Rattle.hid_recording.specs.Player.{summary_of};
 ghost use Rattle.hid_recording.specs.Refusals.{is_memory, refusal_line};

@@ -1,7 +1,6 @@
 //! A device of a recording: its layout, the view that its reports made, and what came of a report in chunks.
 
 ghost use Rattle.std.specs.Prelude.{◌≡◌, ◌++◌, Some, IfOk, IfErr, OnOk, List, string_bytes};
-ghost use Rattle.std.specs.List.{list_any};
 ghost use Rattle.hid_descriptor.specs.Items.{Spelled};
 ghost use Rattle.hid_descriptor.specs.Faults.{Accepts, Explains};
 ghost use Rattle.hid_layout.specs.Layout.{layout_of};

@@ -18,7 +18,7 @@ use Rattle.hid_device.specs.declared.fault.DeviceCause.{DeviceCause}
 use Rattle.hid_device.specs.declared.fault.DeviceCause.TheVariants as causes
 use Rattle.hid_device.specs.declared.fault.DeviceFault.{DeviceFault}
 use Rattle.hid_device.specs.Fault.{is_memory}
-use Rattle.hid_device.specs.Making.{Lays, CanServe}
+use Rattle.hid_device.specs.Making.{Lays}
 use Rattle.hid_device.specs.Making as making
 use Rattle.hid_host.specs.declared.fault.StackFault.{StackFault}
 use Rattle.hid_host.specs.declared.fault.StackFault.TheVariants.{NoDevice, NotReady, Refused, Control, BadDescriptor, Report, TooManyDevices, Memory}

@@ -1,6 +1,6 @@
 -- The end of a halt, from its begin on: its host polls nothing, and both ends begin anew where it is done (USB 2.0, 9.4.5).
-use Rattle.std.proofs.Common.{◌≡◌, ◌∙◌, ◌≢◌, ◌<◌, ◌^◌, ℕ, arith, Bool, true, false, List, [], ◌∷◌, Option, Some, None, inl, inr, refl, ap, sym, subst}
-use Rattle.std.specs.Prelude.{if◌then◌else◌, ◌||◌, not, IfSome, length}
+use Rattle.std.proofs.Common.{◌≡◌, ◌∙◌, ◌≢◌, ◌<◌, ◌^◌, ℕ, Bool, true, false, List, [], ◌∷◌, Option, Some, None, inl, inr, refl, ap, sym, subst}
+use Rattle.std.specs.Prelude.{if◌then◌else◌, ◌||◌, not, length}
 use Rattle.std.specs.Option.{option_map}
 use Rattle.std.proofs.lemmas.Bool.{cases_Bool}
 use Rattle.usb_transact.specs.declared.transaction.Fate.{Fate}
@@ -9,7 +9,7 @@ use Rattle.usb_control.specs.declared.host.HostStage.{HostStage}
 use Rattle.usb_control.specs.declared.host.HostStage.TheVariants as stages
 use Rattle.usb_control.specs.Computed.{control_tried, effect_reached}
 use Rattle.usb_control.specs.Device.{Answers, Applies, Decides, DevControlState, Effect}
-use Rattle.usb_control.specs.Host.{HostTransferState, IsRunning}
+use Rattle.usb_control.specs.Host.{HostTransferState}
 use Rattle.usb_control.specs.Meanwhile.{Tries, ends_tried, is_running}
 use Rattle.usb_control.specs.Transfer.{start}
 use Rattle.usb_control.proofs.ComputedLemmas.{transacts_computed}
@@ -21,7 +21,6 @@ use Rattle.hid_requests.specs.declared.request.Request.{Request}
 use Rattle.hid_requests.specs.declared.request.Request.TheVariants as requests
 use Rattle.hid_requests.specs.Asking.{sends_of}
 use Rattle.hid_requests.proofs.AskedLemmas.{sends_so}
-use Rattle.hid_lives.specs.Lives.{Deed}
 use Rattle.hid_lives.specs.Rounds.{OwnStep, Changes, Frame, Polls}
 use Rattle.hid_lives.specs.Stations.{Open, Station, expected}
 use Rattle.hid_device.specs.declared.device.TheConstants.{ENDPOINT}
@@ -36,14 +35,14 @@ use Rattle.hid_host.specs.declared.phase.HostPhase.{HostPhase}
 use Rattle.hid_host.specs.declared.phase.HostPhase.TheVariants.{Ready}
 use Rattle.hid_host.specs.declared.phase.HostState.{HostState}
 use Rattle.hid_host.specs.declared.phase.HostState.TheVariants as states
-use Rattle.hid_host.specs.Bringing.{answering, brought_about, carried_out}
-use Rattle.hid_host.specs.Host.{clearing_behind, running, running_at, transfer_of}
+use Rattle.hid_host.specs.Bringing.{brought_about, carried_out}
+use Rattle.hid_host.specs.Host.{clearing_behind, transfer_of}
 use Rattle.hid_host.specs.Knowing.{BeginsAnew, Carries, HasEffect, LeavesTransfers, asking_of}
 use Rattle.hid_host.specs.Phase.{may_poll}
 use Rattle.hid_host.specs.Ready.{known_at_start}
 use Rattle.hid_host.proofs.LawLemmas.{carried, carries_on, done_effect, short_so}
 use Rattle.hid_host.proofs.RoundLemmas.{tried_rounds}
-use Rattle.hid_stack.specs.Members.{Member, MemberStep, Scheduled, Begins, Controls, Halts, Resets, befallen_by, begin_refusal_at, begun_unless, brought_deed, control_at, core_at, effect_deed, ends_tried_at, expects_behind, expects_of, halted_if, held_at, member_after, member_after_all, polled_deed, polls_it, tried_deed, tried_of, tried_to, written_deed}
+use Rattle.hid_stack.specs.Members.{Member, MemberStep, Scheduled, Begins, Controls, Halts, Resets, befallen_by, begin_refusal_at, begun_unless, brought_deed, control_at, core_at, effect_deed, ends_tried_at, expects_behind, expects_of, halted_if, held_at, member_after, member_after_all, polled_deed, polls_it, tried_deed, tried_of, written_deed}
 use Rattle.hid_stack.specs.Transfers.{BeginsNone, IsClearing, IsEvenAgain, IsOver, IsUndone, ends_at, setup_at}
 use Rattle.hid_stack.proofs.CountLemmas.{halted_transfer, runs_as}
 

@@ -1,6 +1,6 @@
 -- A host that takes the piece at hand of a round: what it has of the report then, and what it reads where that is whole (USB
 -- 2.0, 5.7.3).
-use Rattle.std.proofs.Common.{◌≡◌, ◌∙◌, ◌+◌, ◌*◌, ◌<◌, ◌≤◌, ◌++◌, ◌||◌, ℕ, zero, suc, Bool, true, false, not, cond, List, [], ◌∷◌, Option, Some, None, Result, Ok, Err, length, take, refl, ap, sym, arith}
+use Rattle.std.proofs.Common.{◌≡◌, ◌∙◌, ◌+◌, ◌*◌, ◌<◌, ◌≤◌, ◌++◌, ◌||◌, ℕ, zero, suc, Bool, true, false, not, cond, List, [], ◌∷◌, Option, Some, None, Result, Ok, Err, length, take, refl, ap, arith}
 use Rattle.std.specs.Prelude.{nat_le, nat_lt, position}
 use Rattle.std.specs.Option.{option_and_then}
 use Rattle.std.proofs.lemmas.Bool.Decides.{nat_tests}
@@ -18,12 +18,10 @@ use Rattle.hid_usages.specs.Crossing.{ReadsAsShown}
 use Rattle.hid_views.specs.Reading.{bytes_awaited, first_byte, is_input_with, report_begun, report_named, whole_report}
 use Rattle.hid_usages.specs.Taking.{read_view, read_events}
 use Rattle.hid_usages.specs.Views.{seen}
-use Rattle.usb_transact.specs.declared.host.Took.{Took}
 use Rattle.usb_transact.specs.declared.host.Took.TheVariants.{Fresh}
 use Rattle.hid_device.specs.Core.{is_last_piece}
 use Rattle.hid_lives.specs.Rounds.{part_events}
-use Rattle.hid_host.specs.declared.fault.StackFault.{StackFault}
-use Rattle.hid_host.specs.Ready.{Known, bytes_with, collected_with, data_read, ends_with, events_behind, events_read, events_with, is_whole, known_behind, read_or_fault, told_of, told_read, view_read, view_with}
+use Rattle.hid_host.specs.Ready.{Known, bytes_with, collected_with, data_read, ends_with, events_behind, events_read, is_whole, known_behind, read_or_fault, told_of, told_read, view_read, view_with}
 
 -- ---- how long a report is, by the first of its bytes that came
 

@@ -1,5 +1,5 @@
 -- A poll at the two ends is a poll of their station (USB 2.0, 5.7.3, 8.5.4 and 8.6).
-use Rattle.std.proofs.Common.{◌≡◌, ◌∙◌, ◌+◌, ◌*◌, ◌<◌, ℕ, Bool, true, false, not, ◌&&◌, List, [], take, Option, Some, None, Result, Ok, Err, refl, ap, sym, subst, cond, inl, inr}
+use Rattle.std.proofs.Common.{◌≡◌, ◌∙◌, ◌+◌, ℕ, Bool, true, false, not, ◌&&◌, List, [], Option, Some, None, Result, Ok, refl, ap, sym, subst, cond, inl, inr}
 use Rattle.std.specs.Bool.{beq}
 use Rattle.std.proofs.lemmas.Bool.{cases_Bool}
 use Rattle.hid_layout.specs.Controls.{items_of}
@@ -38,8 +38,8 @@ use Rattle.hid_host.specs.declared.phase.HostPhase.TheVariants.{Ready}
 use Rattle.hid_host.specs.Host.{HostEnd, ready_after}
 use Rattle.hid_host.specs.declared.phase.HostState.TheVariants as states
 use Rattle.hid_stack.specs.Members.{Member, got_in, got_of}
-use Rattle.hid_stack.specs.Slot.{joined, joint, round_between, IsEven, ArePaired, IsPair}
-use Rattle.hid_host.specs.Ready.{Known, known_behind, told_of, events_behind}
+use Rattle.hid_stack.specs.Slot.{joined, joint, IsEven, ArePaired, IsPair}
+use Rattle.hid_host.specs.Ready.{Known, told_of, events_behind}
 use Rattle.hid_stack.specs.Polls.{Hears, HearsAck, Ends, spelled, told_with}
 use Rattle.hid_lives.specs.Rounds.{part_events}
 use Rattle.hid_lives.specs.Stations.{Station, Open, opened, opened_by, answered, round_events}

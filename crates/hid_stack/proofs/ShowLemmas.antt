@@ -8,7 +8,6 @@ use Rattle.hid_cells.specs.declared.cell.Cell.{Cell}
 use Rattle.usb_transact.specs.Host.{HostPipeState}
 use Rattle.hid_lives.specs.Stations.{Open}
 use Rattle.hid_device.specs.declared.device.TheConstants.{ENDPOINT}
-use Rattle.hid_device.specs.Core.{CoreState, piece_at}
 use Rattle.hid_device.specs.Device.{DeviceState, core_of}
 use Rattle.hid_host.specs.declared.host.Transfer.{Transfer}
 use Rattle.hid_host.specs.declared.phase.HostPhase.{HostPhase}

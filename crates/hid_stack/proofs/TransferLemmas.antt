@@ -23,7 +23,7 @@ use Rattle.hid_requests.specs.declared.request.Request.TheVariants as requests
 use Rattle.hid_lives.specs.Stations.{Station, Open}
 use Rattle.hid_device.specs.declared.device.TheConstants.{ENDPOINT}
 use Rattle.hid_requests.specs.declared.class.Protocol.{Protocol}
-use Rattle.hid_lives.specs.Lives.{Deed, Own, Idles, Configures, befallen}
+use Rattle.hid_lives.specs.Lives.{Deed, Idles, Configures, befallen}
 use Rattle.hid_lives.specs.Lives as lives
 use Rattle.hid_lives.specs.Standing.{cut_at, with_idle}
 use Rattle.hid_device.specs.declared.decisions.Pending.{Pending}

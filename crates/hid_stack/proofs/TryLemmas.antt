@@ -16,7 +16,7 @@ use Rattle.usb_control.specs.Host.{HostTransferState, IsRunning, progress_of}
 use Rattle.hid_requests.specs.declared.request.Request.{Request}
 use Rattle.hid_requests.specs.declared.request.Request.TheVariants as requests
 use Rattle.hid_lives.specs.Stations.{Station, expected}
-use Rattle.hid_lives.specs.Lives.{Deed, Own, Idles, Configures, befallen}
+use Rattle.hid_lives.specs.Lives.{Deed, Own, Idles, Configures}
 use Rattle.hid_lives.specs.Lives as lives
 use Rattle.hid_device.specs.declared.decisions.Pending.{Pending}
 use Rattle.hid_device.specs.declared.decisions.Pending.TheVariants as pendings

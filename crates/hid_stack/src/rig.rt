@@ -1,7 +1,6 @@
 //! The rig: the devices of a bus with their hosts, and the steps that befall them.
-ghost use Rattle.std.specs.Prelude.{◌≡◌, ◌≢◌, ◌≤◌, ◌+◌, ◌++◌, ◌<◌, ℕ, List, [], ◌∷◌, Ok, Err, Some, length, map, take, IfOk, OnOk, IfErr, OnErr, vec_len, vec_capacity};
+ghost use Rattle.std.specs.Prelude.{◌≡◌, ◌≢◌, ◌≤◌, ◌+◌, ◌++◌, ◌<◌, List, [], ◌∷◌, Ok, Err, Some, length, map, take, IfOk, OnOk, IfErr, OnErr, vec_len, vec_capacity};
 ghost use Rattle.std.specs.List.{All};
-ghost use Rattle.hid_layout.specs.declared.control.ControlId.{ControlId as ControlPlace};
 ghost use Rattle.hid_lives.specs.Rounds.{Frame as FrameStep};
 ghost use Rattle.hid_host.specs.declared.fault.StackFault.{StackFault};
 ghost use Rattle.hid_stack.specs.Attaching.{Attaches, IsAttached, Finds};

@@ -1,6 +1,6 @@
 //! A handle is opened, fed and closed.
 
-ghost use Rattle.std.specs.Prelude.{◌≡◌, ◌≤◌, Option, Some, None, Ok, Err, IfOk, IfErr};
+ghost use Rattle.std.specs.Prelude.{◌≡◌, ◌≤◌, Some, None, Ok, Err, IfOk, IfErr};
 ghost use Rattle.hid_descriptor.specs.Faults.{Explains};
 ghost use Rattle.hid_session.specs.Causes.{cause_number};
 ghost use Rattle.hid_session.specs.Sessions.{IsFirst};
