@@ -1,8 +1,8 @@
 -- The first word of a text, and the words behind it.
-use Rattle.std.proofs.Common.{◌≡◌, ℕ, zero, suc, ◌+◌, ◌-◌, ◌<◌, ◌≤◌, Bool, true, false, List, [], ◌∷◌, length, take, drop, nat_lt, refl, sym, ap, subst, ◌∙◌, arith, not, nat_eq, cond, Option, None, Some, get_or, ⊎_elim}
-use Rattle.std.proofs.lemmas.Bool.{cases_Bool, cases_lt, cond-true, cond-false, lt-ltb, le-ltb, ltb-true, ne_eqb, true≢false}
+use Rattle.std.proofs.Common.{◌≡◌, ℕ, zero, suc, ◌+◌, ◌-◌, ◌<◌, ◌≤◌, Bool, true, false, List, [], ◌∷◌, length, take, drop, nat_lt, refl, sym, ap, subst, ◌∙◌, arith, not, nat_eq, cond, Option, None, Some, Ok, Err, get_or, ⊎_elim}
+use Rattle.std.proofs.lemmas.Bool.{cases_Bool, cases_lt, cond-true, cond-false, lt-ltb, le-ltb, ltb-true, ne_eqb, eq-eqb, true≢false}
 use Rattle.std.proofs.lemmas.Option.{cond_some}
-use Rattle.std.proofs.lemmas.List.{length-take-le, length-drop, get_or-drop, take_all}
+use Rattle.std.proofs.lemmas.List.{length-take-le, length-drop, get_or-drop, get_or-take, take_all}
 use Rattle.std.proofs.lemmas.List.Sums.{passes_at_first, prefix_len-le-length}
 use Rattle.std.proofs.Math.ListN.{drop_of_length-le}
 use Rattle.std.proofs.Math.Numerals.{one-add}
@@ -10,6 +10,10 @@ use Rattle.std.proofs.Math.Nat.{add-zero}
 use Rattle.std.specs.Prelude.{filter, position}
 use Rattle.std.specs.Option.{unwrap_or}
 use Rattle.std.specs.List.{slice_split, onto_first, position_or_len}
+use Rattle.std.specs.List.{slice_index}
+use Rattle.hid_lines.specs.declared.line.Line.TheVariants.{Nothing}
+use Rattle.hid_lines.specs.declared.fault.LineFault.TheVariants.{LineTooLong}
+use Rattle.hid_lines.specs.Line.{meaning_of, words_said, keyword_said, keyword_of}
 use Rattle.hid_lines.specs.Words.{Word, is_blank, is_no_blank, words_of}
 
 -- blanks before the first word are none of it
@@ -92,3 +96,25 @@ found_word text part start end found is ends =
     let at : end ≡ position_or_len is_blank part = part_end part end ends in
     let word = one_word text part start found rest in
     (rw (more, at) word.0, omega (arith, at, word.1, length-take-le end part (omega (arith, at, prefix_len-le-length (λ b. not (is_blank b)) part))))
+
+-- ---- lines that say nothing
+
+short_line : (line : List ℕ) → length line ≤ 1024 → meaning_of line ≡ words_said (words_of line)
+unfolding meaning_of
+short_line line short = cond-false (nat_lt 1024 (length line)) (Err LineTooLong) (words_said (words_of line)) (le-ltb 1024 (length line) short)
+
+-- a line of blanks
+pub empty_line : (line : List ℕ) → length line ≤ 1024 → position is_no_blank line ≡ None → meaning_of line ≡ Ok Nothing
+unfolding words_said
+empty_line line short none = short_line line short ∙ ap words_said (no_word line none)
+
+-- a comment
+pub comment_line : (line : List ℕ) (start : ℕ) → length line ≤ 1024 → position is_no_blank line ≡ Some start → get_or line start 0 ≡ 35 → meaning_of line ≡ Ok Nothing
+unfolding words_said
+comment_line line start short found mark =
+    let rest = drop start line in
+    let end = position_or_len is_blank rest in
+    let word = one_word line rest start found refl in
+    let first : slice_index (take end rest) 0 ≡ 35 = get_or-take end rest 0 0 word.1 ∙ get_or-drop start line 0 0 ∙ rw (add-zero start) mark in
+    short_line line short ∙ ap words_said word.0
+    ∙ cond-true (nat_eq (slice_index (take end rest) 0) 35) (Ok Nothing) (keyword_said (keyword_of (take end rest)) (words_of (drop end rest))) (eq-eqb _ 35 first)

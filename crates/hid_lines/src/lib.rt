@@ -25,6 +25,6 @@ mod requests;
 mod words;
 
 pub use fault::LineFault;
-pub use line::{HEX_LIMIT, LINE_LIMIT, Line, parse_line};
+pub use line::{HEX_LIMIT, LINE_LIMIT, Line, parse_line, says_nothing};
 pub use numbers::read_number;
 pub use words::words_of_line;

@@ -1,6 +1,6 @@
 //! The lines of a script.
 
-ghost use Rattle.std.specs.Prelude.{◌≡◌, ◌≤◌, Err, length};
+ghost use Rattle.std.specs.Prelude.{◌≡◌, ◌≤◌, Err, IsTrue, length};
 ghost use Rattle.hid_lines.specs.Arguments.{with_bytes};
 ghost use Rattle.hid_lines.specs.Words.{hex_of, words_of};
 ghost use Rattle.hid_lines.specs.Line.{Gives, keyword_of, meaning_of, words_said, said_by, device_said};
@@ -11,7 +11,7 @@ use super::arguments::{
 };
 use super::fault::LineFault;
 use super::requests::read_begin;
-use super::words::{first_word, look_up, read_hex};
+use super::words::{first_word, look_up, no_blank, read_hex};
 use arrayvec::ArrayVec;
 use hid_descriptor::Usage;
 use hid_device::Boot;
@@ -159,6 +159,20 @@ fn read_keyword(word: &[u8]) -> Option<Keyword>
             word,
         ),
         _ => None,
+    }
+}
+
+/// Whether a line, without its end, is empty or a comment: `true` only where [`parse_line`] gives `Nothing`.
+#[tactic(auto, unfolding(crate::specs::Line::meaning_of))]
+pub fn says_nothing(line: &[u8]) -> bool
+    ensures { IsTrue result → meaning_of line.now ≡ Ok Line.Nothing }
+{
+    if LINE_LIMIT < line.len() {
+        return false;
+    }
+    match no_blank(line) {
+        None => true,
+        Some(start) => line[start] == b'#',
     }
 }
 

@@ -20,7 +20,7 @@ fn blank(text: &[u8]) -> Option<usize>
 }
 
 /// Where the first byte of a text stands that is no blank.
-fn no_blank(text: &[u8]) -> Option<usize>
+pub fn no_blank(text: &[u8]) -> Option<usize>
     ensures { result ≡ position is_no_blank text.now }
 {
     text.iter().position(|byte| *byte != b' ' && *byte != b'\t')
