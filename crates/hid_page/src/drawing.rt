@@ -2,7 +2,7 @@
 
 ghost use Rattle.std.specs.Prelude.{◌≡◌, ◌++◌, ◌<◌, ◌≤◌, ◌^◌, All, length, IfOk, OnOk, string_bytes};
 ghost use Rattle.std.specs.Option.{option_map};
-ghost use Rattle.hid_pieces.specs.Items.{AreItemsOf, IsWhole};
+ghost use Rattle.hid_pieces.specs.Items.{IsWhole};
 ghost use Rattle.hid_page.specs.Drawing.{all_characters, form_text, IsDrawn, begun_below, refusal_words, IsRefusal};
 
 use crate::page::{print_characters, print_page, print_refused, print_svg};

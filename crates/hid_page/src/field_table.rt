@@ -1,11 +1,11 @@
 //! The fields of a report as a table, and the rules by which a field marks the items that made it.
 
-ghost use Rattle.std.specs.Prelude.{◌≡◌, ◌++◌, ◌<◌, ◌≤◌, length, slice_get, Some, OnOk, string_bytes};
+ghost use Rattle.std.specs.Prelude.{◌≡◌, ◌++◌, ◌<◌, length, OnOk, string_bytes};
 ghost use Rattle.hid_pieces.specs.Makers.{in_force};
 ghost use Rattle.hid_pieces.specs.Pieces.{LiesIn};
 ghost use Rattle.hid_picture.specs.Escape.{escaped};
 ghost use Rattle.hid_pieces.specs.Words.{entry_text, collection_text};
-ghost use Rattle.hid_page.specs.Page.{mark_head, mark_at, marks_of, mark_rule, mark_rules, number_cell, size_cell, usages_cell, meaning_cell, limits_text, range_cell, path_cell, item_link, link_at, links_cell, place_cells, meaning_cells, origin_cells, field_row, field_row_at, field_row_of, field_rows, field_table};
+ghost use Rattle.hid_page.specs.Page.{mark_head, mark_at, marks_of, mark_rule, mark_rules, number_cell, size_cell, usages_cell, meaning_cell, limits_text, range_cell, path_cell, item_link, link_at, links_cell, place_cells, meaning_cells, origin_cells, field_row, field_row_of, field_rows, field_table};
 
 use crate::item_table::TABLE_END;
 use hid_items::Item;

@@ -1,11 +1,11 @@
 //! The items of a descriptor as a table.
 
-ghost use Rattle.std.specs.Prelude.{◌≡◌, ◌++◌, ◌+◌, ◌<◌, ◌≤◌, ◌^◌, All, codes, length, slice_get, Some, OnOk, string_bytes};
+ghost use Rattle.std.specs.Prelude.{◌≡◌, ◌++◌, ◌+◌, ◌<◌, ◌^◌, All, codes, length, slice_get, Some, OnOk, string_bytes};
 ghost use Rattle.hid_notation.specs.Text.{joined_below};
 ghost use Rattle.hid_picture.specs.Escape.{escaped};
 ghost use Rattle.hid_pieces.specs.Items.{IsWhole};
 ghost use Rattle.hid_pieces.specs.Label.{usage_label};
-ghost use Rattle.hid_page.specs.ItemTable.{named_in, names_of, item_name, first_of, words_of, next_main, page_place, number_of, signed_number, exponent_of, number_at, page_at, usage_on, is_signed, is_usage, number_text, data_text, item_head, item_words, item_row, row_at, item_rows, item_table};
+ghost use Rattle.hid_page.specs.ItemTable.{named_in, names_of, item_name, first_of, words_of, next_main, page_place, number_of, signed_number, exponent_of, number_at, page_at, usage_on, is_signed, is_usage, number_text, data_text, item_head, item_words, item_row, item_rows, item_table};
 
 use hid_items::Item;
 use hid_layout::{MainFlags, Usage};

@@ -2,7 +2,7 @@
 
 ghost use Rattle.std.specs.Prelude.{◌≡◌, ◌++◌, OnOk, string_bytes};
 ghost use Rattle.std.specs.Option.{option_copied};
-ghost use Rattle.hid_text.specs.PollText.{packet_words, reply_words, reply_text, verdict_word, poll_text};
+ghost use Rattle.hid_text.specs.PollText.{packet_words, reply_words, verdict_word, poll_text};
 
 use hid_notation::print_bytes;
 use std::alloc::AllocError;

@@ -1,6 +1,6 @@
 //! The line of JSON that tells what ended a file early, and what was played of it.
 
-ghost use Rattle.std.specs.Prelude.{◌≡◌, ◌++◌, IfOk, OnOk, string_bytes};
+ghost use Rattle.std.specs.Prelude.{◌≡◌, ◌++◌, IfOk, OnOk};
 ghost use Rattle.hidplay.specs.EndLine.{count_tokens, cause_tokens, played_tokens, end_tokens, refusals_of};
 ghost use Rattle.hid_recording.specs.EventJson.{json_text};
 ghost use Rattle.hid_recording.specs.Refusals.{cause_text};
