@@ -37,14 +37,16 @@ use Rattle.hid_script.specs.declared.fault.StepFault.TheVariants as faults
 use Rattle.hid_lines.specs.declared.fault.LineFault.{LineFault}
 use Rattle.hid_lines.specs.declared.fault.LineFault.TheVariants as line_faults
 use Rattle.hid_lines.specs.declared.line.Line.{Line}
+use Rattle.hid_lines.specs.declared.line.Line.TheVariants as lines
 use Rattle.hid_script.specs.declared.wanted.Wanted.{Wanted}
 use Rattle.hid_lines.specs.Line.{meaning_of}
+use Rattle.hid_script.proofs.RepeatLemmas.{no_times, one_more}
 use Rattle.hid_text.specs.LayoutText.{layout_text}
 use Rattle.hid_text.specs.ValuesText.{values_text}
 use Rattle.hid_text.specs.StepText.{step_text}
 use Rattle.hid_script.specs.Session.{Session, Outcome, accepted, refused}
 use Rattle.hid_script.specs.Steps.{TellsLayout, TellsValues, TellsDevice, TellsStep, TellsChange, lays_out, valued, read_report, refuses_step, config_of, attaches, counted, got_by, stepped, change_of}
-use Rattle.hid_script.specs.Telling.{BeginsMeant, LineTells, LineBegins, Means, CarriesOut, line_cause, cause_from, cause_of, stack_cause}
+use Rattle.hid_script.specs.Telling.{Once, times, BeginsMeant, LineTells, LineBegins, Means, CarriesOut, line_cause, cause_from, cause_of, stack_cause}
 use Rattle.hid_script.specs.Output.{AppendsFront}
 use Rattle.hid_script.specs.Runs.{Ending, Refusal, Want, Cut, Silence, ending_of, EndsAs, Ends}
 use Rattle.hid_script.specs.Place.{AppendsTold, AppendsOnce, OnceEndsAs, IsBegun}
@@ -79,6 +81,11 @@ pub line_written : (old new : Option (List ℕ)) (session : Session) (bytes : Li
     → AppendsTold old new (CarriesOut session line) (BeginsMeant session (Ok line)) r next → AppendsTold old new (LineTells session bytes) (LineBegins session bytes) r next
 unfolding LineTells LineBegins
 line_written old new session bytes line r next means h = subst (λ m. AppendsTold old new (Means session m) (BeginsMeant session m) r next) (sym means) h
+
+-- a line that says nothing
+pub nothing_written : (old : Option (List ℕ)) (session : Session) (bytes : List ℕ) → meaning_of bytes ≡ Ok lines.Nothing → AppendsTold old old (LineTells session bytes) (LineBegins session bytes) (Ok tt) session
+unfolding Once times
+nothing_written old session bytes means = line_written old old session bytes lines.Nothing (Ok tt) session means ([], Appends-nil old, one_more 0 (Once lines.Nothing) session session session [] [] (no_times (Once lines.Nothing) session) refl)
 
 refusal_left : (ending : Ending) (Tells : Outcome → Type 0) (Begun : List ℕ → Type 0) (cause : Cause) → Begun [] → Tells (refused cause) → EndsAs ending Tells Begun [] cause
 refusal_left Refusal Tells Begun cause begun h = h

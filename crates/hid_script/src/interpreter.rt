@@ -12,7 +12,7 @@ use super::output::write_text;
 use super::wanted::{Wanted, change_of};
 use hid_device::{Boot, Config};
 use hid_layout::{Layout, Usage};
-use hid_lines::{Line, parse_line};
+use hid_lines::{Line, parse_line, says_nothing};
 use hid_stack::{Delivered, Request, Rig, Start, Step};
 use hid_text::{print_layout, print_step, print_values};
 use hid_usages::input_report;
@@ -112,6 +112,19 @@ impl Interpreter {
 
     /// Carries out a line, without its end.
     pub fn line<W: Write>(&mut self, line: &[u8], writer: &mut W) -> Result<(), Cause>
+        ensures { AppendsTold (W.contents writer.old) (W.contents writer.new)
+            (LineTells (session_of self.old) line.now)
+            (LineBegins (session_of self.old) line.now) result (session_of self.new) }
+    {
+        if says_nothing(line) {
+            return Ok(());
+        }
+        self.run_line(line, writer)
+    }
+
+    /// The same of any line.
+    #[inline(never)] // an empty line makes no room for what a line says
+    fn run_line<W: Write>(&mut self, line: &[u8], writer: &mut W) -> Result<(), Cause>
         ensures { AppendsTold (W.contents writer.old) (W.contents writer.new)
             (LineTells (session_of self.old) line.now)
             (LineBegins (session_of self.old) line.now) result (session_of self.new) }
