@@ -9,9 +9,11 @@ use hid_requests::{
 };
 use usb_control::{ConfigInfo, DeviceInfo, Setup};
 
-/// What a host asks, with its eight bytes and what that asks of a device.
+/// A name, what a host asks, its eight bytes, and what that asks of a device.
+type Asks = (&'static str, Request, [u8; 8], Asked);
+
 #[rattlefmt::skip]
-const REQUESTS: [(&str, Request, [u8; 8], Asked); 17] = [
+const REQUESTS: [Asks; 17] = [
     ("device",        Request::Device,           [0x80, 0x06, 0x00, 0x01, 0x00, 0x00, 0x12, 0x00], Asked::DeviceDescriptor),
     ("configuration", Request::Config,           [0x80, 0x06, 0x00, 0x02, 0x00, 0x00, 0xFF, 0x00], Asked::Configuration),
     ("report",        Request::Report,           [0x81, 0x06, 0x00, 0x22, 0x00, 0x00, 0x32, 0x01], Asked::ReportDescriptor),
@@ -38,58 +40,85 @@ const REQUESTS: [(&str, Request, [u8; 8], Asked); 17] = [
     ("is asked for",  Request::EndpointStatus,   [0x82, 0x00, 0x00, 0x00, 0x81, 0x00, 0x02, 0x00], Asked::ReportStatus),
 ];
 
-#[test]
-fn a_host_asks_in_the_bytes_of_the_standard(rt: HostRuntime) {
-    let asking = Asking {
+/// The setup data of a request, of a device whose report descriptor has 306 bytes.
+fn setup_of(request: &Request) -> Setup {
+    request.setup(&Asking {
         report_length: 0x0132,
         endpoint: 1,
-    };
-    for (name, request, bytes, asked) in REQUESTS {
-        let setup = request.setup(&asking);
-        assert_eq!(rt; setup.to_bytes(), bytes, "{name}");
-        assert_eq!(rt; what_is_asked(&setup), Some(asked), "{name}");
-        assert!(rt; request.sends().is_empty(), "{name}");
-        assert_eq!(rt; request.copied(), request, "{name}");
-    }
+    })
 }
 
-/// Reports that are set, with their setup data: that of HID 1.11, appendix B.1, with Caps Lock lit, one of an ID and two
-/// bytes, and the longest.
+/// Whether setup data ask so of a device, or nothing.
+fn asks(setup: &Setup, asked: Option<Asked>) -> bool {
+    what_is_asked(setup) == asked
+}
+
+/// Whether a request has these setup data, sends this, and is copied.
+fn is_spelled(request: &Request, setup: &Setup, bytes: &[u8; 8], sends: &[u8]) -> bool {
+    setup.to_bytes() == *bytes && request.sends() == sends && request.copied() == *request
+}
+
+/// The first row that isn't so.
+fn first_misspelled(rows: &[Asks]) -> Option<&'static str> {
+    for (name, request, bytes, asked) in rows {
+        let setup = setup_of(request);
+        if !is_spelled(request, &setup, bytes, &[]) || !asks(&setup, Some(*asked)) {
+            return Some(*name);
+        }
+    }
+    None
+}
+
+#[test]
+fn a_host_asks_in_the_bytes_of_the_standard(rt: HostRuntime) {
+    assert_eq!(rt; first_misspelled(&REQUESTS), None);
+}
+
+/// A name, a report that is set, by its kind and ID, and its setup data.
+type Sets = (&'static str, ReportKind, u8, &'static [u8], [u8; 8]);
+
 #[rattlefmt::skip]
-const REPORTS: [(ReportKind, u8, &[u8], [u8; 8]); 3] = [
-    (ReportKind::Output,  0, &[0x02],             [0x21, 0x09, 0x00, 0x02, 0x00, 0x00, 0x01, 0x00]),
-    (ReportKind::Feature, 7, &[0x07, 0xAB, 0xCD], [0x21, 0x09, 0x07, 0x03, 0x00, 0x00, 0x03, 0x00]),
-    (ReportKind::Feature, 9, &[9; 256],           [0x21, 0x09, 0x09, 0x03, 0x00, 0x00, 0x00, 0x01]),
+const REPORTS: [Sets; 3] = [
+    ("that of HID 1.11, appendix B.1, with Caps Lock lit", ReportKind::Output,  0, &[0x02],             [0x21, 0x09, 0x00, 0x02, 0x00, 0x00, 0x01, 0x00]),
+    ("one of an ID and two bytes",                         ReportKind::Feature, 7, &[0x07, 0xAB, 0xCD], [0x21, 0x09, 0x07, 0x03, 0x00, 0x00, 0x03, 0x00]),
+    ("the longest",                                        ReportKind::Feature, 9, &[9; 256],           [0x21, 0x09, 0x09, 0x03, 0x00, 0x00, 0x00, 0x01]),
 ];
+
+/// Whether a report is set with these setup data, and goes with them.
+fn is_set(kind: ReportKind, id: u8, report: &[u8], wanted: &[u8; 8]) -> bool {
+    let Ok(bytes) = ArrayVec::try_from(report) else {
+        return false;
+    };
+    let request = Request::SetReport { kind, id, bytes };
+    let setup = setup_of(&request);
+    let asked = Asked::SetReport {
+        kind,
+        id,
+        length: setup.length,
+    };
+    is_spelled(&request, &setup, wanted, report) && asks(&setup, Some(asked))
+}
+
+/// The first row that isn't so.
+fn first_unset(rows: &[Sets]) -> Option<&'static str> {
+    for (name, kind, id, report, wanted) in rows {
+        if !is_set(*kind, *id, report, wanted) {
+            return Some(*name);
+        }
+    }
+    None
+}
 
 #[test]
 fn a_report_goes_with_its_request(rt: HostRuntime) {
-    let asking = Asking {
-        report_length: 63,
-        endpoint: 1,
-    };
-    for (kind, id, report, wanted) in REPORTS {
-        let mut bytes = ArrayVec::new();
-        assert!(rt; bytes.try_extend_from_slice(report).is_ok());
-        let request = Request::SetReport { kind, id, bytes };
-        let setup = request.setup(&asking);
-        assert_eq!(rt; setup.to_bytes(), wanted);
-        assert_eq!(rt;
-            what_is_asked(&setup),
-            Some(Asked::SetReport {
-                kind,
-                id,
-                length: setup.length
-            })
-        );
-        assert_eq!(rt; request.sends(), report);
-        assert_eq!(rt; request.copied(), request);
-    }
+    assert_eq!(rt; first_unset(&REPORTS), None);
 }
 
-/// Setup data, each row beside the nearest that is none.
+/// A name, setup data, and what they ask. Each row stands beside the nearest that asks nothing.
+type Row = (&'static str, [u8; 8], Option<Asked>);
+
 #[rattlefmt::skip]
-const ROWS: [(&str, [u8; 8], Option<Asked>); 73] = [
+const ROWS: [Row; 73] = [
     ("the device's status",             [0x80, 0x00, 0, 0, 0, 0, 2, 0],          Some(Asked::Status)),
     ("with a value",                    [0x80, 0x00, 1, 0, 0, 0, 2, 0],          None),
     ("with an index",                   [0x80, 0x00, 0, 0, 1, 0, 2, 0],          None),
@@ -165,11 +194,19 @@ const ROWS: [(&str, [u8; 8], Option<Asked>); 73] = [
     ("another request of the class",    [0x21, 0x0C, 0, 0, 0, 0, 0, 0],          None),
 ];
 
+/// The first row that isn't so.
+fn first_unasked(rows: &[Row]) -> Option<&'static str> {
+    for (name, bytes, asked) in rows {
+        if !asks(&Setup::from_bytes(bytes), *asked) {
+            return Some(*name);
+        }
+    }
+    None
+}
+
 #[test]
 fn what_is_asked_is_a_row(rt: HostRuntime) {
-    for (name, bytes, asked) in ROWS {
-        assert_eq!(rt; what_is_asked(&Setup::from_bytes(&bytes)), asked, "{name}");
-    }
+    assert_eq!(rt; first_unasked(&ROWS), None);
 }
 
 /// The keyboard of HID 1.11, appendices E.3 to E.5: interface, HID and endpoint descriptors. It has HID 1.01 and packets of
@@ -190,8 +227,15 @@ const MOUSE: [u8; 25] = [
 ];
 
 /// A device of appendix E, what is read of it, and the bytes in which its own are others: by place, here and there.
+type Described = (
+    &'static str,
+    [u8; 25],
+    ConfigInfo,
+    &'static [(usize, u8, u8)],
+);
+
 #[rattlefmt::skip]
-const DEVICES: [(&str, [u8; 25], ConfigInfo, &[(usize, u8, u8)]); 2] = [
+const DEVICES: [Described; 2] = [
     ("keyboard", KEYBOARD, ConfigInfo { report_length: 63, endpoint: 1, subclass: 1, protocol: 1 },
         &[(11, 0x11, 0x01), (22, 0x40, 0x08)]),
     ("mouse",    MOUSE,    ConfigInfo { report_length: 50, endpoint: 2, subclass: 1, protocol: 2 },
@@ -201,22 +245,58 @@ const DEVICES: [(&str, [u8; 25], ConfigInfo, &[(usize, u8, u8)]); 2] = [
 /// A configuration descriptor of one interface in 34 bytes, powered by the bus (USB 2.0, table 9-10).
 const OWN: [u8; 9] = [0x09, 0x02, 0x22, 0x00, 0x01, 0x01, 0x00, 0x80, 0x32];
 
+fn own() -> &'static [u8] {
+    &OWN
+}
+
+/// The configuration of such a device, polled each 10 frames; nothing for an endpoint that there isn't.
+fn configuration_of(info: &ConfigInfo, interval: u8) -> ArrayVec<u8, 34> {
+    if info.endpoint > 15 {
+        return ArrayVec::new();
+    }
+    configuration(info, interval)
+}
+
+/// Whether that is read of a configuration.
+fn is_read(bytes: &[u8], info: &ConfigInfo) -> bool {
+    ConfigInfo::read(bytes) == Ok(*info)
+}
+
+/// Descriptors of appendix E with our own bytes where those are others; nothing where they don't have theirs there.
+fn changed(theirs: &[u8; 25], others: &[(usize, u8, u8)]) -> Option<[u8; 25]> {
+    let mut wanted = *theirs;
+    for (at, here, there) in others {
+        match wanted.get_mut(*at) {
+            Some(byte) if *byte == *there => *byte = *here,
+            _ => return None,
+        }
+    }
+    Some(wanted)
+}
+
+/// Whether a configuration is our own configuration descriptor and these behind it, and is read so.
+fn is_described(bytes: &[u8], wanted: &[u8; 25], info: &ConfigInfo) -> bool {
+    match bytes.split_at_checked(9) {
+        Some((head, rest)) => head == own() && rest == wanted.as_slice() && is_read(bytes, info),
+        None => false,
+    }
+}
+
+/// The first row that isn't so.
+fn first_misdescribed(rows: &[Described]) -> Option<&'static str> {
+    for (name, theirs, info, others) in rows {
+        let bytes = configuration_of(info, 0x0A);
+        match changed(theirs, others) {
+            Some(wanted) if is_described(&bytes, &wanted, info) => {}
+            _ => return Some(*name),
+        }
+    }
+    None
+}
+
 #[test]
 fn a_configuration_is_that_of_appendix_e(rt: HostRuntime) {
-    for (name, theirs, info, others) in DEVICES {
-        let mut wanted = theirs;
-        for (at, here, there) in others {
-            if *at < 25 {
-                assert_eq!(rt; theirs[*at], *there, "{name} at {at}");
-                wanted[*at] = *here;
-            }
-        }
-        let bytes = configuration(&info, 0x0A);
-        assert_eq!(rt; bytes.len(), 34, "{name}");
-        assert_eq!(rt; &bytes[..9], OWN.as_slice(), "{name}");
-        assert_eq!(rt; &bytes[9..], wanted.as_slice(), "{name}");
-        assert_eq!(rt; ConfigInfo::read(&bytes), Ok(info), "{name}");
-    }
+    assert_eq!(rt; first_misdescribed(&DEVICES), None);
 }
 
 #[test]

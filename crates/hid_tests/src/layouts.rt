@@ -47,18 +47,23 @@ fn the_mouse_has_buttons_and_motion(rt: HostRuntime) -> Result<(), Fail> {
     Ok(())
 }
 
-/// Of three buttons: their entries, and how many collections they are in; of the report: its bytes, and that it has no ID.
-#[test]
-fn readers_show_what_is_listed(rt: HostRuntime) -> Result<(), Fail> {
-    let layout = accepted(&rt, &MOUSE)?;
-    assert!(rt; layout.reports().len() == 1 && layout.items().len() == 3);
-    let told = format!(in rt.alloc();
+/// Of the first item, its entries and how many collections it is in; of the one report, its bytes and whether it has an ID.
+fn listed(alloc: Global, layout: &Layout) -> Result<String, Fail> {
+    if layout.reports().len() != 1 || layout.items().len() != 3 {
+        return Ok(String::new(alloc));
+    }
+    Ok(format!(in alloc;
         "{:?} {} {} {}",
         layout.entries(0),
         layout.path(0).len(),
         layout.report_bytes(0),
         layout.numbered()
-    )?;
+    )?)
+}
+
+#[test]
+fn readers_show_what_is_listed(rt: HostRuntime) -> Result<(), Fail> {
+    let told = listed(rt.alloc(), &accepted(&rt, &MOUSE)?)?;
     let shown = "[(Usage { page: 9, id: 1 }, Usage { page: 9, id: 3 })] 2 3 false";
     assert_eq!(rt; told.as_str(), shown);
     Ok(())
@@ -262,19 +267,23 @@ fn each_part_of_a_descriptor_is_refused_by_name(rt: HostRuntime) {
     assert_eq!(rt; fault_of(rt.alloc(), &MOUSE[..49]), Some(unclosed));
 }
 
-/// Where memory is wanting, that is told at 0; else the layout is whole. (Run with each allocation failing in turn.)
-#[test]
-fn want_of_memory_is_told(rt: HostRuntime) {
-    for descriptor in [KEYBOARD.as_slice(), MOUSE.as_slice()] {
-        match Layout::parse(rt.alloc(), descriptor) {
-            Ok(layout) => assert!(rt; layout.items().len() == 5 || layout.items().len() == 3),
-            Err(fault) => assert_eq!(rt;
-                fault,
-                LayoutFault {
+/// Whether a layout has so many items, or memory is wanting, which is told at 0.
+fn is_whole_or_wants(alloc: Global, descriptor: &[u8], items: usize) -> bool {
+    match Layout::parse(alloc, descriptor) {
+        Ok(layout) => layout.items().len() == items,
+        Err(fault) => {
+            fault
+                == LayoutFault {
                     cause: Cause::Memory,
-                    at: 0
+                    at: 0,
                 }
-            ),
         }
     }
+}
+
+/// Where memory is wanting, that is told; else the layout is whole. (Run with each allocation failing in turn.)
+#[test]
+fn want_of_memory_is_told(rt: HostRuntime) {
+    assert!(rt; is_whole_or_wants(rt.alloc(), &KEYBOARD, 5));
+    assert!(rt; is_whole_or_wants(rt.alloc(), &MOUSE, 3));
 }

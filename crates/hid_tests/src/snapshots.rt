@@ -188,6 +188,31 @@ fn changes_are_made_or_refused(rt: HostRuntime) -> Result<(), Fail> {
     Ok(())
 }
 
+/// Fixes the part of a report, or its still part, where it has one.
+fn fix(layout: &Layout, snapshot: &Snapshot, report: usize, parts: &mut Shown, still: bool) -> bool
+    requires snapshot { FitsSnapshot (items_of layout.now) snapshot.now }
+    requires parts { FitsShown (items_of layout.now) parts.old }
+    ensures { FitsShown (items_of layout.now) parts.new }
+{
+    if !is_input(layout, report) || !has_zeros(layout) {
+        return false;
+    }
+    if still {
+        snapshot.still(layout, report, parts);
+    } else {
+        snapshot.shown(layout, report, parts);
+    }
+    true
+}
+
+/// Whether an Input report is due.
+fn is_due_now(layout: &Layout, snapshot: &Snapshot, report: usize, parts: &Shown) -> bool
+    requires snapshot { FitsSnapshot (items_of layout.now) snapshot.now }
+    requires parts { FitsShown (items_of layout.now) parts.now }
+{
+    is_input(layout, report) && snapshot.due(layout, report, parts)
+}
+
 /// Whether report 0 shows these bytes of the snapshot, or of its still part.
 fn shows<F: FieldCodec>(
     layout: &Layout,
@@ -200,13 +225,18 @@ fn shows<F: FieldCodec>(
     requires parts { FitsShown (items_of layout.now) parts.old }
     ensures { FitsShown (items_of layout.now) parts.new }
 {
-    if !is_input(layout, 0) || !has_zeros(layout) || !has_empty_codes(layout) {
+    if !has_empty_codes(layout) || !fix(layout, snapshot, 0, parts, still) {
         return false;
     }
-    if still {
-        snapshot.still(layout, 0, parts);
-    } else {
-        snapshot.shown(layout, 0, parts);
+    spells::<F>(layout, parts, bytes)
+}
+
+/// Whether the parts of report 0 are encoded as these bytes.
+fn spells<F: FieldCodec>(layout: &Layout, parts: &Shown, bytes: &[u8]) -> bool
+    requires { FitsShown (items_of layout.now) parts.now }
+{
+    if !is_input(layout, 0) || !has_zeros(layout) || !has_empty_codes(layout) {
+        return false;
     }
     let mut shown = ArrayVec::new();
     encode_report::<F>(layout, 0, parts, &mut shown);
@@ -294,13 +324,10 @@ fn hold(layout: &Layout, snapshot: &Snapshot, parts: &mut Shown) -> (i64, i64, b
     requires snapshot { FitsSnapshot (items_of layout.now) snapshot.now }
     requires parts { FitsShown (items_of layout.now) parts.old }
 {
-    if !is_input(layout, 0) || !is_input(layout, 1) || !has_zeros(layout) {
-        return (0, 0, false);
-    }
-    snapshot.shown(layout, 0, parts);
-    snapshot.shown(layout, 1, parts);
-    snapshot.still(layout, 1, parts);
-    let due = snapshot.due(layout, 1, parts);
+    let fixed = fix(layout, snapshot, 0, parts, false)
+        && fix(layout, snapshot, 1, parts, false)
+        && fix(layout, snapshot, 1, parts, true);
+    let due = fixed && is_due_now(layout, snapshot, 1, parts);
     (parts.motion(FIRST), parts.motion(SECOND_REPORT), due)
 }
 
@@ -329,12 +356,11 @@ fn is_due(
     ensures parts { FitsShown (items_of layout.now) parts.new }
 {
     let made = change_all(snapshot, layout, fixed).is_ok();
-    if !made || !is_input(layout, 0) {
+    if !made || !fix(layout, snapshot, 0, parts, false) {
         return false;
     }
-    snapshot.shown(layout, 0, parts);
     let made = change_all(snapshot, layout, later).is_ok();
-    made && snapshot.due(layout, 0, parts)
+    made && is_due_now(layout, snapshot, 0, parts)
 }
 
 /// A name, a descriptor, changes that were fixed, later ones, and whether the report is due.

@@ -2,12 +2,12 @@
 //! GET_STATUS 82 00, of feature 0, ENDPOINT_HALT, and endpoint 81 (tables 9-3, 9-4 and 9-6; 9.3.4). Packets are those of
 //! `polls.rt`, and C1 is a STALL of endpoint 0.
 
-use super::play::played;
+use super::play::{Schedule, first_wrong};
 use std::test::Fail;
 
 /// What is done with a device of its own, which isn't configured at first, and what is told.
 #[rattlefmt::skip]
-const SCHEDULES: [(&str, &str, &str); 10] = [
+const SCHEDULES: [Schedule; 10] = [
     ("the report of a round that ended is due again", "mouse", "
         a configuration:          configure                   >
         a button:                 press 0 0                   >
@@ -126,9 +126,6 @@ const SCHEDULES: [(&str, &str, &str); 10] = [
 
 #[test]
 fn a_halt_loses_no_report(rt: HostRuntime) -> Result<(), Fail> {
-    for (name, kind, rows) in SCHEDULES {
-        let wrong = played(rt.alloc(), kind, rows)?;
-        assert_eq!(rt; wrong.as_str(), "", "{name}");
-    }
+    assert_eq!(rt; first_wrong(rt.alloc(), &SCHEDULES)?.as_str(), "");
     Ok(())
 }

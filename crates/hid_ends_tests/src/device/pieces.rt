@@ -1,12 +1,12 @@
 //! Reports of more than a packet, which go out in pieces of 64 bytes (USB 2.0, 5.7.3, 8.5.4, 8.6 and 9.4.5). Packets are those
 //! of `polls.rt`; SET_REPORT is 21 09 and GET_REPORT A1 01 (HID 1.11, 7.2).
 
-use super::play::played;
+use super::play::{Schedule, first_wrong};
 use std::test::Fail;
 
 /// What is done with a device of its own, which isn't configured at first, and what is told.
 #[rattlefmt::skip]
-const SCHEDULES: [(&str, &str, &str); 9] = [
+const SCHEDULES: [Schedule; 9] = [
     ("two pieces", "100 bytes", "
         a configuration:          configure   >
         the first value:          set 0 0 7   >
@@ -126,16 +126,13 @@ const SCHEDULES: [(&str, &str, &str); 9] = [
 
 #[test]
 fn a_report_goes_in_pieces(rt: HostRuntime) -> Result<(), Fail> {
-    for (name, kind, rows) in SCHEDULES {
-        let wrong = played(rt.alloc(), kind, rows)?;
-        assert_eq!(rt; wrong.as_str(), "", "{name}");
-    }
+    assert_eq!(rt; first_wrong(rt.alloc(), &SCHEDULES)?.as_str(), "");
     Ok(())
 }
 
 /// The same of reports that are read and set at endpoint 0.
 #[rattlefmt::skip]
-const TRANSFERS: [(&str, &str, &str); 2] = [
+const TRANSFERS: [Schedule; 2] = [
     ("65 bytes", "100 bytes", "
         zeros at first:           kept output 0                     > 00*65
         65 bytes are set:         ask 21 09 00 02 00 00 41 00 05*65 >
@@ -162,9 +159,6 @@ const TRANSFERS: [(&str, &str, &str); 2] = [
 
 #[test]
 fn a_long_report_is_read_and_set(rt: HostRuntime) -> Result<(), Fail> {
-    for (name, kind, rows) in TRANSFERS {
-        let wrong = played(rt.alloc(), kind, rows)?;
-        assert_eq!(rt; wrong.as_str(), "", "{name}");
-    }
+    assert_eq!(rt; first_wrong(rt.alloc(), &TRANSFERS)?.as_str(), "");
     Ok(())
 }

@@ -90,7 +90,18 @@ fn device_of(alloc: Global, kind: &str) -> Result<Device, DeviceFault> {
         _ => &MOUSE,
     };
     let addr = if kind == "mouse 127" { 127 } else { 1 };
-    Device::new(alloc, addr, &config(kind, 10), descriptor)
+    device_at(alloc, addr, &config(kind, 10), descriptor)
+}
+
+/// The device at this address, or why there is none. It promises nothing, so that what [`Device::new`] does is before the
+/// prover here alone.
+pub fn device_at(
+    alloc: Global,
+    addr: u8,
+    config: &Config,
+    descriptor: &[u8],
+) -> Result<Device, DeviceFault> {
+    Device::new(alloc, addr, config, descriptor)
 }
 
 pub fn config(kind: &str, interval: u8) -> Config {
@@ -244,25 +255,8 @@ fn kept(alloc: Global, device: &Device, kind: &str, id: &str) -> Result<String, 
     }
 }
 
-/// Does it, and tells what is answered.
-fn done(alloc: Global, device: &mut Device, act: &str) -> Result<String, Fail> {
-    let words: Vec<&str> = act.split(' ').collect(alloc)?;
-    if let Some(change) = change_of(&words)? {
-        return changed(alloc, device, change);
-    }
-    if let ["fixed", item, index] = *words {
-        let control = control_of(item, index)?;
-        return Ok(format!(in alloc; "{} ", device.fixed().motion(control))?);
-    }
-    if let ["kept", kind, id] = *words {
-        return kept(alloc, device, kind, id);
-    }
-    if let ["frames", count] = *words {
-        for _ in 0..count.parse()? {
-            device.frame();
-        }
-        return Ok(String::new(alloc));
-    }
+/// Does what is one of these words; false where it is something else.
+fn acted(device: &mut Device, act: &str) -> bool {
     match act {
         "configure" => device.configure(),
         "frame" => device.frame(),
@@ -270,13 +264,57 @@ fn done(alloc: Global, device: &mut Device, act: &str) -> Result<String, Fail> {
         "halt" => device.halt(),
         "reset" => device.control().reset(),
         "apply" => device.control().requests_mut().apply(&[]),
-        "answer" => match device.control().requests().answer() {
-            Some(bytes) => return hex(alloc, bytes),
-            None => return Ok(format!(in alloc; "none ")?),
-        },
-        _ => return answered(alloc, device, &words),
+        _ => return false,
     }
-    Ok(String::new(alloc))
+    true
+}
+
+/// The answer that is fixed at endpoint 0.
+fn fixed_answer(alloc: Global, device: &mut Device) -> Result<String, Fail> {
+    match device.control().requests().answer() {
+        Some(bytes) => hex(alloc, bytes),
+        None => Ok(format!(in alloc; "none ")?),
+    }
+}
+
+/// The motion that is fixed of a control.
+fn fixed_motion(alloc: Global, device: &Device, item: &str, index: &str) -> Result<String, Fail> {
+    let motion = device.fixed().motion(control_of(item, index)?);
+    Ok(format!(in alloc; "{motion} ")?)
+}
+
+fn pass_frames(device: &mut Device, count: usize) {
+    for _ in 0..count {
+        device.frame();
+    }
+}
+
+/// Does what these words mean, and tells what is answered.
+fn done_of(alloc: Global, device: &mut Device, words: &[&str]) -> Result<String, Fail> {
+    if let Some(change) = change_of(words)? {
+        return changed(alloc, device, change);
+    }
+    match *words {
+        ["fixed", item, index] => fixed_motion(alloc, device, item, index),
+        ["kept", kind, id] => kept(alloc, device, kind, id),
+        ["frames", count] => {
+            pass_frames(device, count.parse()?);
+            Ok(String::new(alloc))
+        }
+        _ => answered(alloc, device, words),
+    }
+}
+
+/// Does it, and tells what is answered.
+fn done(alloc: Global, device: &mut Device, act: &str) -> Result<String, Fail> {
+    if acted(device, act) {
+        return Ok(String::new(alloc));
+    }
+    if act == "answer" {
+        return fixed_answer(alloc, device);
+    }
+    let words: Vec<&str> = act.split(' ').collect(alloc)?;
+    done_of(alloc, device, &words)
 }
 
 /// The open round, if one is: its report, its toggle and its piece. Something is armed for it. Or that the endpoint is
@@ -325,9 +363,23 @@ fn wrong_row(alloc: Global, device: &mut Device, rows: &str) -> Result<String, F
 }
 
 /// Plays rows with a device of its own.
-pub fn played(alloc: Global, kind: &str, rows: &str) -> Result<String, Fail> {
+fn played(alloc: Global, kind: &str, rows: &str) -> Result<String, Fail> {
     let mut device = device_of(alloc, kind)?;
     wrong_row(alloc, &mut device, rows)
+}
+
+/// A name, the kind of a device, and the rows that are played with it.
+pub type Schedule = (&'static str, &'static str, &'static str);
+
+/// Plays each schedule, and gives what is wrong with the first that is, behind its name; nothing where none is.
+pub fn first_wrong(alloc: Global, schedules: &[Schedule]) -> Result<String, Fail> {
+    for (name, kind, rows) in schedules {
+        let wrong = played(alloc, kind, rows)?;
+        if !wrong.is_empty() {
+            return Ok(format!(in alloc; "{name}: {wrong}")?);
+        }
+    }
+    Ok(String::new(alloc))
 }
 
 /// What is done, behind the name of a row.

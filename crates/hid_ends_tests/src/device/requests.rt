@@ -2,13 +2,13 @@
 //! IN 69, OUT E1, DATA0 C3, DATA1 4B, ACK D2, NAK 5A, STALL 1E; address 1, endpoint 0 is 01 00, and endpoint 1 is 81 00.
 //! Requests are those of USB 2.0, 9.4, and HID 1.11, 7.1, and descriptors those of USB 2.0, 9.6, and HID 1.11, 6.2.1 and E.6.
 
-use super::play::played;
+use super::play::{Schedule, first_wrong};
 use std::test::Fail;
 
 /// What is done with a device of its own, which isn't configured at first, and what is told. A configuration tells the kind
 /// of its device by bInterfaceSubClass and bInterfaceProtocol (HID 1.11, 4.2 and 4.3), its bytes 15 and 16.
 #[rattlefmt::skip]
-const SCHEDULES: [(&str, &str, &str); 11] = [
+const SCHEDULES: [Schedule; 11] = [
     ("reads before SET_CONFIGURATION", "keyboard", "
         status of the device:        ask 80 00 00 00 00 00 02 00 > 00 00
         status of the interface:     ask 81 00 00 00 00 00 02 00 > C1
@@ -130,9 +130,6 @@ const SCHEDULES: [(&str, &str, &str); 11] = [
 
 #[test]
 fn each_endpoint_answers_its_own_packets(rt: HostRuntime) -> Result<(), Fail> {
-    for (name, kind, rows) in SCHEDULES {
-        let wrong = played(rt.alloc(), kind, rows)?;
-        assert_eq!(rt; wrong.as_str(), "", "{name}");
-    }
+    assert_eq!(rt; first_wrong(rt.alloc(), &SCHEDULES)?.as_str(), "");
     Ok(())
 }

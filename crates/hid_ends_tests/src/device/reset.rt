@@ -1,12 +1,12 @@
 //! Resets of the bus: what of a device is as it was at first (USB 2.0, 7.1.7.5 and 9.1.1.3; HID 1.11, 7.2.4 and 7.2.6),
 //! and that its snapshot stays. Packets and requests are those of `polls.rt`, `requests.rt` and `class.rt`.
 
-use super::play::played;
+use super::play::{Schedule, first_wrong};
 use std::test::Fail;
 
 /// What is done with a device of its own, which isn't configured at first, and what is told.
 #[rattlefmt::skip]
-const SCHEDULES: [(&str, &str, &str); 9] = [
+const SCHEDULES: [Schedule; 9] = [
     ("what is pressed stays, and the device isn't configured", "keyboard", "
         a configuration:      configure                  >
         a key:                press 4 4                  >
@@ -111,9 +111,6 @@ const SCHEDULES: [(&str, &str, &str); 9] = [
 
 #[test]
 fn a_reset_leaves_the_snapshot_alone(rt: HostRuntime) -> Result<(), Fail> {
-    for (name, kind, rows) in SCHEDULES {
-        let wrong = played(rt.alloc(), kind, rows)?;
-        assert_eq!(rt; wrong.as_str(), "", "{name}");
-    }
+    assert_eq!(rt; first_wrong(rt.alloc(), &SCHEDULES)?.as_str(), "");
     Ok(())
 }

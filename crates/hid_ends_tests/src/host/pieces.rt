@@ -2,13 +2,15 @@
 //! until it ends, and forgotten where it is refused, where a clear is done, and at a reset of the bus. What is wanted was worked
 //! out by hand from the descriptors.
 
+use super::calls::{ready, replied};
+use super::data;
 use super::foreign::{Foreign, LENGTH_AT, asked, configuration_with};
-use super::{data, ready};
 use hid_host::{HostDevice, StackFault};
 use hid_layout::laws::one_reading;
 use hid_layout::{ControlId, Layout};
 use hid_requests::Request;
 use hid_usages::{Event, ReportFault, Shown};
+use std::alloc::Global;
 use std::test::Fail;
 use usb_control::Progress;
 use usb_packet::Packet;
@@ -19,6 +21,10 @@ use usb_transact::Took;
 const LONG: [u8; 15] = [
     0x05, 0x01, 0x09, 0x30, 0x15, 0x00, 0x26, 0xFF, 0x00, 0x75, 0x08, 0x95, 0x64, 0x81, 0x02,
 ];
+
+fn long() -> &'static [u8] {
+    &LONG
+}
 
 /// The same in report 1, of 101 bytes, and one value in report 2.
 #[rattlefmt::skip]
@@ -68,21 +74,33 @@ fn is_given(event: &Event, given: &Given) -> bool {
     }
 }
 
-/// Whether a host that is given these data tells so, and takes no event where it doesn't.
-fn tells(rt: &HostRuntime, host: &mut HostDevice, came: &Came) -> Result<bool, Fail> {
-    let (one, first, rest, count, told) = came;
-    host.token()?;
+/// The first value.
+const VALUE: ControlId = ControlId { item: 0, index: 0 };
+
+/// The data that come.
+fn packet_of(came: &Came) -> Option<Packet> {
+    let (one, first, rest, count, _) = came;
     let mut bytes = [*rest; 64];
     bytes[0] = *first;
-    let packet = data(*one, &bytes[..(*count).min(64)]);
-    let mut out = Vec::with_capacity(rt.alloc(), host.max_events())?;
-    let took = host.reply(packet.as_ref(), &mut out);
-    Ok(match (told, took) {
-        (Told::Fresh(values), Ok(Took::Fresh(_))) => are_given(&out, values),
-        (Told::Again, Ok(Took::Again)) => out.is_empty(),
-        (Told::Refused(fault), Err(StackFault::Report(found))) => found == *fault && out.is_empty(),
+    data(*one, &bytes[..(*count).min(64)])
+}
+
+/// Whether a host told so of data, and gave no event where it doesn't tell of fresh ones.
+fn is_so(took: &Result<Took, StackFault>, events: &[Event], wanted: &Told) -> bool {
+    match (wanted, took) {
+        (Told::Fresh(values), Ok(Took::Fresh(_))) => are_given(events, values),
+        (Told::Again, Ok(Took::Again)) => events.is_empty(),
+        (Told::Refused(fault), Err(StackFault::Report(found))) => {
+            *found == *fault && events.is_empty()
+        }
         _ => false,
-    })
+    }
+}
+
+/// Whether a host that is given these data tells so.
+fn tells(alloc: Global, host: &mut HostDevice, came: &Came) -> Result<bool, Fail> {
+    let (took, _, _, events) = replied(alloc, host, packet_of(came).as_ref(), VALUE)?;
+    Ok(is_so(&took, &events, &came.4))
 }
 
 /// Data that come to a host one behind the other.
@@ -121,9 +139,9 @@ const ROWS: [Row; 9] = [
 ];
 
 /// Whether a host tells so of each of these data.
-fn tells_each(rt: &HostRuntime, host: &mut HostDevice, packets: &[Came]) -> Result<bool, Fail> {
+fn tells_each(alloc: Global, host: &mut HostDevice, packets: &[Came]) -> Result<bool, Fail> {
     for came in packets {
-        if !tells(rt, host, came)? {
+        if !tells(alloc, host, came)? {
             return Ok(false);
         }
     }
@@ -131,9 +149,9 @@ fn tells_each(rt: &HostRuntime, host: &mut HostDevice, packets: &[Came]) -> Resu
 }
 
 /// The same of a host that is ready for this descriptor.
-fn tells_all(rt: &HostRuntime, descriptor: &[u8], packets: &[Came]) -> Result<bool, Fail> {
-    let mut host = ready(rt, descriptor)?;
-    tells_each(rt, &mut host, packets)
+fn tells_all(alloc: Global, descriptor: &[u8], packets: &[Came]) -> Result<bool, Fail> {
+    let mut host = ready(alloc, descriptor)?;
+    tells_each(alloc, &mut host, packets)
 }
 
 /// A piece of a report, and all pieces of another one, which begins with DATA0 behind a clear and behind a reset.
@@ -146,22 +164,22 @@ const BEHIND: [Came; 2] = [
 
 /// The same, with a clear that is done behind the first of two lists.
 fn tells_around_a_clear(
-    rt: &HostRuntime,
+    alloc: Global,
     descriptor: &[u8],
     before: &[Came],
     after: &[Came],
 ) -> Result<bool, Fail> {
-    let mut host = ready(rt, descriptor)?;
+    let mut host = ready(alloc, descriptor)?;
     let mut control = Foreign::new(&[], &[]);
-    let told = tells_each(rt, &mut host, before)?;
+    let told = tells_each(alloc, &mut host, before)?;
     let cleared = asked(&mut host, &mut control, &Request::Clear)?;
-    Ok(told && cleared == Progress::Done && tells_each(rt, &mut host, after)?)
+    Ok(told && cleared == Progress::Done && tells_each(alloc, &mut host, after)?)
 }
 
 /// What the first row is about that isn't so.
-fn first_wrong(rt: &HostRuntime, rows: &[Row]) -> Result<Option<&'static str>, Fail> {
+fn first_wrong(alloc: Global, rows: &[Row]) -> Result<Option<&'static str>, Fail> {
     for (name, descriptor, packets) in rows {
-        if !tells_all(rt, descriptor, packets)? {
+        if !tells_all(alloc, descriptor, packets)? {
             return Ok(Some(*name));
         }
     }
@@ -170,27 +188,27 @@ fn first_wrong(rt: &HostRuntime, rows: &[Row]) -> Result<Option<&'static str>, F
 
 #[test]
 fn a_report_is_read_once_it_is_whole(rt: HostRuntime) -> Result<(), Fail> {
-    assert_eq!(rt; first_wrong(&rt, &ROWS)?, None);
+    assert_eq!(rt; first_wrong(rt.alloc(), &ROWS)?, None);
     Ok(())
 }
 
 /// Behind it DATA0 comes again (USB 2.0, 9.4.5), with the first packet of a report.
 #[test]
 fn a_clear_forgets_what_came_of_a_report(rt: HostRuntime) -> Result<(), Fail> {
-    assert!(rt; tells_around_a_clear(&rt, &LONG, &BEFORE, &BEHIND)?);
+    assert!(rt; tells_around_a_clear(rt.alloc(), long(), &BEFORE, &BEHIND)?);
     Ok(())
 }
 
 /// A host that was reset once it had taken this packet, with no round open at its device then, and whether it told nothing.
 fn reset_behind(
-    rt: &HostRuntime,
+    alloc: Global,
     descriptor: &[u8],
     packet: Option<&Packet>,
 ) -> Result<(HostDevice, bool), Fail> {
-    let layout = Layout::parse(rt.alloc(), descriptor)?;
-    let fixed = Shown::blank(rt.alloc(), &layout)?;
-    let mut host = HostDevice::ready(rt.alloc(), 1, descriptor)?;
-    let mut out = Vec::with_capacity(rt.alloc(), host.max_events())?;
+    let layout = Layout::parse(alloc, descriptor)?;
+    let fixed = Shown::blank(alloc, &layout)?;
+    let mut host = HostDevice::ready(alloc, 1, descriptor)?;
+    let mut out = Vec::with_capacity(alloc, host.max_events())?;
     let took = host.reply(packet, &mut out)?;
     let is_quiet = matches!(took, Took::Fresh(_)) && out.is_empty();
     out.clear();
@@ -213,19 +231,19 @@ fn is_brought_up(host: &mut HostDevice, descriptor: &[u8], length: u8) -> Result
 
 /// Whether a host tells so of these data that was reset behind a piece of a report, and whose device was configured then.
 fn tells_behind_a_reset(
-    rt: &HostRuntime,
+    alloc: Global,
     descriptor: &[u8],
     length: u8,
     after: &[Came],
 ) -> Result<bool, Fail> {
     let piece = data(false, &[5; 64]);
-    let (mut host, is_quiet) = reset_behind(rt, descriptor, piece.as_ref())?;
+    let (mut host, is_quiet) = reset_behind(alloc, descriptor, piece.as_ref())?;
     let is_up = is_brought_up(&mut host, descriptor, length)?;
-    Ok(is_quiet && is_up && tells_each(rt, &mut host, after)?)
+    Ok(is_quiet && is_up && tells_each(alloc, &mut host, after)?)
 }
 
 #[test]
 fn a_reset_and_a_configuration_forget_what_came_of_a_report(rt: HostRuntime) -> Result<(), Fail> {
-    assert!(rt; tells_behind_a_reset(&rt, &LONG, 15, &BEHIND)?);
+    assert!(rt; tells_behind_a_reset(rt.alloc(), long(), 15, &BEHIND)?);
     Ok(())
 }
