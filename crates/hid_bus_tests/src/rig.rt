@@ -7,10 +7,9 @@ ghost use Rattle.hid_host.specs.Phase.{IsReady};
 use hid_device::{Boot, Config, Device, KEYBOARD, MOUSE};
 use hid_layout::{ControlId, Usage};
 use hid_stack::{
-    Delivered, HostDevice, HostState, MAX_DEVICES, Request, Rig, RunFault, StackFault, Start, Step,
-    Told, poll,
+    Delivered, HostDevice, HostState, Request, Rig, RunFault, StackFault, Start, Step, Told, poll,
 };
-use hid_usages::{Change, ChangeFault, Event, ReportFault};
+use hid_usages::{Change, ChangeFault, Event};
 use std::test::Fail;
 use usb_control::{ControlFault, Outcome, Progress};
 use usb_transact::{Fate, Took};
@@ -19,6 +18,7 @@ mod devices;
 mod halts;
 mod memory;
 mod pieces;
+mod refusals;
 mod resets;
 
 fn config(boot: Boot) -> Config {
@@ -30,16 +30,52 @@ fn config(boot: Boot) -> Config {
     }
 }
 
+// Helpers without a contract: so the proofs of the tests aren't given what these calls say, nor these bytes. A test that plays
+// on a bus gives it to a helper too: each end of a function that owns a bus has a proof that it is given back.
+
+fn keyboard() -> &'static [u8] {
+    &KEYBOARD
+}
+
+fn mouse() -> &'static [u8] {
+    &MOUSE
+}
+
 /// A bus with this device alone.
 fn bus_with(rt: &HostRuntime, boot: Boot, descriptor: &[u8], start: Start) -> Result<Rig, Fail> {
     let mut rig = Rig::new(rt.alloc())?;
-    rig.attach(&config(boot), descriptor, start)?;
+    attach_to(&mut rig, boot, descriptor, start)?;
     Ok(rig)
+}
+
+/// A bus with a boot keyboard alone.
+fn bus_with_keyboard(rt: &HostRuntime, start: Start) -> Result<Rig, Fail> {
+    bus_with(rt, Boot::Keyboard, keyboard(), start)
 }
 
 /// One device more.
 fn attach_to(rig: &mut Rig, boot: Boot, descriptor: &[u8], start: Start) -> Result<u8, StackFault> {
     rig.attach(&config(boot), descriptor, start)
+}
+
+/// A step of the bus.
+fn take_step(rig: &mut Rig, step: &Step, out: &mut Vec<Delivered>) -> Result<Told, StackFault> {
+    rig.step(step, out)
+}
+
+/// Steps up to the first that is refused.
+fn take_steps(rig: &mut Rig, steps: &[Step], out: &mut Vec<Delivered>) -> Result<(), RunFault> {
+    rig.run(steps, out)
+}
+
+/// What the host of a device knows.
+fn state_of(rig: &Rig, dev: u8) -> Result<HostState, StackFault> {
+    Ok(rig.host(dev)?.state())
+}
+
+/// The toggle that the host of a device expects, once it is ready.
+fn expected_of(rig: &Rig, dev: u8) -> Result<Option<bool>, StackFault> {
+    Ok(expects(rig.host(dev)?))
 }
 
 /// A step of one device; a control by its item and index.
@@ -252,26 +288,15 @@ const FAR_LEFT: [Row; 4] = [
     (CLEAN,                Tells::Sends(&[0x4B, 0x00, 0xB7, 0x00], Verdict::Fresh),               &[Given::X(-73)]),
 ];
 
-const SCHEDULES: [(&str, Boot, &[u8], &[Row]); 4] = [
-    (
-        "a key in a retry",
-        Boot::Keyboard,
-        &KEYBOARD,
-        &KEY_IN_A_RETRY,
-    ),
-    (
-        "nothing crossed",
-        Boot::Keyboard,
-        &KEYBOARD,
-        &PRESSED_AND_RELEASED,
-    ),
-    ("a reply is lost", Boot::Keyboard, &KEYBOARD, &REPLY_LOST),
-    (
-        "a retry takes no further motion",
-        Boot::Mouse,
-        &MOUSE,
-        &FAR_LEFT,
-    ),
+/// What a schedule is about, its device alone on a bus, and its steps.
+type Schedule = (&'static str, Boot, &'static [u8], &'static [Row]);
+
+#[rattlefmt::skip]
+const SCHEDULES: [Schedule; 4] = [
+    ("a key in a retry",                Boot::Keyboard, &KEYBOARD, &KEY_IN_A_RETRY),
+    ("nothing crossed",                 Boot::Keyboard, &KEYBOARD, &PRESSED_AND_RELEASED),
+    ("a reply is lost",                 Boot::Keyboard, &KEYBOARD, &REPLY_LOST),
+    ("a retry takes no further motion", Boot::Mouse,    &MOUSE,    &FAR_LEFT),
 ];
 
 fn is_answer(answer: &Result<Told, StackFault>, wanted: Tells) -> bool {
@@ -282,6 +307,19 @@ fn is_answer(answer: &Result<Told, StackFault>, wanted: Tells) -> bool {
     }
 }
 
+/// Whether a step tells and delivers so.
+fn goes(
+    rt: &HostRuntime,
+    rig: &mut Rig,
+    step: &Step,
+    wanted: Tells,
+    events: &[Given],
+) -> Result<bool, Fail> {
+    let mut out = Vec::new(rt.alloc());
+    let answer = take_step(rig, step, &mut out);
+    Ok(is_answer(&answer, wanted) && are_delivered(&out, events))
+}
+
 /// The first step of device 1 that tells or delivers anything else than its row says.
 fn first_that_differs(
     rt: &HostRuntime,
@@ -289,10 +327,32 @@ fn first_that_differs(
     rows: &[Row],
 ) -> Result<Option<usize>, Fail> {
     for (at, (act, wanted, events)) in rows.iter().enumerate() {
-        let mut out = Vec::new(rt.alloc());
-        let answer = rig.step(&step_of(*act), &mut out);
-        if !(is_answer(&answer, *wanted) && are_delivered(&out, events)) {
+        if !goes(rt, rig, &step_of(*act), *wanted, events)? {
             return Ok(Some(at));
+        }
+    }
+    Ok(None)
+}
+
+/// The first step that differs on a bus with this device alone.
+fn plays(
+    rt: &HostRuntime,
+    boot: Boot,
+    descriptor: &[u8],
+    rows: &[Row],
+) -> Result<Option<usize>, Fail> {
+    let mut rig = bus_with(rt, boot, descriptor, Start::Ready)?;
+    first_that_differs(rt, &mut rig, rows)
+}
+
+/// What the first schedule is about that doesn't go as it says, and its step.
+fn first_wrong(
+    rt: &HostRuntime,
+    schedules: &[Schedule],
+) -> Result<Option<(&'static str, usize)>, Fail> {
+    for (name, boot, descriptor, rows) in schedules {
+        if let Some(at) = plays(rt, *boot, descriptor, rows)? {
+            return Ok(Some((*name, at)));
         }
     }
     Ok(None)
@@ -300,44 +360,62 @@ fn first_that_differs(
 
 #[test]
 fn a_schedule_tells_and_delivers(rt: HostRuntime) -> Result<(), Fail> {
-    for (name, boot, descriptor, rows) in SCHEDULES {
-        let mut rig = bus_with(&rt, boot, descriptor, Start::Ready)?;
-        let fails_at = first_that_differs(&rt, &mut rig, rows)?;
-        assert!(rt; fails_at.is_none(), "{name}: step {fails_at:?}");
-    }
+    assert_eq!(rt; first_wrong(&rt, &SCHEDULES)?, None);
     Ok(())
+}
+
+/// Steps, each with its device; at which of them the run stops, and why; and what is delivered.
+type Run = (&'static [(u8, Act)], Result<(), RunFault>, &'static [Given]);
+
+/// Runs of one keyboard, one behind the other.
+#[rattlefmt::skip]
+const RUNS: [Run; 2] = [
+    (&[(1, Act::Press(4, 4)), (1, Act::Poll(Fate::AckLost)), (1, Act::Press(4, 5)), (1, CLEAN), (1, CLEAN)],
+        Ok(()),                                                   &[Given::Down(4), Given::Down(5)]),
+    (&[(1, Act::Press(4, 6)), (1, CLEAN), (2, CLEAN), (1, Act::Press(4, 7))],
+        Err(RunFault { at: 2, fault: StackFault::NoDevice }),     &[Given::Down(6)]),
+];
+
+fn steps_of(rt: &HostRuntime, acts: &[(u8, Act)]) -> Result<Vec<Step>, Fail> {
+    let mut steps = Vec::new(rt.alloc());
+    for (dev, act) in acts {
+        steps.push(step_at(*dev, *act))?;
+    }
+    Ok(steps)
+}
+
+/// Whether these acts run so, and deliver these events.
+fn runs(
+    rt: &HostRuntime,
+    rig: &mut Rig,
+    acts: &[(u8, Act)],
+    wanted: &Result<(), RunFault>,
+    events: &[Given],
+) -> Result<bool, Fail> {
+    let steps = steps_of(rt, acts)?;
+    let mut out = Vec::new(rt.alloc());
+    let ran = take_steps(rig, &steps, &mut out);
+    Ok(ran == *wanted && are_delivered(&out, events))
+}
+
+/// The first run that goes otherwise.
+fn first_run_otherwise(
+    rt: &HostRuntime,
+    rig: &mut Rig,
+    rows: &[Run],
+) -> Result<Option<usize>, Fail> {
+    for (at, (acts, wanted, events)) in rows.iter().enumerate() {
+        if !runs(rt, rig, acts, wanted, events)? {
+            return Ok(Some(at));
+        }
+    }
+    Ok(None)
 }
 
 #[test]
 fn a_run_ends_at_its_first_refusal(rt: HostRuntime) -> Result<(), Fail> {
-    let mut rig = bus_with(&rt, Boot::Keyboard, &KEYBOARD, Start::Ready)?;
-    let mut out = Vec::new(rt.alloc());
-    let steps = [
-        step_of(Act::Press(4, 4)),
-        step_of(Act::Poll(Fate::AckLost)),
-        step_of(Act::Press(4, 5)),
-        step_of(CLEAN),
-        step_of(CLEAN),
-    ];
-    assert_eq!(rt; rig.run(&steps, &mut out), Ok(()));
-    assert!(rt; are_delivered(&out, &[Given::Down(4), Given::Down(5)]));
-
-    let mut more = Vec::new(rt.alloc());
-    let stopped = [
-        step_of(Act::Press(4, 6)),
-        step_of(CLEAN),
-        Step::Poll {
-            dev: 2,
-            fate: Fate::Clean,
-        },
-        step_of(Act::Press(4, 7)),
-    ];
-    let fault = StackFault::NoDevice;
-    assert_eq!(rt;
-        rig.run(&stopped, &mut more),
-        Err(RunFault { at: 2, fault })
-    );
-    assert!(rt; are_delivered(&more, &[Given::Down(6)]));
+    let mut rig = bus_with_keyboard(&rt, Start::Ready)?;
+    assert_eq!(rt; first_run_otherwise(&rt, &mut rig, &RUNS)?, None);
     Ok(())
 }
 
@@ -357,40 +435,62 @@ fn holds(host: &HostDevice, control: ControlId) -> bool {
     }
 }
 
+/// The report of a boot keyboard with its key a pressed.
+const A_PRESSED: [u8; 8] = [0, 0, 0x04, 0, 0, 0, 0, 0];
+
+/// Whether the pipe of a device is at this toggle, and armed with this report.
+fn is_pipe(device: &Device, toggle: bool, armed: Option<&[u8]>) -> bool {
+    device.pipe().toggle() == toggle && device.pipe().armed() == armed
+}
+
+/// Whether the host of device 1 expects DATA1 and holds the key a, and the device's pipe stands so.
+fn are_ends(rig: &Rig, toggle: bool, armed: Option<&[u8]>) -> Result<bool, StackFault> {
+    let is_told = expected_of(rig, 1)? == Some(true) && holds(rig.host(1)?, key(4));
+    Ok(is_told && is_pipe(rig.device(1)?, toggle, armed))
+}
+
+#[rattlefmt::skip]
+const LOST: [(u8, Act); 2] = [(1, Act::Press(4, 4)), (1, Act::Poll(Fate::AckLost))];
+
+/// Whether the ends stand apart where an ACK is lost: the device holds the report at DATA0.
+fn are_apart(rt: &HostRuntime, rig: &mut Rig) -> Result<bool, Fail> {
+    Ok(
+        runs(rt, rig, &LOST, &Ok(()), &[Given::Down(4)])?
+            && are_ends(rig, false, Some(A_PRESSED.as_slice()))?,
+    )
+}
+
+/// Whether they stand alike behind the next poll, which tells nothing again.
+fn are_alike(rt: &HostRuntime, rig: &mut Rig) -> Result<bool, Fail> {
+    Ok(runs(rt, rig, &[(1, CLEAN)], &Ok(()), &[])? && are_ends(rig, true, None)?)
+}
+
 #[test]
 fn the_two_ends_show_their_toggles(rt: HostRuntime) -> Result<(), Fail> {
-    let key = ControlId { item: 4, index: 4 };
-    let report: [u8; 8] = [0, 0, 0x04, 0, 0, 0, 0, 0];
-    let mut rig = Rig::new(rt.alloc())?;
-    assert_eq!(rt;
-        attach_to(&mut rig, Boot::Keyboard, &KEYBOARD, Start::Ready),
-        Ok(1)
-    );
-    let mut out = Vec::new(rt.alloc());
-    assert_eq!(rt;
-        rig.run(
-            &[step_of(Act::Press(4, 4)), step_of(Act::Poll(Fate::AckLost))],
-            &mut out
-        ),
-        Ok(())
-    );
-    assert!(rt; expects(rig.host(1)?) == Some(true));
-    assert!(rt; holds(rig.host(1)?, key));
-    assert!(rt; !rig.device(1)?.pipe().toggle());
-    assert_eq!(rt; rig.device(1)?.pipe().armed(), Some(report.as_slice()));
-
-    assert_eq!(rt; rig.run(&[step_of(CLEAN)], &mut out), Ok(()));
-    assert!(rt; expects(rig.host(1)?) == Some(true));
-    assert!(rt; rig.device(1)?.pipe().toggle());
-    assert_eq!(rt; rig.device(1)?.pipe().armed(), None);
+    let mut rig = bus_with_keyboard(&rt, Start::Ready)?;
+    assert!(rt; are_apart(&rt, &mut rig)?);
+    assert!(rt; are_alike(&rt, &mut rig)?);
     Ok(())
 }
 
-/// A boot keyboard at address 1 with its key a pressed.
-fn pressed_keyboard(rt: &HostRuntime, descriptor: &[u8]) -> Result<Device, Fail> {
-    let mut device = Device::new(rt.alloc(), 1, &config(Boot::Keyboard), descriptor)?;
+/// A boot keyboard at address 1.
+fn new_keyboard(rt: &HostRuntime, descriptor: &[u8]) -> Result<Device, Fail> {
+    Ok(Device::new(rt.alloc(), 1, &config(Boot::Keyboard), descriptor)?)
+}
+
+fn configure(device: &mut Device) {
     device.configure();
-    device.change(Change::Press(ControlId { item: 4, index: 4 }))?;
+}
+
+fn press(device: &mut Device, control: ControlId) -> Result<(), ChangeFault> {
+    device.change(Change::Press(control))
+}
+
+/// A boot keyboard at address 1 that is configured, with its key a pressed.
+fn pressed_keyboard(rt: &HostRuntime, descriptor: &[u8]) -> Result<Device, Fail> {
+    let mut device = new_keyboard(rt, descriptor)?;
+    configure(&mut device);
+    press(&mut device, key(4))?;
     Ok(device)
 }
 
@@ -401,101 +501,86 @@ fn ready_host(rt: &HostRuntime, descriptor: &[u8]) -> Result<HostDevice, Fail>
     Ok(HostDevice::ready(rt.alloc(), 1, descriptor)?)
 }
 
+/// A poll of a host that is ready, and what it delivers.
+fn polled(
+    rt: &HostRuntime,
+    fate: Fate,
+    device: &mut Device,
+    host: &mut HostDevice,
+) -> Result<(Told, Vec<Event>), Fail>
+    requires { IsReady host.old.phase }
+{
+    let mut out = Vec::with_capacity(rt.alloc(), host.max_events())?;
+    let told = poll(&fate, device, host, &mut out)?;
+    Ok((told, out))
+}
+
+/// Whether a poll whose ACK is lost tells and delivers the key a.
+fn tells_the_key(rt: &HostRuntime, device: &mut Device, descriptor: &[u8]) -> Result<bool, Fail> {
+    let mut host = ready_host(rt, descriptor)?;
+    let (told, out) = polled(rt, Fate::AckLost, device, &mut host)?;
+    let sent = Tells::Sends(&[0xC3, 0, 0, 0x04, 0, 0, 0, 0, 0], Verdict::Fresh);
+    Ok(is_told(&told, sent) && out.as_slice() == [event_of(Given::Down(4))].as_slice())
+}
+
 #[test]
 fn two_ends_are_polled_without_a_rig(rt: HostRuntime) -> Result<(), Fail> {
-    let report: [u8; 8] = [0, 0, 0x04, 0, 0, 0, 0, 0];
-    let mut device = pressed_keyboard(&rt, &KEYBOARD)?;
-    let mut host = ready_host(&rt, &KEYBOARD)?;
-    let mut out = Vec::with_capacity(rt.alloc(), host.max_events())?;
-    let told = poll(&Fate::AckLost, &mut device, &mut host, &mut out)?;
-    let sent = Tells::Sends(&[0xC3, 0, 0, 0x04, 0, 0, 0, 0, 0], Verdict::Fresh);
-    assert!(rt; is_told(&told, sent));
-    assert_eq!(rt; out.as_slice(), [event_of(Given::Down(4))].as_slice());
-    assert_eq!(rt; device.pipe().armed(), Some(report.as_slice()));
+    let mut device = pressed_keyboard(&rt, keyboard())?;
+    assert!(rt; tells_the_key(&rt, &mut device, keyboard())?);
+    assert!(rt; is_pipe(&device, false, Some(A_PRESSED.as_slice())));
     Ok(())
+}
+
+/// Whether a host that knows nothing of a device polls nothing.
+fn polls_nothing(rt: &HostRuntime, device: &mut Device) -> bool {
+    let mut host = HostDevice::cold(rt.alloc(), 1);
+    let mut out = Vec::new(rt.alloc());
+    let told = poll(&Fate::Clean, device, &mut host, &mut out);
+    is_answer(&told, Tells::Refused(StackFault::NotReady)) && out.is_empty()
 }
 
 #[test]
 fn a_cold_host_polls_nothing(rt: HostRuntime) -> Result<(), Fail> {
-    let mut device = pressed_keyboard(&rt, &KEYBOARD)?;
-    let mut host = HostDevice::cold(rt.alloc(), 1);
-    let mut out = Vec::new(rt.alloc());
-    let told = poll(&Fate::Clean, &mut device, &mut host, &mut out);
-    assert_eq!(rt; told, Err(StackFault::NotReady));
-    assert!(rt; device.open_round().is_none() && out.is_empty());
+    let mut device = pressed_keyboard(&rt, keyboard())?;
+    assert!(rt; polls_nothing(&rt, &mut device));
+    assert!(rt; device.open_round().is_none());
     Ok(())
+}
+
+fn find(rig: &Rig, dev: u8, usage: Usage) -> Result<ControlId, StackFault> {
+    rig.find(dev, usage)
+}
+
+const Y_USAGE: Usage = Usage { page: 1, id: 0x31 };
+
+const WHEEL: Usage = Usage { page: 1, id: 0x38 };
+
+/// Usages looked for at a device, where a boot mouse is device 1.
+#[rattlefmt::skip]
+const FOUND: [(u8, Usage, Result<ControlId, StackFault>); 4] = [
+    (1, Y_USAGE, Ok(ControlId { item: 2, index: 1 })),
+    (1, WHEEL,   Err(StackFault::Refused(ChangeFault::NoSuchControl))),
+    (2, Y_USAGE, Err(StackFault::NoDevice)),
+    (0, Y_USAGE, Err(StackFault::NoDevice)),
+];
+
+/// The first row that is found otherwise.
+fn first_found_otherwise(
+    rig: &Rig,
+    rows: &[(u8, Usage, Result<ControlId, StackFault>)],
+) -> Option<usize> {
+    for (at, (dev, usage, wanted)) in rows.iter().enumerate() {
+        if find(rig, *dev, *usage) != *wanted {
+            return Some(at);
+        }
+    }
+    None
 }
 
 #[test]
 fn a_control_is_found_by_its_usage(rt: HostRuntime) -> Result<(), Fail> {
-    let mut rig = bus_with(&rt, Boot::Mouse, &MOUSE, Start::Ready)?;
-    let wheel = Usage { page: 1, id: 0x38 };
-    let y = Usage { page: 1, id: 0x31 };
-    assert_eq!(rt; rig.find(1, y), Ok(ControlId { item: 2, index: 1 }));
-    assert_eq!(rt;
-        rig.find(1, wheel),
-        Err(StackFault::Refused(ChangeFault::NoSuchControl))
-    );
-    assert_eq!(rt; rig.find(2, y), Err(StackFault::NoDevice));
-    assert_eq!(rt; rig.find(0, y), Err(StackFault::NoDevice));
-    Ok(())
-}
-
-/// Motion that only goes to the right, from 1 to 3: 0 can't be sent.
-#[rattlefmt::skip]
-const NO_ZERO: [u8; 14] = [
-    0x05, 0x01, 0x09, 0x30, 0x15, 0x01, 0x25, 0x03, 0x75, 0x08, 0x95, 0x01, 0x81, 0x06,
-];
-
-const REFUSED: [(Boot, &[u8], &str); 3] = [
-    (Boot::No, &[0xB4], "S5 V3 at 0"),
-    (Boot::No, &NO_ZERO, "S5 V19"),
-    (Boot::Keyboard, &MOUSE, "S5 V20"),
-];
-
-#[test]
-fn refusals_are_printed_as_their_codes(rt: HostRuntime) -> Result<(), Fail> {
-    let mut rig = Rig::new(rt.alloc())?;
-    for (boot, descriptor, text) in REFUSED {
-        match attach_to(&mut rig, boot, descriptor, Start::Ready) {
-            Ok(_) => assert!(rt; false, "{text}"),
-            Err(fault) => assert_eq!(rt; format!(in rt.alloc(); "{fault}")?.as_str(), text),
-        }
-    }
-    for n in 1..=MAX_DEVICES {
-        assert!(rt;
-            attach_to(&mut rig, Boot::Mouse, &MOUSE, Start::Ready) == Ok(n as u8),
-            "{n}"
-        );
-    }
-    assert_eq!(rt;
-        attach_to(&mut rig, Boot::Keyboard, &MOUSE, Start::Ready),
-        Err(StackFault::TooManyDevices)
-    );
-
-    let mut out = Vec::new(rt.alloc());
-    let far = changes(1, Change::Move(X, i32::MAX));
-    rig.step(&far, &mut out)?;
-    let fault = StackFault::Refused(ChangeFault::MotionFull);
-    assert_eq!(rt;
-        rig.run(&[step_of(Act::Move(2, 0, 1))], &mut out),
-        Err(RunFault { at: 0, fault })
-    );
-    for (fault, text) in [
-        (fault, "S3 U6"),
-        (StackFault::NoDevice, "S1"),
-        (StackFault::NotReady, "S2"),
-        (StackFault::Report(ReportFault::UnknownReport), "S6 U9"),
-        (StackFault::TooManyDevices, "S7"),
-        (StackFault::Memory, "S8"),
-    ] {
-        assert_eq!(rt; format!(in rt.alloc(); "{fault}")?.as_str(), text);
-    }
-    let stopped = RunFault { at: 4, fault };
-    assert_eq!(rt;
-        format!(in rt.alloc(); "{stopped}")?.as_str(),
-        "step 4: S3 U6"
-    );
+    let rig = bus_with(&rt, Boot::Mouse, mouse(), Start::Ready)?;
+    assert_eq!(rt; first_found_otherwise(&rig, &FOUND), None);
     Ok(())
 }
 
@@ -510,89 +595,128 @@ const BRINGS_UP: [Asks; 3] = [
     (Request::Configure, 2),
 ];
 
+/// A request of a device begins.
+fn begin(
+    rig: &mut Rig,
+    dev: u8,
+    request: &Request,
+    out: &mut Vec<Delivered>,
+) -> Result<Told, StackFault> {
+    let request = request.copied();
+    take_step(rig, &Step::Begin { dev, request }, out)
+}
+
 /// A request of a device with so many tries, and what the last of them tells.
 fn asked_of(
     rig: &mut Rig,
     dev: u8,
-    request: Request,
+    request: &Request,
     tries: usize,
     out: &mut Vec<Delivered>,
 ) -> Result<Told, StackFault> {
-    let mut told = rig.step(&Step::Begin { dev, request }, out)?;
+    let mut told = begin(rig, dev, request, out)?;
     for _ in 0..tries {
-        let fate = Fate::Clean;
-        told = rig.step(&Step::Control { dev, fate }, out)?;
+        told = take_step(rig, &step_at(dev, Act::Control(Fate::Clean)), out)?;
     }
     Ok(told)
 }
 
-fn asked(
+/// Whether a request of a device is done in the last of so many tries.
+fn is_done(
     rig: &mut Rig,
-    request: Request,
+    dev: u8,
+    request: &Request,
     tries: usize,
     out: &mut Vec<Delivered>,
-) -> Result<Told, StackFault> {
-    asked_of(rig, 1, request, tries, out)
+) -> Result<bool, StackFault> {
+    let told = asked_of(rig, dev, request, tries, out)?;
+    Ok(is_told(&told, Tells::Tries(Progress::Done)))
 }
 
 /// Whether the first of these requests bring device 1 up, each done in its last try, and none with an event.
 fn is_brought_up(rt: &HostRuntime, rig: &mut Rig, requests: &[Asks]) -> Result<bool, Fail> {
     let mut out = Vec::new(rt.alloc());
     for (request, tries) in requests {
-        let told = asked(rig, request.copied(), *tries, &mut out)?;
-        if told != Told::Transfer(Progress::Done) {
+        if !is_done(rig, 1, request, *tries, &mut out)? {
             return Ok(false);
         }
     }
     Ok(out.is_empty())
 }
 
+/// A key that is pressed on a keyboard that was just configured.
+#[rattlefmt::skip]
+const KEY_TOLD: [Row; 2] = [
+    (Act::Press(4, 4),     Tells::Quiet,                                                          &[]),
+    (CLEAN,                Tells::Sends(&[0xC3, 0, 0, 0x04, 0, 0, 0, 0, 0], Verdict::Fresh),      &[Given::Down(4)]),
+];
+
+/// Whether a device is brought up, its host is ready then, and a key is told.
+fn is_up(rt: &HostRuntime, rig: &mut Rig) -> Result<bool, Fail> {
+    let is_ready = is_brought_up(rt, rig, &BRINGS_UP)? && state_of(rig, 1)? == HostState::Ready;
+    Ok(is_ready && first_that_differs(rt, rig, &KEY_TOLD)?.is_none())
+}
+
 #[test]
 fn a_cold_device_is_brought_up(rt: HostRuntime) -> Result<(), Fail> {
-    let mut rig = bus_with(&rt, Boot::Keyboard, &KEYBOARD, Start::Cold)?;
-    let mut out = Vec::new(rt.alloc());
-    assert!(rt; is_brought_up(&rt, &mut rig, &BRINGS_UP)?);
-    assert!(rt; rig.host(1)?.state() == HostState::Ready);
-    rig.step(&step_of(Act::Press(4, 4)), &mut out)?;
-    rig.step(&step_of(CLEAN), &mut out)?;
-    assert!(rt; are_delivered(&out, &[Given::Down(4)]));
+    let mut rig = bus_with_keyboard(&rt, Start::Cold)?;
+    assert!(rt; is_up(&rt, &mut rig)?);
     Ok(())
+}
+
+/// Whether the transfer of device 1 has come so far.
+fn is_transfer(rig: &Rig, wanted: &Outcome<'_>) -> bool {
+    match rig.transfer(1) {
+        Ok(outcome) => outcome == *wanted,
+        Err(_) => false,
+    }
+}
+
+/// Whether a configuration is read: its status is missing behind two tries, and behind the third it is 0.
+fn is_read(rt: &HostRuntime, rig: &mut Rig) -> Result<bool, Fail> {
+    let mut out = Vec::new(rt.alloc());
+    asked_of(rig, 1, &Request::GetConfiguration, 2, &mut out)?;
+    let is_running = is_transfer(rig, &Outcome::Running);
+    take_step(rig, &step_of(Act::Control(Fate::Clean)), &mut out)?;
+    Ok(is_running && is_transfer(rig, &Outcome::Done(&[0])))
 }
 
 #[test]
 fn the_bytes_of_a_read_are_shown(rt: HostRuntime) -> Result<(), Fail> {
-    let mut rig = bus_with(&rt, Boot::Keyboard, &KEYBOARD, Start::Cold)?;
-    let mut out = Vec::new(rt.alloc());
-    asked(&mut rig, Request::GetConfiguration, 2, &mut out)?;
-    assert!(rt;
-        rig.transfer(1) == Ok(Outcome::Running),
-        "its status is missing"
-    );
-    let fate = Fate::Clean;
-    rig.step(&Step::Control { dev: 1, fate }, &mut out)?;
-    assert!(rt;
-        rig.transfer(1) == Ok(Outcome::Done(&[0])),
-        "not configured"
-    );
+    let mut rig = bus_with_keyboard(&rt, Start::Cold)?;
+    assert!(rt; is_read(&rt, &mut rig)?);
     Ok(())
+}
+
+/// The first step that tells anything else than its row says, or delivers an event.
+fn first_answer_otherwise(
+    rt: &HostRuntime,
+    rig: &mut Rig,
+    rows: &[(Step, Tells)],
+) -> Result<Option<usize>, Fail> {
+    for (at, (step, wanted)) in rows.iter().enumerate() {
+        if !goes(rt, rig, step, *wanted, &[])? {
+            return Ok(Some(at));
+        }
+    }
+    Ok(None)
 }
 
 /// Steps that a device is refused whose host knows nothing of it and has begun no request.
 #[rattlefmt::skip]
-const REFUSED_WHEN_COLD: [(Step, StackFault); 4] = [
-    (Step::Poll { dev: 1, fate: Fate::Clean },                     StackFault::NotReady),
-    (Step::Control { dev: 1, fate: Fate::Clean },                  StackFault::Control(ControlFault::NoTransfer)),
-    (Step::Begin { dev: 1, request: Request::Configure },          StackFault::NotReady),
-    (Step::Begin { dev: 2, request: Request::Config },             StackFault::NoDevice),
+const REFUSED_WHEN_COLD: [(Step, Tells); 4] = [
+    (Step::Poll { dev: 1, fate: Fate::Clean },             Tells::Refused(StackFault::NotReady)),
+    (Step::Control { dev: 1, fate: Fate::Clean },          Tells::Refused(StackFault::Control(ControlFault::NoTransfer))),
+    (Step::Begin { dev: 1, request: Request::Configure },  Tells::Refused(StackFault::NotReady)),
+    (Step::Begin { dev: 2, request: Request::Config },     Tells::Refused(StackFault::NoDevice)),
 ];
 
 #[test]
 fn a_cold_device_is_refused_polls_and_tries(rt: HostRuntime) -> Result<(), Fail> {
-    let mut rig = bus_with(&rt, Boot::Keyboard, &KEYBOARD, Start::Cold)?;
-    let mut out = Vec::new(rt.alloc());
-    for (step, fault) in REFUSED_WHEN_COLD {
-        let told = rig.step(&step, &mut out);
-        assert!(rt; told == Err(fault), "{fault}");
-    }
+    let mut rig = bus_with_keyboard(&rt, Start::Cold)?;
+    assert_eq!(rt;
+        first_answer_otherwise(&rt, &mut rig, &REFUSED_WHEN_COLD)?,
+        None
+    );
     Ok(())
 }

@@ -1,9 +1,9 @@
 //! Halts of an endpoint, by the device and by its host, and what stands behind them (USB 2.0, 9.4.1, 9.4.5 and 9.4.9),
 //! worked out by hand from the definitions.
 
-use super::{Act, CLEAN, Cut, Given, NAK, Row, Tells, Verdict, bus_with, first_that_differs};
+use super::{Act, CLEAN, Cut, Given, NAK, Row, Schedule, Tells, Verdict, first_wrong};
 use hid_device::{Boot, KEYBOARD, MOUSE};
-use hid_stack::{StackFault, Start};
+use hid_stack::StackFault;
 use std::test::Fail;
 use usb_control::{ControlFault, Progress};
 use usb_transact::Fate;
@@ -136,7 +136,7 @@ const RESET_IN_A_CLEAR: [Row; 5] = [
 ];
 
 #[rattlefmt::skip]
-const HALTS: [(&str, Boot, &[u8], &[Row]); 8] = [
+const HALTS: [Schedule; 8] = [
     ("a halt of the device drops motion and keeps keys", Boot::Mouse,    &MOUSE,    &HALTED_BY_ITSELF),
     ("motion that crossed isn't dropped",                Boot::Mouse,    &MOUSE,    &CROSSED),
     ("both toggles begin anew behind a clear",           Boot::Mouse,    &MOUSE,    &CLEARED_ALONE),
@@ -149,10 +149,6 @@ const HALTS: [(&str, Boot, &[u8], &[Row]); 8] = [
 
 #[test]
 fn halts_and_clears_tell_and_deliver(rt: HostRuntime) -> Result<(), Fail> {
-    for (name, boot, descriptor, rows) in HALTS {
-        let mut rig = bus_with(&rt, boot, descriptor, Start::Ready)?;
-        let fails_at = first_that_differs(&rt, &mut rig, rows)?;
-        assert!(rt; fails_at.is_none(), "{name}: step {fails_at:?}");
-    }
+    assert_eq!(rt; first_wrong(&rt, &HALTS)?, None);
     Ok(())
 }

@@ -1,8 +1,10 @@
 //! Calls of a rig that find no memory: each is made again, and gives what it gives at once with memory. These tests hold
 //! whichever growth of theirs is refused: `rt try --test --fail-alloc N` refuses the Nth one of each.
 
-use super::{attach_to, changes, config};
-use hid_device::{Boot, Device, DeviceCause, DeviceFault, KEYBOARD};
+use super::{
+    Act, CLEAN, Tells, attach_to, changes, config, is_answer, keyboard, step_of, take_step,
+};
+use hid_device::{Boot, Device, DeviceCause, DeviceFault};
 use hid_layout::{Cause, ControlId, Layout, LayoutFault, Usage};
 use hid_stack::{Delivered, HostState, Request, Rig, StackFault, Start, Step, Told};
 use hid_usages::{Change, Event, Shown, Snapshot, View};
@@ -44,9 +46,9 @@ fn bus(rt: &HostRuntime) -> Result<Rig, StackFault> {
 
 /// Attaches a boot keyboard. Where that is refused no device is there, and the next one has the same number.
 fn attached(rig: &mut Rig, start: Start) -> Result<u8, StackFault> {
-    match attach_to(rig, Boot::Keyboard, &KEYBOARD, start) {
+    match attach_to(rig, Boot::Keyboard, keyboard(), start) {
         Err(StackFault::Memory) if rig.device(1).is_err() => {
-            attach_to(rig, Boot::Keyboard, &KEYBOARD, start)
+            attach_to(rig, Boot::Keyboard, keyboard(), start)
         }
         told => told,
     }
@@ -63,9 +65,9 @@ fn state(rig: &Rig) -> Option<HostState> {
 fn taken(rig: &mut Rig, step: &Step, out: &mut Vec<Delivered>) -> Result<Told, StackFault> {
     let before = out.len();
     let state_before = state(rig);
-    match rig.step(step, out) {
-        Err(StackFault::Memory) if out.len() == before && state(rig) == state_before => rig.step(
-            step, out,
+    match take_step(rig, step, out) {
+        Err(StackFault::Memory) if out.len() == before && state(rig) == state_before => take_step(
+            rig, step, out,
         ),
         told => told,
     }
@@ -74,13 +76,7 @@ fn taken(rig: &mut Rig, step: &Step, out: &mut Vec<Delivered>) -> Result<Told, S
 /// Tries of the transfer that runs, up to its end.
 fn ended(rig: &mut Rig, out: &mut Vec<Delivered>) -> Result<Told, StackFault> {
     for _ in 0..20 {
-        match rig.step(
-            &Step::Control {
-                dev: 1,
-                fate: Fate::Clean,
-            },
-            out,
-        )? {
+        match take_step(rig, &step_of(Act::Control(Fate::Clean)), out)? {
             Told::Transfer(Progress::Running) => {}
             told => return Ok(told),
         }
@@ -89,65 +85,103 @@ fn ended(rig: &mut Rig, out: &mut Vec<Delivered>) -> Result<Told, StackFault> {
 }
 
 /// A request, begun and played to its end; it is asked once more where its answer finds no memory and the host stays as it is.
-fn asked(rig: &mut Rig, request: Request, out: &mut Vec<Delivered>) -> Result<Told, StackFault> {
-    let begin = Step::Begin { dev: 1, request };
+fn asked(rig: &mut Rig, request: &Request, out: &mut Vec<Delivered>) -> Result<Told, StackFault> {
     let state_before = state(rig);
-    taken(rig, &begin, out)?;
+    begun(rig, request, out)?;
     match ended(rig, out) {
         Err(StackFault::Memory) if state(rig) == state_before => {
-            taken(rig, &begin, out)?;
+            begun(rig, request, out)?;
             ended(rig, out)
         }
         told => told,
     }
 }
 
-const DONE: Result<Told, StackFault> = Ok(Told::Transfer(Progress::Done));
+/// A request begins.
+fn begun(rig: &mut Rig, request: &Request, out: &mut Vec<Delivered>) -> Result<Told, StackFault> {
+    let request = request.copied();
+    taken(rig, &Step::Begin { dev: 1, request }, out)
+}
+
+/// Presses the key, and polls.
+fn press_and_poll(rig: &mut Rig, out: &mut Vec<Delivered>) -> Result<(), StackFault> {
+    take_step(rig, &changes(1, Change::Press(KEY)), out)?;
+    taken(rig, &step_of(CLEAN), out)?;
+    Ok(())
+}
+
+/// Whether a keyboard is attached, and its poll tells the key.
+fn tells_the_key(rt: &HostRuntime, rig: &mut Rig) -> Result<bool, StackFault> {
+    let mut out = Vec::new(rt.alloc());
+    let dev = attached(rig, Start::Ready)?;
+    press_and_poll(rig, &mut out)?;
+    Ok(dev == 1 && out.as_slice() == [down()].as_slice())
+}
 
 #[test]
 fn a_poll_is_made_again(rt: HostRuntime) -> Result<(), Fail> {
     let mut rig = bus(&rt)?;
-    let mut out = Vec::new(rt.alloc());
-    assert_eq!(rt; attached(&mut rig, Start::Ready)?, 1);
-    rig.step(&changes(1, Change::Press(KEY)), &mut out)?;
-    let poll = Step::Poll {
-        dev: 1,
-        fate: Fate::Clean,
-    };
-    taken(&mut rig, &poll, &mut out)?;
-    assert!(rt; out.as_slice() == [down()].as_slice());
+    assert!(rt; tells_the_key(&rt, &mut rig)?);
     Ok(())
+}
+
+/// The requests that bring a device up, and what its host knows behind each.
+#[rattlefmt::skip]
+const BRINGS_UP: [(Request, HostState); 3] = [
+    (Request::Config,    HostState::Described),
+    (Request::Report,    HostState::Parsed),
+    (Request::Configure, HostState::Ready),
+];
+
+/// Whether a request is done, and the host knows this behind it.
+fn leads_to(rig: &mut Rig, request: &Request, wanted: HostState, out: &mut Vec<Delivered>) -> bool {
+    let told = asked(rig, request, out);
+    is_answer(&told, Tells::Tries(Progress::Done)) && state(rig) == Some(wanted)
+}
+
+/// The first request that isn't done, or leads elsewhere.
+fn first_elsewhere(
+    rig: &mut Rig,
+    rows: &[(Request, HostState)],
+    out: &mut Vec<Delivered>,
+) -> Option<usize> {
+    for (at, (request, wanted)) in rows.iter().enumerate() {
+        if !leads_to(rig, request, *wanted, out) {
+            return Some(at);
+        }
+    }
+    None
+}
+
+/// Whether a keyboard is attached, and brought up by these requests.
+fn is_brought_up(
+    rt: &HostRuntime,
+    rig: &mut Rig,
+    rows: &[(Request, HostState)],
+) -> Result<bool, StackFault> {
+    let mut out = Vec::new(rt.alloc());
+    let dev = attached(rig, Start::Cold)?;
+    Ok(dev == 1 && first_elsewhere(rig, rows, &mut out).is_none())
 }
 
 #[test]
 fn a_device_is_brought_up_by_requests_that_are_begun_again(rt: HostRuntime) -> Result<(), Fail> {
     let mut rig = bus(&rt)?;
-    let mut out = Vec::new(rt.alloc());
-    assert_eq!(rt; attached(&mut rig, Start::Cold)?, 1);
-    assert!(rt; asked(&mut rig, Request::Config, &mut out) == DONE);
-    assert!(rt; state(&rig) == Some(HostState::Described));
-    assert!(rt; asked(&mut rig, Request::Report, &mut out) == DONE);
-    assert!(rt; state(&rig) == Some(HostState::Parsed));
-    assert!(rt; asked(&mut rig, Request::Configure, &mut out) == DONE);
-    assert!(rt; state(&rig) == Some(HostState::Ready));
+    assert!(rt; is_brought_up(&rt, &mut rig, &BRINGS_UP)?);
     Ok(())
+}
+
+/// Whether a reset lets the key go, and the host knows nothing behind it.
+fn lets_go(rt: &HostRuntime, rig: &mut Rig) -> Result<bool, StackFault> {
+    let mut out = Vec::new(rt.alloc());
+    taken(rig, &step_of(Act::Reset), &mut out)?;
+    Ok(out.as_slice() == [up()].as_slice() && state(rig) == Some(HostState::Cold))
 }
 
 #[test]
 fn a_reset_is_made_again(rt: HostRuntime) -> Result<(), Fail> {
     let mut rig = bus(&rt)?;
-    let mut out = Vec::new(rt.alloc());
-    assert_eq!(rt; attached(&mut rig, Start::Ready)?, 1);
-    rig.step(&changes(1, Change::Press(KEY)), &mut out)?;
-    let poll = Step::Poll {
-        dev: 1,
-        fate: Fate::Clean,
-    };
-    taken(&mut rig, &poll, &mut out)?;
-    let mut later = Vec::new(rt.alloc());
-    taken(&mut rig, &Step::Reset { dev: 1 }, &mut later)?;
-    assert!(rt; later.as_slice() == [up()].as_slice());
-    assert!(rt; state(&rig) == Some(HostState::Cold));
+    assert!(rt; tells_the_key(&rt, &mut rig)? && lets_go(&rt, &mut rig)?);
     Ok(())
 }
 
@@ -186,26 +220,58 @@ fn transfer(rt: &HostRuntime) -> Result<HostTransfer, ControlFault> {
     }
 }
 
-#[test]
-fn what_takes_memory_is_made_again(rt: HostRuntime) -> Result<(), Fail> {
-    let layout = layout(&rt, &KEYBOARD)?;
-    assert_eq!(rt; layout.items().len(), 5);
-    let shown = match Shown::blank(rt.alloc(), &layout) {
-        Err(_) => Shown::blank(rt.alloc(), &layout)?,
+/// Whether a blank report is made, and holds no motion.
+fn makes_shown(rt: &HostRuntime, layout: &Layout) -> Result<bool, Fail> {
+    let shown = match Shown::blank(rt.alloc(), layout) {
+        Err(_) => Shown::blank(rt.alloc(), layout)?,
         Ok(shown) => shown,
     };
-    assert_eq!(rt; shown.motion(KEY), 0);
-    let view = match View::initial(rt.alloc(), &layout) {
-        Err(_) => View::initial(rt.alloc(), &layout)?,
+    Ok(shown.motion(KEY) == 0)
+}
+
+/// Whether a view is made, and holds no key.
+fn makes_view(rt: &HostRuntime, layout: &Layout) -> Result<bool, Fail> {
+    let view = match View::initial(rt.alloc(), layout) {
+        Err(_) => View::initial(rt.alloc(), layout)?,
         Ok(view) => view,
     };
-    assert!(rt; !view.held(KEY));
-    let mut snapshot = match Snapshot::blank(rt.alloc(), &layout) {
-        Err(_) => Snapshot::blank(rt.alloc(), &layout)?,
+    Ok(!view.held(KEY))
+}
+
+/// Whether a snapshot is made, and its key is pressed.
+fn makes_snapshot(rt: &HostRuntime, layout: &Layout) -> Result<bool, Fail> {
+    let mut snapshot = match Snapshot::blank(rt.alloc(), layout) {
+        Err(_) => Snapshot::blank(rt.alloc(), layout)?,
         Ok(snapshot) => snapshot,
     };
-    assert!(rt; snapshot.press(&layout, KEY).is_ok());
-    assert_eq!(rt; device(&rt, &KEYBOARD)?.layout().items().len(), 5);
-    assert!(rt; transfer(&rt)?.outcome() == Outcome::Running);
+    Ok(snapshot.press(layout, KEY).is_ok())
+}
+
+/// Whether a device is made, with the five items of a boot keyboard.
+fn makes_device(rt: &HostRuntime, descriptor: &[u8]) -> Result<bool, Fail> {
+    Ok(device(rt, descriptor)?.layout().items().len() == 5)
+}
+
+/// Whether a transfer begins.
+fn makes_transfer(rt: &HostRuntime) -> Result<bool, Fail> {
+    Ok(transfer(rt)?.outcome() == Outcome::Running)
+}
+
+/// Whether what stands on a layout is made.
+fn makes_each(rt: &HostRuntime, layout: &Layout) -> Result<bool, Fail> {
+    Ok(makes_shown(rt, layout)? && makes_view(rt, layout)? && makes_snapshot(rt, layout)?)
+}
+
+/// Whether a layout is made, with the five items of a boot keyboard, and what stands on it.
+fn makes_layout(rt: &HostRuntime, descriptor: &[u8]) -> Result<bool, Fail> {
+    let layout = layout(rt, descriptor)?;
+    Ok(layout.items().len() == 5 && makes_each(rt, &layout)?)
+}
+
+#[test]
+fn what_takes_memory_is_made_again(rt: HostRuntime) -> Result<(), Fail> {
+    assert!(rt; makes_layout(&rt, keyboard())?);
+    assert!(rt; makes_device(&rt, keyboard())?);
+    assert!(rt; makes_transfer(&rt)?);
     Ok(())
 }

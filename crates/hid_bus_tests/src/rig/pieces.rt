@@ -1,7 +1,7 @@
 //! Reports of more than a packet on the bus, which go in pieces of 64 bytes (USB 2.0, 5.7.3, 8.5.4, 8.6 and 9.4.5): each is
 //! told whole or not at all, whatever comes between its pieces. What is wanted was worked out by hand from the definitions.
 
-use super::{Asks, Verdict, bus_with, is_brought_up, is_verdict};
+use super::{Asks, Verdict, bus_with, is_brought_up, is_verdict, take_step};
 use hid_device::Boot;
 use hid_layout::{ControlId, Usage};
 use hid_stack::{Delivered, Request, Rig, StackFault, Start, Step, Told};
@@ -205,7 +205,7 @@ fn is_at(rig: &Rig, piece: Option<usize>) -> Result<bool, StackFault> {
 fn goes(rt: &HostRuntime, rig: &mut Rig, row: &Row) -> Result<bool, Fail> {
     let (does, wanted, piece, events) = row;
     let mut out = Vec::new(rt.alloc());
-    let told = rig.step(&step_of(*does), &mut out)?;
+    let told = take_step(rig, &step_of(*does), &mut out)?;
     let is_wanted = is_told(&told, *wanted) && are_delivered(&out, events);
     Ok(is_at(rig, *piece)? && is_wanted)
 }

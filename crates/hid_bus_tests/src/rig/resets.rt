@@ -2,14 +2,15 @@
 //! HID 1.11, 7.2), worked out by hand from the definitions.
 
 use super::{
-    Act, Asks, BRINGS_UP, CLEAN, Given, Row, Tells, Verdict, asked, bus_with, first_that_differs,
-    is_brought_up, step_of,
+    Act, Asks, BRINGS_UP, CLEAN, Given, Row, Run, Tells, Verdict, asked_of, begin, bus_with,
+    bus_with_keyboard, first_answer_otherwise, first_run_otherwise, first_that_differs, goes,
+    is_brought_up, is_told, keyboard, mouse, state_of, step_of, take_step,
 };
 use arrayvec::ArrayVec;
 use hid_descriptor::ReportKind;
-use hid_device::{Boot, KEYBOARD, MOUSE};
+use hid_device::{Boot, Device};
 use hid_layout::ControlId;
-use hid_stack::{HostState, Request, Rig, RunFault, StackFault, Start, Step, Told};
+use hid_stack::{Delivered, HostState, Request, Rig, RunFault, StackFault, Start, Step};
 use hid_usages::{Change, ChangeFault};
 use std::test::Fail;
 use usb_control::{ControlFault, Progress};
@@ -102,9 +103,12 @@ const KEY_BEHIND: [Row; 1] = [
     (CLEAN,                       Tells::Sends(&[0xC3, 0, 0, 0x06, 0, 0, 0, 0, 0], Verdict::Fresh),      &[Given::Down(6)]),
 ];
 
+/// What a reset is about, the steps of a device up to it, and those behind the next configuration.
+type Resets = (&'static str, &'static [Row], &'static [Row]);
+
 /// What a mouse that was just configured does up to a reset, and behind the configuration that comes next.
 #[rattlefmt::skip]
-const MICE: [(&str, &[Row], &[Row]); 4] = [
+const MICE: [Resets; 4] = [
     ("motion that was told isn't dropped",         &HEARD,      &NAK_BEHIND),
     ("motion that wasn't heard is dropped once",   &NOT_HEARD,  &TWO_BEHIND),
     ("motion of no round stays",                   &NOT_POLLED, &FIVE_BEHIND),
@@ -113,7 +117,7 @@ const MICE: [(&str, &[Row], &[Row]); 4] = [
 
 /// And a keyboard.
 #[rattlefmt::skip]
-const KEYBOARDS: [(&str, &[Row], &[Row]); 2] = [
+const KEYBOARDS: [Resets; 2] = [
     ("keys that were told go up, and come again",  &KEYS,       &BOTH_BEHIND),
     ("nothing was told, so nothing goes up",       &NOTHING,    &KEY_BEHIND),
 ];
@@ -133,68 +137,94 @@ fn goes_on(
     Ok(is_brought_up(rt, rig, requests)? && first_that_differs(rt, rig, behind)?.is_none())
 }
 
+/// Whether a device has no open round and is at DATA0.
+fn is_at_rest(device: &Device) -> bool {
+    device.open_round().is_none() && !device.pipe().toggle()
+}
+
+/// Whether the host of device 1 runs no transfer.
+fn runs_nothing(rig: &Rig) -> bool {
+    rig.transfer(1) == Err(StackFault::Control(ControlFault::NoTransfer))
+}
+
 /// Whether the host of device 1 knows nothing of it, and the device has no open round and is at DATA0.
 fn is_forgotten(rig: &Rig) -> Result<bool, StackFault> {
-    let none = StackFault::Control(ControlFault::NoTransfer);
-    let is_cold = rig.host(1)?.state() == HostState::Cold && rig.transfer(1) == Err(none);
-    let device = rig.device(1)?;
-    Ok(is_cold && device.open_round().is_none() && !device.pipe().toggle())
+    let is_cold = state_of(rig, 1)? == HostState::Cold && runs_nothing(rig);
+    Ok(is_cold && is_at_rest(rig.device(1)?))
+}
+
+/// What the first reset is about that doesn't go so, on a bus with this device alone.
+fn first_wrong(
+    rt: &HostRuntime,
+    boot: Boot,
+    descriptor: &[u8],
+    requests: &[Asks],
+    resets: &[Resets],
+) -> Result<Option<&'static str>, Fail> {
+    for (name, before, behind) in resets {
+        let mut rig = bus_with(rt, boot, descriptor, Start::Ready)?;
+        if !goes_on(rt, &mut rig, before, requests, behind)? {
+            return Ok(Some(*name));
+        }
+    }
+    Ok(None)
 }
 
 #[test]
 fn a_reset_of_a_mouse_drops_what_was_not_heard(rt: HostRuntime) -> Result<(), Fail> {
-    for (name, before, behind) in MICE {
-        let mut rig = bus_with(&rt, Boot::Mouse, &MOUSE, Start::Ready)?;
-        assert!(rt;
-            goes_on(&rt, &mut rig, before, &BRINGS_A_MOUSE_UP, behind)?,
-            "{name}"
-        );
-    }
+    let wrong = first_wrong(&rt, Boot::Mouse, mouse(), &BRINGS_A_MOUSE_UP, &MICE)?;
+    assert_eq!(rt; wrong, None);
     Ok(())
 }
 
 #[test]
 fn a_reset_of_a_keyboard_lets_its_keys_go(rt: HostRuntime) -> Result<(), Fail> {
-    for (name, before, behind) in KEYBOARDS {
-        let mut rig = bus_with(&rt, Boot::Keyboard, &KEYBOARD, Start::Ready)?;
-        assert!(rt;
-            goes_on(&rt, &mut rig, before, &BRINGS_UP, behind)?,
-            "{name}"
-        );
-    }
+    let wrong = first_wrong(&rt, Boot::Keyboard, keyboard(), &BRINGS_UP, &KEYBOARDS)?;
+    assert_eq!(rt; wrong, None);
     Ok(())
+}
+
+/// Whether a transfer of device 1 begins, and a reset amid it tells and delivers nothing.
+fn is_reset_quiet(rt: &HostRuntime, rig: &mut Rig) -> Result<bool, Fail> {
+    let mut out = Vec::new(rt.alloc());
+    let running = asked_of(rig, 1, &Request::Status, 1, &mut out)?;
+    let is_amid = is_told(&running, Tells::Tries(Progress::Running)) && out.is_empty();
+    Ok(goes(rt, rig, &step_of(Act::Reset), Tells::Quiet, &[])? && is_amid)
 }
 
 /// Whether a reset amid a transfer tells nothing and leaves nothing of it. The host has done these requests, which
 /// bring the device up, and is cold, described, parsed or ready then.
 fn is_reset_amid_a_transfer(rt: &HostRuntime, done: &[Asks]) -> Result<bool, Fail> {
-    let mut rig = bus_with(rt, Boot::Keyboard, &KEYBOARD, Start::Cold)?;
-    let mut out = Vec::new(rt.alloc());
+    let mut rig = bus_with_keyboard(rt, Start::Cold)?;
     let is_up = is_brought_up(rt, &mut rig, done)?;
-    let running = asked(&mut rig, Request::Status, 1, &mut out)?;
-    let told = rig.step(&step_of(Act::Reset), &mut out)?;
-    let is_quiet = running == Told::Transfer(Progress::Running)
-        && told == Told::Quiet
-        && out.is_empty();
+    let is_quiet = is_reset_quiet(rt, &mut rig)?;
     Ok(is_up && is_quiet && is_forgotten(&rig)? && is_brought_up(rt, &mut rig, &BRINGS_UP)?)
 }
 
+/// The first of these numbers of requests behind which it isn't so.
+fn first_not_reset(rt: &HostRuntime, requests: &[Asks]) -> Result<Option<usize>, Fail> {
+    for count in 0..=requests.len() {
+        if !is_reset_amid_a_transfer(rt, &requests[..count])? {
+            return Ok(Some(count));
+        }
+    }
+    Ok(None)
+}
+
+/// Behind no request the host is cold; behind one each more it is described, parsed and ready.
 #[test]
 fn a_reset_ends_a_transfer_in_each_state(rt: HostRuntime) -> Result<(), Fail> {
-    assert!(rt; is_reset_amid_a_transfer(&rt, &[])?, "cold");
-    assert!(rt;
-        is_reset_amid_a_transfer(&rt, &BRINGS_UP[..1])?,
-        "described"
-    );
-    assert!(rt; is_reset_amid_a_transfer(&rt, &BRINGS_UP[..2])?, "parsed");
-    assert!(rt; is_reset_amid_a_transfer(&rt, &BRINGS_UP)?, "ready");
+    assert_eq!(rt; first_not_reset(&rt, &BRINGS_UP)?, None);
     Ok(())
 }
+
+/// A write that a reset ends: what it is about, its tries, and the lights before the reset.
+type Write = (&'static str, &'static [Fate], u8);
 
 /// The tries of a write of the keyboard's lights before a reset, its SETUP, its byte and its status, and the lights before
 /// the reset: they were set once or not at all.
 #[rattlefmt::skip]
-const WRITES: [(&str, &[Fate], u8); 6] = [
+const WRITES: [Write; 6] = [
     ("nothing was tried",         &[],                                            0),
     ("the SETUP arrived",         &[Fate::Clean],                                 0),
     ("the byte arrived",          &[Fate::Clean, Fate::Clean],                    0),
@@ -208,73 +238,100 @@ fn are_lights(rig: &Rig, lights: u8) -> Result<bool, StackFault> {
     Ok(rig.device(1)?.outputs(ReportKind::Output, 0) == Some([lights].as_slice()))
 }
 
-/// Whether a reset ends the write behind these tries, with these lights before it and none behind.
-fn is_ended(rt: &HostRuntime, fates: &[Fate], lights: u8) -> Result<bool, Fail> {
-    let mut rig = bus_with(rt, Boot::Keyboard, &KEYBOARD, Start::Ready)?;
-    let mut out = Vec::new(rt.alloc());
+/// A write of the lights begins.
+fn begin_lights(rig: &mut Rig, bytes: &[u8], out: &mut Vec<Delivered>) -> Result<(), Fail> {
     let request = Request::SetReport {
         kind: ReportKind::Output,
         id: 0,
-        bytes: ArrayVec::try_from([2].as_slice())?,
+        bytes: ArrayVec::try_from(bytes)?,
     };
-    rig.step(&Step::Begin { dev: 1, request }, &mut out)?;
+    begin(rig, 1, &request, out)?;
+    Ok(())
+}
+
+fn try_all(rig: &mut Rig, fates: &[Fate], out: &mut Vec<Delivered>) -> Result<(), StackFault> {
     for fate in fates {
-        rig.step(
-            &Step::Control {
-                dev: 1,
-                fate: *fate,
-            },
-            &mut out,
-        )?;
+        take_step(rig, &step_of(Act::Control(*fate)), out)?;
     }
-    let is_before = are_lights(&rig, lights)?;
-    rig.step(&step_of(Act::Reset), &mut out)?;
-    Ok(is_before && are_lights(&rig, 0)? && is_forgotten(&rig)? && out.is_empty())
+    Ok(())
+}
+
+/// Writes the lights, with these tries.
+fn write_lights(rig: &mut Rig, fates: &[Fate], out: &mut Vec<Delivered>) -> Result<(), Fail> {
+    begin_lights(rig, &[2], out)?;
+    try_all(rig, fates, out)?;
+    Ok(())
+}
+
+/// Whether a reset ends the write behind these tries, with these lights before it and none behind.
+fn is_ended(rt: &HostRuntime, rig: &mut Rig, fates: &[Fate], lights: u8) -> Result<bool, Fail> {
+    let mut out = Vec::new(rt.alloc());
+    write_lights(rig, fates, &mut out)?;
+    let is_before = are_lights(rig, lights)?;
+    take_step(rig, &step_of(Act::Reset), &mut out)?;
+    Ok(is_before && are_lights(rig, 0)? && is_forgotten(rig)? && out.is_empty())
+}
+
+/// What the first write is about that doesn't end so.
+fn first_not_ended(rt: &HostRuntime, writes: &[Write]) -> Result<Option<&'static str>, Fail> {
+    for (name, fates, lights) in writes {
+        let mut rig = bus_with_keyboard(rt, Start::Ready)?;
+        if !is_ended(rt, &mut rig, fates, *lights)? {
+            return Ok(Some(*name));
+        }
+    }
+    Ok(None)
 }
 
 #[test]
 fn a_write_that_a_reset_ends_took_effect_or_did_not(rt: HostRuntime) -> Result<(), Fail> {
-    for (name, fates, lights) in WRITES {
-        assert!(rt; is_ended(&rt, fates, lights)?, "{name}");
-    }
+    assert_eq!(rt; first_not_ended(&rt, &WRITES)?, None);
     Ok(())
 }
 
 const NO_CONTROL: ControlId = ControlId { item: 9, index: 0 };
 
+const NO_DEVICE: Tells = Tells::Refused(StackFault::NoDevice);
+
+const NOT_READY: Tells = Tells::Refused(StackFault::NotReady);
+
 /// Steps behind a reset of device 1, alone on its bus, each with what it tells or why it is refused: no such device
 /// comes first, then a transfer that runs, then the host's state.
 #[rattlefmt::skip]
-const BEHIND_A_RESET: [(Step, Result<Told, StackFault>); 12] = [
-    (Step::Reset { dev: 0 },                                       Err(StackFault::NoDevice)),
-    (Step::Reset { dev: 2 },                                       Err(StackFault::NoDevice)),
-    (Step::Poll { dev: 1, fate: Fate::TokenLost },                 Err(StackFault::NotReady)),
-    (Step::Control { dev: 1, fate: Fate::Clean },                  Err(StackFault::Control(ControlFault::NoTransfer))),
-    (Step::Begin { dev: 1, request: Request::Report },             Err(StackFault::NotReady)),
-    (Step::Begin { dev: 1, request: Request::Configure },          Err(StackFault::NotReady)),
-    (Step::Begin { dev: 1, request: Request::GetIdle { id: 0 } },  Err(StackFault::NotReady)),
-    (Step::Change { dev: 1, change: Change::Press(NO_CONTROL) },   Err(StackFault::Refused(ChangeFault::NoSuchControl))),
-    (Step::Begin { dev: 1, request: Request::Config },             Ok(Told::Quiet)),
-    (Step::Begin { dev: 1, request: Request::Report },             Err(StackFault::Control(ControlFault::Busy))),
-    (Step::Reset { dev: 1 },                                       Ok(Told::Quiet)),
-    (Step::Begin { dev: 1, request: Request::Report },             Err(StackFault::NotReady)),
+const BEHIND_A_RESET: [(Step, Tells); 12] = [
+    (Step::Reset { dev: 0 },                                       NO_DEVICE),
+    (Step::Reset { dev: 2 },                                       NO_DEVICE),
+    (Step::Poll { dev: 1, fate: Fate::TokenLost },                 NOT_READY),
+    (Step::Control { dev: 1, fate: Fate::Clean },                  Tells::Refused(StackFault::Control(ControlFault::NoTransfer))),
+    (Step::Begin { dev: 1, request: Request::Report },             NOT_READY),
+    (Step::Begin { dev: 1, request: Request::Configure },          NOT_READY),
+    (Step::Begin { dev: 1, request: Request::GetIdle { id: 0 } },  NOT_READY),
+    (Step::Change { dev: 1, change: Change::Press(NO_CONTROL) },   Tells::Refused(StackFault::Refused(ChangeFault::NoSuchControl))),
+    (Step::Begin { dev: 1, request: Request::Config },             Tells::Quiet),
+    (Step::Begin { dev: 1, request: Request::Report },             Tells::Refused(StackFault::Control(ControlFault::Busy))),
+    (Step::Reset { dev: 1 },                                       Tells::Quiet),
+    (Step::Begin { dev: 1, request: Request::Report },             NOT_READY),
 ];
+
+/// Then a run stops at its first poll.
+#[rattlefmt::skip]
+const RUN_BEHIND: [Run; 1] = [
+    (&[(1, Act::Reset), (1, Act::Press(4, 4)), (1, CLEAN)],
+        Err(RunFault { at: 2, fault: StackFault::NotReady }),      &[]),
+];
+
+/// Whether a reset, these steps and a run tell what they should.
+fn are_in_place(rt: &HostRuntime, rig: &mut Rig) -> Result<bool, Fail> {
+    Ok(
+        goes(rt, rig, &step_of(Act::Reset), Tells::Quiet, &[])?
+            && first_answer_otherwise(rt, rig, &BEHIND_A_RESET)?.is_none()
+            && first_run_otherwise(rt, rig, &RUN_BEHIND)?.is_none(),
+    )
+}
 
 #[test]
 fn behind_a_reset_a_refusal_has_its_place(rt: HostRuntime) -> Result<(), Fail> {
-    let mut rig = bus_with(&rt, Boot::Keyboard, &KEYBOARD, Start::Ready)?;
-    let mut out = Vec::new(rt.alloc());
-    rig.step(&step_of(Act::Reset), &mut out)?;
-    for (step, wanted) in BEHIND_A_RESET {
-        let told = rig.step(&step, &mut out);
-        assert!(rt; told == wanted && out.is_empty(), "{step:?}");
-    }
-    let steps = [
-        step_of(Act::Reset),
-        step_of(Act::Press(4, 4)),
-        step_of(CLEAN),
-    ];
-    let fault = StackFault::NotReady;
-    assert_eq!(rt; rig.run(&steps, &mut out), Err(RunFault { at: 2, fault }));
+    let mut rig = bus_with_keyboard(&rt, Start::Ready)?;
+    assert!(rt; are_in_place(&rt, &mut rig)?);
     Ok(())
 }
