@@ -1,4 +1,4 @@
-use Rattle.std.proofs.Common.{arith, ◌∙◌, sym}
+use Rattle.std.proofs.Common.{arith, sym}
 use Rattle.hid_lines.specs.Words.{words_of}
 use Rattle.hid_lines.proofs.WordLemmas.{hex_more, hex_whole, hex_ends, count_more}
 use Rattle.hid_lines.proofs.words.read_hex.Goals as goal

@@ -1,7 +1,4 @@
-use Rattle.std.proofs.Common.{◌≡◌, ◌++◌, ◌+◌, ◌∷◌, [], Some, None, Ok, arith, sym, ap, refl, rules, ◌∙◌, append_assoc, length, length-append}
-use Rattle.std.specs.Prelude.{is_ok}
-use Rattle.std.specs.Result.{result_unwrap_or}
-use Rattle.hex.specs.Hex.{decode_of}
+use Rattle.std.proofs.Common.{◌≡◌, ◌++◌, ◌+◌, ◌∷◌, [], Some, None, arith, sym, ap, refl, rules, ◌∙◌, append_assoc, length, length-append}
 use Rattle.hid_lines.proofs.WordLemmas.{two_first, pair_more, pair_ends, pairs_whole}
 use Rattle.hid_lines.proofs.words.read_hex_word.Goals as goal
 
