@@ -2,8 +2,9 @@
 //! The keyboard and the mouse are those of HID 1.11, appendix E.6 and E.10; the other descriptors, and every expected
 //! text, were worked out by hand from docs/SCRIPT.md.
 
-use crate::scripts::{Accepted, LAYOUT, QUIET, Refused, TRACE, first_not_refused, first_wrong};
-use hid_script::run;
+use crate::scripts::{
+    Accepted, LAYOUT, QUIET, Refused, TRACE, first_not_refused, first_wrong, run_text,
+};
 use std::alloc::Global;
 use std::test::Fail;
 
@@ -161,14 +162,18 @@ fn a_refused_script_prints_what_comes_before_the_refusal(rt: HostRuntime) -> Res
     Ok(())
 }
 
+/// Whether as many events are counted as there are lines that tell one.
+fn are_counted(alloc: Global, script: &str) -> Result<bool, Fail> {
+    let mut written = Vec::new(alloc);
+    let summary = run_text(alloc, script.as_bytes(), QUIET, &mut written)?;
+    let lines = written.iter().filter(|b| **b == b'\n').count();
+    Ok(summary.events == lines as u64)
+}
+
 /// What the first script is about whose events aren't counted, a line for each.
 fn first_miscounted(alloc: Global, rows: &[Accepted]) -> Result<Option<&'static str>, Fail> {
     for (name, _options, script, _text) in rows {
-        let mut reader = script.as_bytes();
-        let mut written = Vec::new(alloc);
-        let summary = run(alloc, &mut reader, &mut written, QUIET)?;
-        let lines = written.iter().filter(|b| **b == b'\n').count();
-        if summary.events != lines as u64 {
+        if !are_counted(alloc, script)? {
             return Ok(Some(*name));
         }
     }
