@@ -30,72 +30,102 @@ fn opened(rt: &HostRuntime, descriptor: &[u8]) -> Result<Session, Fail> {
     Ok(Session::open(rt.alloc(), descriptor)?)
 }
 
+// What is known goes by helpers without a contract: so the proofs of the tests aren't given what these bytes say.
+
+/// Whether this becomes of a report.
+fn is_fed(
+    session: &mut Session,
+    report: &[u8],
+    out: &mut [HidEvent],
+    wanted: Result<usize, FeedFault>,
+) -> bool {
+    session.feed(report, out) == wanted
+}
+
+/// Button 3, the third element of item 0.
+const DOWN: HidEvent = HidEvent {
+    value: 1,
+    item: 0,
+    index: 2,
+    page: 9,
+    id: 3,
+    kind: 1,
+};
+
+/// Y, the second element of item 2.
+const MOTION: HidEvent = HidEvent {
+    value: -127,
+    item: 2,
+    index: 1,
+    page: 1,
+    id: 0x31,
+    kind: 4,
+};
+
+fn is_event(event: &HidEvent, wanted: &HidEvent) -> bool {
+    event == wanted
+}
+
+fn holds(session: &Session, control: ControlId) -> bool {
+    session.held(control)
+}
+
 #[test]
 fn reports_are_fed(rt: HostRuntime) -> Result<(), Fail> {
     let mut session = opened(&rt, &MOUSE)?;
     let mut few = [NO_EVENT; 4];
     let mut events = [NO_EVENT; 5];
+    let short = FeedFault::Refused(ReportFault::Short);
     assert_eq!(rt; session.room(), 5);
-    assert_eq!(rt; session.feed(&REPORT, &mut few), Err(FeedFault::NoRoom));
-    assert_eq!(rt;
-        session.feed(&REPORT[..2], &mut events),
-        Err(FeedFault::Refused(ReportFault::Short))
-    );
-    assert_eq!(rt; session.feed(&REPORT, &mut events), Ok(4));
-    assert_eq!(rt;
-        events[1],
-        HidEvent {
-            value: 1,
-            item: 0,
-            index: 2,
-            page: 9,
-            id: 3,
-            kind: 1
-        }
-    );
-    assert_eq!(rt;
-        events[3],
-        HidEvent {
-            value: -127,
-            item: 2,
-            index: 1,
-            page: 1,
-            id: 0x31,
-            kind: 4
-        }
-    );
-    assert!(rt;
-        session.held(ControlId { item: 0, index: 2 })
-            && !session.held(ControlId { item: 0, index: 1 })
-    );
+    assert!(rt; is_fed(&mut session, &REPORT, &mut few, Err(FeedFault::NoRoom)));
+    assert!(rt; is_fed(&mut session, &REPORT[..2], &mut events, Err(short)));
+    assert!(rt; is_fed(&mut session, &REPORT, &mut events, Ok(4)));
+    assert!(rt; is_event(&events[1], &DOWN));
+    assert!(rt; is_event(&events[3], &MOTION));
+    assert!(rt; holds(&session, ControlId { item: 0, index: 2 }));
+    assert!(rt; !holds(&session, ControlId { item: 0, index: 1 }));
     Ok(())
+}
+
+/// Y as an element: 8 bits behind the buttons and Y's sibling X, with a sign, relative, in two collections.
+const Y: HidElement = HidElement {
+    min: -127,
+    max: 127,
+    item: 2,
+    index: 1,
+    collections: 2,
+    bit: 16,
+    width: 8,
+    usages: 2,
+    page: 1,
+    id: 0x31,
+    flags: 6,
+    kind: 0,
+    report: 0,
+    is_signed: 1,
+    is_array: 0,
+    spare: 0,
+};
+
+fn listed(rt: &HostRuntime, session: &Session) -> Result<Vec<HidElement>, Fail> {
+    Ok(list_elements(rt.alloc(), session.layout())?)
+}
+
+/// Whether these are five elements, of which the last one is this.
+fn are_listed(elements: &[HidElement], last: &HidElement) -> bool {
+    elements.len() == 5 && elements[4] == *last
+}
+
+fn is_number(element: &HidElement, report: &[u8], wanted: Result<i64, ReportFault>) -> bool {
+    number_in(element, report) == wanted
 }
 
 #[test]
 fn elements_are_listed(rt: HostRuntime) -> Result<(), Fail> {
     let session = opened(&rt, &MOUSE)?;
-    let elements = list_elements(rt.alloc(), session.layout()).expect(&rt, "memory");
-    assert_eq!(rt; elements.len(), 5);
-    let y = HidElement {
-        min: -127,
-        max: 127,
-        item: 2,
-        index: 1,
-        collections: 2,
-        bit: 16,
-        width: 8,
-        usages: 2,
-        page: 1,
-        id: 0x31,
-        flags: 6,
-        kind: 0,
-        report: 0,
-        is_signed: 1,
-        is_array: 0,
-        spare: 0,
-    };
-    assert_eq!(rt; elements[4], y);
-    assert_eq!(rt; number_in(&y, &REPORT), Ok(-127));
-    assert_eq!(rt; number_in(&y, &REPORT[..2]), Err(ReportFault::Short));
+    let elements = listed(&rt, &session)?;
+    assert!(rt; are_listed(&elements, &Y));
+    assert!(rt; is_number(&Y, &REPORT, Ok(-127)));
+    assert!(rt; is_number(&Y, &REPORT[..2], Err(ReportFault::Short)));
     Ok(())
 }
