@@ -6,9 +6,7 @@ mod foreign;
 mod pieces;
 
 use arrayvec::ArrayVec;
-use calls::{
-    Replied, begin, cold, is_done_with, is_failed_with, is_in, is_told, ready, replied, step,
-};
+use calls::{Replied, begin, cold, is_done_with, is_in, is_told, ready, replied, step};
 use hid_descriptor::ReportKind;
 use hid_device::{Boot, Config, Device, KEYBOARD};
 use hid_host::{DescriptorFault, HostDevice, HostState, StackFault};

@@ -40,12 +40,13 @@ hex_of words =
     if list_all (λ word. is_ok (decode_of word)) words
     then Some (flat_map (λ word. result_unwrap_or (decode_of word) []) words) else None
 
--- the byte of two digits, of either case
+-- the byte of the values of two digits, where both are digits
 abbrev pub byte_from : Option ℕ → Option ℕ → Option ℕ
 byte_from (Some high) (Some low) = Some (high * 16 + low)
 byte_from (Some high) None = None
 byte_from None low = None
 
+-- the byte that two hex digits spell, of either case
 abbrev pub pair_of : ℕ → ℕ → Option ℕ
 pair_of high low = byte_from (hex_digit_value high) (hex_digit_value low)
 

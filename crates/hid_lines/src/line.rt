@@ -162,7 +162,7 @@ fn read_keyword(word: &[u8]) -> Option<Keyword>
     }
 }
 
-/// Whether a line, without its end, is empty or a comment: `true` only where [`parse_line`] gives `Nothing`.
+/// Whether a line, without its end, is empty or a comment, and not too long: `true` only where [`parse_line`] gives `Nothing`.
 #[tactic(auto, unfolding(crate::specs::Line::meaning_of))]
 pub fn says_nothing(line: &[u8]) -> bool
     ensures { IsTrue result → meaning_of line.now ≡ Ok Line.Nothing }
@@ -181,9 +181,9 @@ pub fn says_nothing(line: &[u8]) -> bool
 #[tactic(auto, unfolding(crate::specs::Line::meaning_of))]
 pub fn parse_line(line: &[u8]) -> Result<Line, LineFault>
     ensures says { Gives result (meaning_of line.now) }
-    // Want of memory hides no X2: it is looked for only in a line that isn't too long.
+    // Want of memory hides no X2.
     ensures memory { result ≡ Err LineFault.Memory → length line.now ≤ LINE_LIMIT }
-    // Nor does it hide another cause: none is taken.
+    // It hides no other cause either, and is never told: a line has its meaning, whatever memory there is.
     ensures exact { result ≡ meaning_of line.now }
 {
     if line.len() > LINE_LIMIT {
