@@ -274,10 +274,10 @@ impl Bus for Stuck {
 
     ghost arrives = { λ bus phase bytes. Some (0xD2 ∷ []) };
 
-    fn hand_on(&self, _phase: Phase, _bytes: ArrayVec<u8, 65>) -> Option<ArrayVec<u8, 65>> {
-        let mut bytes = ArrayVec::new();
+    fn hand_on(&self, _phase: Phase, bytes: &mut ArrayVec<u8, 65>) -> bool {
+        bytes.clear();
         bytes.push(0xD2);
-        Some(bytes)
+        true
     }
 }
 

@@ -1,5 +1,5 @@
 -- A packet on a bus: it goes as its bytes, and the other end reads the bytes that arrive (USB 2.0, 8.3 and 8.4).
-use Rattle.std.specs.Prelude.{◌≡◌, ℕ, List, Option, Some, None, IfSome}
+use Rattle.std.specs.Prelude.{◌≡◌, ℕ, Bool, true, false, List, Option, Some, None, IfSome}
 use Rattle.usb_packet.specs.declared.packet.Packet.{Packet}
 use Rattle.usb_packet.specs.Spelling.{Spells, spelling}
 use Rattle.usb_transact.specs.declared.bus.Phase.{Phase}
@@ -7,6 +7,11 @@ use Rattle.usb_transact.specs.declared.bus.Phase.{Phase}
 -- what arrives of the bytes that are sent in a phase
 abbrev pub Arrivals : Type 0
 Arrivals = Phase → List ℕ → Option (List ℕ)
+
+-- these bytes, where something arrives
+abbrev pub arrived : Bool → List ℕ → Option (List ℕ)
+arrived true bytes = Some bytes
+arrived false bytes = None
 
 -- of nothing an end reads nothing, and of bytes the one packet that they spell
 abbrev pub IsRead : Option (List ℕ) → Option Packet → Type 0

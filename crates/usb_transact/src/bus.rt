@@ -28,16 +28,15 @@ pub enum Phase {
 /// cannot pass a packet by them. The bus of this model is [`Fate`](crate::Fate).
 pub trait Bus {
     ghost use Rattle.std.specs.Prelude.{◌≡◌, ℕ, List, Option};
-    ghost use Rattle.std.specs.Option.{option_map};
     ghost use Rattle.usb_transact.specs.declared.bus.Phase.{Phase};
+    ghost use Rattle.usb_transact.specs.Bus.{arrived};
 
     // What arrives of the bytes that are sent in a phase.
     ghost arrives: { Self → Phase → List ℕ → Option (List ℕ) };
 
-    /// What arrives of these bytes.
-    fn hand_on(&self, phase: Phase, bytes: ArrayVec<u8, 65>) -> Option<ArrayVec<u8, 65>>
-        ensures { option_map (λ arrived. arrived.items) result
-            ≡ arrives self.now phase bytes.items };
+    /// Whether something arrives of these bytes. What does stands in their place.
+    fn hand_on(&self, phase: Phase, bytes: &mut ArrayVec<u8, 65>) -> bool
+        ensures { arrived result bytes.new.items ≡ arrives self.now phase bytes.old.items };
 }
 
 /// What the other end reads of a packet that is sent.
@@ -45,8 +44,11 @@ pub fn carried<B: Bus>(bus: &B, phase: Phase, packet: &Packet) -> Option<Packet>
     requires fits { Fits packet.now }
     ensures { Carries (B.arrives bus.now) phase packet.now result }
 {
-    let arrived = bus.hand_on(phase, encode(packet))?;
-    decode(&arrived).ok()
+    let mut bytes = encode(packet);
+    if !bus.hand_on(phase, &mut bytes) {
+        return None;
+    }
+    decode(&bytes).ok()
 }
 
 /// What the other end reads of an answer, where there is one.

@@ -32,12 +32,12 @@ impl Bus for Fate {
 
     ghost arrives = { arrives_under };
 
-    fn hand_on(&self, phase: Phase, bytes: ArrayVec<u8, 65>) -> Option<ArrayVec<u8, 65>> {
+    fn hand_on(&self, phase: Phase, _bytes: &mut ArrayVec<u8, 65>) -> bool {
         match (self, phase) {
             (Fate::TokenLost, Phase::Token | Phase::HostData)
             | (Fate::ReplyLost, Phase::Reply | Phase::Handshake)
-            | (Fate::AckLost, Phase::Handshake | Phase::Acknowledgement) => None,
-            _ => Some(bytes),
+            | (Fate::AckLost, Phase::Handshake | Phase::Acknowledgement) => false,
+            _ => true,
         }
     }
 }
