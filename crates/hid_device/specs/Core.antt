@@ -10,7 +10,7 @@ use Rattle.hid_cells.specs.Codes.{has_empty_codes}
 use Rattle.hid_cells.specs.Pieces.{piece_of, pieces_of}
 use Rattle.hid_parts.specs.Encoded.{part_bytes}
 use Rattle.hid_parts.specs.Encoding.{IsEncoding, AreBytes, part_numbers}
-use Rattle.hid_cells.specs.Parts.{has_zeros}
+use Rattle.hid_cells.specs.Parts.{has_zeros, is_changed}
 use Rattle.usb_packet.specs.declared.packet.Packet.{Packet}
 use Rattle.usb_transact.specs.Device.{answer_with}
 use Rattle.hid_device.specs.declared.config.Config.{Config}
@@ -207,9 +207,16 @@ pub record IsSound (core : CoreState) : Type 0 where
 abbrev pub KeepsRound : CoreState → List ℕ → Type 0
 KeepsRound core bytes = IfSome core.current (λ r. bytes ≡ part_bytes core.layout r core.standing.fixed)
 
--- the same, with what its pipe has armed, the bytes of its round, and with room for the parts that are asked for
-pub record IsCore (core : CoreState) (sent : Option (List ℕ)) (bytes : List ℕ) (parts : List Cell) : Type 0 where
+-- where it was seen that the controls of no Input report call for it, none do
+abbrev pub IsCalm : Contents → List Cell → List Cell → Bool → Type 0
+IsCalm layout snapshot fixed true = (r : ℕ) → r < input_count layout.reports → is_changed (items_of layout) r snapshot fixed ≡ false
+IsCalm layout snapshot fixed false = Unit {0}
+
+-- the same, with whether it was seen to be calm, what its pipe has armed, the bytes of its round, and with room for the
+-- parts that are asked for
+pub record IsCore (core : CoreState) (seen : Bool) (sent : Option (List ℕ)) (bytes : List ℕ) (parts : List Cell) : Type 0 where
   pub sound : IsSound core
+  pub calm : IsCalm core.layout core.standing.snapshot core.standing.fixed seen
   pub armed : sent ≡ armed_of core
   pub round : KeepsRound core bytes
   pub room : FitsShown (items_of core.layout) parts

@@ -5,6 +5,7 @@ ghost use Rattle.std.specs.Option.{option_copied};
 ghost use Rattle.hid_layout.specs.Controls.{items_of};
 ghost use Rattle.hid_cells.specs.Cells.{FitsSnapshot};
 ghost use Rattle.hid_parts.specs.Encoding.{AreBytes};
+ghost use Rattle.hid_cells.specs.Parts.{is_changed};
 ghost use Rattle.hid_cells.specs.Snapshots.{Changes};
 ghost use Rattle.usb_packet.specs.Spelling.{Fits};
 ghost use Rattle.hid_device.specs.Standing.{is_due, due_where};
@@ -60,6 +61,8 @@ pub struct Core {
     round: ArrayVec<u8, 256>,
     /// Which of them is armed, from 0; 0 where no round is open.
     piece: usize,
+    /// Whether it was seen that no report's controls call for it, and nothing was changed, fixed or configured since.
+    is_calm: bool,
     /// In which form a boot device sends its reports.
     protocol: Protocol,
     /// The Output and Feature reports, in the order of the layout, as they were set last.
@@ -124,7 +127,7 @@ impl Model for Core {
       outputs = c.outputs.items;
       answer = option_map (answer_bytes c.descriptor.items c.written.items) c.answer;
       pending = c.pending;
-    }) c.pipe.armed c.round.items c.still };
+    }) c.is_calm c.pipe.armed c.round.items c.still };
 }
 
 /// The layout of a descriptor, of which a device can send every report.
@@ -188,6 +191,7 @@ impl Core {
             current: None,
             round: ArrayVec::new(),
             piece: 0,
+            is_calm: false,
             protocol: Protocol::Report,
             outputs,
             still,
@@ -272,6 +276,7 @@ impl Core {
             self.new.standing.snapshot }
         ensures core { self.new ≡ changed_core self.old change }
     {
+        self.is_calm = false; // the control may call for its report
         change_snapshot(&mut self.snapshot, &self.layout, change)
     }
 
@@ -287,6 +292,7 @@ impl Core {
         ensures { self.new ≡ configured_core self.old }
     {
         self.is_configured = true;
+        self.is_calm = false; // no part is fixed any more
         self.fixed.reset(&self.layout);
         self.frames.fill(0);
         self.cut.fill(false);
@@ -340,9 +346,21 @@ impl Core {
         ensures { self.new ≡ opening_of self.old }
     {
         if self.current.is_none() {
-            if let Some(report) = self.first_due() {
-                self.open(report);
+            match self.first_due() {
+                Some(report) => self.open(report),
+                None => self.keep_calm(),
             }
+        }
+    }
+
+    /// No report is due. Unless a halt hides it, none's controls call for it then, until something is changed: polls behind
+    /// this one needn't look at them.
+    fn keep_calm(&mut self)
+        requires { due_where (items_of self.old.layout) self.old.halted self.old.standing ≡ None }
+        ensures { self.new ≡ self.old }
+    {
+        if !self.pipe.halted() {
+            self.is_calm = true;
         }
     }
 
@@ -397,9 +415,18 @@ impl Core {
         requires { report < length self.now.standing.frames }
         ensures { result ≡ is_due (items_of self.now.layout) self.now.standing report }
     {
-        self.snapshot.due(&self.layout, report, &self.fixed)
+        self.calls_for(report)
             || is_idle_over(self.idle[report], self.frames[report])
             || self.cut[report]
+    }
+
+    /// Whether a report's controls call for it.
+    fn calls_for(&self, report: usize) -> bool
+        requires { report < length self.now.standing.frames }
+        ensures { result ≡ is_changed (items_of self.now.layout) report self.now.standing.snapshot
+            self.now.standing.fixed }
+    {
+        !self.is_calm && self.snapshot.due(&self.layout, report, &self.fixed)
     }
 
     /// The report whose round a poll opens: the due one of the lowest number, and none while the endpoint is halted.
@@ -427,6 +454,7 @@ impl Core {
         requires going { self.old.halted ≡ false }
         ensures { self.new ≡ opened_core self.old report }
     {
+        self.is_calm = false; // it was seen of the parts before
         self.snapshot.shown(&self.layout, report, &mut self.fixed);
         self.snapshot.take_motion(&self.layout, report, &self.fixed);
         self.frames[report] = 0;

@@ -182,19 +182,21 @@ stays_together clearing (Ready known) device device_then l pair = record {
 }
 
 -- and of the invariant of a slot
-abbrev Holds : DeviceState → HostEnd → ℕ → Type 0
-Holds device host capacity = StandTogether device host.clearing host.phase × Knows host device.control × (host.addr ≡ device.addr) × (max_events (items_of (core_of device).layout) ≤ capacity)
+abbrev Holds : DeviceState → HostEnd → ℕ → ℕ → Type 0
+Holds device host capacity most = StandTogether device host.clearing host.phase × Knows host device.control × (host.addr ≡ device.addr) × (max_events (items_of (core_of device).layout) ≤ capacity)
+    × (most ≡ max_events (items_of (core_of device).layout))
 
 abbrev OthersLeave : Type 0
 OthersLeave = (host : HostEnd) (old new : DevControlState CoreState) → LeavesTransfers host.clearing old new → Knows host old → Knows host new
 
-pub holds_on : (device device_then : DeviceState) (host : HostEnd) (capacity : ℕ) → OthersLeave → LeavesTransfers host.clearing device.control device_then.control → Leaves device device_then
-    → Holds device host capacity → Holds device_then host capacity
-holds_on device device_then host capacity others transfers l (together, knows, home, room) = (
+pub holds_on : (device device_then : DeviceState) (host : HostEnd) (capacity most : ℕ) → OthersLeave → LeavesTransfers host.clearing device.control device_then.control → Leaves device device_then
+    → Holds device host capacity most → Holds device_then host capacity most
+holds_on device device_then host capacity most others transfers l (together, knows, home, room, events) = (
   stays_together host.clearing host.phase device device_then l together,
   others host device.control device_then.control transfers knows,
   home ∙ sym l.addr,
   subst (λ (x : Contents). max_events (items_of x) ≤ capacity) (sym l.layout) room,
+  subst (λ (x : Contents). most ≡ max_events (items_of x)) (sym l.layout) events,
 )
 
 -- a change leaves the part that was fixed

@@ -46,6 +46,8 @@ pub struct Slot {
     device: Device,
     host: HostDevice,
     events: Vec<Event>,
+    /// How many events a step of the two gives at most.
+    most_events: usize,
 }
 
 impl Model for Slot {
@@ -61,7 +63,8 @@ impl Model for Slot {
 
     ghost invariant = { λ s. StandTogether s.device s.host.clearing s.host.phase × Knows s.host s.device.control
         × (s.host.addr ≡ s.device.addr)
-        × (max_events (items_of s.device.control.requests.layout) ≤ vec_capacity s.events) };
+        × (max_events (items_of s.device.control.requests.layout) ≤ vec_capacity s.events)
+        × (s.most_events ≡ max_events (items_of s.device.control.requests.layout)) };
 }
 
 /// What a want of a device is told as.
@@ -155,11 +158,13 @@ impl Slot {
             Ok(host) => host,
             Err(fault) => return Err(fault),
         };
-        match Vec::with_capacity(alloc, device.layout().max_events()) {
+        let most_events = device.layout().max_events();
+        match Vec::with_capacity(alloc, most_events) {
             Ok(events) => Ok(Slot {
                 device,
                 host,
                 events,
+                most_events,
             }),
             Err(_) => Err(StackFault::Memory),
         }
@@ -175,11 +180,13 @@ impl Slot {
         hosts_know_their_devices();
         let device = made(alloc, addr, config, descriptor)?;
         let host = HostDevice::cold(alloc, addr);
-        match Vec::with_capacity(alloc, device.layout().max_events()) {
+        let most_events = device.layout().max_events();
+        match Vec::with_capacity(alloc, most_events) {
             Ok(events) => Ok(Slot {
                 device,
                 host,
                 events,
+                most_events,
             }),
             Err(_) => Err(StackFault::Memory),
         }
@@ -257,8 +264,7 @@ impl Slot {
         if !self.host.may_poll() {
             return Err(StackFault::NotReady);
         }
-        let room = self.device.layout().max_events();
-        if out.reserve(room).is_err() {
+        if out.reserve(self.most_events).is_err() {
             return Err(StackFault::Memory);
         }
         let told = poll_pair(fate, &mut self.device, &mut self.host, &mut self.events);
@@ -281,8 +287,7 @@ impl Slot {
         ensures few { vec_len out.new ≤ vec_len out.old + max_events (items_of self.old.layout) }
         ensures capacity { vec_capacity out.old ≤ vec_capacity out.new }
     {
-        let room = self.device.layout().max_events();
-        if out.reserve(room).is_err() {
+        if out.reserve(self.most_events).is_err() {
             return Err(StackFault::Memory);
         }
         reset_pair(&mut self.device, &mut self.host, &mut self.events);
@@ -305,8 +310,7 @@ impl Slot {
         ensures few { vec_len out.new ≤ vec_len out.old + max_events (items_of self.old.layout) }
         ensures capacity { vec_capacity out.old ≤ vec_capacity out.new }
     {
-        let room = self.device.layout().max_events();
-        if out.reserve(room).is_err() {
+        if out.reserve(self.most_events).is_err() {
             return Err(StackFault::Memory);
         }
         halt_pair(&mut self.device, &self.host, &mut self.events);
@@ -350,8 +354,7 @@ impl Slot {
             ≤ vec_len out.old + most_tried self.old.layout (may_cut (running self.old.transfer)) }
         ensures capacity { vec_capacity out.old ≤ vec_capacity out.new }
     {
-        let room = self.device.layout().max_events();
-        if self.host.may_cut() && out.reserve(room).is_err() {
+        if self.host.may_cut() && out.reserve(self.most_events).is_err() {
             return Err(StackFault::Memory);
         }
         let result = control_pair(fate, &mut self.device, &mut self.host, &mut self.events);

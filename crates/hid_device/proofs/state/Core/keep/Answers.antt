@@ -20,6 +20,7 @@ invariant_of-self c =
     record {
       sound = sound_with (the_view c.self.inside) c.self.inside.is_configured c.self.inside.idle.items c.self.inside.protocol _ before before.each_idle (subst (AreOutputs c.self.inside.layout) (sym set)
           (kept_are c.self.inside.layout c.self.inside.outputs.items c.args.place c.args.bytes.now before.outputs));
+      calm = c.self.invariant.calm;
       armed = c.self.invariant.armed;
       round = c.self.invariant.round;
       room = c.self.invariant.room;

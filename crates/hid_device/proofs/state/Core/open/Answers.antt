@@ -39,5 +39,6 @@ invariant_of-self c =
       };
       room = c.self.invariant.room;
       round = is;
+      calm = tt;
       armed = ap (λ (pipe : DevPipeState). pipe.armed) c.arm.ensures ∙ ap Some sent;
     }

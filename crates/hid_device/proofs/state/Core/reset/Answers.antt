@@ -21,6 +21,7 @@ invariant_of-self c =
     ∙ ap (take c.self.inside.outputs.len) (append-nil new) ∙ take_all c.self.inside.outputs.len new whole ∙ c.reset_outputs.ensures in
     record {
       sound = sound_with (the_view c.self.inside) false c.fill.new.self.items protocols.Report _ before idle (subst (AreOutputs c.self.inside.layout) (sym outputs) (bare_are c.self.inside.layout));
+      calm = c.self.invariant.calm;
       armed = c.self.invariant.armed;
       round = c.self.invariant.round;
       room = c.self.invariant.room;

@@ -30,6 +30,7 @@ invariant_of-result c =
         outputs = subst (λ (outputs : List (List ℕ)). AreOutputs c.args.layout outputs) (sym outputs) (bare_are c.args.layout);
       };
       room = c.in_ok-still.ensures.fits;
+      calm = tt;
       armed = armed;
       round = tt;
     }

@@ -12,4 +12,5 @@ invariant_of-self c =
       c.poll_pair-told.ensures.knows c.self.invariant.1,
       c.poll_pair-told.ensures.home ∙ c.self.invariant.2 ∙ sym addr,
       omega (arith, room, c.poll_pair-told.ensures.capacity, c.self.invariant.3),
+      omega (arith, room, c.self.invariant.4),
     )
