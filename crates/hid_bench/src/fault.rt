@@ -40,7 +40,7 @@ impl fmt::Display for BenchFault {
             BenchFault::Usage => {
                 write!(
                     f,
-                    "usage: hid_bench parse|read|write TURNS DESCRIPTOR [REPORT..|USAGE..]"
+                    "usage: hid_bench parse|read|write|step TURNS DESCRIPTOR [REPORT..|USAGE..]"
                 )
             }
             BenchFault::Descriptor => write!(f, "the descriptor is refused"),

@@ -3,6 +3,7 @@
 //!   hid_bench parse TURNS DESCRIPTOR             reads a report descriptor, and drops its layout
 //!   hid_bench read  TURNS DESCRIPTOR REPORT..    reads each Input report in turn in one view
 //!   hid_bench write TURNS DESCRIPTOR USAGE..     writes the report of the first usage, with each pressed, moved or set
+//!   hid_bench step  TURNS DESCRIPTOR USAGE..     moves the controls of the usages, if there are any, and polls the device
 //! ```
 //! Descriptors and reports are hex digits; a usage has four digits of its page and four of its ID. What is told is how many
 //! items were listed, events came or bytes were written, in all turns together.
@@ -16,6 +17,7 @@
 
 mod fault;
 mod reading;
+mod stepping;
 #[cfg(test)]
 mod tests;
 mod turns;

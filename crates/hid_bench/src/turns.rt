@@ -2,6 +2,7 @@
 
 use crate::fault::BenchFault;
 use crate::reading::{Reading, parsed};
+use crate::stepping::Stepping;
 use crate::words::{Asked, Work};
 use crate::writing::Writing;
 use arrayvec::ArrayVec;
@@ -14,6 +15,7 @@ pub fn done(alloc: Global, asked: &Asked) -> Result<u64, BenchFault> {
         Work::Parse => parses(alloc, descriptor, asked.turns),
         Work::Read => reads(alloc, descriptor, asked.rest.as_slice(), asked.turns),
         Work::Write => writes(alloc, descriptor, asked.rest.as_slice(), asked.turns),
+        Work::Step => steps(alloc, descriptor, asked.rest.as_slice(), asked.turns),
     }
 }
 
@@ -56,4 +58,18 @@ fn writes(
         written = written.wrapping_add(bytes.len() as u64);
     }
     Ok(written)
+}
+
+fn steps(
+    alloc: Global,
+    descriptor: &[u8],
+    usages: &[Vec<u8>],
+    turns: u32,
+) -> Result<u64, BenchFault> {
+    let mut stepping = Stepping::open(alloc, descriptor, usages)?;
+    let mut told: u64 = 0;
+    for _ in 0..turns {
+        told = told.wrapping_add(stepping.turn()? as u64);
+    }
+    Ok(told)
 }

@@ -13,6 +13,8 @@ pub enum Work {
     Read,
     /// A report is written.
     Write,
+    /// A device is polled, behind what moves.
+    Step,
 }
 
 /// What the words ask for.
@@ -30,6 +32,7 @@ fn work_of(word: &str) -> Option<Work> {
         "parse" => Some(Work::Parse),
         "read" => Some(Work::Read),
         "write" => Some(Work::Write),
+        "step" => Some(Work::Step),
         _ => None,
     }
 }

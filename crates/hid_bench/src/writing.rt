@@ -68,7 +68,7 @@ fn usage_of(bytes: &[u8]) -> Option<Usage> {
     }
 }
 
-fn control_of(layout: &Layout, word: &[u8]) -> Result<ControlId, BenchFault> {
+pub fn control_of(layout: &Layout, word: &[u8]) -> Result<ControlId, BenchFault> {
     let Some(usage) = usage_of(word) else {
         return Err(BenchFault::Usage);
     };
