@@ -33,6 +33,3 @@ pub use bit_codec::BitCodec;
 pub use codec::{FieldCodec, MAX_WIDTH};
 pub use value::{null_pattern, to_pattern, to_value};
 pub use word_codec::WordCodec;
-
-#[cfg(test)]
-mod tests;

@@ -27,6 +27,3 @@ mod spelling;
 pub use fault::ItemFault;
 pub use reading::Items;
 pub use spelling::{Item, ItemKind};
-
-#[cfg(test)]
-mod tests;

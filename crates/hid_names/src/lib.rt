@@ -14,7 +14,5 @@ pub mod laws;
 mod names;
 mod pages;
 mod table;
-#[cfg(test)]
-mod tests;
 
 pub use names::{UsageName, usage_name};

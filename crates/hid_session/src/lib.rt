@@ -27,6 +27,3 @@ pub use hid_usages::ReportFault;
 pub use session::{FeedFault, Session};
 pub use shown::{HidCollection, HidReport, HidUsage, collection_at, report_at, usage_at};
 pub use table::{list_elements, put_elements};
-
-#[cfg(test)]
-mod tests;

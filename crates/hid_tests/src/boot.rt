@@ -1,6 +1,7 @@
 //! Reports of the boot keyboard and mouse (HID 1.11, appendix B), worked out by hand from the tables of that appendix.
 
-use hid_layout::{ControlId, Layout, Usage};
+use crate::rows::layout_of;
+use hid_layout::{ControlId, Usage};
 use hid_usages::ReportFault;
 use hid_usages::boot::{KEYBOARD, KeyboardReport, MOUSE, MouseReport};
 use std::alloc::Global;
@@ -198,7 +199,7 @@ fn is_found(
     usage: Usage,
     control: ControlId,
 ) -> Result<bool, Fail> {
-    let layout = Layout::parse(alloc, descriptor)?;
+    let layout = layout_of(alloc, descriptor)?;
     Ok(layout.find(usage) == Some(control))
 }
 

@@ -1,16 +1,10 @@
 //! The controls and codes of the HID specification's keyboard and mouse (HID 1.11, B.1, B.2 and E.10), and of short
 //! descriptors with one rule each, worked out by hand.
 
-use crate::rows::{descriptor_of, numbers_of, parts, rows_of};
+use crate::rows::{Asked, check, number_of, numbers_of, usage_of};
 use hid_layout::{Codes, ControlId, Controls, Layout, Usage};
 use std::alloc::Global;
 use std::test::Fail;
-
-/// The layout of a descriptor, which is accepted.
-fn layout_of(alloc: Global, words: &str) -> Result<Option<Layout>, Fail> {
-    let descriptor = descriptor_of(alloc, words)?;
-    Ok(Layout::parse(alloc, &descriptor).ok())
-}
 
 /// The controls of an item and the least number out of its range, which tells null; of an array also the numbers that tell
 /// no key and too many.
@@ -42,33 +36,32 @@ const ITEMS: &str = "
 ";
 
 /// The controls and codes of an item.
-fn item_told(alloc: Global, layout: &Layout, item: usize) -> Result<String, Fail> {
-    if layout.items().len() <= item {
-        return Ok(String::new(alloc));
+struct Kinds;
+
+impl Asked for Kinds {
+    fn told(alloc: Global, layout: &Layout, words: &str) -> Result<String, Fail> {
+        let item = number_of(words)?;
+        if layout.items().len() <= item {
+            return Ok(String::new(alloc));
+        }
+        let controls = layout.controls(item);
+        let Codes {
+            null,
+            empty,
+            rollover,
+        } = layout.codes(item);
+        Ok(match controls {
+            Controls::Keys { .. } => format!(in alloc;
+                "{controls:?}, {null:?} {empty:?} {rollover:?}"
+            )?,
+            _ => format!(in alloc; "{controls:?}, {null:?}")?,
+        })
     }
-    let controls = layout.controls(item);
-    let Codes {
-        null,
-        empty,
-        rollover,
-    } = layout.codes(item);
-    Ok(match controls {
-        Controls::Keys { .. } => format!(in alloc;
-            "{controls:?}, {null:?} {empty:?} {rollover:?}"
-        )?,
-        _ => format!(in alloc; "{controls:?}, {null:?}")?,
-    })
 }
 
 #[test]
 fn items_have_their_controls_and_codes(rt: HostRuntime) -> Result<(), Fail> {
-    for row in rows_of(ITEMS) {
-        let (descriptor, item, wanted) = parts(row);
-        let layout = layout_of(rt.alloc(), descriptor)?.expect(&rt, "accepted");
-        let told = item_told(rt.alloc(), &layout, item.parse()?)?;
-        assert_eq!(rt; told.as_str(), wanted, "{row}");
-    }
-    Ok(())
+    check::<Kinds>(&rt, rt.alloc(), ITEMS)
 }
 
 /// The control at a place of an item: its kind, and its usage as page and ID.
@@ -115,26 +108,24 @@ const CONTROLS: &str = "
 ";
 
 /// A control as its kind and its usage.
-fn control_told(alloc: Global, layout: &Layout, id: ControlId) -> Result<String, Fail> {
-    Ok(match layout.control(id) {
-        Some(control) => {
-            let Usage { page, id } = control.usage;
-            format!(in alloc; "{:?} {page:02X}:{id:02X}", control.kind)?
-        }
-        None => format!(in alloc; "none")?,
-    })
+struct Places;
+
+impl Asked for Places {
+    fn told(alloc: Global, layout: &Layout, words: &str) -> Result<String, Fail> {
+        let (item, index) = numbers_of(words)?;
+        Ok(match layout.control(ControlId { item, index }) {
+            Some(control) => {
+                let Usage { page, id } = control.usage;
+                format!(in alloc; "{:?} {page:02X}:{id:02X}", control.kind)?
+            }
+            None => format!(in alloc; "none")?,
+        })
+    }
 }
 
 #[test]
 fn places_have_their_controls(rt: HostRuntime) -> Result<(), Fail> {
-    for row in rows_of(CONTROLS) {
-        let (descriptor, place, wanted) = parts(row);
-        let layout = layout_of(rt.alloc(), descriptor)?.expect(&rt, "accepted");
-        let (item, index) = numbers_of(place)?;
-        let told = control_told(rt.alloc(), &layout, ControlId { item, index })?;
-        assert_eq!(rt; told.as_str(), wanted, "{row}");
-    }
-    Ok(())
+    check::<Places>(&rt, rt.alloc(), CONTROLS)
 }
 
 /// An item and a report: where the ranges of the item's usages begin, the items of the report, and the most events that one
@@ -150,28 +141,27 @@ const PLANS: &str = "
     MANY_USAGES | 0 0 > [0, 65536] [0] 2
 ";
 
-fn plan_told(alloc: Global, layout: &Layout, item: usize, report: usize) -> Result<String, Fail> {
-    if layout.items().len() <= item || layout.reports().len() <= report {
-        return Ok(String::new(alloc));
+/// The ranges, the items and the most events.
+struct Plan;
+
+impl Asked for Plan {
+    fn told(alloc: Global, layout: &Layout, words: &str) -> Result<String, Fail> {
+        let (item, report) = numbers_of(words)?;
+        if layout.items().len() <= item || layout.reports().len() <= report {
+            return Ok(String::new(alloc));
+        }
+        let most = layout.max_events();
+        Ok(format!(in alloc;
+            "{:?} {:?} {most}",
+            layout.starts(item),
+            layout.plan(report)
+        )?)
     }
-    let most = layout.max_events();
-    Ok(format!(in alloc;
-        "{:?} {:?} {most}",
-        layout.starts(item),
-        layout.plan(report)
-    )?)
 }
 
 #[test]
 fn reports_have_their_plan(rt: HostRuntime) -> Result<(), Fail> {
-    for row in rows_of(PLANS) {
-        let (descriptor, asked, wanted) = parts(row);
-        let layout = layout_of(rt.alloc(), descriptor)?.expect(&rt, "accepted");
-        let (item, report) = numbers_of(asked)?;
-        let told = plan_told(rt.alloc(), &layout, item, report)?;
-        assert_eq!(rt; told.as_str(), wanted, "{row}");
-    }
-    Ok(())
+    check::<Plan>(&rt, rt.alloc(), PLANS)
 }
 
 /// A descriptor, a usage, and the least control that has it.
@@ -202,27 +192,20 @@ const LEAST: &str = "
 ";
 
 /// The least control with a usage.
-fn least_told(alloc: Global, layout: &Layout, usage: &str) -> Result<String, Fail> {
-    let (page, id) = usage.split_once(':').unwrap_or((usage, ""));
-    let usage = Usage {
-        page: u16::from_str_radix(page, 16)?,
-        id: u16::from_str_radix(id, 16)?,
-    };
-    Ok(match layout.find(usage) {
-        Some(ControlId { item, index }) => format!(in alloc; "{item}.{index}")?,
-        None => format!(in alloc; "none")?,
-    })
+struct Least;
+
+impl Asked for Least {
+    fn told(alloc: Global, layout: &Layout, words: &str) -> Result<String, Fail> {
+        Ok(match layout.find(usage_of(words)?) {
+            Some(ControlId { item, index }) => format!(in alloc; "{item}.{index}")?,
+            None => format!(in alloc; "none")?,
+        })
+    }
 }
 
 #[test]
 fn the_least_control_is_found(rt: HostRuntime) -> Result<(), Fail> {
-    for row in rows_of(LEAST) {
-        let (descriptor, usage, wanted) = parts(row);
-        let layout = layout_of(rt.alloc(), descriptor)?.expect(&rt, "accepted");
-        let told = least_told(rt.alloc(), &layout, usage)?;
-        assert_eq!(rt; told.as_str(), wanted, "{row}");
-    }
-    Ok(())
+    check::<Least>(&rt, rt.alloc(), LEAST)
 }
 
 /// Usages behind 65,536 others have a place, and no key stands there.
@@ -239,23 +222,22 @@ const USAGES: &str = "
 ";
 
 /// The usage at a place of the one item.
-fn usage_told(alloc: Global, layout: &Layout, index: usize) -> Result<String, Fail> {
-    if layout.items().len() != 1 {
-        return Ok(String::new(alloc));
+struct UsageAt;
+
+impl Asked for UsageAt {
+    fn told(alloc: Global, layout: &Layout, words: &str) -> Result<String, Fail> {
+        let index = number_of(words)?;
+        if layout.items().len() != 1 {
+            return Ok(String::new(alloc));
+        }
+        Ok(match layout.usage(0, index) {
+            Some(Usage { page, id }) => format!(in alloc; "{page:02X}:{id:02X}")?,
+            None => format!(in alloc; "none")?,
+        })
     }
-    Ok(match layout.usage(0, index) {
-        Some(Usage { page, id }) => format!(in alloc; "{page:02X}:{id:02X}")?,
-        None => format!(in alloc; "none")?,
-    })
 }
 
 #[test]
 fn usages_are_found_in_their_range(rt: HostRuntime) -> Result<(), Fail> {
-    for row in rows_of(USAGES) {
-        let (descriptor, index, wanted) = parts(row);
-        let layout = layout_of(rt.alloc(), descriptor)?.expect(&rt, "accepted");
-        let told = usage_told(rt.alloc(), &layout, index.parse()?)?;
-        assert_eq!(rt; told.as_str(), wanted, "{row}");
-    }
-    Ok(())
+    check::<UsageAt>(&rt, rt.alloc(), USAGES)
 }

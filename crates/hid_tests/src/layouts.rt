@@ -1,7 +1,7 @@
 //! Readers of a layout, on the HID specification's mouse (HID 1.11, E.10), and descriptors that are refused, each beside the
 //! nearest one that is accepted. What descriptors lay out stands in the examples, worked out by hand.
 
-use crate::rows::{descriptor_of, numbers_of, parts, rows_of};
+use crate::rows::{Asked, check, numbers_of};
 use hid_layout::boot::{KEYBOARD, MOUSE};
 use hid_layout::{Cause, Layout, LayoutFault};
 use std::alloc::Global;
@@ -10,71 +10,71 @@ use std::test::Fail;
 /// Of the mouse, the usage and the element at a place of an item. What a layout has stands in the examples, as text.
 #[rattlefmt::skip]
 const READ: &str = "
-    0 2 > Some(Usage { page: 9, id: 3 }), Some(Element { bit: 2, width: 1, signed: false, min: 0, max: 1 })
-    0 3 > None, None
-    1 0 > None, None
-    2 0 > Some(Usage { page: 1, id: 48 }), Some(Element { bit: 8, width: 8, signed: true, min: -127, max: 127 })
-    2 1 > Some(Usage { page: 1, id: 49 }), Some(Element { bit: 16, width: 8, signed: true, min: -127, max: 127 })
-    2 2 > None, None
+    MOUSE | 0 2 > Some(Usage { page: 9, id: 3 }), Some(Element { bit: 2, width: 1, signed: false, min: 0, max: 1 })
+    MOUSE | 0 3 > None, None
+    MOUSE | 1 0 > None, None
+    MOUSE | 2 0 > Some(Usage { page: 1, id: 48 }), Some(Element { bit: 8, width: 8, signed: true, min: -127, max: 127 })
+    MOUSE | 2 1 > Some(Usage { page: 1, id: 49 }), Some(Element { bit: 16, width: 8, signed: true, min: -127, max: 127 })
+    MOUSE | 2 2 > None, None
 ";
 
-/// The usage and the element at the place that a row asks for.
-fn read(alloc: Global, layout: &Layout, place: &str) -> Result<String, Fail> {
-    let (item, index) = numbers_of(place)?;
-    if layout.items().len() <= item {
-        return Ok(String::new(alloc));
-    }
-    Ok(format!(in alloc;
-        "{:?}, {:?}",
-        layout.usage(item, index),
-        layout.element(item, index)
-    )?)
-}
+/// The usage and the element at a place.
+struct Places;
 
-/// The layout of a descriptor that is accepted.
-fn accepted(rt: &HostRuntime, descriptor: &[u8]) -> Result<Layout, Fail> {
-    Ok(Layout::parse(rt.alloc(), descriptor)?)
+impl Asked for Places {
+    fn told(alloc: Global, layout: &Layout, words: &str) -> Result<String, Fail> {
+        let (item, index) = numbers_of(words)?;
+        if layout.items().len() <= item {
+            return Ok(String::new(alloc));
+        }
+        Ok(format!(in alloc;
+            "{:?}, {:?}",
+            layout.usage(item, index),
+            layout.element(item, index)
+        )?)
+    }
 }
 
 #[test]
 fn the_mouse_has_buttons_and_motion(rt: HostRuntime) -> Result<(), Fail> {
-    let layout = accepted(&rt, &MOUSE)?;
-    for row in rows_of(READ) {
-        let (place, wanted) = row.split_once('>').unwrap_or((row, ""));
-        let told = read(rt.alloc(), &layout, place.trim())?;
-        assert_eq!(rt; told.as_str(), wanted.trim(), "{row}");
-    }
-    Ok(())
+    check::<Places>(&rt, rt.alloc(), READ)
 }
 
 /// Of the first item, its entries and how many collections it is in; of the one report, its bytes and whether it has an ID.
-fn listed(alloc: Global, layout: &Layout) -> Result<String, Fail> {
-    if layout.reports().len() != 1 || layout.items().len() != 3 {
-        return Ok(String::new(alloc));
+struct Lists;
+
+impl Asked for Lists {
+    fn told(alloc: Global, layout: &Layout, _words: &str) -> Result<String, Fail> {
+        if layout.reports().len() != 1 || layout.items().len() != 3 {
+            return Ok(String::new(alloc));
+        }
+        Ok(format!(in alloc;
+            "{:?} {} {} {}",
+            layout.entries(0),
+            layout.path(0).len(),
+            layout.report_bytes(0),
+            layout.numbered()
+        )?)
     }
-    Ok(format!(in alloc;
-        "{:?} {} {} {}",
-        layout.entries(0),
-        layout.path(0).len(),
-        layout.report_bytes(0),
-        layout.numbered()
-    )?)
 }
+
+#[rattlefmt::skip]
+const LISTED: &str = "
+    MOUSE > [(Usage { page: 9, id: 1 }, Usage { page: 9, id: 3 })] 2 3 false
+";
 
 #[test]
 fn readers_show_what_is_listed(rt: HostRuntime) -> Result<(), Fail> {
-    let told = listed(rt.alloc(), &accepted(&rt, &MOUSE)?)?;
-    let shown = "[(Usage { page: 9, id: 1 }, Usage { page: 9, id: 3 })] 2 3 false";
-    assert_eq!(rt; told.as_str(), shown);
-    Ok(())
+    check::<Lists>(&rt, rt.alloc(), LISTED)
 }
 
-/// The refusal of a descriptor as it is printed, or how many items are listed.
-fn parsed(alloc: Global, descriptor: &[u8]) -> Result<String, Fail> {
-    Ok(match Layout::parse(alloc, descriptor) {
-        Ok(layout) => format!(in alloc; "{} items", layout.items().len())?,
-        Err(fault) => format!(in alloc; "{fault}")?,
-    })
+/// How many items are listed.
+struct Items;
+
+impl Asked for Items {
+    fn told(alloc: Global, layout: &Layout, _words: &str) -> Result<String, Fail> {
+        Ok(format!(in alloc; "{} items", layout.items().len())?)
+    }
 }
 
 /// Descriptors of one byte each without data, or a few items, with the one refusal and its place, as they are printed.
@@ -111,12 +111,7 @@ const REFUSED: &str = "
 
 #[test]
 fn a_refusal_has_its_cause_and_place(rt: HostRuntime) -> Result<(), Fail> {
-    for row in rows_of(REFUSED) {
-        let (descriptor, _, wanted) = parts(row);
-        let told = parsed(rt.alloc(), &descriptor_of(rt.alloc(), descriptor)?)?;
-        assert_eq!(rt; told.as_str(), wanted, "{row}");
-    }
-    Ok(())
+    check::<Items>(&rt, rt.alloc(), REFUSED)
 }
 
 /// The nearest descriptors that are accepted, with the number of items that they list.
@@ -148,12 +143,7 @@ const ACCEPTED: &str = "
 
 #[test]
 fn the_nearest_descriptor_is_accepted(rt: HostRuntime) -> Result<(), Fail> {
-    for row in rows_of(ACCEPTED) {
-        let (descriptor, _, wanted) = parts(row);
-        let told = parsed(rt.alloc(), &descriptor_of(rt.alloc(), descriptor)?)?;
-        assert_eq!(rt; told.as_str(), wanted, "{row}");
-    }
-    Ok(())
+    check::<Items>(&rt, rt.alloc(), ACCEPTED)
 }
 
 /// Each limit, with a descriptor that reaches it and one that passes it.
@@ -173,51 +163,22 @@ const LIMITS: &str = "
 
 #[test]
 fn limits_are_reached_and_not_passed(rt: HostRuntime) -> Result<(), Fail> {
-    for row in rows_of(LIMITS) {
-        let (descriptor, _, wanted) = parts(row);
-        let told = parsed(rt.alloc(), &descriptor_of(rt.alloc(), descriptor)?)?;
-        assert_eq!(rt; told.as_str(), wanted, "{row}");
-    }
-    Ok(())
+    check::<Items>(&rt, rt.alloc(), LIMITS)
 }
 
-/// The limits of data fields and report IDs count over all reports: reports, fields of each, fields of one more report.
+/// The limits of data fields and report IDs count over all reports: one-bit buttons under the Report IDs from 1 on, and one
+/// report more.
 #[rattlefmt::skip]
 const COUNTED: &str = "
-    8 reports of 504 fields and 64 more, 4,096: 8 504 64 > 9 items
-    8 reports of 504 fields and 65 more, 4,097: 8 504 65 > L16 at 84
-    64 report IDs:                              63 1 1   > 64 items
-    65 report IDs:                              64 1 1   > L16 at 588
+    8 reports of 504 fields and 64 more, 4,096: BUTTON 8#504 85FF954009018102 > 9 items
+    8 reports of 504 fields and 65 more, 4,097: BUTTON 8#504 85FF954109018102 > L16 at 84
+    64 report IDs:                              BUTTON 63#1 85FF950109018102  > 64 items
+    65 report IDs:                              BUTTON 64#1 85FF950109018102  > L16 at 588
 ";
-
-/// One-bit buttons under the Report IDs from 1 on: so many reports of so many fields, and one more report.
-fn numbered_reports(alloc: Global, reports: u8, fields: u16, last: u8) -> Result<Vec<u8>, Fail> {
-    let mut bytes = descriptor_of(alloc, "BUTTON")?;
-    let [low, high] = fields.to_le_bytes();
-    for id in 0..reports {
-        let id = id.saturating_add(1);
-        bytes.extend_from_slice(&[0x85, id, 0x96, low, high, 0x09, 0x01, 0x81, 0x02])?;
-    }
-    bytes.extend_from_slice(&[0x85, 0xFF, 0x95, last, 0x09, 0x01, 0x81, 0x02])?;
-    Ok(bytes)
-}
-
-/// What a row of reports and fields is parsed to.
-fn counted(alloc: Global, row: &str) -> Result<String, Fail> {
-    let (reports, fields) = row.split_once(' ').unwrap_or((row, ""));
-    let (fields, last) = fields.split_once(' ').unwrap_or((fields, ""));
-    let bytes = numbered_reports(alloc, reports.parse()?, fields.parse()?, last.parse()?)?;
-    parsed(alloc, &bytes)
-}
 
 #[test]
 fn fields_and_ids_are_counted(rt: HostRuntime) -> Result<(), Fail> {
-    for row in rows_of(COUNTED) {
-        let (given, _, wanted) = parts(row);
-        let told = counted(rt.alloc(), given.trim())?;
-        assert_eq!(rt; told.as_str(), wanted, "{row}");
-    }
-    Ok(())
+    check::<Items>(&rt, rt.alloc(), COUNTED)
 }
 
 /// A part of the keyboard's or the mouse's descriptor from its beginning. Each item takes two bytes, but for the End Collections

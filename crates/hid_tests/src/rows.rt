@@ -1,22 +1,75 @@
 //! Rows of the tests, a line each: a name and `: `, if it has one; a descriptor; behind `|` what is asked of its layout; and
-//! behind `>` what is wanted. A descriptor is words: bytes in hex, repeated where `*N` follows, or a descriptor's name.
+//! behind `>` what is wanted. A descriptor is words: bytes in hex, repeated where `*N` follows; a descriptor's name; or `R#F`,
+//! R reports of F buttons. One that is refused tells its refusal, whatever is asked.
 
 use hid_layout::boot::{KEYBOARD, MOUSE};
+use hid_layout::{Layout, LayoutFault, Usage};
 use std::alloc::Global;
-use std::str::Lines;
+use std::process::Abort;
 use std::test::Fail;
 
-/// The rows of a table.
-pub fn rows_of(table: &str) -> Lines<'_> {
-    table.trim().lines()
+/// What rows ask of layouts.
+pub trait Asked {
+    /// What a layout tells of it, the question's words given.
+    fn told(alloc: Global, layout: &Layout, words: &str) -> Result<String, Fail>;
 }
 
-/// The descriptor of a row, what is asked, and what is wanted.
-pub fn parts(row: &str) -> (&str, &str, &str) {
-    let (row, wanted) = row.split_once('>').unwrap_or((row, ""));
-    let (_, given) = row.split_once(": ").unwrap_or(("", row));
-    let (descriptor, asked) = given.split_once('|').unwrap_or((given, ""));
-    (descriptor, asked.trim(), wanted.trim())
+/// What stands before and behind a mark; all of the text before, where it isn't there.
+fn split<'a>(text: &'a str, mark: &str) -> (&'a str, &'a str) {
+    text.split_once(mark).unwrap_or((text, ""))
+}
+
+/// A row without its name.
+fn unnamed(row: &str) -> &str {
+    match row.split_once(": ") {
+        Some((_, given)) => given,
+        None => row,
+    }
+}
+
+/// The descriptor of a row, and what is asked.
+fn given(row: &str) -> (&str, &str) {
+    let (row, _) = split(row, ">");
+    let (descriptor, asked) = split(unnamed(row), "|");
+    (descriptor, asked.trim())
+}
+
+/// What is wanted of a row.
+fn wanted(row: &str) -> &str {
+    let (_, wanted) = split(row, ">");
+    wanted.trim()
+}
+
+/// The layout of a descriptor that is accepted.
+pub fn layout_of(alloc: Global, descriptor: &[u8]) -> Result<Layout, Fail> {
+    Ok(Layout::parse(alloc, descriptor)?)
+}
+
+fn refusal(alloc: Global, fault: LayoutFault) -> Result<String, Fail> {
+    Ok(format!(in alloc; "{fault}")?)
+}
+
+fn told_by<A: Asked>(alloc: Global, descriptor: &[u8], words: &str) -> Result<String, Fail> {
+    match Layout::parse(alloc, descriptor) {
+        Ok(layout) => A::told(alloc, &layout, words),
+        Err(fault) => refusal(alloc, fault),
+    }
+}
+
+/// What a row tells.
+fn told<A: Asked>(alloc: Global, row: &str) -> Result<String, Fail> {
+    let (descriptor, words) = given(row);
+    let descriptor = descriptor_of(alloc, descriptor)?;
+    told_by::<A>(alloc, &descriptor, words)
+}
+
+/// Each row of the table tells what is wanted.
+pub fn check<A: Asked>(rt: &impl Abort, alloc: Global, table: &str) -> Result<(), Fail> {
+    for row in table.trim().lines() {
+        let told = told::<A>(alloc, row)?;
+        assert_eq!(rt; told.as_str(), wanted(row), "{row}");
+    }
+    Ok(())
 }
 
 /// The bytes of a word: those of a name, or what it spells.
@@ -48,7 +101,20 @@ fn push_digits(descriptor: &mut Vec<u8>, digits: &str) -> Result<(), Fail> {
     Ok(())
 }
 
+/// Reports of so many one-bit buttons, under the Report IDs from 1 on.
+fn push_reports(descriptor: &mut Vec<u8>, reports: u8, fields: u16) -> Result<(), Fail> {
+    let [low, high] = fields.to_le_bytes();
+    for id in 0..reports {
+        let id = id.saturating_add(1);
+        descriptor.extend_from_slice(&[0x85, id, 0x96, low, high, 0x09, 0x01, 0x81, 0x02])?;
+    }
+    Ok(())
+}
+
 fn push_word(descriptor: &mut Vec<u8>, word: &str) -> Result<(), Fail> {
+    if let Some((reports, fields)) = word.split_once('#') {
+        return push_reports(descriptor, reports.parse()?, fields.parse()?);
+    }
     match word {
         "MOUSE" => descriptor.extend_from_slice(&MOUSE)?,
         "KEYBOARD" => descriptor.extend_from_slice(&KEYBOARD)?,
@@ -65,7 +131,7 @@ fn push_times(descriptor: &mut Vec<u8>, word: &str, times: usize) -> Result<(), 
 }
 
 /// The descriptor that is spelled by words.
-pub fn descriptor_of(alloc: Global, words: &str) -> Result<Vec<u8>, Fail> {
+fn descriptor_of(alloc: Global, words: &str) -> Result<Vec<u8>, Fail> {
     let mut descriptor = Vec::new(alloc);
     for word in words.split_whitespace() {
         let (word, times) = word.split_once('*').unwrap_or((word, "1"));
@@ -74,8 +140,25 @@ pub fn descriptor_of(alloc: Global, words: &str) -> Result<Vec<u8>, Fail> {
     Ok(descriptor)
 }
 
+pub fn number_of(text: &str) -> Result<usize, Fail> {
+    Ok(text.parse()?)
+}
+
 /// Two numbers with a blank between them.
 pub fn numbers_of(text: &str) -> Result<(usize, usize), Fail> {
-    let (first, second) = text.split_once(' ').unwrap_or((text, ""));
-    Ok((first.parse()?, second.parse()?))
+    let (first, second) = split(text, " ");
+    Ok((number_of(first)?, number_of(second)?))
+}
+
+fn hex_of(text: &str) -> Result<u16, Fail> {
+    Ok(u16::from_str_radix(text, 16)?)
+}
+
+/// A usage as its page and its ID, in hex.
+pub fn usage_of(text: &str) -> Result<Usage, Fail> {
+    let (page, id) = split(text, ":");
+    Ok(Usage {
+        page: hex_of(page)?,
+        id: hex_of(id)?,
+    })
 }

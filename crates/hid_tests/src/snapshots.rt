@@ -1,9 +1,11 @@
 //! Changes of snapshots, what reports show of them, and when these are due: rows worked out by hand from the
 //! descriptors (HID 1.11, 5.10, 6.2.2.5, 8 and appendix C).
 
+ghost use Rattle.std.specs.Prelude.{IfOk};
 ghost use Rattle.hid_layout.specs.Controls.{items_of};
 ghost use Rattle.hid_cells.specs.Cells.{FitsSnapshot, FitsShown};
 
+use crate::rows::layout_of;
 use arrayvec::ArrayVec;
 use hid_cells::{Change, ChangeFault, has_empty_codes, has_keys, has_zeros, is_input};
 use hid_fields::{BitCodec, FieldCodec, WordCodec};
@@ -170,13 +172,32 @@ const CHANGED: [Changed; 19] = [
     ("in its place",             &BUTTONS,     &[Change::Press(FIRST), Change::Release(FIRST), Change::Press(SECOND)], Ok(())),
 ];
 
+// What owns a layout, a snapshot or parts gives them to a helper that does the rest.
+
+fn snapshot_of(alloc: Global, layout: &Layout) -> Result<Snapshot, Fail>
+    ensures { IfOk result (λ snapshot. FitsSnapshot (items_of layout.now) snapshot) }
+{
+    Ok(Snapshot::blank(alloc, layout)?)
+}
+
+fn parts_of(alloc: Global, layout: &Layout) -> Result<Shown, Fail>
+    ensures { IfOk result (λ parts. FitsShown (items_of layout.now) parts) }
+{
+    Ok(Shown::blank(alloc, layout)?)
+}
+
+/// Whether the changes of a row have its fault.
+fn is_changed(alloc: Global, layout: &Layout, row: &Changed) -> Result<bool, Fail> {
+    let mut snapshot = snapshot_of(alloc, layout)?;
+    Ok(change_all(&mut snapshot, layout, row.2) == row.3)
+}
+
 /// The first row that isn't so.
 fn first_unchanged(alloc: Global, rows: &[Changed]) -> Result<Option<&'static str>, Fail> {
-    for (name, descriptor, changes, result) in rows {
-        let layout = Layout::parse(alloc, descriptor)?;
-        let mut snapshot = Snapshot::blank(alloc, &layout)?;
-        if change_all(&mut snapshot, &layout, changes) != *result {
-            return Ok(Some(*name));
+    for row in rows {
+        let layout = layout_of(alloc, row.1)?;
+        if !is_changed(alloc, &layout, row)? {
+            return Ok(Some(row.0));
         }
     }
     Ok(None)
@@ -276,21 +297,27 @@ const STILL: [ShownRow; 3] = [
     ("keys",                     &KEYS,            &[Change::Press(SECOND), Change::Press(A)],                &[0x02, 0x04, 0]),
 ];
 
-/// Whether the report shows these bytes by both codecs.
-fn is_shown_so(
-    alloc: Global,
-    descriptor: &[u8],
-    changes: &[Change],
+fn parts_show(
+    layout: &Layout,
+    snapshot: &mut Snapshot,
+    parts: &mut Shown,
+    row: &ShownRow,
     still: bool,
-    bytes: &[u8],
-) -> Result<bool, Fail> {
-    let layout = Layout::parse(alloc, descriptor)?;
-    let mut snapshot = Snapshot::blank(alloc, &layout)?;
-    let mut parts = Shown::blank(alloc, &layout)?;
-    let changed = change_all(&mut snapshot, &layout, changes).is_ok();
-    let by_words = shows::<WordCodec>(&layout, &snapshot, &mut parts, still, bytes);
-    let by_bits = shows::<BitCodec>(&layout, &snapshot, &mut parts, still, bytes);
-    Ok(changed && by_words && by_bits)
+) -> bool
+    requires snapshot { FitsSnapshot (items_of layout.now) snapshot.old }
+    requires parts { FitsShown (items_of layout.now) parts.old }
+{
+    let (_, _, changes, bytes) = row;
+    change_all(snapshot, layout, changes).is_ok()
+        && shows::<WordCodec>(layout, snapshot, parts, still, bytes)
+        && shows::<BitCodec>(layout, snapshot, parts, still, bytes)
+}
+
+/// Whether the report of a row shows its bytes by both codecs.
+fn is_shown_so(alloc: Global, layout: &Layout, row: &ShownRow, still: bool) -> Result<bool, Fail> {
+    let mut snapshot = snapshot_of(alloc, layout)?;
+    let mut parts = parts_of(alloc, layout)?;
+    Ok(parts_show(layout, &mut snapshot, &mut parts, row, still))
 }
 
 /// The first row that isn't so.
@@ -299,9 +326,10 @@ fn first_unshown(
     rows: &[ShownRow],
     still: bool,
 ) -> Result<Option<&'static str>, Fail> {
-    for (name, descriptor, changes, bytes) in rows {
-        if !is_shown_so(alloc, descriptor, changes, still, bytes)? {
-            return Ok(Some(*name));
+    for row in rows {
+        let layout = layout_of(alloc, row.1)?;
+        if !is_shown_so(alloc, &layout, row, still)? {
+            return Ok(Some(row.0));
         }
     }
     Ok(None)
@@ -319,26 +347,44 @@ fn still_parts_show_no_motion(rt: HostRuntime) -> Result<(), Fail> {
     Ok(())
 }
 
-/// The motions of both wheels, each shown in its report, once the second report is still; and whether it is due.
-fn hold(layout: &Layout, snapshot: &Snapshot, parts: &mut Shown) -> (i64, i64, bool)
+/// Whether both reports are shown, the second one still at last.
+fn are_held(layout: &Layout, snapshot: &Snapshot, parts: &mut Shown) -> bool
     requires snapshot { FitsSnapshot (items_of layout.now) snapshot.now }
     requires parts { FitsShown (items_of layout.now) parts.old }
+    ensures { FitsShown (items_of layout.now) parts.new }
 {
-    let fixed = fix(layout, snapshot, 0, parts, false)
+    fix(layout, snapshot, 0, parts, false)
         && fix(layout, snapshot, 1, parts, false)
-        && fix(layout, snapshot, 1, parts, true);
-    let due = fixed && is_due_now(layout, snapshot, 1, parts);
+        && fix(layout, snapshot, 1, parts, true)
+}
+
+/// The motions of both wheels, each shown in its report, once the second report is still; and whether it is due.
+fn hold(
+    layout: &Layout,
+    snapshot: &mut Snapshot,
+    parts: &mut Shown,
+    moves: &[Change],
+) -> (i64, i64, bool)
+    requires snapshot { FitsSnapshot (items_of layout.now) snapshot.old }
+    requires parts { FitsShown (items_of layout.now) parts.old }
+{
+    let due = change_all(snapshot, layout, moves).is_ok()
+        && are_held(layout, snapshot, parts)
+        && is_due_now(layout, snapshot, 1, parts);
     (parts.motion(FIRST), parts.motion(SECOND_REPORT), due)
+}
+
+fn held(alloc: Global, layout: &Layout, moves: &[Change]) -> Result<(i64, i64, bool), Fail> {
+    let mut snapshot = snapshot_of(alloc, layout)?;
+    let mut parts = parts_of(alloc, layout)?;
+    Ok(hold(layout, &mut snapshot, &mut parts, moves))
 }
 
 #[test]
 fn a_still_part_leaves_the_snapshot_and_other_parts(rt: HostRuntime) -> Result<(), Fail> {
-    let layout = Layout::parse(rt.alloc(), &TWO_WHEELS)?;
-    let mut snapshot = Snapshot::blank(rt.alloc(), &layout)?;
-    let mut parts = Shown::blank(rt.alloc(), &layout)?;
     let moves = [Change::Move(FIRST, 5), Change::Move(SECOND_REPORT, 7)];
-    assert_eq!(rt; change_all(&mut snapshot, &layout, &moves), Ok(()));
-    assert_eq!(rt; hold(&layout, &snapshot, &mut parts), (5, 0, true));
+    let layout = layout_of(rt.alloc(), &TWO_WHEELS)?;
+    assert_eq!(rt; held(rt.alloc(), &layout, &moves)?, (5, 0, true));
     Ok(())
 }
 
@@ -387,24 +433,19 @@ const DUE: [Due; 11] = [
     ("a button of another report",  &NUMBERED, &[],                     &[Change::Press(SECOND_REPORT)],          false),
 ];
 
-/// Whether a report is due, of a blank snapshot that is changed so.
-fn is_due_so(
-    alloc: Global,
-    descriptor: &[u8],
-    fixed: &[Change],
-    later: &[Change],
-) -> Result<bool, Fail> {
-    let layout = Layout::parse(alloc, descriptor)?;
-    let mut snapshot = Snapshot::blank(alloc, &layout)?;
-    let mut parts = Shown::blank(alloc, &layout)?;
-    Ok(is_due(&layout, &mut snapshot, &mut parts, fixed, later))
+/// Whether the report is due, of a blank snapshot that is changed as the row says.
+fn is_due_so(alloc: Global, layout: &Layout, row: &Due) -> Result<bool, Fail> {
+    let mut snapshot = snapshot_of(alloc, layout)?;
+    let mut parts = parts_of(alloc, layout)?;
+    Ok(is_due(layout, &mut snapshot, &mut parts, row.2, row.3))
 }
 
 /// The first row that isn't so.
 fn first_not_due(alloc: Global, rows: &[Due]) -> Result<Option<&'static str>, Fail> {
-    for (name, descriptor, fixed, later, wanted) in rows {
-        if is_due_so(alloc, descriptor, fixed, later)? != *wanted {
-            return Ok(Some(*name));
+    for row in rows {
+        let layout = layout_of(alloc, row.1)?;
+        if is_due_so(alloc, &layout, row)? != row.4 {
+            return Ok(Some(row.0));
         }
     }
     Ok(None)
@@ -416,22 +457,45 @@ fn a_report_is_due_where_its_part_differs(rt: HostRuntime) -> Result<(), Fail> {
     Ok(())
 }
 
-/// Whether parts that show these changes are made blank again, so that the report is due.
-fn is_reset(alloc: Global, descriptor: &[u8], changes: &[Change]) -> Result<bool, Fail> {
-    let layout = Layout::parse(alloc, descriptor)?;
-    let mut snapshot = Snapshot::blank(alloc, &layout)?;
-    let mut parts = Shown::blank(alloc, &layout)?;
-    let shown = !is_due(&layout, &mut snapshot, &mut parts, changes, &[]);
-    parts.reset(&layout);
-    Ok(shown && is_input(&layout, 0) && snapshot.due(&layout, 0, &parts))
+/// Makes parts that show these changes blank again: whether they were shown, and the report is due then.
+fn reset(layout: &Layout, snapshot: &mut Snapshot, parts: &mut Shown, changes: &[Change]) -> bool
+    requires snapshot { FitsSnapshot (items_of layout.now) snapshot.old }
+    requires parts { FitsShown (items_of layout.now) parts.old }
+{
+    let shown = !is_due(layout, snapshot, parts, changes, &[]);
+    parts.reset(layout);
+    shown && is_due_now(layout, snapshot, 0, parts)
+}
+
+fn is_reset(alloc: Global, layout: &Layout, changes: &[Change]) -> Result<bool, Fail> {
+    let mut snapshot = snapshot_of(alloc, layout)?;
+    let mut parts = parts_of(alloc, layout)?;
+    Ok(reset(layout, &mut snapshot, &mut parts, changes))
+}
+
+/// A name, a descriptor, and changes that are shown.
+type Reset = (&'static str, &'static [u8], &'static [Change]);
+
+#[rattlefmt::skip]
+const RESET: [Reset; 2] = [
+    ("keys that roll over", &KEYS,   &[Change::Press(A), Change::Press(B), Change::Press(C)]),
+    ("values",              &VALUES, &[Change::Set(FIRST, 5), Change::Set(SLIDER, 9)]),
+];
+
+/// The first row whose parts aren't made blank again, so that the report is due.
+fn first_not_reset(alloc: Global, rows: &[Reset]) -> Result<Option<&'static str>, Fail> {
+    for (name, descriptor, changes) in rows {
+        let layout = layout_of(alloc, descriptor)?;
+        if !is_reset(alloc, &layout, changes)? {
+            return Ok(Some(*name));
+        }
+    }
+    Ok(None)
 }
 
 #[test]
 fn parts_are_made_blank_again(rt: HostRuntime) -> Result<(), Fail> {
-    let keys = [Change::Press(A), Change::Press(B), Change::Press(C)];
-    let values = [Change::Set(FIRST, 5), Change::Set(SLIDER, 9)];
-    assert!(rt; is_reset(rt.alloc(), &KEYS, &keys)?);
-    assert!(rt; is_reset(rt.alloc(), &VALUES, &values)?);
+    assert_eq!(rt; first_not_reset(rt.alloc(), &RESET)?, None);
     Ok(())
 }
 
@@ -450,69 +514,98 @@ fn carry(layout: &Layout, snapshot: &mut Snapshot, parts: &mut Shown) -> i64
     parts.motion(WHEEL)
 }
 
+/// What is carried of a motion of the wheel, what blank parts show of it, and what is carried then and once more.
+fn carry_on(
+    layout: &Layout,
+    snapshot: &mut Snapshot,
+    parts: &mut Shown,
+    by: i32,
+) -> Result<[i64; 4], ChangeFault>
+    requires snapshot { FitsSnapshot (items_of layout.now) snapshot.old }
+    requires parts { FitsShown (items_of layout.now) parts.old }
+{
+    snapshot.shift(layout, WHEEL, by)?;
+    let carried = carry(layout, snapshot, parts);
+    parts.reset(layout);
+    let blank = parts.motion(WHEEL);
+    let rest = carry(layout, snapshot, parts);
+    let nothing = carry(layout, snapshot, parts);
+    Ok([carried, blank, rest, nothing])
+}
+
+fn carried(alloc: Global, layout: &Layout, by: i32) -> Result<Result<[i64; 4], ChangeFault>, Fail> {
+    let mut snapshot = snapshot_of(alloc, layout)?;
+    let mut parts = parts_of(alloc, layout)?;
+    Ok(carry_on(layout, &mut snapshot, &mut parts, by))
+}
+
 #[test]
 fn motion_that_a_field_cannot_carry_stays(rt: HostRuntime) -> Result<(), Fail> {
-    let layout = Layout::parse(rt.alloc(), &VALUES)?;
-    let mut snapshot = Snapshot::blank(rt.alloc(), &layout)?;
-    let mut parts = Shown::blank(rt.alloc(), &layout)?;
-    let moved = snapshot.shift(&layout, WHEEL, 200);
-    assert_eq!(rt; moved, Ok(()));
-    let carried = carry(&layout, &mut snapshot, &mut parts);
-    parts.reset(&layout);
-    let blank = parts.motion(WHEEL);
-    let rest = carry(&layout, &mut snapshot, &mut parts);
-    let nothing = carry(&layout, &mut snapshot, &mut parts);
-    assert_eq!(rt; [carried, blank, rest, nothing], [127, 0, 73, 0]);
+    let layout = layout_of(rt.alloc(), &VALUES)?;
+    assert_eq!(rt; carried(rt.alloc(), &layout, 200)?, Ok([127, 0, 73, 0]));
     Ok(())
+}
+
+/// Whether the keys are these words, once these changes are made.
+fn has_words(layout: &Layout, keys: &mut Snapshot, changes: &[Change], words: &[u64]) -> bool
+    requires { FitsSnapshot (items_of layout.now) keys.old }
+{
+    change_all(keys, layout, changes).is_ok()
+        && has_keys(layout, 1)
+        && keys.key_words(layout, 1) == words
 }
 
 #[test]
 fn keys_are_kept_as_words(rt: HostRuntime) -> Result<(), Fail> {
-    let layout = Layout::parse(rt.alloc(), &KEYS)?;
-    let mut keys = Snapshot::blank(rt.alloc(), &layout)?;
-    let pressed = change_all(
-        &mut keys,
-        &layout,
-        &[Change::Press(A), Change::Press(KEY_45)],
-    );
-    assert_eq!(rt; pressed, Ok(()));
-    assert!(rt; has_keys(&layout, 1));
-    assert_eq!(rt; keys.key_words(&layout, 1), [0x10, 0x20].as_slice());
+    let pressed = [Change::Press(A), Change::Press(KEY_45)];
+    let layout = layout_of(rt.alloc(), &KEYS)?;
+    let mut keys = snapshot_of(rt.alloc(), &layout)?;
+    assert!(rt; has_words(&layout, &mut keys, &pressed, &[0x10, 0x20]));
     Ok(())
+}
+
+/// A name, a descriptor, and whether each array has an empty code.
+type Coded = (&'static str, &'static [u8], bool);
+
+#[rattlefmt::skip]
+const CODED: [Coded; 3] = [
+    ("all 256 patterns name a button",      &ALL_NAMED, false),
+    ("three of 256 patterns name a button", &BUTTONS,   true),
+    ("no array",                            &VALUES,    true),
+];
+
+/// The first row that isn't so.
+fn first_not_coded(alloc: Global, rows: &[Coded]) -> Result<Option<&'static str>, Fail> {
+    for (name, descriptor, empty) in rows {
+        let layout = layout_of(alloc, descriptor)?;
+        if has_empty_codes(&layout) != *empty {
+            return Ok(Some(*name));
+        }
+    }
+    Ok(None)
 }
 
 #[test]
 fn arrays_without_an_empty_code_are_told(rt: HostRuntime) -> Result<(), Fail> {
-    for (name, descriptor, empty) in [
-        (
-            "all 256 patterns name a button",
-            ALL_NAMED.as_slice(),
-            false,
-        ),
-        (
-            "three of 256 patterns name a button",
-            BUTTONS.as_slice(),
-            true,
-        ),
-        ("no array", VALUES.as_slice(), true),
-    ] {
-        let layout = Layout::parse(rt.alloc(), descriptor)?;
-        assert_eq!(rt; has_empty_codes(&layout), empty, "{name}");
-    }
+    assert_eq!(rt; first_not_coded(rt.alloc(), &CODED)?, None);
     Ok(())
 }
 
 /// A byte of padding in an Input report, and one in an Output report.
 const BOTH_WAYS: [u8; 8] = [0x75, 0x08, 0x95, 0x01, 0x81, 0x01, 0x91, 0x01];
 
+/// Which of the first three reports are Input reports.
+fn inputs(layout: &Layout) -> [bool; 3] {
+    [
+        is_input(layout, 0),
+        is_input(layout, 1),
+        is_input(layout, 2),
+    ]
+}
+
 #[test]
 fn output_reports_are_no_input_reports(rt: HostRuntime) -> Result<(), Fail> {
-    let layout = Layout::parse(rt.alloc(), &BOTH_WAYS)?;
-    let inputs = [
-        is_input(&layout, 0),
-        is_input(&layout, 1),
-        is_input(&layout, 2),
-    ];
-    assert_eq!(rt; inputs, [true, false, false]);
+    let layout = layout_of(rt.alloc(), &BOTH_WAYS)?;
+    assert_eq!(rt; inputs(&layout), [true, false, false]);
     Ok(())
 }

@@ -1,11 +1,15 @@
-//! Names as the HID Usage Tables have them; those of pages 80, 82, 84, 85 and F0 as usb.ids has them.
+//! Names of `hid_names`, as the HID Usage Tables have them; those of pages 80, 82, 84, 85 and F0 as usb.ids has them.
 
-use super::usage_name;
+use hid_names::usage_name;
+use std::alloc::Global;
 use std::test::Fail;
+
+/// A usage by its page and ID, and its name.
+type Named = (u16, u16, &'static str);
 
 /// The first and the last name of each page, neighbours that are easily taken for one another, and numbers.
 #[rattlefmt::skip]
-const NAMED: [(u16, u16, &str); 50] = [
+const NAMED: [Named; 50] = [
     (0x01, 0x01,   "Pointer"),
     (0x01, 0x09,   "Tablet PC System Controls"),
     (0x01, 0x0C,   "Wireless Radio Controls"),
@@ -58,15 +62,27 @@ const NAMED: [(u16, u16, &str); 50] = [
     (0xF0, 0xF4,   "Cash Drawer Status"),
 ];
 
+/// The name of a usage; nothing where it has none.
+fn printed(alloc: Global, page: u16, id: u16) -> Result<String, Fail> {
+    Ok(match usage_name(page, id) {
+        Some(name) => format!(in alloc; "{name}")?,
+        None => String::new(alloc),
+    })
+}
+
+/// The wanted name of the first row that has another one.
+fn first_misnamed(alloc: Global, rows: &[Named]) -> Result<Option<&'static str>, Fail> {
+    for (page, id, name) in rows {
+        if printed(alloc, *page, *id)?.as_str() != *name {
+            return Ok(Some(*name));
+        }
+    }
+    Ok(None)
+}
+
 #[test]
 fn usages_have_their_names(rt: HostRuntime) -> Result<(), Fail> {
-    for (page, id, want) in NAMED {
-        let mut text = String::new(rt.alloc());
-        if let Some(name) = usage_name(page, id) {
-            write!(text, "{name}")?;
-        }
-        assert_eq!(rt; text.as_str(), want);
-    }
+    assert_eq!(rt; first_misnamed(rt.alloc(), &NAMED)?, None);
     Ok(())
 }
 
@@ -81,9 +97,17 @@ const NAMELESS: [(u16, u16); 7] = [
     (0xFFFF, 0xFFFF),
 ];
 
+/// The first of these usages that has a name.
+fn first_named(usages: &[(u16, u16)]) -> Option<(u16, u16)> {
+    for (page, id) in usages {
+        if usage_name(*page, *id).is_some() {
+            return Some((*page, *id));
+        }
+    }
+    None
+}
+
 #[test]
 fn other_usages_have_none(rt: HostRuntime) {
-    for (page, id) in NAMELESS {
-        assert_eq!(rt; usage_name(page, id), None);
-    }
+    assert_eq!(rt; first_named(&NAMELESS), None);
 }
