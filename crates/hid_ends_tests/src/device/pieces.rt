@@ -1,7 +1,7 @@
 //! Reports of more than a packet, which go out in pieces of 64 bytes (USB 2.0, 5.7.3, 8.5.4, 8.6 and 9.4.5). Packets are those
 //! of `polls.rt`; SET_REPORT is 21 09 and GET_REPORT A1 01 (HID 1.11, 7.2).
 
-use super::play::{Schedule, first_wrong};
+use super::play::{Schedule, goes_as_told};
 use std::test::Fail;
 
 /// What is done with a device of its own, which isn't configured at first, and what is told.
@@ -126,8 +126,7 @@ const SCHEDULES: [Schedule; 9] = [
 
 #[test]
 fn a_report_goes_in_pieces(rt: HostRuntime) -> Result<(), Fail> {
-    assert_eq!(rt; first_wrong(rt.alloc(), &SCHEDULES)?.as_str(), "");
-    Ok(())
+    goes_as_told(rt.alloc(), &SCHEDULES)
 }
 
 /// The same of reports that are read and set at endpoint 0.
@@ -159,6 +158,5 @@ const TRANSFERS: [Schedule; 2] = [
 
 #[test]
 fn a_long_report_is_read_and_set(rt: HostRuntime) -> Result<(), Fail> {
-    assert_eq!(rt; first_wrong(rt.alloc(), &TRANSFERS)?.as_str(), "");
-    Ok(())
+    goes_as_told(rt.alloc(), &TRANSFERS)
 }

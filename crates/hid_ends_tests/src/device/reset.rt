@@ -1,7 +1,7 @@
 //! Resets of the bus: what of a device is as it was at first (USB 2.0, 7.1.7.5 and 9.1.1.3; HID 1.11, 7.2.4 and 7.2.6),
 //! and that its snapshot stays. Packets and requests are those of `polls.rt`, `requests.rt` and `class.rt`.
 
-use super::play::{Schedule, first_wrong};
+use super::play::{Schedule, goes_as_told};
 use std::test::Fail;
 
 /// What is done with a device of its own, which isn't configured at first, and what is told.
@@ -111,6 +111,5 @@ const SCHEDULES: [Schedule; 9] = [
 
 #[test]
 fn a_reset_leaves_the_snapshot_alone(rt: HostRuntime) -> Result<(), Fail> {
-    assert_eq!(rt; first_wrong(rt.alloc(), &SCHEDULES)?.as_str(), "");
-    Ok(())
+    goes_as_told(rt.alloc(), &SCHEDULES)
 }
