@@ -50,18 +50,38 @@ const MADE: &str = "
     the address comes first:       0   10 plain    B4 > V20 (0)
 ";
 
-/// Appends the bytes that are spelled by a word.
-fn spell(descriptor: &mut Vec<u8>, word: &str) -> Result<(), Fail> {
-    match (word, word.split_once('*')) {
-        ("MOUSE", _) => descriptor.extend_from_slice(&MOUSE)?,
-        ("KEYBOARD", _) => descriptor.extend_from_slice(&KEYBOARD)?,
-        (_, Some((byte, times))) => descriptor.resize(
-            times.parse()?,
-            u8::from_str_radix(byte, 16)?,
-        )?,
-        _ => descriptor.push(u8::from_str_radix(word, 16)?)?,
+fn mouse() -> &'static [u8] {
+    &MOUSE
+}
+
+fn keyboard() -> &'static [u8] {
+    &KEYBOARD
+}
+
+/// Appends so many of the byte that is spelled so.
+fn spell_run(descriptor: &mut Vec<u8>, byte: &str, times: usize) -> Result<(), Fail> {
+    let byte = u8::from_str_radix(byte, 16)?;
+    for _ in 0..times {
+        descriptor.push(byte)?;
     }
     Ok(())
+}
+
+/// Appends the byte that is spelled by a word, as often as it says.
+fn spell_byte(descriptor: &mut Vec<u8>, word: &str) -> Result<(), Fail> {
+    match word.split_once('*') {
+        Some((byte, times)) => spell_run(descriptor, byte, times.parse()?),
+        None => spell_run(descriptor, word, 1),
+    }
+}
+
+/// Appends the bytes that are spelled by a word.
+fn spell(descriptor: &mut Vec<u8>, word: &str) -> Result<(), Fail> {
+    match word {
+        "MOUSE" => Ok(descriptor.extend_from_slice(mouse())?),
+        "KEYBOARD" => Ok(descriptor.extend_from_slice(keyboard())?),
+        _ => spell_byte(descriptor, word),
+    }
 }
 
 fn spell_all(descriptor: &mut Vec<u8>, words: &[&str]) -> Result<(), Fail> {
@@ -131,7 +151,7 @@ fn is_made(alloc: Global, row: &str, told: &mut String) -> Result<(), Fail> {
     let (given, wanted) = row.split_once('>').unwrap_or((row, ""));
     told.clear();
     tell_row(alloc, given, told)?;
-    is_told("", row, wanted, told)
+    is_told("devices", row, wanted, told)
 }
 
 fn are_made(alloc: Global, rows: &str, told: &mut String) -> Result<(), Fail> {
