@@ -233,14 +233,6 @@ fn tell_run(
     tell_end(transfer, told)
 }
 
-/// How many bytes are sent behind setup data.
-fn sent_by(setup: &Setup) -> usize {
-    if setup.is_read() {
-        return 0;
-    }
-    usize::from(setup.length)
-}
-
 /// Tells of a transfer of these setup data, with these data where it writes.
 fn tell_transfer(
     alloc: Global,
@@ -250,7 +242,12 @@ fn tell_transfer(
     told: &mut String,
 ) -> Result<(), Fail> {
     let setup = Setup::from_bytes(request);
-    if data.len() != sent_by(&setup) {
+    let sent = if setup.is_read() {
+        0
+    } else {
+        usize::from(setup.length)
+    };
+    if data.len() != sent {
         return write_text(told, "other data than are to be sent ");
     }
     let mut transfer = HostTransfer::begin(alloc, 1, setup, data)?;
