@@ -416,17 +416,17 @@ const PRINTED: [(StackFault, &str); 9] = [
     (StackFault::Memory,                                                          "S8"),
 ];
 
-/// Writes how a refusal is printed.
-fn write_fault(text: &mut String, fault: &StackFault) -> Result<(), Fail> {
+/// Whether a refusal is printed so.
+fn is_printed(text: &mut String, fault: &StackFault, wanted: &str) -> Result<bool, Fail> {
     text.clear();
-    Ok(write!(text, "{fault}")?)
+    write!(text, "{fault}")?;
+    Ok(text.as_str() == wanted)
 }
 
 /// Fails by the first text that isn't what its refusal is printed as.
 fn are_printed(text: &mut String, rows: &[(StackFault, &'static str)]) -> Result<(), Fail> {
     for (fault, wanted) in rows {
-        write_fault(text, fault)?;
-        holds(wanted, text.as_str() == *wanted)?;
+        holds(wanted, is_printed(text, fault, wanted)?)?;
     }
     Ok(())
 }
