@@ -5,8 +5,12 @@ mod calls;
 mod foreign;
 mod pieces;
 
+use crate::verdict::{holds, none_is_wrong};
 use arrayvec::ArrayVec;
-use calls::{Replied, begin, cold, is_done_with, is_in, is_told, ready, replied, step};
+use calls::{
+    Came, Replies, Verdict, begin, cold, is_done_with, is_in, is_told, ready_replies_to_each,
+    replies, step,
+};
 use hid_descriptor::ReportKind;
 use hid_device::{Boot, Config, Device, KEYBOARD};
 use hid_host::{DescriptorFault, HostDevice, HostState, StackFault};
@@ -14,10 +18,11 @@ use hid_layout::{Cause, ControlId, LayoutFault, Usage};
 use hid_requests::Request;
 use hid_usages::{Change, Event, ReportFault};
 use std::alloc::Global;
+use std::fmt::Write;
 use std::test::Fail;
 use usb_control::{ControlFault, InfoFault, Progress};
 use usb_packet::{Packet, TokenKind};
-use usb_transact::{Fate, Took};
+use usb_transact::Fate;
 
 const KEY: ControlId = ControlId { item: 4, index: 4 };
 
@@ -81,6 +86,11 @@ const BRINGS_UP: [Asks; 5] = [
     (Request::GetConfiguration, 2, Fate::Clean,   &[1],           HostState::Ready),
 ];
 
+/// The same rows. A table that holds a request is made wherever it stands, and so it stands here alone.
+fn brings_up() -> [Asks; 5] {
+    BRINGS_UP
+}
+
 /// Whether a request is done as its row says.
 fn is_asked(host: &mut HostDevice, device: &mut Device, row: &Asks) -> Result<bool, StackFault> {
     let (request, clean, last, bytes, state) = row;
@@ -123,34 +133,54 @@ fn polls(host: &HostDevice) -> bool {
         })
 }
 
-/// Whether fresh data tell of the key A alone.
-fn is_key_down(told: &Replied) -> bool {
-    let (took, _, held, events) = told;
-    matches!(took, Ok(Took::Fresh(_))) && *held && events.as_slice() == [DOWN].as_slice()
+/// The first report of a ready host, with the key A.
+const KEY_DOWN: Replies = (Verdict::Fresh, true, true, &[DOWN]);
+
+/// Whether the host polls endpoint 1, and tells so of what is answered.
+fn polls_and_replies(
+    alloc: Global,
+    host: &mut HostDevice,
+    answer: Option<&Packet>,
+    wanted: &Replies,
+) -> Result<bool, Fail> {
+    Ok(polls(host) && replies(alloc, host, answer, KEY, wanted)?)
 }
 
 /// Whether the next poll, of endpoint 1, tells the one key that was pressed.
 fn tells_the_key(alloc: Global, host: &mut HostDevice, device: &mut Device) -> Result<bool, Fail> {
     let answer = answered(device, KEY)?;
-    let is_polled = polls(host);
-    let told = replied(alloc, host, answer.as_ref(), KEY)?;
-    Ok(is_polled && is_key_down(&told))
+    polls_and_replies(alloc, host, answer.as_ref(), &KEY_DOWN)
 }
 
-/// Whether a new host brings a keyboard up by these requests, and tells of a key then.
-fn is_up_and_polled(alloc: Global, rows: &[Asks]) -> Result<bool, Fail> {
-    let mut device = device(alloc, keyboard())?;
-    let mut host = cold(alloc);
-    Ok(
-        is_brought_up(&mut host, &mut device, rows)?
-            && tells_the_key(alloc, &mut host, &mut device)?,
+/// A host that knows nothing yet of its device, a keyboard that isn't configured.
+#[derive(Drop)]
+struct TwoEnds {
+    host: HostDevice,
+    device: Device,
+}
+
+fn two_ends(alloc: Global) -> Result<TwoEnds, Fail> {
+    let device = device(alloc, keyboard())?;
+    let host = cold(alloc);
+    Ok(TwoEnds { host, device })
+}
+
+/// Fails where the host doesn't bring the keyboard up by these requests, or tells of no key then.
+fn is_up_and_polled(alloc: Global, ends: &mut TwoEnds, rows: &[Asks]) -> Result<(), Fail> {
+    holds(
+        "it is brought up",
+        is_brought_up(&mut ends.host, &mut ends.device, rows)?,
+    )?;
+    holds(
+        "its key is told",
+        tells_the_key(alloc, &mut ends.host, &mut ends.device)?,
     )
 }
 
 #[test]
 fn a_host_brings_its_device_up(rt: HostRuntime) -> Result<(), Fail> {
-    assert!(rt; is_up_and_polled(rt.alloc(), &BRINGS_UP)?);
-    Ok(())
+    let mut ends = two_ends(rt.alloc())?;
+    is_up_and_polled(rt.alloc(), &mut ends, &brings_up())
 }
 
 /// A request that doesn't begin in each state, with whether it does in `Cold`, `Described`, `Parsed` and `Ready`.
@@ -171,6 +201,11 @@ const STATES: [Begins; 11] = [
     ("the endpoint's status", Request::EndpointStatus,                               [false, false, false, true]),
 ];
 
+/// The same rows, which are made here alone.
+fn states() -> [Begins; 11] {
+    STATES
+}
+
 /// Asks these requests.
 fn lead(host: &mut HostDevice, device: &mut Device, rows: &[Asks]) -> Result<(), StackFault> {
     for (request, clean, last, ..) in rows {
@@ -189,53 +224,67 @@ fn is_begun(host: &mut HostDevice, request: &Request) -> Result<bool, StackFault
     }
 }
 
-/// Whether a request begins at a new host behind these.
+/// Whether a request begins behind these.
+fn begins_behind(ends: &mut TwoEnds, rows: &[Asks], request: &Request) -> Result<bool, Fail> {
+    lead(&mut ends.host, &mut ends.device, rows)?;
+    Ok(is_begun(&mut ends.host, request)?)
+}
+
+/// The same at a new host.
 fn begins(alloc: Global, rows: &[Asks], request: &Request) -> Result<bool, Fail> {
-    let mut device = device(alloc, keyboard())?;
-    let mut host = cold(alloc);
-    lead(&mut host, &mut device, rows)?;
-    Ok(is_begun(&mut host, request)?)
+    let mut ends = two_ends(alloc)?;
+    begins_behind(&mut ends, rows, request)
 }
 
-/// In which states a request begins: behind none, one, two and three of those that lead from `Cold` to `Ready`, which stand
-/// behind the first row.
-fn begins_in(alloc: Global, rows: &[Asks], request: &Request) -> Result<[bool; 4], Fail> {
-    let mut found = [false; 4];
-    for behind in 0..4 {
-        found[behind] = begins(alloc, rows.get(1..behind + 1).unwrap_or(rows), request)?;
+/// So many of the requests that lead from `Cold` to `Ready`, which stand behind the first row.
+fn leading(rows: &[Asks], count: usize) -> Result<&[Asks], Fail> {
+    match rows.get(1..count.saturating_add(1)) {
+        Some(rows) => Ok(rows),
+        None => Err(Fail::new("too few requests")),
     }
-    Ok(found)
 }
 
-/// The first row that isn't so.
-fn first_begun(
+/// Whether a request begins in just these states: behind none, one, two and three of those that lead to `Ready`.
+fn begins_in(
     alloc: Global,
-    asks: &[Asks],
-    rows: &[Begins],
-) -> Result<Option<&'static str>, Fail> {
-    for (name, request, states) in rows {
-        if begins_in(alloc, asks, request)? != *states {
-            return Ok(Some(*name));
+    rows: &[Asks],
+    request: &Request,
+    states: &[bool; 4],
+) -> Result<bool, Fail> {
+    for (behind, state) in states.iter().enumerate() {
+        if begins(alloc, leading(rows, behind)?, request)? != *state {
+            return Ok(false);
         }
     }
-    Ok(None)
+    Ok(true)
 }
 
-/// Whether a report may be set in these states.
-fn is_set_in(alloc: Global, asks: &[Asks], states: [bool; 4]) -> Result<bool, Fail> {
+/// Fails by the first row that isn't so.
+fn are_begun(alloc: Global, asks: &[Asks], rows: &[Begins]) -> Result<(), Fail> {
+    for (name, request, states) in rows {
+        holds(name, begins_in(alloc, asks, request, states)?)?;
+    }
+    Ok(())
+}
+
+/// Fails where a report may be set in other states than these.
+fn is_set_in(alloc: Global, asks: &[Asks], states: &[bool; 4]) -> Result<(), Fail> {
     let set = Request::SetReport {
         kind: ReportKind::Output,
         id: 0,
         bytes: ArrayVec::new(),
     };
-    Ok(begins_in(alloc, asks, &set)? == states)
+    holds("to set a report", begins_in(alloc, asks, &set, states)?)
+}
+
+fn wait_for_their_states(alloc: Global, asks: &[Asks], rows: &[Begins]) -> Result<(), Fail> {
+    are_begun(alloc, asks, rows)?;
+    is_set_in(alloc, asks, &[false, false, true, true])
 }
 
 #[test]
 fn a_request_waits_for_its_state(rt: HostRuntime) -> Result<(), Fail> {
-    assert_eq!(rt; first_begun(rt.alloc(), &BRINGS_UP, &STATES)?, None);
-    assert!(rt; is_set_in(rt.alloc(), &BRINGS_UP, [false, false, true, true])?);
-    Ok(())
+    wait_for_their_states(rt.alloc(), &brings_up(), &states())
 }
 
 /// Whether a host refuses a request, as one that it can't begin in its state.
@@ -245,10 +294,9 @@ fn refuses(host: &mut HostDevice, request: &Request, fault: StackFault) -> bool 
 }
 
 /// The first row that a cold host doesn't refuse, though it doesn't begin there.
-fn first_unrefused(alloc: Global, rows: &[Begins]) -> Option<&'static str> {
-    let mut host = cold(alloc);
+fn first_unrefused(host: &mut HostDevice, rows: &[Begins]) -> Option<&'static str> {
     for (name, request, [begins, ..]) in rows {
-        if !*begins && !refuses(&mut host, request, StackFault::NotReady) {
+        if !*begins && !refuses(host, request, StackFault::NotReady) {
             return Some(*name);
         }
     }
@@ -256,8 +304,9 @@ fn first_unrefused(alloc: Global, rows: &[Begins]) -> Option<&'static str> {
 }
 
 #[test]
-fn a_cold_host_asks_nothing_of_the_class(rt: HostRuntime) {
-    assert_eq!(rt; first_unrefused(rt.alloc(), &STATES), None);
+fn a_cold_host_asks_nothing_of_the_class(rt: HostRuntime) -> Result<(), Fail> {
+    let mut host = cold(rt.alloc());
+    none_is_wrong(first_unrefused(&mut host, &states()))
 }
 
 const NO_TRANSFER: StackFault = StackFault::Control(ControlFault::NoTransfer);
@@ -287,39 +336,29 @@ fn polls_nothing(host: &HostDevice) -> bool {
     host.token() == Err(StackFault::NotReady)
 }
 
-/// What a cold host does that it should refuse; nothing where it refuses all.
-fn first_unrefused_by(
-    host: &mut HostDevice,
-    device: &mut Device,
-) -> Result<&'static str, StackFault> {
-    if !shows_none(host) {
-        return Ok("an outcome, and none was begun");
-    }
-    if !tells(host, device, Fate::Clean, &[Err(NO_TRANSFER)]) {
-        return Ok("a try, and none runs");
-    }
+/// Fails by what a cold host does that it should refuse.
+fn refuses_all(host: &mut HostDevice, device: &mut Device) -> Result<(), Fail> {
+    holds("an outcome, and none was begun", shows_none(host))?;
+    holds(
+        "a try, and none runs",
+        tells(host, device, Fate::Clean, &[Err(NO_TRANSFER)]),
+    )?;
     begin(host, &Request::Status)?;
-    if !refuses(
-        host,
-        &Request::Report,
-        StackFault::Control(ControlFault::Busy),
-    ) {
-        return Ok("a request while one runs, which is told before its state");
-    }
-    Ok(if polls_nothing(host) { "" } else { "a poll" })
-}
-
-/// The same of a new host.
-fn first_unrefused_of_cold(alloc: Global) -> Result<&'static str, Fail> {
-    let mut device = device(alloc, keyboard())?;
-    let mut host = cold(alloc);
-    Ok(first_unrefused_by(&mut host, &mut device)?)
+    holds(
+        "a request while one runs, which is told before its state",
+        refuses(
+            host,
+            &Request::Report,
+            StackFault::Control(ControlFault::Busy),
+        ),
+    )?;
+    holds("a poll", polls_nothing(host))
 }
 
 #[test]
 fn a_request_that_is_refused_changes_nothing(rt: HostRuntime) -> Result<(), Fail> {
-    assert_eq!(rt; first_unrefused_of_cold(rt.alloc())?, "");
-    Ok(())
+    let mut ends = two_ends(rt.alloc())?;
+    refuses_all(&mut ends.host, &mut ends.device)
 }
 
 /// Each reply to a request is lost: what its tries tell.
@@ -330,66 +369,37 @@ const FAILS: [Result<Progress, StackFault>; 3] = [
     Ok(Progress::Failed(ControlFault::BusFault)),
 ];
 
-/// Whether tries of `Config` without replies tell so, the host is cold then, and no transfer runs.
+/// Fails where tries of `Config` without replies tell otherwise, the host isn't cold then, or a transfer runs.
 fn fails_by(
     host: &mut HostDevice,
     device: &mut Device,
     wanted: &[Result<Progress, StackFault>],
-) -> Result<bool, StackFault> {
+) -> Result<(), Fail> {
     begin(host, &Request::Config)?;
-    Ok(
-        tells(host, device, Fate::ReplyLost, wanted)
-            && is_in(host, HostState::Cold)
-            && tells(host, device, Fate::Clean, &[Err(NO_TRANSFER)]),
+    holds("three tries", tells(host, device, Fate::ReplyLost, wanted))?;
+    holds("it is cold", is_in(host, HostState::Cold))?;
+    holds(
+        "no transfer runs",
+        tells(host, device, Fate::Clean, &[Err(NO_TRANSFER)]),
     )
-}
-
-/// The same of a new host.
-fn leads_nowhere(alloc: Global, wanted: &[Result<Progress, StackFault>]) -> Result<bool, Fail> {
-    let mut device = device(alloc, keyboard())?;
-    let mut host = cold(alloc);
-    Ok(fails_by(&mut host, &mut device, wanted)?)
 }
 
 #[test]
 fn a_transfer_that_fails_leads_nowhere(rt: HostRuntime) -> Result<(), Fail> {
-    assert!(rt; leads_nowhere(rt.alloc(), &FAILS)?);
-    Ok(())
+    let mut ends = two_ends(rt.alloc())?;
+    fails_by(&mut ends.host, &mut ends.device, &FAILS)
 }
 
-fn data(one: bool, bytes: &[u8]) -> Option<Packet> {
-    let payload = ArrayVec::try_from(bytes).ok()?;
-    Some(Packet::Data { one, payload })
-}
-
-/// Whether data are refused so, and the key isn't held; DATA1 is expected next.
-fn is_refused(told: &Replied, fault: ReportFault) -> bool {
-    let (took, expects, held, events) = told;
-    let is_so = match took {
-        Err(StackFault::Report(found)) => *found == fault,
-        _ => false,
-    };
-    is_so && *expects && !*held && events.is_empty()
-}
-
-/// Whether a host refuses the first data, tells of the key A alone of the others, and expects DATA0 then.
-fn refuses_and_reads(
-    alloc: Global,
-    descriptor: &[u8],
-    short: &[u8],
-    whole: &[u8],
-) -> Result<bool, Fail> {
-    let mut host = ready(alloc, descriptor)?;
-    let refused = replied(alloc, &mut host, data(false, short).as_ref(), KEY)?;
-    let told = replied(alloc, &mut host, data(true, whole).as_ref(), KEY)?;
-    Ok(is_refused(&refused, ReportFault::Short) && is_key_down(&told) && !told.1)
-}
+/// A report that is refused takes its toggle, and the next one is read.
+#[rattlefmt::skip]
+const SHORT_AND_WHOLE: [Came; 2] = [
+    ("a byte too few", false, &[0; 7],                   (Verdict::Refused(ReportFault::Short), true, false, &[])),
+    ("a whole report", true,  &[0, 0, 4, 0, 0, 0, 0, 0], (Verdict::Fresh, false, true, &[DOWN])),
+];
 
 #[test]
 fn a_short_report_is_refused_and_the_next_is_read(rt: HostRuntime) -> Result<(), Fail> {
-    let whole = [0, 0, 0x04, 0, 0, 0, 0, 0];
-    assert!(rt; refuses_and_reads(rt.alloc(), keyboard(), &[0; 7], &whole)?);
-    Ok(())
+    ready_replies_to_each(rt.alloc(), keyboard(), KEY, &SHORT_AND_WHOLE)
 }
 
 /// Refusals, and what they are printed as.
@@ -406,21 +416,23 @@ const PRINTED: [(StackFault, &str); 9] = [
     (StackFault::Memory,                                                          "S8"),
 ];
 
-/// The first text that isn't what its refusal is printed as.
-fn first_misprinted(
-    alloc: Global,
-    rows: &[(StackFault, &'static str)],
-) -> Result<Option<&'static str>, Fail> {
-    for (fault, text) in rows {
-        if format!(in alloc; "{fault}")?.as_str() != *text {
-            return Ok(Some(*text));
-        }
+/// Whether a refusal is printed so.
+fn is_printed(text: &mut String, fault: &StackFault, wanted: &str) -> Result<bool, Fail> {
+    text.clear();
+    write!(text, "{fault}")?;
+    Ok(text.as_str() == wanted)
+}
+
+/// Fails by the first text that isn't what its refusal is printed as.
+fn are_printed(text: &mut String, rows: &[(StackFault, &'static str)]) -> Result<(), Fail> {
+    for (fault, wanted) in rows {
+        holds(wanted, is_printed(text, fault, wanted)?)?;
     }
-    Ok(None)
+    Ok(())
 }
 
 #[test]
 fn refusals_are_printed_as_their_codes(rt: HostRuntime) -> Result<(), Fail> {
-    assert_eq!(rt; first_misprinted(rt.alloc(), &PRINTED)?, None);
-    Ok(())
+    let mut text = String::new(rt.alloc());
+    are_printed(&mut text, &PRINTED)
 }

@@ -9,3 +9,5 @@ mod device;
 mod host;
 #[cfg(test)]
 mod requests;
+#[cfg(test)]
+mod verdict;

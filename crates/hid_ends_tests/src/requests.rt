@@ -1,12 +1,14 @@
 //! Requests in the bytes of USB 2.0, 9.4, and HID 1.11, 7.1 and 7.2; descriptors in the layouts of USB 2.0, 9.6, and
 //! those of the keyboard and the mouse of HID 1.11, appendix E.
 
+use crate::verdict::{holds, none_is_wrong};
 use arrayvec::ArrayVec;
 use hid_descriptor::ReportKind;
 use hid_requests::{
     Asked, Asking, Protocol, Request, configuration, device_descriptor, hid_descriptor,
     what_is_asked,
 };
+use std::test::Fail;
 use usb_control::{ConfigInfo, DeviceInfo, Setup};
 
 /// A name, what a host asks, its eight bytes, and what that asks of a device.
@@ -70,8 +72,8 @@ fn first_misspelled(rows: &[Asks]) -> Option<&'static str> {
 }
 
 #[test]
-fn a_host_asks_in_the_bytes_of_the_standard(rt: HostRuntime) {
-    assert_eq!(rt; first_misspelled(&REQUESTS), None);
+fn a_host_asks_in_the_bytes_of_the_standard() -> Result<(), Fail> {
+    none_is_wrong(first_misspelled(&REQUESTS))
 }
 
 /// A name, a report that is set, by its kind and ID, and its setup data.
@@ -110,8 +112,8 @@ fn first_unset(rows: &[Sets]) -> Option<&'static str> {
 }
 
 #[test]
-fn a_report_goes_with_its_request(rt: HostRuntime) {
-    assert_eq!(rt; first_unset(&REPORTS), None);
+fn a_report_goes_with_its_request() -> Result<(), Fail> {
+    none_is_wrong(first_unset(&REPORTS))
 }
 
 /// A name, setup data, and what they ask. Each row stands beside the nearest that asks nothing.
@@ -205,8 +207,8 @@ fn first_unasked(rows: &[Row]) -> Option<&'static str> {
 }
 
 #[test]
-fn what_is_asked_is_a_row(rt: HostRuntime) {
-    assert_eq!(rt; first_unasked(&ROWS), None);
+fn what_is_asked_is_a_row() -> Result<(), Fail> {
+    none_is_wrong(first_unasked(&ROWS))
 }
 
 /// The keyboard of HID 1.11, appendices E.3 to E.5: interface, HID and endpoint descriptors. It has HID 1.01 and packets of
@@ -295,45 +297,59 @@ fn first_misdescribed(rows: &[Described]) -> Option<&'static str> {
 }
 
 #[test]
-fn a_configuration_is_that_of_appendix_e(rt: HostRuntime) {
-    assert_eq!(rt; first_misdescribed(&DEVICES), None);
+fn a_configuration_is_that_of_appendix_e() -> Result<(), Fail> {
+    none_is_wrong(first_misdescribed(&DEVICES))
 }
 
-#[test]
-fn the_ends_of_each_field_are_read_back(rt: HostRuntime) {
-    let highest = ConfigInfo {
-        report_length: 0xFEFF,
-        endpoint: 15,
-        subclass: 255,
-        protocol: 255,
-    };
-    let lowest = ConfigInfo {
-        report_length: 0,
-        endpoint: 0,
-        subclass: 0,
-        protocol: 0,
-    };
-    for info in [highest, lowest] {
-        assert_eq!(rt; ConfigInfo::read(&configuration(&info, 255)), Ok(info));
+/// The highest of each field, and the lowest.
+#[rattlefmt::skip]
+const FIELDS: [(&str, ConfigInfo); 2] = [
+    ("the highest", ConfigInfo { report_length: 0xFEFF, endpoint: 15, subclass: 255, protocol: 255 }),
+    ("the lowest",  ConfigInfo { report_length: 0,      endpoint: 0,  subclass: 0,   protocol: 0 }),
+];
+
+/// The first row whose configuration isn't read back.
+fn first_misread(rows: &[(&'static str, ConfigInfo)]) -> Option<&'static str> {
+    for (name, info) in rows {
+        if !is_read(&configuration_of(info, 255), info) {
+            return Some(*name);
+        }
     }
+    None
 }
 
 #[test]
-fn a_hid_descriptor_stands_in_the_configuration(rt: HostRuntime) {
+fn the_ends_of_each_field_are_read_back() -> Result<(), Fail> {
+    none_is_wrong(first_misread(&FIELDS))
+}
+
+/// Whether a HID descriptor, of a report descriptor of this length, has these bytes.
+fn is_hid_descriptor(report_length: u16, bytes: &[u8]) -> bool {
+    hid_descriptor(report_length).as_slice() == bytes
+}
+
+#[test]
+fn a_hid_descriptor_stands_in_the_configuration() -> Result<(), Fail> {
     let bytes = [0x09, 0x21, 0x11, 0x01, 0x00, 0x01, 0x22, 0x34, 0x12];
-    assert_eq!(rt; hid_descriptor(0x1234), bytes);
+    holds("its bytes", is_hid_descriptor(0x1234, &bytes))
 }
 
+/// Whether a device descriptor has these bytes, and is read back.
+fn is_device_descriptor(info: &DeviceInfo, bytes: &[u8]) -> bool {
+    let descriptor = device_descriptor(info);
+    descriptor.as_slice() == bytes && DeviceInfo::read(&descriptor) == Ok(*info)
+}
+
+#[rattlefmt::skip]
+const DEVICE: [u8; 18] = [
+    0x12, 0x01, 0x00, 0x02, 0x00, 0x00, 0x00, 0x08, 0xFF, 0xFE, 0x01, 0x02, 0x00, 0x01, 0x00, 0x00, 0x00, 0x01,
+];
+
 #[test]
-fn a_device_descriptor_has_18_bytes(rt: HostRuntime) {
+fn a_device_descriptor_has_18_bytes() -> Result<(), Fail> {
     let info = DeviceInfo {
         vendor: 0xFEFF,
         product: 0x0201,
     };
-    #[rattlefmt::skip]
-    let wanted = [
-        0x12, 0x01, 0x00, 0x02, 0x00, 0x00, 0x00, 0x08, 0xFF, 0xFE, 0x01, 0x02, 0x00, 0x01, 0x00, 0x00, 0x00, 0x01,
-    ];
-    assert_eq!(rt; device_descriptor(&info), wanted);
-    assert_eq!(rt; DeviceInfo::read(&device_descriptor(&info)), Ok(info));
+    holds("its bytes", is_device_descriptor(&info, &DEVICE))
 }

@@ -1,7 +1,7 @@
 //! Which devices there are, and why others aren't.
 
-use super::play::{act_of, config, device_at, round, rows_of};
-use hid_device::{Device, DeviceCause, DeviceFault, KEYBOARD, MOUSE};
+use super::play::{act_of, config, device_at, is_told, rows_of, tell_round};
+use hid_device::{Config, Device, DeviceCause, DeviceFault, KEYBOARD, MOUSE};
 use hid_layout::Cause;
 use std::alloc::Global;
 use std::fmt::Write;
@@ -50,21 +50,45 @@ const MADE: &str = "
     the address comes first:       0   10 plain    B4 > V20 (0)
 ";
 
-/// The descriptor that is spelled by words.
-fn descriptor_of(alloc: Global, words: &[&str]) -> Result<Vec<u8>, Fail> {
-    let mut descriptor = Vec::new(alloc);
-    for word in words {
-        match (*word, word.split_once('*')) {
-            ("MOUSE", _) => descriptor.extend_from_slice(&MOUSE)?,
-            ("KEYBOARD", _) => descriptor.extend_from_slice(&KEYBOARD)?,
-            (_, Some((byte, times))) => descriptor.resize(
-                times.parse()?,
-                u8::from_str_radix(byte, 16)?,
-            )?,
-            _ => descriptor.push(u8::from_str_radix(word, 16)?)?,
-        }
+fn mouse() -> &'static [u8] {
+    &MOUSE
+}
+
+fn keyboard() -> &'static [u8] {
+    &KEYBOARD
+}
+
+/// Appends so many of the byte that is spelled so.
+fn spell_run(descriptor: &mut Vec<u8>, byte: &str, times: usize) -> Result<(), Fail> {
+    let byte = u8::from_str_radix(byte, 16)?;
+    for _ in 0..times {
+        descriptor.push(byte)?;
     }
-    Ok(descriptor)
+    Ok(())
+}
+
+/// Appends the byte that is spelled by a word, as often as it says.
+fn spell_byte(descriptor: &mut Vec<u8>, word: &str) -> Result<(), Fail> {
+    match word.split_once('*') {
+        Some((byte, times)) => spell_run(descriptor, byte, times.parse()?),
+        None => spell_run(descriptor, word, 1),
+    }
+}
+
+/// Appends the bytes that are spelled by a word.
+fn spell(descriptor: &mut Vec<u8>, word: &str) -> Result<(), Fail> {
+    match word {
+        "MOUSE" => Ok(descriptor.extend_from_slice(mouse())?),
+        "KEYBOARD" => Ok(descriptor.extend_from_slice(keyboard())?),
+        _ => spell_byte(descriptor, word),
+    }
+}
+
+fn spell_all(descriptor: &mut Vec<u8>, words: &[&str]) -> Result<(), Fail> {
+    for word in words {
+        spell(descriptor, word)?;
+    }
+    Ok(())
 }
 
 /// How many reports a device has.
@@ -72,81 +96,99 @@ fn count_of_reports(device: &Device) -> usize {
     device.layout().reports().len()
 }
 
-/// How many reports a device has, and its open round, if it has one; or the refusal and its place.
-fn told_of(alloc: Global, device: &Result<Device, DeviceFault>) -> Result<String, Fail> {
-    match device {
+/// Tells how many reports a device has, and its open round, if it has one; or the refusal and its place.
+fn tell_made(made: &Result<Device, DeviceFault>, told: &mut String) -> Result<(), Fail> {
+    match made {
         Ok(device) => {
-            let open = round(alloc, device)?;
-            Ok(format!(in alloc; "{} reports{open}", count_of_reports(device))?)
+            write!(told, "{} reports", count_of_reports(device))?;
+            tell_round(device, told)
         }
-        Err(fault) => Ok(format!(in alloc; "{fault} ({})", fault.at)?),
+        Err(fault) => Ok(write!(told, "{fault} ({})", fault.at)?),
     }
 }
 
-/// What is made of an address, an interval and a kind, and of a descriptor.
-fn made(
+/// Tells what is made of an address, a configuration and a descriptor.
+fn tell_made_at(
     alloc: Global,
-    addr: &str,
-    interval: &str,
-    kind: &str,
-    descriptor: &[&str],
-) -> Result<String, Fail> {
-    let config = config(kind, interval.parse()?);
-    let descriptor = descriptor_of(alloc, descriptor)?;
-    let device = device_at(alloc, addr.parse()?, &config, &descriptor);
-    told_of(alloc, &device)
+    addr: u8,
+    config: &Config,
+    descriptor: &[u8],
+    told: &mut String,
+) -> Result<(), Fail> {
+    let made = device_at(alloc, addr, config, descriptor);
+    tell_made(&made, told)
 }
 
-/// What is made of the words of a row.
-fn made_of(alloc: Global, words: &[&str]) -> Result<String, Fail> {
+/// Tells what is made of the words of a row, whose descriptor is spelled in this room.
+fn tell_made_of(
+    alloc: Global,
+    words: &[&str],
+    descriptor: &mut Vec<u8>,
+    told: &mut String,
+) -> Result<(), Fail> {
     match *words {
-        [addr, interval, kind, ref descriptor @ ..] => made(
-            alloc, addr, interval, kind, descriptor,
-        ),
-        _ => Ok(String::new(alloc)),
-    }
-}
-
-/// What is made of a row, with the row where that isn't what is wanted; nothing where it is.
-fn wrong_of(alloc: Global, row: &str) -> Result<String, Fail> {
-    let (given, wanted) = row.split_once('>').unwrap_or((row, ""));
-    let words: Vec<&str> = act_of(given).split_whitespace().collect(alloc)?;
-    let told = made_of(alloc, &words)?;
-    if told.as_str() == wanted.trim() {
-        return Ok(String::new(alloc));
-    }
-    Ok(format!(in alloc; "{row}, but {told}")?)
-}
-
-/// What is wrong with the first row that is.
-fn first_wrong(alloc: Global, rows: &str) -> Result<String, Fail> {
-    for row in rows_of(rows) {
-        let wrong = wrong_of(alloc, row)?;
-        if !wrong.is_empty() {
-            return Ok(wrong);
+        [addr, interval, kind, ref spelled @ ..] => {
+            spell_all(descriptor, spelled)?;
+            let config = config(kind, interval.parse()?);
+            tell_made_at(alloc, addr.parse()?, &config, descriptor, told)
         }
+        _ => Err(Fail::new("a row of fewer words")),
     }
-    Ok(String::new(alloc))
+}
+
+fn tell_words(alloc: Global, words: &[&str], told: &mut String) -> Result<(), Fail> {
+    let mut descriptor = Vec::new(alloc);
+    tell_made_of(alloc, words, &mut descriptor, told)
+}
+
+fn tell_row(alloc: Global, row: &str, told: &mut String) -> Result<(), Fail> {
+    let words: Vec<&str> = act_of(row).split_whitespace().collect(alloc)?;
+    tell_words(alloc, &words, told)
+}
+
+/// Fails by a row of which something else is made than it wants.
+fn is_made(alloc: Global, row: &str, told: &mut String) -> Result<(), Fail> {
+    let (given, wanted) = row.split_once('>').unwrap_or((row, ""));
+    told.clear();
+    tell_row(alloc, given, told)?;
+    is_told("devices", row, wanted, told)
+}
+
+fn are_made(alloc: Global, rows: &str, told: &mut String) -> Result<(), Fail> {
+    for row in rows_of(rows) {
+        is_made(alloc, row, told)?;
+    }
+    Ok(())
 }
 
 #[test]
 fn these_are_devices_or_not(rt: HostRuntime) -> Result<(), Fail> {
-    assert_eq!(rt; first_wrong(rt.alloc(), MADE)?.as_str(), "");
-    Ok(())
+    let mut told = String::new(rt.alloc());
+    are_made(rt.alloc(), MADE, &mut told)
 }
 
-/// What is left of the codes, of causes and of refusals at 7.
+/// Writes a cause, and the refusal for it at 7.
+fn write_cause(told: &mut String, cause: DeviceCause) -> Result<(), Fail> {
+    let fault = DeviceFault { cause, at: 7 };
+    Ok(write!(told, "{cause}, {fault}; ")?)
+}
+
+/// What is left of the codes.
+#[rattlefmt::skip]
+const CAUSES: [DeviceCause; 3] = [
+    DeviceCause::Layout(Cause::TooMany), DeviceCause::Layout(Cause::Memory), DeviceCause::Memory,
+];
+
+/// Fails where causes aren't written so.
+fn are_written(told: &mut String, causes: &[DeviceCause], wanted: &str) -> Result<(), Fail> {
+    for cause in causes {
+        write_cause(told, *cause)?;
+    }
+    is_told("causes", "refusals at 7", wanted, told)
+}
+
 #[test]
 fn causes_are_printed_as_their_codes(rt: HostRuntime) -> Result<(), Fail> {
     let mut told = String::new(rt.alloc());
-    for cause in [
-        DeviceCause::Layout(Cause::TooMany),
-        DeviceCause::Layout(Cause::Memory),
-        DeviceCause::Memory,
-    ] {
-        let fault = DeviceFault { cause, at: 7 };
-        write!(told, "{cause}, {fault}; ")?;
-    }
-    assert_eq!(rt; told.as_str(), "V16, V16 at 7; V17, V17; V21, V21; ");
-    Ok(())
+    are_written(&mut told, &CAUSES, "V16, V16 at 7; V17, V17; V21, V21; ")
 }

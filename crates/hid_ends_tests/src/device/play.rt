@@ -20,7 +20,7 @@ use hid_cells::Change;
 use hid_device::{Boot, Config, Device, DeviceFault, KEYBOARD, MOUSE};
 use hid_layout::{ControlId, ReportKind};
 use std::alloc::Global;
-use std::fmt::Write;
+use std::fmt::{Display, Write};
 use std::str::Lines;
 use std::test::Fail;
 use usb_control::{HostTransfer, Outcome, Requests, Setup};
@@ -118,32 +118,46 @@ pub fn config(kind: &str, interval: u8) -> Config {
 }
 
 /// Writes so many of the same byte.
-fn write_run(text: &mut String, byte: u8, run: usize) -> Result<(), Fail> {
+fn write_run(told: &mut String, byte: u8, run: usize) -> Result<(), Fail> {
     if run > 8 {
-        write!(text, "{byte:02X}*{run} ")?;
+        write!(told, "{byte:02X}*{run} ")?;
         return Ok(());
     }
     for _ in 0..run {
-        write!(text, "{byte:02X} ")?;
+        write!(told, "{byte:02X} ")?;
     }
     Ok(())
 }
 
-/// Bytes in hex, a blank behind each.
-fn hex(alloc: Global, bytes: &[u8]) -> Result<String, Fail> {
-    let mut text = String::new(alloc);
+/// Writes bytes in hex, a blank behind each.
+fn write_hex(told: &mut String, bytes: &[u8]) -> Result<(), Fail> {
     let mut last = 0;
     let mut run = 0usize;
     for byte in bytes {
         if *byte != last {
-            write_run(&mut text, last, run)?;
+            write_run(told, last, run)?;
             last = *byte;
             run = 0;
         }
         run = run.saturating_add(1);
     }
-    write_run(&mut text, last, run)?;
-    Ok(text)
+    write_run(told, last, run)
+}
+
+/// Writes bytes in hex, or that there are none.
+fn write_if_any(told: &mut String, bytes: Option<&[u8]>) -> Result<(), Fail> {
+    match bytes {
+        Some(bytes) => write_hex(told, bytes),
+        None => write_text(told, "none "),
+    }
+}
+
+fn write_text(told: &mut String, text: &str) -> Result<(), Fail> {
+    Ok(told.push_str(text)?)
+}
+
+fn write_shown<D: Display + Drop>(told: &mut String, shown: D) -> Result<(), Fail> {
+    Ok(write!(told, "{shown} ")?)
 }
 
 /// The bytes that are spelled by words, as far as they are read.
@@ -200,13 +214,33 @@ fn run(transfer: &mut HostTransfer, device: &mut Device) {
     }
 }
 
-/// A transfer of these setup data, with these data where it writes.
-fn transferred(
+/// How a transfer ends: the bytes read, or the fault.
+fn tell_end(transfer: &HostTransfer, told: &mut String) -> Result<(), Fail> {
+    match transfer.outcome() {
+        Outcome::Running => write_text(told, "running "),
+        Outcome::Done(bytes) => write_hex(told, bytes),
+        Outcome::Failed(fault) => write_shown(told, fault),
+    }
+}
+
+/// Runs a transfer, and tells how it ends.
+fn tell_run(
+    transfer: &mut HostTransfer,
+    device: &mut Device,
+    told: &mut String,
+) -> Result<(), Fail> {
+    run(transfer, device);
+    tell_end(transfer, told)
+}
+
+/// Tells of a transfer of these setup data, with these data where it writes.
+fn tell_transfer(
     alloc: Global,
     device: &mut Device,
     request: &[u8; 8],
     data: &[u8],
-) -> Result<String, Fail> {
+    told: &mut String,
+) -> Result<(), Fail> {
     let setup = Setup::from_bytes(request);
     let sent = if setup.is_read() {
         0
@@ -214,45 +248,42 @@ fn transferred(
         usize::from(setup.length)
     };
     if data.len() != sent {
-        return Ok(format!(in alloc; "{sent} bytes are to be sent ")?);
+        return write_text(told, "other data than are to be sent ");
     }
     let mut transfer = HostTransfer::begin(alloc, 1, setup, data)?;
-    run(&mut transfer, device);
-    match transfer.outcome() {
-        Outcome::Running => Ok(format!(in alloc; "running ")?),
-        Outcome::Done(bytes) => hex(alloc, bytes),
-        Outcome::Failed(fault) => Ok(format!(in alloc; "{fault} ")?),
-    }
+    tell_run(&mut transfer, device, told)
 }
 
-/// What is answered to a packet, or to a transfer of setup data.
-fn answered(alloc: Global, device: &mut Device, words: &[&str]) -> Result<String, Fail> {
+/// Tells what is answered to a packet, or of a transfer of setup data.
+fn tell_answer(
+    alloc: Global,
+    device: &mut Device,
+    words: &[&str],
+    told: &mut String,
+) -> Result<(), Fail> {
     let bytes = bytes_of(words);
     match (words.first(), bytes.split_first_chunk::<8>()) {
-        (Some(&"ask"), Some((request, data))) => transferred(alloc, device, request, data),
-        _ => hex(alloc, &given(device, &bytes)),
+        (Some(&"ask"), Some((request, data))) => tell_transfer(alloc, device, request, data, told),
+        _ => write_hex(told, &given(device, &bytes)),
     }
 }
 
-/// What a change gives: nothing, or why it can't be.
-fn changed(alloc: Global, device: &mut Device, change: Change) -> Result<String, Fail> {
+/// Makes a change, and tells why it can't be made, if it can't.
+fn tell_change(device: &mut Device, change: Change, told: &mut String) -> Result<(), Fail> {
     match device.change(change) {
-        Ok(()) => Ok(String::new(alloc)),
-        Err(fault) => Ok(format!(in alloc; "{fault} ")?),
+        Ok(()) => Ok(()),
+        Err(fault) => write_shown(told, fault),
     }
 }
 
-/// A report that was set last, by its kind and ID.
-fn kept(alloc: Global, device: &Device, kind: &str, id: &str) -> Result<String, Fail> {
+/// Tells a report that was set last, by its kind and ID.
+fn tell_kept(device: &Device, kind: &str, id: &str, told: &mut String) -> Result<(), Fail> {
     let kind = match kind {
         "output" => ReportKind::Output,
         "feature" => ReportKind::Feature,
         _ => ReportKind::Input,
     };
-    match device.outputs(kind, id.parse()?) {
-        Some(bytes) => hex(alloc, bytes),
-        None => Ok(format!(in alloc; "none ")?),
-    }
+    write_if_any(told, device.outputs(kind, id.parse()?))
 }
 
 /// Does what is one of these words; false where it is something else.
@@ -269,18 +300,19 @@ fn acted(device: &mut Device, act: &str) -> bool {
     true
 }
 
-/// The answer that is fixed at endpoint 0.
-fn fixed_answer(alloc: Global, device: &mut Device) -> Result<String, Fail> {
-    match device.control().requests().answer() {
-        Some(bytes) => hex(alloc, bytes),
-        None => Ok(format!(in alloc; "none ")?),
-    }
+/// Tells the answer that is fixed at endpoint 0.
+fn tell_fixed_answer(device: &mut Device, told: &mut String) -> Result<(), Fail> {
+    write_if_any(told, device.control().requests().answer())
 }
 
-/// The motion that is fixed of a control.
-fn fixed_motion(alloc: Global, device: &Device, item: &str, index: &str) -> Result<String, Fail> {
-    let motion = device.fixed().motion(control_of(item, index)?);
-    Ok(format!(in alloc; "{motion} ")?)
+/// Tells the motion that is fixed of a control.
+fn tell_fixed_motion(
+    device: &Device,
+    item: &str,
+    index: &str,
+    told: &mut String,
+) -> Result<(), Fail> {
+    write_shown(told, device.fixed().motion(control_of(item, index)?))
 }
 
 fn pass_frames(device: &mut Device, count: usize) {
@@ -290,61 +322,80 @@ fn pass_frames(device: &mut Device, count: usize) {
 }
 
 /// Does what these words mean, and tells what is answered.
-fn done_of(alloc: Global, device: &mut Device, words: &[&str]) -> Result<String, Fail> {
+fn tell_done_of(
+    alloc: Global,
+    device: &mut Device,
+    words: &[&str],
+    told: &mut String,
+) -> Result<(), Fail> {
     if let Some(change) = change_of(words)? {
-        return changed(alloc, device, change);
+        return tell_change(device, change, told);
     }
     match *words {
-        ["fixed", item, index] => fixed_motion(alloc, device, item, index),
-        ["kept", kind, id] => kept(alloc, device, kind, id),
+        ["fixed", item, index] => tell_fixed_motion(device, item, index, told),
+        ["kept", kind, id] => tell_kept(device, kind, id, told),
         ["frames", count] => {
             pass_frames(device, count.parse()?);
-            Ok(String::new(alloc))
+            Ok(())
         }
-        _ => answered(alloc, device, words),
+        _ => tell_answer(alloc, device, words, told),
     }
 }
 
 /// Does it, and tells what is answered.
-fn done(alloc: Global, device: &mut Device, act: &str) -> Result<String, Fail> {
+fn tell_done(alloc: Global, device: &mut Device, act: &str, told: &mut String) -> Result<(), Fail> {
     if acted(device, act) {
-        return Ok(String::new(alloc));
+        return Ok(());
     }
     if act == "answer" {
-        return fixed_answer(alloc, device);
+        return tell_fixed_answer(device, told);
     }
     let words: Vec<&str> = act.split(' ').collect(alloc)?;
-    done_of(alloc, device, &words)
+    tell_done_of(alloc, device, &words, told)
 }
 
-/// The open round, if one is: its report, its toggle and its piece. Something is armed for it. Or that the endpoint is
-/// halted.
-pub fn round(alloc: Global, device: &Device) -> Result<String, Fail> {
+/// Tells a round that is open: its report, its toggle and its piece.
+fn tell_open(report: usize, one: bool, piece: usize, told: &mut String) -> Result<(), Fail> {
+    let one = u8::from(one);
+    if piece == 0 {
+        write!(told, "round {report}.{one}")?;
+    } else {
+        write!(told, "round {report}.{one} piece {piece}")?;
+    }
+    Ok(())
+}
+
+/// Tells the open round, if one is: something is armed for it. Or that the endpoint is halted.
+pub fn tell_round(device: &Device, told: &mut String) -> Result<(), Fail> {
     match (device.open_round(), device.piece(), device.pipe().armed()) {
-        (None, None, None) if device.pipe().halted() => Ok(format!(in alloc; "halted")?),
-        (None, None, None) => Ok(String::new(alloc)),
-        (Some((report, one)), Some(0), Some(_)) => Ok(format!(in alloc;
-            "round {report}.{}",
-            u8::from(one)
-        )?),
-        (Some((report, one)), Some(piece), Some(_)) => Ok(format!(in alloc;
-            "round {report}.{} piece {piece}",
-            u8::from(one)
-        )?),
-        _ => Ok(format!(in alloc; "armed without a round, or a round without")?),
+        (None, None, None) if device.pipe().halted() => write_text(told, "halted"),
+        (None, None, None) => Ok(()),
+        (Some((report, one)), Some(piece), Some(_)) => tell_open(report, one, piece, told),
+        _ => write_text(told, "armed without a round, or a round without"),
     }
 }
 
-/// Plays a row: a name, behind `: ` what is done, and behind `>` what is told. It gives the row and what is told where that
-/// is something else.
-fn wrong_of(alloc: Global, device: &mut Device, row: &str) -> Result<Option<String>, Fail> {
-    let (act, wanted) = row.split_once('>').unwrap_or((row, ""));
-    let mut told = done(alloc, device, act_of(act))?;
-    told.push_str(&round(alloc, device)?)?;
+/// Fails by a row of which something else is told than it wants.
+pub fn is_told(name: &str, row: &str, wanted: &str, told: &str) -> Result<(), Fail> {
     if told.trim() == wanted.trim() {
-        return Ok(None);
+        return Ok(());
     }
-    Ok(Some(format!(in alloc; "{row}, but {told}")?))
+    Err(Fail::new(format_args!("{name}: {}, but {told}", row.trim())))
+}
+
+/// Plays a row: a name, behind `: ` what is done, and behind `>` what is told.
+fn play_row(
+    alloc: Global,
+    device: &mut Device,
+    name: &str,
+    row: &str,
+    told: &mut String,
+) -> Result<(), Fail> {
+    let (act, wanted) = row.split_once('>').unwrap_or((row, ""));
+    told.clear();
+    tell_done(alloc, device, act_of(act), told)?;
+    tell_round(device, told)?;
+    is_told(name, row, wanted, told)
 }
 
 /// The rows of a table.
@@ -352,34 +403,47 @@ pub fn rows_of(table: &str) -> Lines<'_> {
     table.trim().lines()
 }
 
-/// Plays rows, a line each, and gives what is wrong with the first that is; nothing where none is.
-fn wrong_row(alloc: Global, device: &mut Device, rows: &str) -> Result<String, Fail> {
+/// Plays rows, a line each.
+fn play_rows(
+    alloc: Global,
+    device: &mut Device,
+    name: &str,
+    rows: &str,
+    told: &mut String,
+) -> Result<(), Fail> {
     for row in rows_of(rows) {
-        if let Some(wrong) = wrong_of(alloc, device, row)? {
-            return Ok(wrong);
-        }
+        play_row(alloc, device, name, row, told)?;
     }
-    Ok(String::new(alloc))
+    Ok(())
 }
 
-/// Plays rows with a device of its own.
-fn played(alloc: Global, kind: &str, rows: &str) -> Result<String, Fail> {
+/// Plays a schedule with a device of its own.
+fn play(alloc: Global, name: &str, kind: &str, rows: &str, told: &mut String) -> Result<(), Fail> {
     let mut device = device_of(alloc, kind)?;
-    wrong_row(alloc, &mut device, rows)
+    play_rows(alloc, &mut device, name, rows, told)
 }
 
-/// A name, the kind of a device, and the rows that are played with it.
-pub type Schedule = (&'static str, &'static str, &'static str);
+/// The kind of a device and, behind `: `, a name; below that the rows that are played with it. It is one text, since each text
+/// of a table makes the proof of its test longer.
+pub type Schedule = &'static str;
 
-/// Plays each schedule, and gives what is wrong with the first that is, behind its name; nothing where none is.
-pub fn first_wrong(alloc: Global, schedules: &[Schedule]) -> Result<String, Fail> {
-    for (name, kind, rows) in schedules {
-        let wrong = played(alloc, kind, rows)?;
-        if !wrong.is_empty() {
-            return Ok(format!(in alloc; "{name}: {wrong}")?);
-        }
+fn play_schedule(alloc: Global, schedule: &str, told: &mut String) -> Result<(), Fail> {
+    let (heading, rows) = schedule.split_once('\n').ok_or("no rows")?;
+    let (kind, name) = heading.split_once(": ").ok_or("no name")?;
+    play(alloc, name, kind, rows, told)
+}
+
+fn play_each(alloc: Global, schedules: &[Schedule], told: &mut String) -> Result<(), Fail> {
+    for schedule in schedules {
+        play_schedule(alloc, schedule, told)?;
     }
-    Ok(String::new(alloc))
+    Ok(())
+}
+
+/// Plays schedules up to the first row of which something else is told, and fails by its schedule and by what is told.
+pub fn goes_as_told(alloc: Global, schedules: &[Schedule]) -> Result<(), Fail> {
+    let mut told = String::new(alloc);
+    play_each(alloc, schedules, &mut told)
 }
 
 /// What is done, behind the name of a row.

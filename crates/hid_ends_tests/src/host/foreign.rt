@@ -4,19 +4,21 @@
 mod limits;
 
 use super::calls::{
-    Replied, begin, cold, is_done_with, is_failed_with, is_in, is_told, ready, replied, step,
+    Came, Verdict, begin, cold, data, is_done_with, is_failed_with, is_in, is_told, ready,
+    ready_replies_to_each, replies, step,
 };
-use super::{CONFIGURATION, DOWN, KEY, NO_TRANSFER, data, keyboard};
+use super::{CONFIGURATION, KEY, KEY_DOWN, NO_TRANSFER, keyboard};
+use crate::verdict::none_is_wrong;
 use hid_device::KEYBOARD;
 use hid_host::{DescriptorFault, HostDevice, HostState, StackFault};
-use hid_layout::{Cause, ControlId, Layout, LayoutFault};
+use hid_layout::{Cause, ControlId, Layout, LayoutFault, Usage};
 use hid_requests::Request;
-use hid_usages::ReportFault;
+use hid_usages::{Event, ReportFault};
 use std::alloc::Global;
 use std::test::Fail;
 use usb_control::{ConfigInfo, ControlFault, DevControl, InfoFault, Progress, Requests, Setup};
 use usb_packet::{Packet, TokenKind};
-use usb_transact::{Fate, Took};
+use usb_transact::Fate;
 
 /// A device that answers with these bytes, whatever they are, and refuses what it has none for. It takes a write without data.
 #[derive(Clone, Copy)]
@@ -144,18 +146,22 @@ fn is_configuration(host: &mut HostDevice, configuration: &[u8], wanted: &Ends) 
 }
 
 /// Whether a host refuses an answer so, and reads a keyboard's configuration when it asks again.
-fn is_read_at_last(alloc: Global, bytes: &[u8], fault: InfoFault) -> bool {
-    let mut host = cold(alloc);
+fn is_read_at_last(host: &mut HostDevice, bytes: &[u8], fault: InfoFault) -> bool {
     let refused = (Err(unread(fault)), bytes, HostState::Cold);
     let read = (Ok(Progress::Done), configuration(), HostState::Described);
-    is_configuration(&mut host, bytes, &refused)
-        && is_configuration(&mut host, configuration(), &read)
+    is_configuration(host, bytes, &refused) && is_configuration(host, configuration(), &read)
+}
+
+/// The same of a new host.
+fn is_read_at_last_by_new(alloc: Global, bytes: &[u8], fault: InfoFault) -> bool {
+    let mut host = cold(alloc);
+    is_read_at_last(&mut host, bytes, fault)
 }
 
 /// The first row that isn't so.
 fn first_misread(alloc: Global, rows: &[Unread]) -> Option<&'static str> {
     for (name, bytes, fault) in rows {
-        if !is_read_at_last(alloc, bytes, *fault) {
+        if !is_read_at_last_by_new(alloc, bytes, *fault) {
             return Some(*name);
         }
     }
@@ -163,8 +169,8 @@ fn first_misread(alloc: Global, rows: &[Unread]) -> Option<&'static str> {
 }
 
 #[test]
-fn a_wrong_configuration_is_refused_and_asked_for_again(rt: HostRuntime) {
-    assert_eq!(rt; first_misread(rt.alloc(), &CONFIGURATIONS), None);
+fn a_wrong_configuration_is_refused_and_asked_for_again(rt: HostRuntime) -> Result<(), Fail> {
+    none_is_wrong(first_misread(rt.alloc(), &CONFIGURATIONS))
 }
 
 /// A keyboard's configuration, of which one byte is another.
@@ -198,26 +204,52 @@ fn ends_twice(host: &mut HostDevice, control: &mut DevControl<Foreign>, wanted: 
     ends(host, control, &Request::Report, wanted) && ends(host, control, &Request::Report, wanted)
 }
 
-/// Whether a host reads this configuration, and refuses the report descriptor so.
-fn is_unlaid(alloc: Global, configuration: &[u8], report: &[u8], fault: StackFault) -> bool {
+/// Whether a host reads a configuration, and refuses the report descriptor so.
+fn is_unlaid(host: &mut HostDevice, control: &mut DevControl<Foreign>, wanted: &Ends) -> bool {
+    is_told(&asked(host, control, &Request::Config), &Ok(Progress::Done))
+        && ends_twice(host, control, wanted)
+}
+
+/// The same of a new host of a device that has these descriptors.
+fn is_unlaid_by_new(
+    alloc: Global,
+    configuration: &[u8],
+    report: &[u8],
+    fault: DescriptorFault,
+) -> bool {
+    let refused = (
+        Err(StackFault::BadDescriptor(fault)),
+        report,
+        HostState::Described,
+    );
     let mut host = cold(alloc);
     let mut control = Foreign::new(configuration, report);
-    let told = asked(&mut host, &mut control, &Request::Config);
-    let refused = (Err(fault), report, HostState::Described);
-    is_told(&told, &Ok(Progress::Done)) && ends_twice(&mut host, &mut control, &refused)
+    is_unlaid(&mut host, &mut control, &refused)
+}
+
+/// Whether a row is so.
+fn is_mislaid(
+    alloc: Global,
+    announced: u8,
+    bytes: &[u8],
+    count: usize,
+    fault: DescriptorFault,
+) -> bool {
+    match bytes.get(..count) {
+        Some(report) => is_unlaid_by_new(
+            alloc,
+            &configuration_with(LENGTH_AT, announced),
+            report,
+            fault,
+        ),
+        None => false,
+    }
 }
 
 /// The first row that isn't so.
 fn first_mislaid(alloc: Global, rows: &[Unlaid]) -> Option<&'static str> {
     for (name, announced, bytes, count, fault) in rows {
-        let configuration = configuration_with(LENGTH_AT, *announced);
-        let report = bytes.get(..*count).unwrap_or(&[]);
-        if !is_unlaid(
-            alloc,
-            &configuration,
-            report,
-            StackFault::BadDescriptor(*fault),
-        ) {
+        if !is_mislaid(alloc, *announced, bytes, *count, *fault) {
             return Some(*name);
         }
     }
@@ -225,25 +257,23 @@ fn first_mislaid(alloc: Global, rows: &[Unlaid]) -> Option<&'static str> {
 }
 
 #[test]
-fn a_wrong_report_descriptor_is_refused_and_asked_for_again(rt: HostRuntime) {
-    assert_eq!(rt; first_mislaid(rt.alloc(), &REPORTS), None);
+fn a_wrong_report_descriptor_is_refused_and_asked_for_again(rt: HostRuntime) -> Result<(), Fail> {
+    none_is_wrong(first_mislaid(rt.alloc(), &REPORTS))
 }
 
-/// What a host is told of a device whose configuration is this one and whose report descriptor is a keyboard's, when it asks
-/// for the configuration and, where that is read, for the report descriptor.
-fn wanted(alloc: Global, configuration: &[u8]) -> (Result<(), StackFault>, HostState) {
-    let info = match ConfigInfo::read(configuration) {
-        Ok(info) => info,
-        Err(fault) => return (Err(unread(fault)), HostState::Cold),
-    };
-    let Some(front) = keyboard().get(..usize::from(info.report_length)) else {
+/// What a host is told, and where it stands then.
+type Brought = (Result<(), StackFault>, HostState);
+
+/// What a host is told of the first bytes of a keyboard's report descriptor, as many as are announced.
+fn wanted_of_report(alloc: Global, announced: u16) -> Brought {
+    let Some(front) = keyboard().get(..usize::from(announced)) else {
         return (
             Err(StackFault::BadDescriptor(DescriptorFault::ReportLength)),
             HostState::Described,
         );
     };
-    match Layout::parse(alloc, front) {
-        Ok(_) => (Ok(()), HostState::Parsed),
+    match laid_out(alloc, front) {
+        Ok(()) => (Ok(()), HostState::Parsed),
         Err(fault) => (
             Err(StackFault::BadDescriptor(DescriptorFault::Layout(fault))),
             HostState::Described,
@@ -251,39 +281,82 @@ fn wanted(alloc: Global, configuration: &[u8]) -> (Result<(), StackFault>, HostS
     }
 }
 
-/// What a host is told in fact, and where it stands then.
-fn brought(alloc: Global, configuration: &[u8]) -> (Result<(), StackFault>, HostState) {
+fn laid_out(alloc: Global, descriptor: &[u8]) -> Result<(), LayoutFault> {
+    Layout::parse(alloc, descriptor)?;
+    Ok(())
+}
+
+/// What a host is told of a device whose configuration is this one and whose report descriptor is a keyboard's, when it asks
+/// for the configuration and, where that is read, for the report descriptor.
+fn wanted(alloc: Global, configuration: &[u8]) -> Brought {
+    match ConfigInfo::read(configuration) {
+        Ok(info) => wanted_of_report(alloc, info.report_length),
+        Err(fault) => (Err(unread(fault)), HostState::Cold),
+    }
+}
+
+/// Asks for both.
+fn asked_for_both(
+    host: &mut HostDevice,
+    control: &mut DevControl<Foreign>,
+) -> Result<(), StackFault> {
+    asked(host, control, &Request::Config)?;
+    asked(host, control, &Request::Report)?;
+    Ok(())
+}
+
+/// Whether a host is told so of both, and stands there then.
+fn is_brought(host: &mut HostDevice, control: &mut DevControl<Foreign>, wanted: &Brought) -> bool {
+    let (told, state) = wanted;
+    asked_for_both(host, control) == *told && is_in(host, *state)
+}
+
+/// Whether a new host is told what it should be of a device with this configuration.
+fn is_brought_as_wanted(alloc: Global, configuration: &[u8]) -> bool {
+    let wanted = wanted(alloc, configuration);
     let mut host = cold(alloc);
     let mut control = Foreign::new(configuration, keyboard());
-    let mut told = asked(&mut host, &mut control, &Request::Config);
-    if told.is_ok() {
-        told = asked(&mut host, &mut control, &Request::Report);
-    }
-    (told.map(|_| ()), host.state())
+    is_brought(&mut host, &mut control, &wanted)
 }
 
-#[test]
-fn each_front_of_a_configuration_is_read_or_refused(rt: HostRuntime) {
-    for end in 0..=CONFIGURATION.len() {
-        let front = &CONFIGURATION[..end];
-        assert!(rt;
-            brought(rt.alloc(), front) == wanted(rt.alloc(), front),
-            "{end}"
-        );
-    }
-}
-
-#[test]
-fn a_configuration_with_any_byte_changed_is_read_or_refused(rt: HostRuntime) {
-    for at in 0..CONFIGURATION.len() {
-        for byte in [0x00, 0x01, 0x05, 0x7F, 0xFF] {
-            let bytes = configuration_with(at, byte);
-            assert!(rt;
-                brought(rt.alloc(), &bytes) == wanted(rt.alloc(), &bytes),
-                "{at} {byte}"
-            );
+/// The length of the first front of a configuration of which a host is told otherwise.
+fn first_front_otherwise(alloc: Global, configuration: &[u8]) -> Option<usize> {
+    for end in 0..=configuration.len() {
+        if !is_brought_as_wanted(alloc, &configuration[..end]) {
+            return Some(end);
         }
     }
+    None
+}
+
+/// Fails by where something is told otherwise, if it is.
+fn nowhere(place: Option<usize>) -> Result<(), Fail> {
+    match place {
+        Some(place) => Err(Fail::new(place)),
+        None => Ok(()),
+    }
+}
+
+#[test]
+fn each_front_of_a_configuration_is_read_or_refused(rt: HostRuntime) -> Result<(), Fail> {
+    nowhere(first_front_otherwise(rt.alloc(), configuration()))
+}
+
+/// The first place at which one of these bytes has a host told otherwise.
+fn first_place_otherwise(alloc: Global, bytes: &[u8]) -> Option<usize> {
+    for at in 0..configuration().len() {
+        for byte in bytes {
+            if !is_brought_as_wanted(alloc, &configuration_with(at, *byte)) {
+                return Some(at);
+            }
+        }
+    }
+    None
+}
+
+#[test]
+fn a_configuration_with_any_byte_changed_is_read_or_refused(rt: HostRuntime) -> Result<(), Fail> {
+    nowhere(first_place_otherwise(rt.alloc(), &[0x00, 0x01, 0x05, 0x7F, 0xFF]))
 }
 
 /// Requests that a foreign device refuses.
@@ -302,12 +375,19 @@ fn is_stalled(host: &mut HostDevice, control: &mut DevControl<Foreign>, request:
         && is_in(host, HostState::Cold)
 }
 
+/// The same rows, which are made here alone.
+fn stalled() -> [(&'static str, Request); 3] {
+    STALLED
+}
+
 /// The first row that isn't so, of requests of one host.
-fn first_not_stalled(alloc: Global, rows: &[(&'static str, Request)]) -> Option<&'static str> {
-    let mut host = cold(alloc);
-    let mut control = Foreign::new(configuration(), keyboard());
+fn first_not_stalled(
+    host: &mut HostDevice,
+    control: &mut DevControl<Foreign>,
+    rows: &[(&'static str, Request)],
+) -> Option<&'static str> {
     for (name, request) in rows {
-        if !is_stalled(&mut host, &mut control, request) {
+        if !is_stalled(host, control, request) {
             return Some(*name);
         }
     }
@@ -315,22 +395,23 @@ fn first_not_stalled(alloc: Global, rows: &[(&'static str, Request)]) -> Option<
 }
 
 #[test]
-fn a_device_that_refuses_all_leads_nowhere(rt: HostRuntime) {
-    assert_eq!(rt; first_not_stalled(rt.alloc(), &STALLED), None);
+fn a_device_that_refuses_all_leads_nowhere(rt: HostRuntime) -> Result<(), Fail> {
+    let mut host = cold(rt.alloc());
+    let mut control = Foreign::new(configuration(), keyboard());
+    none_is_wrong(first_not_stalled(&mut host, &mut control, &stalled()))
 }
 
-/// Whether these data, the first of a ready host, tell of the key A alone.
-fn is_key_down(alloc: Global, descriptor: &[u8], bytes: &[u8]) -> Result<bool, Fail> {
-    let mut host = ready(alloc, descriptor)?;
-    let (told, _, _, events) = replied(alloc, &mut host, data(false, bytes).as_ref(), KEY)?;
-    Ok(told.is_ok() && events.as_slice() == [DOWN].as_slice())
-}
+/// A report of a keyboard with the key A, and a byte behind it.
+const LONGER: [Came; 1] = [(
+    "a byte more",
+    false,
+    &[0, 0, 4, 0, 0, 0, 0, 0, 0xFF],
+    KEY_DOWN,
+)];
 
 #[test]
 fn more_bytes_than_a_report_has_are_left_unread(rt: HostRuntime) -> Result<(), Fail> {
-    let longer = [0, 0, 0x04, 0, 0, 0, 0, 0, 0xFF];
-    assert!(rt; is_key_down(rt.alloc(), keyboard(), &longer)?);
-    Ok(())
+    ready_replies_to_each(rt.alloc(), keyboard(), KEY, &LONGER)
 }
 
 /// A pointer and a button: report 1 has a byte of motion, and report 2 a button in its lowest bit.
@@ -344,102 +425,78 @@ fn numbered() -> &'static [u8] {
     &NUMBERED
 }
 
-/// A name, what comes to a poll of it, DATA1 or DATA0, and why that is refused.
-type Refused = (&'static str, bool, &'static [u8], ReportFault);
-
-#[rattlefmt::skip]
-const REFUSED: [Refused; 5] = [
-    ("an ID of no report",     false, &[3, 0], ReportFault::UnknownReport),
-    ("ID 0",                   true,  &[0, 0], ReportFault::UnknownReport),
-    ("no byte",                false, &[],     ReportFault::Short),
-    ("an ID alone",            true,  &[2],    ReportFault::Short),
-    ("another ID alone",       false, &[1],    ReportFault::Short),
-];
-
 const BUTTON: ControlId = ControlId { item: 1, index: 0 };
 
-/// Whether these data are refused so, and the toggle alone has moved; the button isn't held.
-fn is_refused(told: &Replied, one: bool, fault: ReportFault) -> bool {
-    let (took, expects, held, events) = told;
-    let is_so = match took {
-        Err(StackFault::Report(found)) => *found == fault,
-        _ => false,
-    };
-    is_so && *expects != one && !*held && events.is_empty()
-}
+const BUTTON_DOWN: Event = Event::Down {
+    control: BUTTON,
+    usage: Usage {
+        page: 0x09,
+        id: 0x01,
+    },
+};
 
-/// The first row that isn't so.
-fn first_not_refused(
-    alloc: Global,
-    host: &mut HostDevice,
-    rows: &[Refused],
-) -> Result<Option<&'static str>, Fail> {
-    for (name, one, bytes, fault) in rows {
-        let told = replied(alloc, host, data(*one, bytes).as_ref(), BUTTON)?;
-        if !is_refused(&told, *one, *fault) {
-            return Ok(Some(*name));
-        }
-    }
-    Ok(None)
-}
-
-/// Whether DATA1 of the button, which goes down, is fresh, and DATA0 is expected then.
-fn is_button_down(alloc: Global, host: &mut HostDevice) -> Result<bool, Fail> {
-    let packet = data(true, &[2, 1]);
-    let (told, expects, held, events) = replied(alloc, host, packet.as_ref(), BUTTON)?;
-    Ok(matches!(told, Ok(Took::Fresh(_))) && !expects && held && events.len() == 1)
-}
+/// Of data that are refused the toggle alone moves.
+#[rattlefmt::skip]
+const REFUSED: [Came; 6] = [
+    ("an ID of no report",  false, &[3, 0], (Verdict::Refused(ReportFault::UnknownReport), true,  false, &[])),
+    ("ID 0",                true,  &[0, 0], (Verdict::Refused(ReportFault::UnknownReport), false, false, &[])),
+    ("no byte",             false, &[],     (Verdict::Refused(ReportFault::Short),         true,  false, &[])),
+    ("an ID alone",         true,  &[2],    (Verdict::Refused(ReportFault::Short),         false, false, &[])),
+    ("another ID alone",    false, &[1],    (Verdict::Refused(ReportFault::Short),         true,  false, &[])),
+    ("the button",          true,  &[2, 1], (Verdict::Fresh,                               false, true,  &[BUTTON_DOWN])),
+];
 
 #[test]
 fn a_report_that_is_none_moves_the_toggle_alone(rt: HostRuntime) -> Result<(), Fail> {
-    let mut host = ready(rt.alloc(), numbered())?;
-    assert_eq!(rt; first_not_refused(rt.alloc(), &mut host, &REFUSED)?, None);
-    assert!(rt; is_button_down(rt.alloc(), &mut host)?);
-    Ok(())
+    ready_replies_to_each(rt.alloc(), numbered(), BUTTON, &REFUSED)
 }
 
 /// What is no fresh report, and what it is taken as.
-fn no_report(which: usize) -> (Option<Packet>, Took) {
+fn no_report(which: usize) -> (Option<Packet>, Verdict) {
     let token = Packet::Token {
         kind: TokenKind::In,
         addr: 1,
         endp: 1,
     };
     match which {
-        0 => (None, Took::Silent),
-        1 => (Some(Packet::Nak), Took::Nak),
-        2 => (Some(Packet::Stall), Took::Stall),
-        3 => (Some(Packet::Ack), Took::Silent),
-        4 => (Some(token), Took::Silent),
-        _ => (data(true, &[2, 1]), Took::Again),
+        0 => (None, Verdict::Silent),
+        1 => (Some(Packet::Nak), Verdict::Nak),
+        2 => (Some(Packet::Stall), Verdict::Stall),
+        3 => (Some(Packet::Ack), Verdict::Silent),
+        4 => (Some(token), Verdict::Silent),
+        _ => (data(true, &[2, 1]), Verdict::Again),
     }
 }
 
 /// Whether that is taken so, and nothing changes.
-fn is_nothing(told: &Replied, wanted: &Took) -> bool {
-    let (took, expects, held, events) = told;
-    let is_so = match took {
-        Ok(took) => *took == *wanted,
-        Err(_) => false,
-    };
-    is_so && !*expects && !*held && events.is_empty()
+fn is_nothing(alloc: Global, host: &mut HostDevice, which: usize) -> Result<bool, Fail> {
+    let (packet, verdict) = no_report(which);
+    replies(
+        alloc,
+        host,
+        packet.as_ref(),
+        BUTTON,
+        &(verdict, false, false, &[]),
+    )
 }
 
-/// How many of these come to a ready host and change nothing, up to the first that does.
-fn count_of_nothing(alloc: Global, descriptor: &[u8], count: usize) -> Result<usize, Fail> {
-    let mut host = ready(alloc, descriptor)?;
+/// Fails by the first of so many of these that changes something.
+fn are_nothing(alloc: Global, host: &mut HostDevice, count: usize) -> Result<(), Fail> {
     for at in 0..count {
-        let (packet, wanted) = no_report(at % 6);
-        let told = replied(alloc, &mut host, packet.as_ref(), BUTTON)?;
-        if !is_nothing(&told, &wanted) {
-            return Ok(at);
+        if !is_nothing(alloc, host, at % 6)? {
+            return Err(Fail::new(at));
         }
     }
-    Ok(count)
+    Ok(())
+}
+
+/// The same of a host that is ready for this descriptor.
+fn are_nothing_to_ready(alloc: Global, descriptor: &[u8], count: usize) -> Result<(), Fail> {
+    let mut host = ready(alloc, descriptor)?;
+    are_nothing(alloc, &mut host, count)
 }
 
 #[test]
 fn what_is_no_fresh_report_changes_nothing_for_ever(rt: HostRuntime) -> Result<(), Fail> {
-    assert_eq!(rt; count_of_nothing(rt.alloc(), numbered(), 600)?, 600);
-    Ok(())
+    are_nothing_to_ready(rt.alloc(), numbered(), 600)
 }

@@ -2,17 +2,17 @@
 //! until it ends, and forgotten where it is refused, where a clear is done, and at a reset of the bus. What is wanted was worked
 //! out by hand from the descriptors.
 
-use super::calls::{ready, replied};
-use super::data;
+use super::calls::{Replied, Verdict, data, is_taken, is_told, ready, replied};
 use super::foreign::{Foreign, LENGTH_AT, asked, configuration_with};
-use hid_host::{HostDevice, StackFault};
+use crate::verdict::holds;
+use hid_host::HostDevice;
 use hid_layout::laws::one_reading;
 use hid_layout::{ControlId, Layout};
 use hid_requests::Request;
 use hid_usages::{Event, ReportFault, Shown};
 use std::alloc::Global;
 use std::test::Fail;
-use usb_control::Progress;
+use usb_control::{DevControl, Progress};
 use usb_packet::Packet;
 use usb_transact::Took;
 
@@ -86,21 +86,30 @@ fn packet_of(came: &Came) -> Option<Packet> {
 }
 
 /// Whether a host told so of data, and gave no event where it doesn't tell of fresh ones.
-fn is_so(took: &Result<Took, StackFault>, events: &[Event], wanted: &Told) -> bool {
-    match (wanted, took) {
-        (Told::Fresh(values), Ok(Took::Fresh(_))) => are_given(events, values),
-        (Told::Again, Ok(Took::Again)) => events.is_empty(),
-        (Told::Refused(fault), Err(StackFault::Report(found))) => {
-            *found == *fault && events.is_empty()
-        }
-        _ => false,
+fn is_so(told: &Replied, wanted: &Told) -> bool {
+    let (took, _, _, events) = told;
+    match *wanted {
+        Told::Fresh(values) => is_taken(took, Verdict::Fresh) && are_given(events, values),
+        Told::Again => is_taken(took, Verdict::Again) && events.is_empty(),
+        Told::Refused(fault) => is_taken(took, Verdict::Refused(fault)) && events.is_empty(),
     }
 }
 
+/// Whether a host tells so of a packet.
+fn tells(
+    alloc: Global,
+    host: &mut HostDevice,
+    packet: Option<&Packet>,
+    wanted: &Told,
+) -> Result<bool, Fail> {
+    let told = replied(alloc, host, packet, VALUE)?;
+    Ok(is_so(&told, wanted))
+}
+
 /// Whether a host that is given these data tells so.
-fn tells(alloc: Global, host: &mut HostDevice, came: &Came) -> Result<bool, Fail> {
-    let (took, _, _, events) = replied(alloc, host, packet_of(came).as_ref(), VALUE)?;
-    Ok(is_so(&took, &events, &came.4))
+fn tells_of(alloc: Global, host: &mut HostDevice, came: &Came) -> Result<bool, Fail> {
+    let packet = packet_of(came);
+    tells(alloc, host, packet.as_ref(), &came.4)
 }
 
 /// Data that come to a host one behind the other.
@@ -138,20 +147,41 @@ const ROWS: [Row; 9] = [
     ]),
 ];
 
-/// Whether a host tells so of each of these data.
-fn tells_each(alloc: Global, host: &mut HostDevice, packets: &[Came]) -> Result<bool, Fail> {
+/// Fails by this name where a host tells otherwise of one of these data.
+fn tells_each(
+    alloc: Global,
+    host: &mut HostDevice,
+    name: &'static str,
+    packets: &[Came],
+) -> Result<(), Fail> {
     for came in packets {
-        if !tells(alloc, host, came)? {
-            return Ok(false);
-        }
+        holds(name, tells_of(alloc, host, came)?)?;
     }
-    Ok(true)
+    Ok(())
 }
 
 /// The same of a host that is ready for this descriptor.
-fn tells_all(alloc: Global, descriptor: &[u8], packets: &[Came]) -> Result<bool, Fail> {
+fn tells_all(
+    alloc: Global,
+    name: &'static str,
+    descriptor: &[u8],
+    packets: &[Came],
+) -> Result<(), Fail> {
     let mut host = ready(alloc, descriptor)?;
-    tells_each(alloc, &mut host, packets)
+    tells_each(alloc, &mut host, name, packets)
+}
+
+/// Fails by the first row that isn't so.
+fn all_tell(alloc: Global, rows: &[Row]) -> Result<(), Fail> {
+    for (name, descriptor, packets) in rows {
+        tells_all(alloc, name, descriptor, packets)?;
+    }
+    Ok(())
+}
+
+#[test]
+fn a_report_is_read_once_it_is_whole(rt: HostRuntime) -> Result<(), Fail> {
+    all_tell(rt.alloc(), &ROWS)
 }
 
 /// A piece of a report, and all pieces of another one, which begins with DATA0 behind a clear and behind a reset.
@@ -162,41 +192,27 @@ const BEHIND: [Came; 2] = [
     (true, 0, 0, 36, Told::Fresh(&[(0, 0, 8)])),
 ];
 
-/// The same, with a clear that is done behind the first of two lists.
-fn tells_around_a_clear(
-    alloc: Global,
-    descriptor: &[u8],
-    before: &[Came],
-    after: &[Came],
-) -> Result<bool, Fail> {
-    let mut host = ready(alloc, descriptor)?;
+/// Whether a clear is done.
+fn is_cleared(host: &mut HostDevice) -> bool {
     let mut control = Foreign::new(&[], &[]);
-    let told = tells_each(alloc, &mut host, before)?;
-    let cleared = asked(&mut host, &mut control, &Request::Clear)?;
-    Ok(told && cleared == Progress::Done && tells_each(alloc, &mut host, after)?)
+    is_told(
+        &asked(host, &mut control, &Request::Clear),
+        &Ok(Progress::Done),
+    )
 }
 
-/// What the first row is about that isn't so.
-fn first_wrong(alloc: Global, rows: &[Row]) -> Result<Option<&'static str>, Fail> {
-    for (name, descriptor, packets) in rows {
-        if !tells_all(alloc, descriptor, packets)? {
-            return Ok(Some(*name));
-        }
-    }
-    Ok(None)
-}
-
-#[test]
-fn a_report_is_read_once_it_is_whole(rt: HostRuntime) -> Result<(), Fail> {
-    assert_eq!(rt; first_wrong(rt.alloc(), &ROWS)?, None);
-    Ok(())
+/// Fails where a host tells otherwise of the first data, of a clear behind them, or of the data behind that.
+fn tells_around_a_clear(alloc: Global, host: &mut HostDevice) -> Result<(), Fail> {
+    tells_each(alloc, host, "a piece before", &BEFORE)?;
+    holds("a clear", is_cleared(host))?;
+    tells_each(alloc, host, "a report behind", &BEHIND)
 }
 
 /// Behind it DATA0 comes again (USB 2.0, 9.4.5), with the first packet of a report.
 #[test]
 fn a_clear_forgets_what_came_of_a_report(rt: HostRuntime) -> Result<(), Fail> {
-    assert!(rt; tells_around_a_clear(rt.alloc(), long(), &BEFORE, &BEHIND)?);
-    Ok(())
+    let mut host = ready(rt.alloc(), long())?;
+    tells_around_a_clear(rt.alloc(), &mut host)
 }
 
 /// A host that was reset once it had taken this packet, with no round open at its device then, and whether it told nothing.
@@ -217,33 +233,35 @@ fn reset_behind(
     Ok((host, is_quiet && out.is_empty()))
 }
 
-/// Whether the requests that bring a device up are done; its report descriptor has so many bytes.
-fn is_brought_up(host: &mut HostDevice, descriptor: &[u8], length: u8) -> Result<bool, StackFault> {
-    let configuration = configuration_with(LENGTH_AT, length);
-    let mut control = Foreign::new(&configuration, descriptor);
-    for request in [Request::Config, Request::Report, Request::Configure] {
-        if asked(host, &mut control, &request)? != Progress::Done {
-            return Ok(false);
-        }
-    }
-    Ok(true)
+/// Whether the request is done.
+fn is_done(host: &mut HostDevice, control: &mut DevControl<Foreign>, request: &Request) -> bool {
+    is_told(&asked(host, control, request), &Ok(Progress::Done))
 }
 
-/// Whether a host tells so of these data that was reset behind a piece of a report, and whose device was configured then.
-fn tells_behind_a_reset(
-    alloc: Global,
-    descriptor: &[u8],
-    length: u8,
-    after: &[Came],
-) -> Result<bool, Fail> {
-    let piece = data(false, &[5; 64]);
-    let (mut host, is_quiet) = reset_behind(alloc, descriptor, piece.as_ref())?;
-    let is_up = is_brought_up(&mut host, descriptor, length)?;
-    Ok(is_quiet && is_up && tells_each(alloc, &mut host, after)?)
+/// Whether the requests that bring a device up are done.
+fn is_brought_up(host: &mut HostDevice, control: &mut DevControl<Foreign>) -> bool {
+    is_done(host, control, &Request::Config)
+        && is_done(host, control, &Request::Report)
+        && is_done(host, control, &Request::Configure)
+}
+
+/// The same of a device whose report descriptor has so many bytes.
+fn is_up(host: &mut HostDevice, descriptor: &[u8], length: u8) -> bool {
+    let configuration = configuration_with(LENGTH_AT, length);
+    let mut control = Foreign::new(&configuration, descriptor);
+    is_brought_up(host, &mut control)
+}
+
+/// Fails where a host that was reset isn't brought up, or tells otherwise of a report then.
+fn tells_once_up(alloc: Global, host: &mut HostDevice) -> Result<(), Fail> {
+    holds("it is brought up", is_up(host, long(), 15))?;
+    tells_each(alloc, host, "a report behind", &BEHIND)
 }
 
 #[test]
 fn a_reset_and_a_configuration_forget_what_came_of_a_report(rt: HostRuntime) -> Result<(), Fail> {
-    assert!(rt; tells_behind_a_reset(rt.alloc(), long(), 15, &BEHIND)?);
-    Ok(())
+    let piece = data(false, &[5; 64]);
+    let (mut host, is_quiet) = reset_behind(rt.alloc(), long(), piece.as_ref())?;
+    holds("nothing is told", is_quiet)?;
+    tells_once_up(rt.alloc(), &mut host)
 }

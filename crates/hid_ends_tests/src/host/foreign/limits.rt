@@ -2,7 +2,8 @@
 //! 1.11, 6.2.1 and 7.1). Zeros are items without meaning (6.2.2.2), so that as many as are allowed lay out no report.
 
 use super::{CONFIGURATION, Foreign, LENGTH_AT, asked, configuration, keyboard};
-use crate::host::calls::cold;
+use crate::host::calls::{cold, is_in, is_told};
+use crate::verdict::holds;
 use hid_host::{DescriptorFault, HostDevice, HostState, StackFault};
 use hid_layout::{Cause, LayoutFault};
 use hid_requests::Request;
@@ -22,41 +23,50 @@ fn announcing(count: u16) -> [u8; 34] {
 /// So many zeros.
 fn zeros(alloc: Global, count: u16) -> Result<Vec<u8>, Fail> {
     let mut bytes = Vec::new(alloc);
-    for _ in 0..count {
-        bytes.push(0)?;
-    }
+    bytes.resize(usize::from(count), 0)?;
     Ok(bytes)
 }
 
 /// What is told of a request, and the state of the host then.
 type Told = (Result<Progress, StackFault>, HostState);
 
-fn is_so(told: &Told, wanted: &Told) -> bool {
-    *told == *wanted
+/// Whether that is told of the report descriptor.
+fn is_report(host: &mut HostDevice, control: &mut DevControl<Foreign>, wanted: &Told) -> bool {
+    let (told, state) = wanted;
+    is_told(&asked(host, control, &Request::Report), told) && is_in(host, *state)
 }
 
-/// What is told of the report descriptor.
-fn told_of_report(host: &mut HostDevice, control: &mut DevControl<Foreign>) -> Told {
-    let told = asked(host, control, &Request::Report);
-    (told, host.state())
-}
-
-/// The same of a device that has these descriptors, behind its configuration.
-fn told_of_both(
+/// The same behind the configuration, which is read.
+fn is_report_behind(
     host: &mut HostDevice,
-    configuration: &[u8],
-    report: &[u8],
-) -> Result<Told, StackFault> {
-    let mut control = Foreign::new(configuration, report);
-    asked(host, &mut control, &Request::Config)?;
-    Ok(told_of_report(host, &mut control))
+    control: &mut DevControl<Foreign>,
+    wanted: &Told,
+) -> bool {
+    is_told(&asked(host, control, &Request::Config), &Ok(Progress::Done))
+        && is_report(host, control, wanted)
 }
 
-/// What a new host is told of so many zeros.
-fn told_of(alloc: Global, announced: u16, given: u16) -> Result<Told, Fail> {
-    let report = zeros(alloc, given)?;
+/// The same of a device that has these descriptors.
+fn is_told_of(host: &mut HostDevice, configuration: &[u8], report: &[u8], wanted: &Told) -> bool {
+    let mut control = Foreign::new(configuration, report);
+    is_report_behind(host, &mut control, wanted)
+}
+
+/// Whether a new host is told so of these bytes, of which so many are announced.
+fn is_told_by_new(alloc: Global, announced: u16, report: &[u8], wanted: &Told) -> bool {
     let mut host = cold(alloc);
-    Ok(told_of_both(&mut host, &announcing(announced), &report)?)
+    is_told_of(&mut host, &announcing(announced), report, wanted)
+}
+
+/// The same of so many zeros.
+fn is_told_of_zeros(
+    alloc: Global,
+    announced: u16,
+    given: u16,
+    wanted: &Told,
+) -> Result<bool, Fail> {
+    let report = zeros(alloc, given)?;
+    Ok(is_told_by_new(alloc, announced, &report, wanted))
 }
 
 const DONE: Told = (Ok(Progress::Done), HostState::Parsed);
@@ -84,42 +94,37 @@ const LENGTHS: [(&str, u16, u16, Told); 5] = [
     ("more than announced",           4_096,    u16::MAX, DONE),
 ];
 
-/// The first row that isn't so.
-fn first_wrong(
-    alloc: Global,
-    rows: &[(&'static str, u16, u16, Told)],
-) -> Result<Option<&'static str>, Fail> {
+/// Fails by the first row that isn't so.
+fn are_told(alloc: Global, rows: &[(&'static str, u16, u16, Told)]) -> Result<(), Fail> {
     for (name, announced, given, wanted) in rows {
-        if !is_so(&told_of(alloc, *announced, *given)?, wanted) {
-            return Ok(Some(*name));
-        }
+        holds(name, is_told_of_zeros(alloc, *announced, *given, wanted)?)?;
     }
-    Ok(None)
+    Ok(())
 }
 
 #[test]
 fn a_report_descriptor_has_4096_bytes_at_most(rt: HostRuntime) -> Result<(), Fail> {
-    assert_eq!(rt; first_wrong(rt.alloc(), &LENGTHS)?, None);
-    Ok(())
+    are_told(rt.alloc(), &LENGTHS)
 }
 
-/// What is told of a keyboard's report descriptor without its configuration.
-fn told_of_keyboard(host: &mut HostDevice) -> Told {
+/// Whether a host is told so of a keyboard's report descriptor, without its configuration.
+fn is_told_of_keyboard(host: &mut HostDevice, wanted: &Told) -> bool {
     let mut control = Foreign::new(configuration(), keyboard());
-    told_of_report(host, &mut control)
+    is_report(host, &mut control, wanted)
 }
 
-/// What a new host is told of a report descriptor in place of a keyboard's, and then of a keyboard's.
-fn told_in_turn(alloc: Global, report: &[u8]) -> Result<(Told, Told), Fail> {
-    let mut host = cold(alloc);
-    let first = told_of_both(&mut host, configuration(), report)?;
-    Ok((first, told_of_keyboard(&mut host)))
+/// Fails where a host is told otherwise of a report descriptor of another length in place of a keyboard's, or then of a
+/// keyboard's.
+fn are_told_in_turn(host: &mut HostDevice, report: &[u8]) -> Result<(), Fail> {
+    holds(
+        "another length",
+        is_told_of(host, configuration(), report, &OTHER_LENGTH),
+    )?;
+    holds("a keyboard's", is_told_of_keyboard(host, &DONE))
 }
 
 #[test]
 fn a_device_may_answer_otherwise_when_it_is_asked_again(rt: HostRuntime) -> Result<(), Fail> {
-    let (first, again) = told_in_turn(rt.alloc(), keyboard().get(..62).unwrap_or(&[]))?;
-    assert!(rt; is_so(&first, &OTHER_LENGTH));
-    assert!(rt; is_so(&again, &DONE));
-    Ok(())
+    let mut host = cold(rt.alloc());
+    are_told_in_turn(&mut host, keyboard().get(..62).ok_or("62 bytes")?)
 }
