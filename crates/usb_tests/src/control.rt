@@ -7,5 +7,6 @@ mod descriptors;
 mod device;
 mod host;
 mod keyboard;
+mod rows;
 mod text;
 mod transfers;

@@ -7,4 +7,6 @@ mod control;
 #[cfg(test)]
 mod packets;
 #[cfg(test)]
+mod text;
+#[cfg(test)]
 mod transactions;

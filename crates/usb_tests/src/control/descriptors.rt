@@ -1,16 +1,17 @@
 //! What a host reads of descriptors: a keyboard's, and those bytes with some of them changed.
 use super::keyboard::{CONFIG, DEVICE};
-use super::text::{bytes_of, parts, rows_of};
+use super::rows::{Sort, rows_hold};
+use crate::text::{named_bytes, pair_of};
 use arrayvec::ArrayVec;
-use std::alloc::Global;
+use std::alloc::AllocError;
 use std::fmt::Write;
 use std::test::Fail;
 use usb_control::{ConfigInfo, ControlFault, DeviceInfo};
 
 /// What is read of a configuration: the length of the report descriptor, the endpoint, and subclass and protocol; or the
 /// fault.
-fn configuration(alloc: Global, bytes: &[u8]) -> Result<String, Fail> {
-    Ok(match ConfigInfo::read(bytes) {
+fn tell_configuration(told: &mut String, bytes: &[u8]) -> Result<(), AllocError> {
+    match ConfigInfo::read(bytes) {
         Ok(
             ConfigInfo {
                 report_length,
@@ -18,13 +19,12 @@ fn configuration(alloc: Global, bytes: &[u8]) -> Result<String, Fail> {
                 subclass,
                 protocol,
             },
-        ) => {
-            format!(in alloc;
-                "length {report_length} endpoint {endpoint} kind {subclass}.{protocol}"
-            )?
-        }
-        Err(fault) => format!(in alloc; "{fault}")?,
-    })
+        ) => write!(
+            told,
+            "length {report_length} endpoint {endpoint} kind {subclass}.{protocol}"
+        ),
+        Err(fault) => write!(told, "{fault}"),
+    }
 }
 
 /// Bytes of the boot keyboard's descriptors that are changed, each by its place, and what is read then.
@@ -59,28 +59,21 @@ const CHANGED: &str = "
     a control endpoint:                  30=00       > B5
 ";
 
-/// The keyboard's descriptors with these bytes changed.
-fn changed(words: &str) -> Result<[u8; 34], Fail> {
+/// What is read of the keyboard's descriptors with these bytes changed.
+pub fn tell_changed(told: &mut String, words: &str) -> Result<(), AllocError> {
     let mut bytes = CONFIG;
     for word in words.split_whitespace() {
-        if let Some((at, value)) = word.split_once('=') {
-            let at: usize = at.parse()?;
-            if at < 34 {
-                bytes[at] = u8::from_str_radix(value, 16)?;
-            }
+        match pair_of(word, '=') {
+            Some((at, value)) if at < 34 => bytes[at] = value,
+            _ => return write!(told, "no change: {word}"),
         }
     }
-    Ok(bytes)
+    tell_configuration(told, &bytes)
 }
 
 #[test]
 fn a_configuration_is_read_or_has_its_first_fault(rt: HostRuntime) -> Result<(), Fail> {
-    for row in rows_of(CHANGED) {
-        let (given, wanted) = parts(row);
-        let told = configuration(rt.alloc(), &changed(given)?)?;
-        assert_eq!(rt; told.as_str(), wanted, "{row}");
-    }
-    Ok(())
+    rows_hold(rt.alloc(), Sort::Changed, CHANGED)
 }
 
 /// Descriptors in other orders, and what is read of them.
@@ -103,54 +96,57 @@ const ORDERS: &str = "
     a configuration alone:               CONFIGURATION                                  > B3
 ";
 
-fn descriptor_of(name: &str) -> ArrayVec<u8, 65> {
-    bytes_of(match name {
-        "CONFIGURATION" => "090200000101008032",
-        "INTERFACE" => "090400000103010100",
-        "STORAGE" => "090401000208065000",
-        "SHORT_INTERFACE" => "0204",
-        "HID" => "092111010001223F00",
-        "LONG_HID" => "0C2111010002230700223F00",
-        "CUT_HID" => "0B2111010002230700223F",
-        "PHYSICAL_HID" => "092111010001230700",
-        "IN" => "0705810340000A",
-        "OUT" => "0705020340000A",
-        "SHORT_IN" => "060581034000",
-        _ => "",
-    })
-}
+#[rattlefmt::skip]
+const DESCRIPTORS: &str = "
+    CONFIGURATION   > 090200000101008032
+    INTERFACE       > 090400000103010100
+    STORAGE         > 090401000208065000
+    SHORT_INTERFACE > 0204
+    HID             > 092111010001223F00
+    LONG_HID        > 0C2111010002230700223F00
+    CUT_HID         > 0B2111010002230700223F
+    PHYSICAL_HID    > 092111010001230700
+    IN              > 0705810340000A
+    OUT             > 0705020340000A
+    SHORT_IN        > 060581034000
+";
 
-/// Descriptors, one after another.
-fn joined(names: &str) -> ArrayVec<u8, 64> {
-    let mut bytes = ArrayVec::new();
+/// What is read of descriptors, one after another.
+pub fn tell_joined(told: &mut String, names: &str) -> Result<(), AllocError> {
+    let mut bytes = ArrayVec::<u8, 64>::new();
     for name in names.split_whitespace() {
-        let _ = bytes.try_extend_from_slice(&descriptor_of(name));
+        let _ = bytes.try_extend_from_slice(&named_bytes(DESCRIPTORS, name));
     }
-    bytes
+    tell_configuration(told, &bytes)
 }
 
 #[test]
 fn the_first_hid_interface_is_read_as_far_as_the_next(rt: HostRuntime) -> Result<(), Fail> {
-    for row in rows_of(ORDERS) {
-        let (given, wanted) = parts(row);
-        let told = configuration(rt.alloc(), &joined(given))?;
-        assert_eq!(rt; told.as_str(), wanted, "{row}");
+    rows_hold(rt.alloc(), Sort::Joined, ORDERS)
+}
+
+/// What is read of each proper prefix, a blank behind it.
+fn tell_prefixes(told: &mut String, bytes: &[u8]) -> Result<(), AllocError> {
+    for count in 0..bytes.len() {
+        tell_configuration(told, &bytes[..count])?;
+        told.push_str(" ")?;
     }
     Ok(())
 }
 
+/// What is read of the first 0 to 33 bytes: behind 9, 18 and 27 of them a descriptor ends.
+#[rattlefmt::skip]
+const PREFIXES: &str = "\
+    B1 B1 B1 B1 B1 B1 B1 B1 B1 \
+    B3 B1 B1 B1 B1 B1 B1 B1 B1 \
+    B4 B1 B1 B1 B1 B1 B1 B1 B1 \
+    B5 B1 B1 B1 B1 B1 B1 ";
+
 #[test]
 fn each_proper_prefix_is_too_short_or_ends_between_two(rt: HostRuntime) -> Result<(), Fail> {
-    for count in 0..34 {
-        let wanted = match count {
-            9 => "B3",
-            18 => "B4",
-            27 => "B5",
-            _ => "B1",
-        };
-        let told = configuration(rt.alloc(), &CONFIG[..count])?;
-        assert_eq!(rt; told.as_str(), wanted, "{count}");
-    }
+    let mut told = String::new(rt.alloc());
+    tell_prefixes(&mut told, &CONFIG)?;
+    assert_eq!(rt; told.as_str(), PREFIXES);
     Ok(())
 }
 
@@ -166,41 +162,52 @@ const DEVICES: &str = "
 ";
 
 /// What is read of these bytes: vendor and product, or the fault.
-fn device(alloc: Global, count: usize, kind: u8) -> Result<String, Fail> {
+fn tell_info(told: &mut String, bytes: &[u8]) -> Result<(), AllocError> {
+    match DeviceInfo::read(bytes) {
+        Ok(DeviceInfo { vendor, product }) => write!(told, "{vendor:04X}:{product:04X}"),
+        Err(fault) => write!(told, "{fault}"),
+    }
+}
+
+/// What is read of so many bytes with this type.
+pub fn tell_device(told: &mut String, words: &str) -> Result<(), AllocError> {
     let mut bytes = [0; 20];
     bytes[..18].copy_from_slice(&DEVICE);
-    bytes[1] = kind;
-    Ok(match DeviceInfo::read(&bytes[..count.min(20)]) {
-        Ok(DeviceInfo { vendor, product }) => format!(in alloc; "{vendor:04X}:{product:04X}")?,
-        Err(fault) => format!(in alloc; "{fault}")?,
-    })
+    match pair_of(words, ' ') {
+        Some((count, kind)) if count <= 20 => {
+            bytes[1] = kind;
+            tell_info(told, &bytes[..count])
+        }
+        _ => told.push_str("no device"),
+    }
 }
 
 #[test]
 fn a_device_is_read_from_its_18_bytes(rt: HostRuntime) -> Result<(), Fail> {
-    for row in rows_of(DEVICES) {
-        let (given, wanted) = parts(row);
-        let (count, kind) = given.split_once(' ').unwrap_or((given, ""));
-        let told = device(rt.alloc(), count.parse()?, u8::from_str_radix(kind, 16)?)?;
-        assert_eq!(rt; told.as_str(), wanted, "{row}");
+    rows_hold(rt.alloc(), Sort::Device, DEVICES)
+}
+
+/// Each fault of a transfer; those of descriptors stand above.
+const FAULTS: [ControlFault; 6] = [
+    ControlFault::Stalled,
+    ControlFault::BusFault,
+    ControlFault::Overrun,
+    ControlFault::NoTransfer,
+    ControlFault::Busy,
+    ControlFault::Memory,
+];
+
+fn tell_faults(told: &mut String, faults: &[ControlFault]) -> Result<(), AllocError> {
+    for fault in faults {
+        write!(told, "{fault} ")?;
     }
     Ok(())
 }
 
-/// Each fault of a transfer, as it is printed; those of descriptors stand above.
 #[test]
 fn a_fault_is_printed_as_its_code(rt: HostRuntime) -> Result<(), Fail> {
     let mut told = String::new(rt.alloc());
-    for fault in [
-        ControlFault::Stalled,
-        ControlFault::BusFault,
-        ControlFault::Overrun,
-        ControlFault::NoTransfer,
-        ControlFault::Busy,
-        ControlFault::Memory,
-    ] {
-        write!(told, "{fault} ")?;
-    }
+    tell_faults(&mut told, &FAULTS)?;
     assert_eq!(rt; told.as_str(), "C1 C2 C3 C4 C5 C6 ");
     Ok(())
 }

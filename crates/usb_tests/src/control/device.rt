@@ -1,8 +1,9 @@
 //! The device's end against packets of any host.
 use super::keyboard::Keyboard;
-use super::text::{bytes_of, hex, parts, rows_of};
+use super::rows::{Sort, rows_hold};
+use crate::text::{named_bytes, tell_bytes};
 use arrayvec::ArrayVec;
-use std::alloc::Global;
+use std::alloc::AllocError;
 use std::fmt::Write;
 use std::test::Fail;
 use usb_control::DevControl;
@@ -41,40 +42,32 @@ const HEARD: &str = "
     nine bytes in a packet:                      SETUP REPORT_9=ACK OUT 4B010203040506070809=STALL IN=STALL          > 0
 ";
 
-/// The bytes of a packet by its name.
-fn named(word: &str) -> &'static str {
-    match word {
-        "SETUP" => "2D0100",
-        "IN" => "690100",
-        "OUT" => "E10100",
-        "ACK" => "D2",
-        "NAK" => "5A",
-        "STALL" => "1E",
-        "DATA0" => "C3",
-        "DATA1" => "4B",
-        "GET_STATUS" => "C38000000000000200",
-        "GET_STATUS_8" => "C38000000000000800",
-        "STATUS" => "4B0000",
-        "REFUSED" => "C38100000000000200",
-        "GET_DEVICE" => "C38006000100001200",
-        "FIRST" => "4B1201000200000008",
-        "SECOND" => "C3FFFE010000010000",
-        "THIRD" => "4B0001",
-        "CONFIGURE" => "C30009010000000000",
-        "REPORT_2" => "C32109000200000200",
-        "REPORT_9" => "C32109000200000900",
-        _ => "",
-    }
-}
+#[rattlefmt::skip]
+const PACKETS: &str = "
+    SETUP        > 2D0100
+    IN           > 690100
+    OUT          > E10100
+    ACK          > D2
+    NAK          > 5A
+    STALL        > 1E
+    DATA0        > C3
+    DATA1        > 4B
+    GET_STATUS   > C38000000000000200
+    GET_STATUS_8 > C38000000000000800
+    STATUS       > 4B0000
+    REFUSED      > C38100000000000200
+    GET_DEVICE   > C38006000100001200
+    FIRST        > 4B1201000200000008
+    SECOND       > C3FFFE010000010000
+    THIRD        > 4B0001
+    CONFIGURE    > C30009010000000000
+    REPORT_2     > C32109000200000200
+    REPORT_9     > C32109000200000900
+";
 
 /// A packet by its name, or by its bytes.
 fn packet_of(word: &str) -> ArrayVec<u8, 65> {
-    let bytes = bytes_of(named(word));
-    if bytes.is_empty() {
-        bytes_of(word)
-    } else {
-        bytes
-    }
+    named_bytes(PACKETS, word)
 }
 
 /// The bytes that answer a packet in these bytes: none where there is no answer.
@@ -89,50 +82,66 @@ fn answer(control: &mut DevControl<Keyboard>, packet: &[u8]) -> ArrayVec<u8, 65>
 }
 
 /// What is told of packets, or the first that has another answer, and that.
-fn heard(alloc: Global, words: &str) -> Result<String, Fail> {
-    let mut control = DevControl::new(Keyboard::new());
+pub fn tell_heard(told: &mut String, words: &str) -> Result<(), AllocError> {
+    tell_answers(told, &mut DevControl::new(Keyboard::new()), words)
+}
+
+fn tell_answers(
+    told: &mut String,
+    control: &mut DevControl<Keyboard>,
+    words: &str,
+) -> Result<(), AllocError> {
     for word in words.split_whitespace() {
         let (packet, wanted) = word.split_once('=').unwrap_or((word, ""));
-        let answer = answer(&mut control, &packet_of(packet));
+        let answer = answer(control, &packet_of(packet));
         if answer != packet_of(wanted) {
-            let answer = hex(alloc, &answer)?;
-            return Ok(format!(in alloc; "{word}, but {answer}")?);
+            write!(told, "{word}, but")?;
+            return tell_bytes(told, &answer);
         }
     }
-    let output = hex(alloc, &control.requests().output)?;
-    Ok(format!(in alloc; "{} {output}", control.requests().effects)?)
+    tell_effects(told, control.requests())
+}
+
+/// How often a write took effect, and the output report.
+fn tell_effects(told: &mut String, keyboard: &Keyboard) -> Result<(), AllocError> {
+    write!(told, "{}", keyboard.effects)?;
+    tell_bytes(told, &keyboard.output)
 }
 
 #[test]
 fn any_packet_is_answered_or_ignored(rt: HostRuntime) -> Result<(), Fail> {
-    for row in rows_of(HEARD) {
-        let (given, wanted) = parts(row);
-        let told = heard(rt.alloc(), given)?;
-        assert_eq!(rt; told.trim(), wanted, "{row}");
+    rows_hold(rt.alloc(), Sort::Heard, HEARD)
+}
+
+/// A device's answer to what it hears, where `configure` and `reset` are done to it.
+fn answer_to(control: &mut DevControl<Keyboard>, word: &str) -> ArrayVec<u8, 65> {
+    match word {
+        "configure" => control.requests_mut().configured = true, // the token stays heard
+        "reset" => control.reset(),
+        _ => {}
     }
-    Ok(())
+    answer(control, &packet_of(word))
+}
+
+/// What it answers to each, whether it is configured then, and how often it decided.
+fn tell_all(
+    told: &mut String,
+    control: &mut DevControl<Keyboard>,
+    words: &str,
+) -> Result<(), AllocError> {
+    for word in words.split_whitespace() {
+        tell_bytes(told, &answer_to(control, word))?;
+    }
+    let keyboard = control.requests();
+    write!(told, " {} {}", keyboard.configured, keyboard.decisions)
 }
 
 /// A reset ends the request, and leaves what answers: it is configured, and has decided once.
 #[test]
 fn a_reset_ends_the_request_and_leaves_what_answers(rt: HostRuntime) -> Result<(), Fail> {
-    let mut control = DevControl::new(Keyboard::new());
     let mut told = String::new(rt.alloc());
-    for word in ["SETUP", "configure", "GET_STATUS", "reset", "IN"] {
-        match word {
-            "configure" => control.requests_mut().configured = true, // the token stays heard
-            "reset" => control.reset(),
-            _ => {}
-        }
-        let answer = answer(&mut control, &packet_of(word));
-        told.push_str(&hex(rt.alloc(), &answer)?)?;
-    }
-    let Keyboard {
-        configured,
-        decisions,
-        ..
-    } = control.requests();
-    write!(told, "{configured} {decisions}")?;
-    assert_eq!(rt; told.as_str(), "D2 1E true 1");
+    let words = "SETUP configure GET_STATUS reset IN";
+    tell_all(&mut told, &mut DevControl::new(Keyboard::new()), words)?;
+    assert_eq!(rt; told.trim(), "D2 1E true 1");
     Ok(())
 }

@@ -1,10 +1,13 @@
 //! The host's end against packets of a foreign device.
-use super::text::{begin, bytes_of, hex, outcome, parts, request_of, rows_of};
+use super::rows::{Sort, rows_hold};
+use super::text::{begin, request_of, runs, tell_outcome};
+use crate::text::{bytes_of, named_bytes, rows_of, tell_bytes};
 use arrayvec::ArrayVec;
-use std::alloc::Global;
+use std::alloc::{AllocError, Global};
+use std::fmt::Write;
 use std::test::Fail;
 use usb_control::{HostTransfer, Outcome, Setup};
-use usb_packet::{decode, encode};
+use usb_packet::{Packet, decode, encode, fits};
 
 /// Requests by their bytes, and by their fields: bmRequestType, bRequest, wValue, wIndex and wLength, and whether it reads.
 #[rattlefmt::skip]
@@ -16,10 +19,11 @@ const SPELLED: &str = "
 ";
 
 /// The fields of a request, and whether it reads; nothing where its bytes aren't those that it was read from.
-fn fields(alloc: Global, bytes: &[u8; 8]) -> Result<String, Fail> {
-    let setup = Setup::from_bytes(bytes);
-    if setup.to_bytes() != *bytes {
-        return Ok(String::new(alloc));
+pub fn tell_fields(told: &mut String, word: &str) -> Result<(), AllocError> {
+    let bytes = request_of(word);
+    let setup = Setup::from_bytes(&bytes);
+    if setup.to_bytes() != bytes {
+        return Ok(());
     }
     let Setup {
         request_type,
@@ -29,19 +33,15 @@ fn fields(alloc: Global, bytes: &[u8; 8]) -> Result<String, Fail> {
         length,
     } = setup;
     let reads = if setup.is_read() { " reads" } else { "" };
-    Ok(format!(in alloc;
+    write!(
+        told,
         "{request_type:02X} {request:02X} {value:04X} {index:04X} {length:04X}{reads}"
-    )?)
+    )
 }
 
 #[test]
 fn a_request_is_spelled_by_eight_bytes(rt: HostRuntime) -> Result<(), Fail> {
-    for row in rows_of(SPELLED) {
-        let (given, wanted) = parts(row);
-        let told = fields(rt.alloc(), &request_of(given))?;
-        assert_eq!(rt; told.as_str(), wanted, "{row}");
-    }
-    Ok(())
+    rows_hold(rt.alloc(), Sort::Fields, SPELLED)
 }
 
 /// A request, with what comes to the host in each try, whether it sends ACK for the last of these, and where it stands then.
@@ -78,56 +78,57 @@ const FOREIGN: &str = "
     NAK to data OUT, twice nothing, ACK:  SET_REPORT ACK NAK LOST LOST ACK 4B                       > ACK, done
 ";
 
-/// What comes, by its name or by its bytes: none where it is lost.
-fn packet_of(word: &str) -> ArrayVec<u8, 65> {
-    bytes_of(match word {
-        "ACK" => "D2",
-        "NAK" => "5A",
-        "STALL" => "1E",
-        "LOST" => "",
-        _ => word,
-    })
-}
+#[rattlefmt::skip]
+const PACKETS: &str = "
+    ACK   > D2
+    NAK   > 5A
+    STALL > 1E
+    LOST  >
+";
 
-/// It hears what comes, if it runs: whether it sends ACK.
+/// It hears what comes, by its name or by its bytes, if it runs: whether it sends ACK.
 fn hears(transfer: &mut HostTransfer, word: &str) -> bool {
-    matches!(transfer.outcome(), Outcome::Running)
-        && transfer.take(decode(&packet_of(word)).ok().as_ref())
+    let packet = decode(&named_bytes(PACKETS, word));
+    matches!(transfer.outcome(), Outcome::Running) && transfer.take(packet.ok().as_ref())
 }
 
-/// The host takes what comes in each try: whether it sends ACK for the last, and where it stands then. It runs before each.
-fn taken(alloc: Global, words: &str) -> Result<String, Fail> {
-    let (request, tries) = words.split_once(' ').unwrap_or((words, ""));
-    let mut transfer = begin(alloc, 5, &request_of(request), &[2])?;
+/// It takes what comes in each try, and whether it sends ACK for the last is told, and where it stands then. It runs before each.
+fn tell_taken(
+    told: &mut String,
+    transfer: &mut HostTransfer,
+    words: &str,
+) -> Result<(), AllocError> {
     let mut sent = false;
-    for word in tries.split_whitespace() {
-        if !matches!(transfer.outcome(), Outcome::Running) {
-            return Ok(format!(in alloc; "it ended before {word}")?);
+    for word in words.split_whitespace() {
+        if !runs(transfer) {
+            return write!(told, "it ended before {word}");
         }
-        sent = hears(&mut transfer, word);
+        sent = hears(transfer, word);
     }
-    let ends = outcome(alloc, &transfer)?;
-    Ok(if sent {
-        format!(in alloc; "ACK, {ends}")?
-    } else {
-        ends
-    })
+    told.push_str(if sent { "ACK, " } else { "" })?;
+    tell_outcome(told, transfer)
+}
+
+/// What is told of a request, and of what comes.
+pub fn tell_foreign(told: &mut String, alloc: Global, words: &str) -> Result<(), AllocError> {
+    let (request, words) = words.split_once(' ').unwrap_or((words, ""));
+    match begin(alloc, 5, &request_of(request), &[2]) {
+        Ok(mut transfer) => tell_taken(told, &mut transfer, words),
+        Err(fault) => write!(told, "not begun: {fault}"),
+    }
 }
 
 #[test]
 fn foreign_packets_are_taken_or_refused(rt: HostRuntime) -> Result<(), Fail> {
-    for row in rows_of(FOREIGN) {
-        let (given, wanted) = parts(row);
-        let told = taken(rt.alloc(), given)?;
-        assert_eq!(rt; told.trim(), wanted, "{row}");
-    }
-    Ok(())
+    rows_hold(rt.alloc(), Sort::Foreign, FOREIGN)
 }
 
 /// What the host sends in each try of a request to address 5, a token and the data packet that goes with it, and what comes
 /// then. The nine bytes are 1 to 9.
+type Sent = (&'static str, &'static str, &'static str);
+
 #[rattlefmt::skip]
-const SENT: [(&str, &str, &str); 4] = [
+const SENT: [Sent; 4] = [
     ("a read of two bytes", "STATUS", "
         2D 05 00 C3 80 00 00 00 00 00 02 00 < ACK
         69 05 00                            < 4B0000
@@ -150,37 +151,81 @@ const SENT: [(&str, &str, &str); 4] = [
     "),
 ];
 
-/// What the host sends in a try.
-fn sent(alloc: Global, transfer: &HostTransfer) -> Result<String, Fail> {
+/// The bytes of a packet that is sent.
+fn spelled(packet: &Packet) -> ArrayVec<u8, 65> {
+    if fits(packet) {
+        encode(packet)
+    } else {
+        ArrayVec::new()
+    }
+}
+
+/// What the host sends in a try: nothing where the transfer doesn't run.
+fn sent(transfer: &HostTransfer) -> ArrayVec<u8, 65> {
     if !matches!(transfer.outcome(), Outcome::Running) {
-        return Ok(format!(in alloc; "nothing")?);
+        return ArrayVec::new();
     }
-    let mut told = hex(alloc, &encode(&transfer.token()))?;
+    let mut bytes = spelled(&transfer.token());
     if let Some(packet) = transfer.payload() {
-        told.push_str(&hex(alloc, &encode(&packet))?)?;
+        let _ = bytes.try_extend_from_slice(&spelled(&packet));
     }
-    Ok(told)
+    bytes
+}
+
+/// Bytes that are written apart.
+fn bytes_in(words: &str) -> ArrayVec<u8, 65> {
+    let mut bytes = ArrayVec::new();
+    for word in words.split_whitespace() {
+        let _ = bytes.try_extend_from_slice(&bytes_of(word));
+    }
+    bytes
 }
 
 /// The first try in which something else is sent, and that; or how the transfer ends.
-fn sends(alloc: Global, request: &str, rows: &str) -> Result<String, Fail> {
-    let mut transfer = begin(alloc, 5, &request_of(request), &[1, 2, 3, 4, 5, 6, 7, 8, 9])?;
+fn tell_tries(
+    told: &mut String,
+    transfer: &mut HostTransfer,
+    rows: &str,
+) -> Result<(), AllocError> {
     for row in rows_of(rows) {
         let (wanted, came) = row.split_once('<').unwrap_or((row, ""));
-        let told = sent(alloc, &transfer)?;
-        if told.trim() != wanted.trim() {
-            return Ok(format!(in alloc; "{row}, but {told}")?);
+        let bytes = sent(transfer);
+        if bytes != bytes_in(wanted) {
+            write!(told, "{row}, but")?;
+            return tell_bytes(told, &bytes);
         }
-        hears(&mut transfer, came.trim());
+        hears(transfer, came.trim());
     }
-    outcome(alloc, &transfer)
+    tell_outcome(told, transfer)
+}
+
+/// What is told of a request that sends the first of these bytes.
+fn tell_sent(told: &mut String, alloc: Global, row: &Sent, sends: &[u8]) -> Result<(), AllocError> {
+    let (_name, request, rows) = row;
+    match begin(alloc, 5, &request_of(request), sends) {
+        Ok(mut transfer) => tell_tries(told, &mut transfer, rows),
+        Err(fault) => write!(told, "not begun: {fault}"),
+    }
+}
+
+fn is_done(name: &str, told: &str) -> Result<(), Fail> {
+    if told.starts_with("done") {
+        return Ok(());
+    }
+    Err(Fail::new(format_args!("{name}: {told}")))
+}
+
+/// It is told of each request that it is done.
+fn requests_are_done(alloc: Global, rows: &[Sent], sends: &[u8]) -> Result<(), Fail> {
+    for row in rows {
+        let mut told = String::new(alloc);
+        tell_sent(&mut told, alloc, row, sends)?;
+        is_done(row.0, &told)?;
+    }
+    Ok(())
 }
 
 #[test]
 fn the_host_sends_the_stage_that_it_has_reached(rt: HostRuntime) -> Result<(), Fail> {
-    for (name, request, rows) in SENT {
-        let told = sends(rt.alloc(), request, rows)?;
-        assert!(rt; told.starts_with("done"), "{name}: {told}");
-    }
-    Ok(())
+    requests_are_done(rt.alloc(), &SENT, &[1, 2, 3, 4, 5, 6, 7, 8, 9])
 }

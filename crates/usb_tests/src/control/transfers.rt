@@ -1,28 +1,23 @@
 //! Whole transfers between both ends, under fates.
 use super::keyboard::Keyboard;
-use super::text::{begin, outcome, parts, request_of, rows_of};
-use std::alloc::Global;
+use super::rows::{Sort, rows_hold};
+use super::text::{begin, request_of, tell_outcome};
+use crate::text::fate_of;
+use std::alloc::{AllocError, Global};
+use std::fmt::Write;
 use std::test::Fail;
 use usb_control::{ControlFault, DevControl, HostTransfer, Outcome};
 use usb_transact::Fate;
 
-/// The fate of a try by its word: the token, the reply or the ACK is lost, or none of them.
-fn fate_of(word: Option<&&str>) -> Fate {
-    match word {
-        Some(&"lost") => Fate::TokenLost,
-        Some(&"reply") => Fate::ReplyLost,
-        Some(&"late") => Fate::AckLost,
-        _ => Fate::Clean,
-    }
-}
-
 /// Plays the fates in turn, and then clean tries until the transfer ends: how many tries it took.
-fn play(transfer: &mut HostTransfer, control: &mut DevControl<Keyboard>, fates: &[&str]) -> usize {
+fn play(transfer: &mut HostTransfer, control: &mut DevControl<Keyboard>, fates: &str) -> usize {
+    let mut fates = fates.split_whitespace();
     for at in 0..100 {
         if !matches!(transfer.outcome(), Outcome::Running) {
             return at;
         }
-        transfer.step(control, fate_of(fates.get(at)));
+        let fate = fates.next().unwrap_or("clean");
+        transfer.step(control, fate_of(fate).unwrap_or(Fate::Clean));
     }
     100
 }
@@ -91,48 +86,51 @@ const TRANSFERS: &str = "
     SETUP lost three times:           2109000200000100 lost lost lost                              > 3 0 0 0 C2
 ";
 
-/// A transfer of a request under fates: its tries, and how it ends.
-fn played(
-    alloc: Global,
-    control: &mut DevControl<Keyboard>,
-    words: &str,
-) -> Result<(usize, String), Fail> {
-    let words: Vec<&str> = words.split(' ').collect(alloc)?;
-    let [request, fates @ ..] = words.as_slice() else {
-        return Ok((0, String::new(alloc)));
-    };
-    let mut transfer = begin(alloc, 1, &request_of(request), &SENDS)?;
-    let tries = play(&mut transfer, control, fates);
-    Ok((tries, outcome(alloc, &transfer)?))
-}
-
-/// What is told of a transfer with a new device. What is kept of a write are the first of its data.
-fn told(alloc: Global, words: &str) -> Result<String, Fail> {
-    let mut control = DevControl::new(Keyboard::new());
-    let (tries, ends) = played(alloc, &mut control, words)?;
+/// What is told of a device: how often it decided, how often a write took effect, and how many of the data it keeps. What is
+/// kept of a write are the first of its data.
+fn tell_kept(told: &mut String, keyboard: &Keyboard, data: &[u8]) -> Result<(), AllocError> {
     let Keyboard {
         decisions,
         effects,
         output,
         ..
-    } = control.requests();
-    let kept = output.len();
-    let others = if SENDS.starts_with(output) {
+    } = keyboard;
+    let others = if data.starts_with(output) {
         ""
     } else {
         "of other data "
     };
-    Ok(format!(in alloc; "{tries} {decisions} {effects} {kept} {others}{ends}")?)
+    write!(told, "{decisions} {effects} {} {others}", output.len())
+}
+
+/// A transfer, and how many tries it takes.
+fn play_request(
+    alloc: Global,
+    control: &mut DevControl<Keyboard>,
+    words: &str,
+) -> Result<(usize, HostTransfer), ControlFault> {
+    let (request, fates) = words.split_once(' ').unwrap_or((words, ""));
+    let mut transfer = begin(alloc, 1, &request_of(request), &SENDS)?;
+    let tries = play(&mut transfer, control, fates);
+    Ok((tries, transfer))
+}
+
+/// What is told of a transfer with a new device.
+pub fn tell_transfer(told: &mut String, alloc: Global, words: &str) -> Result<(), AllocError> {
+    let mut control = DevControl::new(Keyboard::new());
+    match play_request(alloc, &mut control, words) {
+        Ok((tries, transfer)) => {
+            write!(told, "{tries} ")?;
+            tell_kept(told, control.requests(), &SENDS)?;
+            tell_outcome(told, &transfer)
+        }
+        Err(fault) => write!(told, "not begun: {fault}"),
+    }
 }
 
 #[test]
 fn a_transfer_ends_as_it_should_whatever_is_lost(rt: HostRuntime) -> Result<(), Fail> {
-    for row in rows_of(TRANSFERS) {
-        let (given, wanted) = parts(row);
-        let told = told(rt.alloc(), given)?;
-        assert_eq!(rt; told.trim(), wanted, "{row}");
-    }
-    Ok(())
+    rows_hold(rt.alloc(), Sort::Transfer, TRANSFERS)
 }
 
 /// GET_STATUS of a device, an interface and an endpoint, and GET_INTERFACE: the answer before SET_CONFIGURATION, and
@@ -146,23 +144,40 @@ const STATES: &str = "
     the interface's setting:  810A000000000100 > C1, done 00
 ";
 
+/// How a transfer with a device ends.
+fn tell_end(
+    told: &mut String,
+    alloc: Global,
+    control: &mut DevControl<Keyboard>,
+    request: &str,
+) -> Result<(), AllocError> {
+    match play_request(alloc, control, request) {
+        Ok((_, transfer)) => tell_outcome(told, &transfer),
+        Err(fault) => write!(told, "not begun: {fault}"),
+    }
+}
+
 /// How a read ends before SET_CONFIGURATION, and after it.
-fn ends(alloc: Global, request: &str) -> Result<String, Fail> {
-    let mut control = DevControl::new(Keyboard::new());
-    let (_, before) = played(alloc, &mut control, request)?;
-    let _ = played(alloc, &mut control, "CONFIGURE")?;
-    let (_, after) = played(alloc, &mut control, request)?;
-    Ok(format!(in alloc; "{}, {}", before.trim(), after.trim())?)
+fn tell_both(
+    told: &mut String,
+    alloc: Global,
+    control: &mut DevControl<Keyboard>,
+    request: &str,
+) -> Result<(), AllocError> {
+    tell_end(told, alloc, control, request)?;
+    told.push_str(", ")?;
+    let _ = play_request(alloc, control, "CONFIGURE");
+    tell_end(told, alloc, control, request)
+}
+
+/// The same, of a new device.
+pub fn tell_state(told: &mut String, alloc: Global, request: &str) -> Result<(), AllocError> {
+    tell_both(told, alloc, &mut DevControl::new(Keyboard::new()), request)
 }
 
 #[test]
 fn some_requests_are_refused_before_set_configuration(rt: HostRuntime) -> Result<(), Fail> {
-    for row in rows_of(STATES) {
-        let (given, wanted) = parts(row);
-        let told = ends(rt.alloc(), given)?;
-        assert_eq!(rt; told.as_str(), wanted, "{row}");
-    }
-    Ok(())
+    rows_hold(rt.alloc(), Sort::State, STATES)
 }
 
 /// With memory a read begins and is done. Without it, it is refused, and nothing has begun: the device heard nothing, and
@@ -174,7 +189,7 @@ fn want_of_memory_begins_nothing(rt: HostRuntime) {
         let before = control.requests().decisions;
         match begin(rt.alloc(), 1, &request_of("STATUS"), &[]) {
             Ok(mut transfer) => {
-                let tries = play(&mut transfer, &mut control, &[]);
+                let tries = play(&mut transfer, &mut control, "");
                 let decided = control.requests().decisions == before.saturating_add(1);
                 assert!(rt; tries == 3 && decided && transfer.outcome() == Outcome::Done(&[0, 0]));
             }
