@@ -1,0 +1,98 @@
+//! What is told of a row.
+
+use std::alloc::Global;
+use std::fmt::{Display, Write};
+
+/// The text that is told of a row, and whether the row could be read. No call of it fails: what finds no memory is told as
+/// what can't be read.
+#[derive(Drop)]
+pub struct Told {
+    text: String,
+    is_read: bool,
+}
+
+impl Told {
+    pub fn new(alloc: Global) -> Told {
+        Told {
+            text: String::new(alloc),
+            is_read: true,
+        }
+    }
+
+    /// Nothing is told yet of the next row.
+    pub fn clear(&mut self) {
+        self.text.clear();
+        self.is_read = true;
+    }
+
+    /// The row, or a word of it, means nothing.
+    pub fn unread(&mut self) {
+        self.is_read = false;
+    }
+
+    /// Appends a text.
+    pub fn add(&mut self, text: &str) {
+        if self.text.push_str(text).is_err() {
+            self.is_read = false;
+        }
+    }
+
+    /// Appends what is shown, and a blank.
+    pub fn show<D: Display + Drop>(&mut self, shown: D) {
+        if write!(self.text, "{shown} ").is_err() {
+            self.is_read = false;
+        }
+    }
+
+    /// Appends so many of the same byte in hex, a blank behind each: more than eight as `07*9`.
+    fn run(&mut self, byte: u8, run: usize) {
+        if run > 8 {
+            if write!(self.text, "{byte:02X}*{run} ").is_err() {
+                self.is_read = false;
+            }
+            return;
+        }
+        for _ in 0..run {
+            if write!(self.text, "{byte:02X} ").is_err() {
+                self.is_read = false;
+            }
+        }
+    }
+
+    /// Appends bytes in hex, a blank behind each.
+    pub fn hex(&mut self, bytes: &[u8]) {
+        let mut last = 0;
+        let mut run = 0usize;
+        for byte in bytes {
+            if *byte != last {
+                self.run(last, run);
+                last = *byte;
+                run = 0;
+            }
+            run = run.saturating_add(1);
+        }
+        self.run(last, run);
+    }
+
+    /// Appends bytes in hex, or that there are none.
+    pub fn hex_if_any(&mut self, bytes: Option<&[u8]>) {
+        match bytes {
+            Some(bytes) => self.hex(bytes),
+            None => self.add("none "),
+        }
+    }
+
+    /// Whether that is told which is wanted.
+    pub fn is(&self, wanted: &str) -> bool {
+        self.is_read && self.text.as_str().trim() == wanted.trim()
+    }
+
+    /// What is told, or that the row can't be read.
+    pub fn text(&self) -> &str {
+        if self.is_read {
+            self.text.as_str().trim()
+        } else {
+            "it can't be read"
+        }
+    }
+}
