@@ -80,7 +80,10 @@ impl Tally {
     fn say(&mut self, place: Place, line: &str) {
         self.wrong = self.wrong.saturating_add(1);
         let (table, schedule, told) = (place.table, place.schedule, self.told.text());
-        let _ = write!(self.said, "{table}\n  {schedule}\n    {line}\n    {told}\n");
+        let _ = write!(
+            self.said,
+            "{table}\n  {schedule}\n    {line}\n    but {told}\n"
+        );
     }
 
     /// Carries out what is done in a row.
