@@ -153,12 +153,13 @@ PICTURED := $(shell grep -l '^N:' examples/recordings/*.hid) $(wildcard examples
 
 # Holds what examples are to print of layouts and reports against a second reader, and each page against the same
 # reader and a browser, manual pages and completion against what the programs say, runs each example on its proved program,
-# some scripts on a full device, and hidmap where what is around it fails.
-examples: $(HIDRUN) $(HIDPLAY) $(HIDMAP)
+# the command lines of the tables, some scripts on a full device, and hidmap where what is around it fails.
+examples: $(HIDRUN) $(HIDPLAY) $(HIDMAP) $(BENCH)
 	tools/second-reader examples/*/*.script
 	tools/check-recordings examples/*/*.hid
 	tools/check-pictures $(HIDMAP) $(PICTURED)
 	tools/check-hidplay $(HIDPLAY)
+	tools/check-commands $(HIDRUN) $(HIDPLAY) $(HIDMAP) $(BENCH)
 	tools/check-manual $(HIDRUN) $(HIDPLAY) $(HIDMAP)
 	tools/check-full-device $(HIDRUN)
 	tools/check-failures $(HIDMAP)

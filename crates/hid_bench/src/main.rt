@@ -18,8 +18,6 @@
 mod fault;
 mod reading;
 mod stepping;
-#[cfg(test)]
-mod tests;
 mod turns;
 mod words;
 mod writing;

@@ -16,8 +16,6 @@ ghost use Rattle.std.specs.Prelude.{◌≤◌, length};
 ghost use Rattle.hidmap.specs.declared.TheConstants.{MOST};
 
 mod input;
-#[cfg(test)]
-mod tests;
 mod words;
 
 use clap::error::ErrorKind;

@@ -17,8 +17,6 @@ mod file_line;
 mod progress;
 mod source;
 mod status;
-#[cfg(test)]
-mod tests;
 mod total;
 mod words;
 

@@ -10,8 +10,6 @@
 #![tactic(auto)]
 
 mod status;
-#[cfg(test)]
-mod tests;
 mod words;
 
 use hid_script::{Cause, Options, ScriptFault, Summary, run};
