@@ -163,6 +163,7 @@ examples: $(HIDRUN) $(HIDPLAY) $(HIDMAP)
 	tools/check-full-device $(HIDRUN)
 	tools/check-failures $(HIDMAP)
 	tools/check-examples $(HIDRUN) $(HIDPLAY) $(HIDMAP)
+	tools/check-rows $(HIDRUN)
 
 # Looks whether each file, function, clause, definition and wrong body that documents cite is there, and then whether it
 # tells a wrong name.
