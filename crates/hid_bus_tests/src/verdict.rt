@@ -9,3 +9,11 @@ pub fn holds(name: &'static str, is_so: bool) -> Result<(), Fail> {
     }
     Err(Fail::new(name))
 }
+
+/// Fails by the place of the row that is wrong, from 0, if one is.
+pub fn none_is_wrong(wrong: Option<usize>) -> Result<(), Fail> {
+    match wrong {
+        Some(at) => Err(Fail::new(at)),
+        None => Ok(()),
+    }
+}
