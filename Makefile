@@ -152,8 +152,8 @@ deb-test: deb
 PICTURED := $(shell grep -l '^N:' examples/recordings/*.hid) $(wildcard examples/pictures/*.hid)
 
 # Holds what examples are to print of layouts and reports against a second reader, and each page against the same
-# reader and a browser, manual pages and completion against what the programs say, runs each example on its proved program,
-# some scripts on a full device, and hidmap where what is around it fails.
+# reader and a browser, manual pages and completion against what the programs say, runs each example and each row of scripts
+# on its proved program, some scripts on a full device, and hidmap where what is around it fails.
 examples: $(HIDRUN) $(HIDPLAY) $(HIDMAP)
 	tools/second-reader examples/*/*.script
 	tools/check-recordings examples/*/*.hid
