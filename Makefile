@@ -152,8 +152,9 @@ deb-test: deb
 PICTURED := $(shell grep -l '^N:' examples/recordings/*.hid) $(wildcard examples/pictures/*.hid)
 
 # Holds what examples are to print of layouts and reports against a second reader, and each page against the same
-# reader and a browser, manual pages and completion against what the programs say, runs each example on its proved program,
-# the command lines of the tables, some scripts on a full device, and hidmap where what is around it fails.
+# reader and a browser, manual pages and completion against what the programs say, runs each example and each row of scripts
+# on its proved program, the command lines of the tables, some scripts on a full device, and hidmap where what is around it
+# fails.
 examples: $(HIDRUN) $(HIDPLAY) $(HIDMAP) $(BENCH)
 	tools/second-reader examples/*/*.script
 	tools/check-recordings examples/*/*.hid
@@ -164,6 +165,7 @@ examples: $(HIDRUN) $(HIDPLAY) $(HIDMAP) $(BENCH)
 	tools/check-full-device $(HIDRUN)
 	tools/check-failures $(HIDMAP)
 	tools/check-examples $(HIDRUN) $(HIDPLAY) $(HIDMAP)
+	tools/check-rows $(HIDRUN)
 
 # Looks whether each file, function, clause, definition and wrong body that documents cite is there, and then whether it
 # tells a wrong name.

@@ -1,17 +1,14 @@
 //! In which order a run asks its reader and its writer, reads that are interrupted, and flushes that fail. Worked out by
 //! hand from docs/SCRIPT.md. A want of memory can't be had here: `make memory` refuses each allocation.
 
-use hid_script::{Cause, Options, ReportFault, ScriptFault, StepFault, Summary, run};
+use crate::play::{QUIET, play};
+use crate::verdict::{holds, none_is_wrong};
+use hid_script::{Cause, ReportFault, ScriptFault, StepFault, Summary};
 use std::alloc::Global;
 use std::cell::RefCell;
 use std::io;
 use std::io::{ErrorKind, Read, Write};
 use std::test::Fail;
-
-const QUIET: Options = Options {
-    layout: false,
-    trace: false,
-};
 
 /// What a run asks of its two ends.
 #[derive(Clone, Copy, Debug, PartialEq, Eq)]
@@ -118,80 +115,112 @@ impl Write for Recorder<'_> {
     }
 }
 
-#[test]
-fn what_was_told_is_flushed_before_each_read(rt: HostRuntime) -> Result<(), Fail> {
-    let calls = RefCell::new(Vec::new(rt.alloc()));
-    let mut reader = Pieces {
-        given: &[
-            Given::Piece("layout\nlay"),
-            Given::Piece("out\n"),
-            Given::Piece("layout"),
-        ],
-        then: Given::End,
-        calls: Some(&calls),
-    };
-    let mut writer = Recorder {
-        taken: Vec::new(rt.alloc()),
-        takes: true,
-        flushes: usize::MAX,
-        calls: Some(&calls),
-    };
-    let summary = run(rt.alloc(), &mut reader, &mut writer, QUIET)?;
-    assert_eq!(rt; summary.lines, 3);
-    let made = [
-        Call::Flush,
-        Call::Read,
-        Call::Write,
-        Call::Flush,
-        Call::Read,
-        Call::Write,
-        Call::Flush,
-        Call::Read,
-        Call::Flush,
-        Call::Read,
-        Call::Write,
-        Call::Flush,
-    ];
-    match calls.try_borrow() {
-        Ok(calls) => assert_eq!(rt; calls.as_slice(), made.as_slice()),
-        Err(_) => assert!(rt; false, "the record is in use"),
-    }
-    Ok(())
-}
-
-/// What reads give, and how the run ends.
+/// What is asked where two lines come in three reads, the third without its end: a flush before each read, a write for each
+/// line that prints, and a flush at the end.
 #[rattlefmt::skip]
-const INTERRUPTED: [(&str, &[Given], Given, Result<u64, (u64, Cause)>); 3] = [
-    ("a read that is interrupted is tried again",
-        &[Given::Interrupted, Given::Piece("layout\nlay"), Given::Interrupted, Given::Interrupted, Given::Piece("out\n")],
-        Given::End, Ok(2)),
-    ("a line is refused behind it",
-        &[Given::Interrupted, Given::Piece("layout\n"), Given::Interrupted, Given::Piece("jump\n")],
-        Given::End, Err((2, Cause::Syntax))),
-    ("another fault ends the run",
-        &[Given::Piece("layout\n"), Given::Interrupted],
-        Given::Failed, Err((2, Cause::Read))),
+const MADE: [Call; 12] = [
+    Call::Flush, Call::Read, Call::Write,
+    Call::Flush, Call::Read, Call::Write,
+    Call::Flush, Call::Read,
+    Call::Flush, Call::Read, Call::Write, Call::Flush,
 ];
 
-fn ending(end: Result<u64, (u64, Cause)>) -> Result<Summary, ScriptFault> {
+const LAYOUTS: [Given; 3] = [
+    Given::Piece("layout\nlay"),
+    Given::Piece("out\n"),
+    Given::Piece("layout"),
+];
+
+/// Whether these calls were made, in their order.
+fn are_made(calls: &RefCell<Vec<Call>>, wanted: &[Call]) -> bool {
+    match calls.try_borrow() {
+        Ok(calls) => calls.as_slice() == wanted,
+        Err(_) => false,
+    }
+}
+
+/// A run whose calls are recorded, and whose flush behind so many fails.
+fn recorded(
+    alloc: Global,
+    given: &[Given],
+    flushes: usize,
+    calls: &RefCell<Vec<Call>>,
+) -> Result<Summary, ScriptFault> {
+    let mut reader = Pieces {
+        given,
+        then: Given::End,
+        calls: Some(calls),
+    };
+    let mut writer = Recorder {
+        taken: Vec::new(alloc),
+        takes: true,
+        flushes,
+        calls: Some(calls),
+    };
+    play(alloc, &mut reader, &mut writer, QUIET)
+}
+
+/// Whether three lines are asked for and told so.
+fn is_in_order(alloc: Global, given: &[Given], wanted: &[Call]) -> bool {
+    let calls = RefCell::new(Vec::new(alloc));
+    let end = recorded(alloc, given, usize::MAX, &calls);
+    end == Ok(Summary {
+        lines: 3,
+        events: 0,
+    }) && are_made(&calls, wanted)
+}
+
+#[test]
+fn what_was_told_is_flushed_before_each_read(rt: HostRuntime) -> Result<(), Fail> {
+    holds("the calls", is_in_order(rt.alloc(), &LAYOUTS, &MADE))
+}
+
+/// How a run ends: behind so many lines, or at a line for a cause.
+type End = Result<u64, (u64, Cause)>;
+
+fn ending(end: End) -> Result<Summary, ScriptFault> {
     match end {
         Ok(lines) => Ok(Summary { lines, events: 0 }),
         Err((line, cause)) => Err(ScriptFault { line, cause }),
     }
 }
 
-#[test]
-fn an_interrupted_read_is_tried_again(rt: HostRuntime) {
-    for (name, given, then, end) in INTERRUPTED {
-        let mut reader = Pieces {
-            given,
-            then,
-            calls: None,
-        };
-        let mut written = Vec::new(rt.alloc());
-        let result = run(rt.alloc(), &mut reader, &mut written, QUIET);
-        assert_eq!(rt; result, ending(end), "{name}");
+/// What reads give, and how the run ends: a read that is interrupted is tried again; a line is refused behind it; another
+/// fault ends the run.
+#[rattlefmt::skip]
+const INTERRUPTED: [(&[Given], Given, End); 3] = [
+    (&[Given::Interrupted, Given::Piece("layout\nlay"), Given::Interrupted, Given::Interrupted, Given::Piece("out\n")],
+        Given::End, Ok(2)),
+    (&[Given::Interrupted, Given::Piece("layout\n"), Given::Interrupted, Given::Piece("jump\n")],
+        Given::End, Err((2, Cause::Syntax))),
+    (&[Given::Piece("layout\n"), Given::Interrupted],
+        Given::Failed, Err((2, Cause::Read))),
+];
+
+/// Whether a run ends so.
+fn is_ended(alloc: Global, given: &[Given], then: Given, end: End) -> bool {
+    let mut reader = Pieces {
+        given,
+        then,
+        calls: None,
+    };
+    let mut written = Vec::new(alloc);
+    play(alloc, &mut reader, &mut written, QUIET) == ending(end)
+}
+
+/// The first run that ends otherwise.
+fn first_not_ended(alloc: Global, rows: &[(&'static [Given], Given, End)]) -> Option<usize> {
+    for (at, (given, then, end)) in rows.iter().enumerate() {
+        if !is_ended(alloc, given, *then, *end) {
+            return Some(at);
+        }
     }
+    None
+}
+
+#[test]
+fn an_interrupted_read_is_tried_again(rt: HostRuntime) -> Result<(), Fail> {
+    none_is_wrong(first_not_ended(rt.alloc(), &INTERRUPTED))
 }
 
 /// Is interrupted so often, and then at its end.
@@ -210,61 +239,81 @@ impl Read for Disturbed {
     }
 }
 
-#[test]
-fn an_interrupted_read_counts_as_a_read(rt: HostRuntime) {
-    for (left, end) in [
-        (999_999, Ok(0)),
-        (1_000_000, Err((1, Cause::TooManyReads))),
-        (1_000_001, Err((1, Cause::TooManyReads))),
-    ] {
-        let mut written = Vec::new(rt.alloc());
-        let result = run(rt.alloc(), &mut Disturbed { left }, &mut written, QUIET);
-        assert_eq!(rt; result, ending(end), "{left}");
+const DISTURBED: [(u32, End); 3] = [
+    (999_999, Ok(0)),
+    (1_000_000, Err((1, Cause::TooManyReads))),
+    (1_000_001, Err((1, Cause::TooManyReads))),
+];
+
+/// Whether a run that is interrupted so often ends so.
+fn is_disturbed(alloc: Global, left: u32, end: End) -> bool {
+    let mut written = Vec::new(alloc);
+    play(alloc, &mut Disturbed { left }, &mut written, QUIET) == ending(end)
+}
+
+/// The first run that ends otherwise.
+fn first_not_disturbed(alloc: Global, rows: &[(u32, End)]) -> Option<usize> {
+    for (at, (left, end)) in rows.iter().enumerate() {
+        if !is_disturbed(alloc, *left, *end) {
+            return Some(at);
+        }
     }
+    None
+}
+
+#[test]
+fn an_interrupted_read_counts_as_a_read(rt: HostRuntime) -> Result<(), Fail> {
+    none_is_wrong(first_not_disturbed(rt.alloc(), &DISTURBED))
+}
+
+const TWO_LAYOUTS: [Given; 2] = [Given::Piece("layout\n"), Given::Piece("layout\n")];
+
+/// Whether the flush behind so many ends a run that fails there, before the next read.
+fn is_unread(alloc: Global, given: &[Given], flushes: usize) -> bool {
+    let calls = RefCell::new(Vec::new(alloc));
+    let end = recorded(alloc, given, flushes, &calls);
+    let lost = ScriptFault {
+        line: flushes as u64 + 1,
+        cause: Cause::Write,
+    };
+    end == Err(lost)
+        && count(&calls, Call::Read) == flushes
+        && count(&calls, Call::Write) == flushes
+}
+
+/// The first number of flushes behind which it doesn't.
+fn first_read(alloc: Global, given: &[Given]) -> Option<usize> {
+    for flushes in 0..3 {
+        if !is_unread(alloc, given, flushes) {
+            return Some(flushes);
+        }
+    }
+    None
 }
 
 #[test]
 fn a_flush_that_fails_before_a_read_ends_the_run_at_the_line_that_is_read(
     rt: HostRuntime,
 ) -> Result<(), Fail> {
-    for flushes in 0..3 {
-        let calls = RefCell::new(Vec::new(rt.alloc()));
-        let mut reader = Pieces {
-            given: &[Given::Piece("layout\n"), Given::Piece("layout\n")],
-            then: Given::End,
-            calls: Some(&calls),
-        };
-        let mut writer = Recorder {
-            taken: Vec::new(rt.alloc()),
-            takes: true,
-            flushes,
-            calls: Some(&calls),
-        };
-        let result = run(rt.alloc(), &mut reader, &mut writer, QUIET);
-        let fault = ScriptFault {
-            line: flushes as u64 + 1,
-            cause: Cause::Write,
-        };
-        assert_eq!(rt; result, Err(fault), "{flushes}");
-        assert_eq!(rt; count(&calls, Call::Read), flushes, "{flushes}");
-        assert_eq!(rt; count(&calls, Call::Write), flushes, "{flushes}");
-    }
-    Ok(())
+    none_is_wrong(first_read(rt.alloc(), &TWO_LAYOUTS))
 }
 
 /// How runs end: what reads give, how many there are, whether the writer takes bytes, the line, and the cause if there is
 /// one.
+type Ends = (&'static [Given], Given, usize, bool, u64, Option<Cause>);
+
+/// A script that is accepted, X1 to X6 and X9, and a script without a line.
 #[rattlefmt::skip]
-const ENDS: [(&str, &[Given], Given, usize, bool, u64, Option<Cause>); 9] = [
-    ("accepted", &[Given::Piece("layout\nlayout\n")],     Given::End,    2, true,  3, None),
-    ("X1",       &[Given::Piece("layout\njump\n")],       Given::End,    1, true,  2, Some(Cause::Syntax)),
-    ("X2",       &[Given::Piece("layout\n")],             Given::Long,   2, true,  2, Some(Cause::LineTooLong)),
-    ("X3",       &[Given::Piece("layout\nlayout 0\n")],   Given::End,    1, true,  2, Some(Cause::BadHex)),
-    ("X4",       &[Given::Piece("layout\nvalues 00\n")],  Given::End,    1, true,  2, Some(Cause::Step(StepFault::Report(ReportFault::UnknownReport)))),
-    ("X5",       &[Given::Piece("layout\n")],             Given::Failed, 2, true,  2, Some(Cause::Read)),
-    ("X6",       &[Given::Piece("# one\nlayout\n")],      Given::End,    1, false, 2, Some(Cause::Write)),
-    ("X9",       &[Given::Piece("# one\nvalues 00\n")],   Given::End,    1, true,  2, Some(Cause::NoLayout)),
-    ("no line",  &[],                                     Given::End,    1, true,  1, None),
+const ENDS: [Ends; 9] = [
+    (&[Given::Piece("layout\nlayout\n")],     Given::End,    2, true,  3, None),
+    (&[Given::Piece("layout\njump\n")],       Given::End,    1, true,  2, Some(Cause::Syntax)),
+    (&[Given::Piece("layout\n")],             Given::Long,   2, true,  2, Some(Cause::LineTooLong)),
+    (&[Given::Piece("layout\nlayout 0\n")],   Given::End,    1, true,  2, Some(Cause::BadHex)),
+    (&[Given::Piece("layout\nvalues 00\n")],  Given::End,    1, true,  2, Some(Cause::Step(StepFault::Report(ReportFault::UnknownReport)))),
+    (&[Given::Piece("layout\n")],             Given::Failed, 2, true,  2, Some(Cause::Read)),
+    (&[Given::Piece("# one\nlayout\n")],      Given::End,    1, false, 2, Some(Cause::Write)),
+    (&[Given::Piece("# one\nvalues 00\n")],   Given::End,    1, true,  2, Some(Cause::NoLayout)),
+    (&[],                                     Given::End,    1, true,  1, None),
 ];
 
 /// How a run ends where the flush behind so many fails.
@@ -286,31 +335,49 @@ fn flushed(
         flushes,
         calls: None,
     };
-    run(alloc, &mut reader, &mut writer, QUIET)
+    play(alloc, &mut reader, &mut writer, QUIET)
 }
 
-#[test]
-fn a_last_flush_that_fails_is_told_whatever_ended_the_run(rt: HostRuntime) {
-    for (name, given, then, reads, takes, line, cause) in ENDS {
-        // One flush comes before each read, and one at the end.
-        let end = flushed(rt.alloc(), given, then, takes, reads.saturating_add(1));
-        let fault = cause.map(|cause| ScriptFault { line, cause });
-        assert_eq!(rt; end.err(), fault, "{name}");
-        let lost = ScriptFault {
-            line,
-            cause: Cause::Write,
-        };
-        let end = flushed(rt.alloc(), given, then, takes, reads);
-        assert_eq!(rt; end, Err(lost), "{name}");
-    }
-}
-
-#[test]
-fn a_last_flush_that_fails_behind_too_many_reads_is_told(rt: HostRuntime) {
-    let end = flushed(rt.alloc(), &[], Given::Piece("\n"), true, 1_000_000);
+/// Whether a run was ended by a write, at this line.
+fn is_lost(end: &Result<Summary, ScriptFault>, line: u64) -> bool {
     let lost = ScriptFault {
-        line: 1_000_001,
+        line,
         cause: Cause::Write,
     };
-    assert_eq!(rt; end, Err(lost));
+    *end == Err(lost)
+}
+
+/// Whether a last flush that fails is told in place of how a run ends. One flush comes before each read, and one at the end.
+fn is_told(alloc: Global, row: &Ends) -> bool {
+    let (given, then, reads, takes, line, cause) = *row;
+    let fault = cause.map(|cause| ScriptFault { line, cause });
+    let whole = flushed(alloc, given, then, takes, reads.saturating_add(1));
+    let cut = flushed(alloc, given, then, takes, reads);
+    whole.err() == fault && is_lost(&cut, line)
+}
+
+/// The first run of which it isn't.
+fn first_not_told(alloc: Global, rows: &[Ends]) -> Option<usize> {
+    for (at, row) in rows.iter().enumerate() {
+        if !is_told(alloc, row) {
+            return Some(at);
+        }
+    }
+    None
+}
+
+#[test]
+fn a_last_flush_that_fails_is_told_whatever_ended_the_run(rt: HostRuntime) -> Result<(), Fail> {
+    none_is_wrong(first_not_told(rt.alloc(), &ENDS))
+}
+
+/// Whether it is told behind too many reads.
+fn is_told_behind_reads(alloc: Global) -> bool {
+    let end = flushed(alloc, &[], Given::Piece("\n"), true, 1_000_000);
+    is_lost(&end, 1_000_001)
+}
+
+#[test]
+fn a_last_flush_that_fails_behind_too_many_reads_is_told(rt: HostRuntime) -> Result<(), Fail> {
+    holds("a million reads", is_told_behind_reads(rt.alloc()))
 }

@@ -1,20 +1,17 @@
 //! Tests of the script language, of `hid_lines` and `hid_script`, by what they export. They stand here, since the gate
-//! proves a crate with tests twice. Each file says where its expected values come from.
+//! proves a crate with tests twice. What `hidrun` prints of a script is no test: examples/rows has it. Each file says where
+//! its expected values come from.
 #![tactic(auto)]
 
 #[cfg(test)]
-mod devices;
-#[cfg(test)]
 mod flushes;
-#[cfg(test)]
-mod halts;
 #[cfg(test)]
 mod lines;
 #[cfg(test)]
-mod resets;
-#[cfg(test)]
-mod scripts;
+mod play;
 #[cfg(test)]
 mod streams;
 #[cfg(test)]
-mod transfers;
+mod summaries;
+#[cfg(test)]
+mod verdict;

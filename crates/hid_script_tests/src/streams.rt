@@ -1,23 +1,13 @@
-//! Readers and writers that give and take little, or fail; long lines, and codes. Worked out by hand from docs/SCRIPT.md.
+//! Readers and writers that give and take little, or fail, and the codes of what no script shows. Worked out by hand from
+//! docs/SCRIPT.md.
 
-use hid_device::{DeviceCause, DeviceFault};
-use hid_script::{Cause, Options, ReportFault, ScriptFault, StepFault, fault_line, run};
-use hid_stack::{DescriptorFault, StackFault};
-use hid_usages::ChangeFault;
-use std::alloc::{AllocError, Global};
+use crate::play::{QUIET, TRACED, play};
+use crate::verdict::{holds, none_is_wrong};
+use hid_script::{Cause, Options, ScriptFault, Summary, fault_line};
+use std::alloc::Global;
 use std::io;
 use std::io::{BufWriter, ErrorKind, Read, Write};
 use std::test::Fail;
-
-const QUIET: Options = Options {
-    layout: false,
-    trace: false,
-};
-
-const TRACED: Options = Options {
-    layout: false,
-    trace: true,
-};
 
 /// A script in five lines, the last without its end.
 #[derive(Clone, Copy)]
@@ -120,236 +110,240 @@ impl Read for Endless {
     }
 }
 
+/// Whether a run ended at this line, for this cause.
+fn is_fault(end: &Result<Summary, ScriptFault>, line: u64, cause: Cause) -> bool {
+    *end == Err(ScriptFault { line, cause })
+}
+
+/// Whether so much of a sample's text was taken.
+fn is_front(sample: &Sample, taken: &[u8], length: usize) -> bool {
+    taken.len() == length && sample.text.as_bytes().starts_with(taken)
+}
+
+/// Whether a byte at a time gives the text of a sample.
+fn is_little_by_little(alloc: Global, sample: &Sample) -> bool {
+    let mut reader = Trickle {
+        bytes: sample.script.as_bytes(),
+        left: usize::MAX,
+    };
+    let mut writer = Narrow {
+        taken: Vec::new(alloc),
+        room: usize::MAX,
+        fails: true,
+    };
+    match play(alloc, &mut reader, &mut writer, sample.options) {
+        Ok(summary) => summary.lines == 5 && writer.taken.as_slice() == sample.text.as_bytes(),
+        Err(_) => false,
+    }
+}
+
+/// The first sample whose text it doesn't give.
+fn first_otherwise(alloc: Global, samples: &[Sample]) -> Option<usize> {
+    for (at, sample) in samples.iter().enumerate() {
+        if !is_little_by_little(alloc, sample) {
+            return Some(at);
+        }
+    }
+    None
+}
+
 #[test]
 fn a_byte_at_a_time_at_both_ends_gives_the_same_text(rt: HostRuntime) -> Result<(), Fail> {
-    for sample in SAMPLES {
-        let mut reader = Trickle {
-            bytes: sample.script.as_bytes(),
-            left: usize::MAX,
-        };
-        let mut writer = Narrow {
-            taken: Vec::new(rt.alloc()),
-            room: usize::MAX,
-            fails: true,
-        };
-        let summary = run(rt.alloc(), &mut reader, &mut writer, sample.options)?;
-        assert_eq!(rt; summary.lines, 5);
-        assert_eq!(rt; writer.taken.as_slice(), sample.text.as_bytes());
+    none_is_wrong(first_otherwise(rt.alloc(), &SAMPLES))
+}
+
+/// How many lines have ended in the first bytes of a script: as many as line feeds were read.
+fn ended_in(script: &[u8], left: usize) -> usize {
+    script.iter().take(left).filter(|b| **b == b'\n').count()
+}
+
+/// Whether a read that fails behind so many bytes leaves the text of the lines before.
+fn is_left(alloc: Global, sample: &Sample, left: usize) -> bool {
+    let mut reader = Trickle {
+        bytes: sample.script.as_bytes(),
+        left,
+    };
+    let mut written = Vec::new(alloc);
+    let end = play(alloc, &mut reader, &mut written, sample.options);
+    let ended = ended_in(sample.script.as_bytes(), left);
+    match sample.breaks.get(ended) {
+        Some(text) => {
+            is_fault(&end, ended as u64 + 1, Cause::Read) && is_front(sample, &written, *text)
+        }
+        None => false,
     }
-    Ok(())
+}
+
+/// The first number of bytes behind which it leaves something else.
+fn first_not_left(alloc: Global, sample: &Sample) -> Option<usize> {
+    for left in 0..=sample.script.len() {
+        if !is_left(alloc, sample, left) {
+            return Some(left);
+        }
+    }
+    None
 }
 
 #[test]
 fn a_read_that_fails_leaves_the_text_of_the_lines_before(rt: HostRuntime) -> Result<(), Fail> {
-    for sample in SAMPLES {
-        for left in 0..=sample.script.len() {
-            let mut reader = Trickle {
-                bytes: sample.script.as_bytes(),
-                left,
-            };
-            let mut written = Vec::new(rt.alloc());
-            let fault = run(rt.alloc(), &mut reader, &mut written, sample.options).expect_err(
-                &rt, "a fault",
-            );
-            // As many lines have ended as line feeds were read.
-            let ended = sample
-                .script
-                .as_bytes()
-                .iter()
-                .take(left)
-                .filter(|b| **b == b'\n')
-                .count();
-            let text = sample.breaks.get(ended).copied();
-            assert_eq!(rt;
-                fault,
-                ScriptFault {
-                    line: ended as u64 + 1,
-                    cause: Cause::Read
-                },
-                "{left}"
-            );
-            assert_eq!(rt; Some(written.len()), text, "{left}");
-            assert!(rt;
-                sample.text.as_bytes().starts_with(written.as_slice()),
-                "{left}"
-            );
-        }
+    for sample in &SAMPLES {
+        none_is_wrong(first_not_left(rt.alloc(), sample))?;
     }
     Ok(())
+}
+
+/// Whether a write that fails, or takes nothing, behind so many bytes leaves them, and its line is told.
+fn is_taken(alloc: Global, sample: &Sample, room: usize, fails: bool) -> bool {
+    let mut reader = sample.script.as_bytes();
+    let mut writer = Narrow {
+        taken: Vec::new(alloc),
+        room,
+        fails,
+    };
+    let end = play(alloc, &mut reader, &mut writer, sample.options);
+    let ended = sample.ends.iter().filter(|end| **end <= room).count();
+    is_fault(&end, ended as u64 + 1, Cause::Write) && is_front(sample, &writer.taken, room)
+}
+
+/// The first number of bytes behind which it leaves others.
+fn first_not_taken(alloc: Global, sample: &Sample) -> Option<usize> {
+    for room in 0..sample.text.len() {
+        if !is_taken(alloc, sample, room, true) || !is_taken(alloc, sample, room, false) {
+            return Some(room);
+        }
+    }
+    None
 }
 
 #[test]
 fn a_write_that_fails_leaves_what_was_taken(rt: HostRuntime) -> Result<(), Fail> {
-    for sample in SAMPLES {
-        for fails in [true, false] {
-            for room in 0..sample.text.len() {
-                let mut reader = sample.script.as_bytes();
-                let mut writer = Narrow {
-                    taken: Vec::new(rt.alloc()),
-                    room,
-                    fails,
-                };
-                let fault = run(rt.alloc(), &mut reader, &mut writer, sample.options).expect_err(
-                    &rt, "a fault",
-                );
-                let ended = sample.ends.iter().filter(|end| **end <= room).count();
-                assert_eq!(rt;
-                    fault,
-                    ScriptFault {
-                        line: ended as u64 + 1,
-                        cause: Cause::Write
-                    },
-                    "{room}"
-                );
-                assert_eq!(rt; writer.taken.len(), room, "{room}");
-                assert!(rt;
-                    sample.text.as_bytes().starts_with(writer.taken.as_slice()),
-                    "{room}"
-                );
-            }
-        }
+    for sample in &SAMPLES {
+        none_is_wrong(first_not_taken(rt.alloc(), sample))?;
     }
     Ok(())
+}
+
+/// A run into a buffer that nothing else flushes: how it ends.
+fn buffered(
+    alloc: Global,
+    script: &str,
+    options: Options,
+    writer: &mut BufWriter<Vec<u8>>,
+) -> Result<Summary, ScriptFault> {
+    let mut reader = script.as_bytes();
+    play(alloc, &mut reader, writer, options)
+}
+
+/// Whether it gives the text of a sample.
+fn is_flushed(alloc: Global, sample: &Sample) -> io::Result<bool> {
+    let mut writer = BufWriter::new(alloc, Vec::new(alloc))?;
+    let end = buffered(alloc, sample.script, sample.options, &mut writer);
+    Ok(end.is_ok() && writer.get_ref().as_slice() == sample.text.as_bytes())
 }
 
 #[test]
 fn what_a_buffer_holds_is_flushed(rt: HostRuntime) -> Result<(), Fail> {
-    for sample in SAMPLES {
-        let mut reader = sample.script.as_bytes();
-        let mut writer = BufWriter::new(rt.alloc(), Vec::new(rt.alloc()))?;
-        run(rt.alloc(), &mut reader, &mut writer, sample.options)?;
-        assert_eq!(rt; writer.get_ref().as_slice(), sample.text.as_bytes());
+    for sample in &SAMPLES {
+        holds("the text", is_flushed(rt.alloc(), sample)?)?;
     }
     Ok(())
 }
 
+/// Whether a script is refused at its second line, behind this text.
+fn is_refused_behind(alloc: Global, script: &str, text: &str) -> io::Result<bool> {
+    let mut writer = BufWriter::new(alloc, Vec::new(alloc))?;
+    let end = buffered(alloc, script, QUIET, &mut writer);
+    Ok(is_fault(&end, 2, Cause::Syntax) && writer.get_ref().as_slice() == text.as_bytes())
+}
+
 #[test]
 fn what_comes_before_a_fault_is_flushed(rt: HostRuntime) -> Result<(), Fail> {
-    let mut reader = b"layout 75 08 95 01 81 01\nx\n".as_slice();
-    let mut writer = BufWriter::new(rt.alloc(), Vec::new(rt.alloc()))?;
-    let result = run(rt.alloc(), &mut reader, &mut writer, QUIET);
-    let fault = ScriptFault {
-        line: 2,
-        cause: Cause::Syntax,
+    let script = "layout 75 08 95 01 81 01\nx\n";
+    let text = "report input 0 bytes 1\nitem 0 input 0 at 0 8x1 padding\n";
+    holds("the text", is_refused_behind(rt.alloc(), script, text)?)
+}
+
+/// Whether a buffer that can't be flushed behind so many bytes is told at the line where the run stands.
+fn is_lost(alloc: Global, sample: &Sample, room: usize) -> io::Result<bool> {
+    let mut reader = sample.script.as_bytes();
+    let narrow = Narrow {
+        taken: Vec::new(alloc),
+        room,
+        fails: true,
     };
-    assert_eq!(rt; result, Err(fault));
-    assert_eq!(rt;
-        writer.get_ref().as_slice(),
-        b"report input 0 bytes 1\nitem 0 input 0 at 0 8x1 padding\n".as_slice()
-    );
-    Ok(())
+    let mut writer = BufWriter::new(alloc, narrow)?;
+    let end = play(alloc, &mut reader, &mut writer, sample.options);
+    // One read gives all bytes, so that the fifth line is the one that is read on before the second.
+    let line = if room < sample.breaks[4] { 5 } else { 6 };
+    Ok(is_fault(&end, line, Cause::Write) && writer.get_ref().taken.len() == room)
+}
+
+/// The first number of bytes behind which it is told otherwise.
+fn first_not_lost(alloc: Global, sample: &Sample) -> io::Result<Option<usize>> {
+    for room in 0..sample.text.len() {
+        if !is_lost(alloc, sample, room)? {
+            return Ok(Some(room));
+        }
+    }
+    Ok(None)
 }
 
 #[test]
 fn a_buffer_that_cannot_be_flushed_is_a_fault_where_the_run_stands(
     rt: HostRuntime,
 ) -> Result<(), Fail> {
-    for sample in SAMPLES {
-        for room in 0..sample.text.len() {
-            let mut reader = sample.script.as_bytes();
-            let narrow = Narrow {
-                taken: Vec::new(rt.alloc()),
-                room,
-                fails: true,
-            };
-            let mut writer = BufWriter::new(rt.alloc(), narrow)?;
-            let result = run(rt.alloc(), &mut reader, &mut writer, sample.options);
-            // One read gives all bytes, so that the fifth line is the one that is read on before the second.
-            let line = if room < sample.breaks[4] { 5 } else { 6 };
-            let fault = ScriptFault {
-                line,
-                cause: Cause::Write,
-            };
-            assert_eq!(rt; result, Err(fault), "{room}");
-            assert_eq!(rt; writer.get_ref().taken.len(), room, "{room}");
-        }
+    for sample in &SAMPLES {
+        none_is_wrong(first_not_lost(rt.alloc(), sample)?)?;
     }
     Ok(())
 }
 
+/// Whether a script without end is given up behind a million reads.
+fn is_given_up(alloc: Global) -> bool {
+    let mut written = Vec::new(alloc);
+    let end = play(alloc, &mut Endless, &mut written, QUIET);
+    is_fault(&end, 1_000_001, Cause::TooManyReads)
+}
+
 #[test]
-fn a_script_without_end_is_given_up(rt: HostRuntime) {
-    let mut written = Vec::new(rt.alloc());
-    let result = run(rt.alloc(), &mut Endless, &mut written, QUIET);
-    let fault = ScriptFault {
-        line: 1_000_001,
-        cause: Cause::TooManyReads,
-    };
-    assert_eq!(rt; result, Err(fault));
+fn a_script_without_end_is_given_up(rt: HostRuntime) -> Result<(), Fail> {
+    holds("a million reads", is_given_up(rt.alloc()))
 }
 
-fn long_line(alloc: Global, length: usize, end: &str) -> Result<Vec<u8>, AllocError> {
-    let mut line = Vec::new(alloc);
-    for _ in 0..length {
-        line.push(b'#')?;
-    }
-    for byte in end.as_bytes() {
-        line.push(*byte)?;
-    }
-    Ok(line)
-}
-
-/// Lines of so many bytes before their end, and whether they are too long.
-#[rattlefmt::skip]
-const LENGTHS: [(&str, usize, &str, bool); 8] = [
-    ("1,024 bytes, line feed",           1024, "\n",     false),
-    ("1,025 bytes, line feed",           1025, "\n",     true),
-    ("1,024 bytes, return, line feed",   1024, "\r\n",   false),
-    ("1,025 bytes, return, line feed",   1025, "\r\n",   true),
-    ("1,024 bytes, two returns",         1024, "\r\r\n", true),
-    ("1,024 bytes without end",          1024, "",       false),
-    ("1,024 bytes, return, without end", 1024, "\r",     true),
-    ("2,000 bytes without end",          2000, "",       true),
+/// Causes that no row of examples/rows shows, and the lines that name them.
+const CAUSES: [Cause; 4] = [
+    Cause::Read,
+    Cause::Write,
+    Cause::Memory,
+    Cause::TooManyReads,
 ];
 
-#[test]
-fn a_line_has_1024_bytes_without_its_end(rt: HostRuntime) -> Result<(), Fail> {
-    for (name, length, end, long) in LENGTHS {
-        let script = long_line(rt.alloc(), length, end)?;
-        let mut reader = script.as_slice();
-        let mut written = Vec::new(rt.alloc());
-        let result = run(rt.alloc(), &mut reader, &mut written, QUIET);
-        match result {
-            Ok(summary) => assert!(rt; !long && summary.lines == 1, "{name}"),
-            Err(fault) => {
-                assert!(rt; long, "{name}");
-                assert_eq!(rt;
-                    fault,
-                    ScriptFault {
-                        line: 1,
-                        cause: Cause::LineTooLong
-                    },
-                    "{name}"
-                );
-            }
-        }
+const NAMED: &str = "line 7: X5\nline 7: X6\nline 7: X7\nline 7: X8\n";
+
+/// The lines that name these causes, at line 7.
+fn name_all(alloc: Global, causes: &[Cause], text: &mut Vec<u8>) -> Result<(), Fail> {
+    for cause in causes {
+        let fault = ScriptFault {
+            line: 7,
+            cause: *cause,
+        };
+        text.extend_from_slice(&fault_line(alloc, &fault)?)?;
     }
     Ok(())
 }
 
-/// Causes with their codes.
-#[rattlefmt::skip]
-const CODES: [(Cause, &str); 13] = [
-    (Cause::Syntax,                                              "line 7: X1\n"),
-    (Cause::LineTooLong,                                         "line 7: X2\n"),
-    (Cause::BadHex,                                              "line 7: X3\n"),
-    (Cause::Step(StepFault::Report(ReportFault::Short)),         "line 7: X4 U8\n"),
-    (Cause::Step(StepFault::Report(ReportFault::UnknownReport)), "line 7: X4 U9\n"),
-    (Cause::Step(StepFault::Stack(StackFault::NoDevice)),        "line 7: X4 S1\n"),
-    (Cause::Step(StepFault::Stack(StackFault::Refused(ChangeFault::MotionFull))), "line 7: X4 S3 U6\n"),
-    (Cause::Step(StepFault::Stack(StackFault::BadDescriptor(DescriptorFault::Device(DeviceFault { cause: DeviceCause::NoEmptyCode, at: 0 })))), "line 7: X4 S5 V18\n"),
-    (Cause::Read,                                                "line 7: X5\n"),
-    (Cause::Write,                                               "line 7: X6\n"),
-    (Cause::Memory,                                              "line 7: X7\n"),
-    (Cause::TooManyReads,                                        "line 7: X8\n"),
-    (Cause::NoLayout,                                            "line 7: X9\n"),
-];
+fn are_named(
+    alloc: Global,
+    causes: &[Cause],
+    wanted: &str,
+    text: &mut Vec<u8>,
+) -> Result<(), Fail> {
+    name_all(alloc, causes, text)?;
+    holds("the lines", text.as_slice() == wanted.as_bytes())
+}
 
 #[test]
 fn a_fault_is_named_by_its_line_and_codes(rt: HostRuntime) -> Result<(), Fail> {
-    for (cause, want) in CODES {
-        let line = fault_line(rt.alloc(), &ScriptFault { line: 7, cause })?;
-        assert_eq!(rt; line.as_slice(), want.as_bytes());
-    }
-    Ok(())
+    let mut text = Vec::new(rt.alloc());
+    are_named(rt.alloc(), &CAUSES, NAMED, &mut text)
 }

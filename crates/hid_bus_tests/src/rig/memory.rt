@@ -1,16 +1,14 @@
 //! Calls of a rig that find no memory: each is made again, and gives what it gives at once with memory. These tests hold
 //! whichever growth of theirs is refused: `rt try --test --fail-alloc N` refuses the Nth one of each.
 
-use super::{
-    Act, CLEAN, Tells, attach_to, changes, config, is_answer, keyboard, step_of, take_step,
-};
+use super::{Act, CLEAN, TRY, attach_to, changes, config, keyboard, step_of, take_step};
+use crate::verdict::{holds, none_is_wrong};
 use hid_device::{Boot, Device, DeviceCause, DeviceFault};
 use hid_layout::{Cause, ControlId, Layout, LayoutFault, Usage};
 use hid_stack::{Delivered, HostState, Request, Rig, StackFault, Start, Step, Told};
 use hid_usages::{Change, Event, Shown, Snapshot, View};
 use std::test::Fail;
 use usb_control::{ControlFault, HostTransfer, Outcome, Progress, Setup};
-use usb_transact::Fate;
 
 const KEY: ControlId = ControlId { item: 4, index: 4 };
 
@@ -76,7 +74,7 @@ fn taken(rig: &mut Rig, step: &Step, out: &mut Vec<Delivered>) -> Result<Told, S
 /// Tries of the transfer that runs, up to its end.
 fn ended(rig: &mut Rig, out: &mut Vec<Delivered>) -> Result<Told, StackFault> {
     for _ in 0..20 {
-        match take_step(rig, &step_of(Act::Control(Fate::Clean)), out)? {
+        match take_step(rig, &step_of(1, TRY), out)? {
             Told::Transfer(Progress::Running) => {}
             told => return Ok(told),
         }
@@ -106,7 +104,7 @@ fn begun(rig: &mut Rig, request: &Request, out: &mut Vec<Delivered>) -> Result<T
 /// Presses the key, and polls.
 fn press_and_poll(rig: &mut Rig, out: &mut Vec<Delivered>) -> Result<(), StackFault> {
     take_step(rig, &changes(1, Change::Press(KEY)), out)?;
-    taken(rig, &step_of(CLEAN), out)?;
+    taken(rig, &step_of(1, CLEAN), out)?;
     Ok(())
 }
 
@@ -118,11 +116,14 @@ fn tells_the_key(rt: &HostRuntime, rig: &mut Rig) -> Result<bool, StackFault> {
     Ok(dev == 1 && out.as_slice() == [down()].as_slice())
 }
 
+fn is_polled(rt: &HostRuntime, rig: &mut Rig) -> Result<(), Fail> {
+    holds("a key", tells_the_key(rt, rig)?)
+}
+
 #[test]
 fn a_poll_is_made_again(rt: HostRuntime) -> Result<(), Fail> {
     let mut rig = bus(&rt)?;
-    assert!(rt; tells_the_key(&rt, &mut rig)?);
-    Ok(())
+    is_polled(&rt, &mut rig)
 }
 
 /// The requests that bring a device up, and what its host knows behind each.
@@ -136,7 +137,7 @@ const BRINGS_UP: [(Request, HostState); 3] = [
 /// Whether a request is done, and the host knows this behind it.
 fn leads_to(rig: &mut Rig, request: &Request, wanted: HostState, out: &mut Vec<Delivered>) -> bool {
     let told = asked(rig, request, out);
-    is_answer(&told, Tells::Tries(Progress::Done)) && state(rig) == Some(wanted)
+    matches!(&told, Ok(Told::Transfer(Progress::Done))) && state(rig) == Some(wanted)
 }
 
 /// The first request that isn't done, or leads elsewhere.
@@ -155,34 +156,44 @@ fn first_elsewhere(
 
 /// Whether a keyboard is attached, and brought up by these requests.
 fn is_brought_up(
-    rt: &HostRuntime,
     rig: &mut Rig,
     rows: &[(Request, HostState)],
-) -> Result<bool, StackFault> {
-    let mut out = Vec::new(rt.alloc());
+    out: &mut Vec<Delivered>,
+) -> Result<(), Fail> {
     let dev = attached(rig, Start::Cold)?;
-    Ok(dev == 1 && first_elsewhere(rig, rows, &mut out).is_none())
+    let wrong = first_elsewhere(rig, rows, out);
+    holds("the number of the device", dev == 1)?;
+    none_is_wrong(wrong)
+}
+
+fn is_brought_up_by_each(rt: &HostRuntime, rig: &mut Rig) -> Result<(), Fail> {
+    let mut out = Vec::new(rt.alloc());
+    is_brought_up(rig, &BRINGS_UP, &mut out)
 }
 
 #[test]
 fn a_device_is_brought_up_by_requests_that_are_begun_again(rt: HostRuntime) -> Result<(), Fail> {
     let mut rig = bus(&rt)?;
-    assert!(rt; is_brought_up(&rt, &mut rig, &BRINGS_UP)?);
-    Ok(())
+    is_brought_up_by_each(&rt, &mut rig)
 }
 
 /// Whether a reset lets the key go, and the host knows nothing behind it.
 fn lets_go(rt: &HostRuntime, rig: &mut Rig) -> Result<bool, StackFault> {
     let mut out = Vec::new(rt.alloc());
-    taken(rig, &step_of(Act::Reset), &mut out)?;
+    taken(rig, &step_of(1, Act::Reset), &mut out)?;
     Ok(out.as_slice() == [up()].as_slice() && state(rig) == Some(HostState::Cold))
+}
+
+fn is_reset(rt: &HostRuntime, rig: &mut Rig) -> Result<(), Fail> {
+    let is_told = tells_the_key(rt, rig)?;
+    let is_let_go = lets_go(rt, rig)?;
+    holds("a key and a reset", is_told && is_let_go)
 }
 
 #[test]
 fn a_reset_is_made_again(rt: HostRuntime) -> Result<(), Fail> {
     let mut rig = bus(&rt)?;
-    assert!(rt; tells_the_key(&rt, &mut rig)? && lets_go(&rt, &mut rig)?);
-    Ok(())
+    is_reset(&rt, &mut rig)
 }
 
 /// The layout of a descriptor.
@@ -270,8 +281,8 @@ fn makes_layout(rt: &HostRuntime, descriptor: &[u8]) -> Result<bool, Fail> {
 
 #[test]
 fn what_takes_memory_is_made_again(rt: HostRuntime) -> Result<(), Fail> {
-    assert!(rt; makes_layout(&rt, keyboard())?);
-    assert!(rt; makes_device(&rt, keyboard())?);
-    assert!(rt; makes_transfer(&rt)?);
-    Ok(())
+    let is_layout = makes_layout(&rt, keyboard())?;
+    let is_device = makes_device(&rt, keyboard())?;
+    let is_transfer = makes_transfer(&rt)?;
+    holds("what takes memory", is_layout && is_device && is_transfer)
 }

@@ -1,129 +1,171 @@
-//! What a bus refuses, and the codes that are printed, by docs/FORMATS.md and docs/SCRIPT.md.
+//! What a bus refuses, with the steps behind it, which go on as if there had been none; and the codes that are printed. By
+//! docs/FORMATS.md and docs/SCRIPT.md.
 
-use super::{Act, Run, attach_to, first_run_otherwise, mouse};
-use hid_device::{Boot, MOUSE};
-use hid_stack::{MAX_DEVICES, Rig, RunFault, StackFault, Start};
+use super::{Act, Asked, Boots, CLEAN, CLEAR, NO_CONTROL, TRY, attach_all, step_of, take_step};
+use crate::verdict::{holds, none_is_wrong};
+use hid_device::{Boot, DeviceCause, DeviceFault};
+use hid_layout::Cause;
+use hid_stack::{Delivered, DescriptorFault, Rig, RunFault, StackFault, Start};
 use hid_usages::{ChangeFault, ReportFault};
+use std::fmt::Write;
 use std::test::Fail;
+use usb_control::ControlFault;
+use usb_transact::Fate;
 
-/// Motion that only goes to the right, from 1 to 3: 0 can't be sent.
+const DEVICES: [Boots; 7] = [
+    (Boot::Keyboard, Start::Cold),
+    (Boot::Keyboard, Start::Ready),
+    (Boot::Mouse, Start::Ready),
+    (Boot::Mouse, Start::Ready),
+    (Boot::Keyboard, Start::Ready),
+    (Boot::Keyboard, Start::Ready),
+    (Boot::Keyboard, Start::Ready),
+];
+
+const NO_DEVICE: Option<StackFault> = Some(StackFault::NoDevice);
+
+const NOT_READY: Option<StackFault> = Some(StackFault::NotReady);
+
+const NO_TRANSFER: Option<StackFault> = Some(StackFault::Control(ControlFault::NoTransfer));
+
+const BUSY: Option<StackFault> = Some(StackFault::Control(ControlFault::Busy));
+
+const LOST: Act = Act::Control(Fate::TokenLost);
+
+/// A step of a device, and why it is refused, if it is.
+type Answer = (u8, Act, Option<StackFault>);
+
+/// Of a device whose host knows nothing of it; behind a reset; of a clear that gets no answer, behind which polls are
+/// refused until another one is done; of a clear that a reset ends; and of devices that there aren't. No such device comes
+/// first, then a transfer that runs, then the host's state.
 #[rattlefmt::skip]
-const NO_ZERO: [u8; 14] = [
-    0x05, 0x01, 0x09, 0x30, 0x15, 0x01, 0x25, 0x03, 0x75, 0x08, 0x95, 0x01, 0x81, 0x06,
+const ANSWERS: [Answer; 37] = [
+    (1, CLEAN,                             NOT_READY),
+    (1, TRY,                               NO_TRANSFER),
+    (1, Act::Begin(Asked::Configure),      NOT_READY),
+    (8, Act::Begin(Asked::Config),         NO_DEVICE),
+
+    (2, Act::Reset,                        None),
+    (0, Act::Reset,                        NO_DEVICE),
+    (8, Act::Reset,                        NO_DEVICE),
+    (2, Act::Poll(Fate::TokenLost),        NOT_READY),
+    (2, TRY,                               NO_TRANSFER),
+    (2, Act::Begin(Asked::Report),         NOT_READY),
+    (2, Act::Begin(Asked::Configure),      NOT_READY),
+    (2, Act::Begin(Asked::GetIdle),        NOT_READY),
+    (2, Act::Press(9, 0),                  Some(NO_CONTROL)),
+    (2, Act::Begin(Asked::Config),         None),
+    (2, Act::Begin(Asked::Report),         BUSY),
+    (2, Act::Reset,                        None),
+    (2, Act::Begin(Asked::Report),         NOT_READY),
+
+    (3, CLEAR,                             None),
+    (3, CLEAN,                             NOT_READY),
+    (3, Act::Begin(Asked::Halt),           BUSY),
+    (3, LOST,                              None),
+    (3, LOST,                              None),
+    (3, LOST,                              None),
+    (3, CLEAN,                             NOT_READY),
+    (3, CLEAR,                             None),
+    (3, TRY,                               None),
+    (3, TRY,                               None),
+    (3, CLEAN,                             None),
+
+    (4, CLEAR,                             None),
+    (4, Act::Reset,                        None),
+    (4, Act::Begin(Asked::Halt),           NOT_READY),
+    (4, CLEAR,                             NOT_READY),
+    (4, Act::Begin(Asked::EndpointStatus), NOT_READY),
+
+    (8, CLEAN,                             NO_DEVICE),
+    (8, Act::Move(2, 0, 1),                NO_DEVICE),
+    (0, CLEAN,                             NO_DEVICE),
+    (8, Act::Halt,                         NO_DEVICE),
 ];
 
-/// A device that a bus refuses, and what is printed then.
-type Refused = (Boot, &'static [u8], &'static str);
-
-const REFUSED: [Refused; 3] = [
-    (Boot::No, &[0xB4], "S5 V3 at 0"),
-    (Boot::No, &NO_ZERO, "S5 V19"),
-    (Boot::Keyboard, &MOUSE, "S5 V20"),
-];
-
-#[rattlefmt::skip]
-const PRINTED: [(StackFault, &str); 6] = [
-    (StackFault::Refused(ChangeFault::MotionFull),   "S3 U6"),
-    (StackFault::NoDevice,                           "S1"),
-    (StackFault::NotReady,                           "S2"),
-    (StackFault::Report(ReportFault::UnknownReport), "S6 U9"),
-    (StackFault::TooManyDevices,                     "S7"),
-    (StackFault::Memory,                             "S8"),
-];
-
-fn is_printed(rt: &HostRuntime, fault: StackFault, text: &str) -> Result<bool, Fail> {
-    Ok(format!(in rt.alloc(); "{fault}")?.as_str() == text)
+/// Whether a step is refused so, or taken.
+fn is_answer(rig: &mut Rig, row: &Answer, out: &mut Vec<Delivered>) -> bool {
+    let (dev, act, wanted) = row;
+    match (take_step(rig, &step_of(*dev, *act), out), wanted) {
+        (Ok(_), None) => true,
+        (Err(fault), Some(cause)) => fault == *cause,
+        _ => false,
+    }
 }
 
-/// Whether attaching such a device is refused, and printed so.
-fn is_refused(
-    rt: &HostRuntime,
+/// The first step that is answered otherwise.
+fn first_answer_otherwise(
     rig: &mut Rig,
-    boot: Boot,
-    descriptor: &[u8],
-    text: &str,
-) -> Result<bool, Fail> {
-    match attach_to(rig, boot, descriptor, Start::Ready) {
-        Ok(_) => Ok(false),
-        Err(fault) => is_printed(rt, fault, text),
-    }
-}
-
-/// The text of the first device that isn't refused with it.
-fn first_not_refused(
-    rt: &HostRuntime,
-    rig: &mut Rig,
-    rows: &[Refused],
-) -> Result<Option<&'static str>, Fail> {
-    for (boot, descriptor, text) in rows {
-        if !is_refused(rt, rig, *boot, descriptor, text)? {
-            return Ok(Some(*text));
+    rows: &[Answer],
+    out: &mut Vec<Delivered>,
+) -> Option<usize> {
+    for (at, row) in rows.iter().enumerate() {
+        if !is_answer(rig, row, out) {
+            return Some(at);
         }
     }
-    Ok(None)
+    None
 }
 
-/// The first text that isn't printed for its fault.
-fn first_not_printed(
-    rt: &HostRuntime,
-    rows: &[(StackFault, &'static str)],
-) -> Result<Option<&'static str>, Fail> {
-    for (fault, text) in rows {
-        if !is_printed(rt, *fault, text)? {
-            return Ok(Some(*text));
-        }
-    }
-    Ok(None)
-}
-
-/// Whether seven mice find room on a bus, at their numbers, and no device more, be it a wrong one.
-fn has_room_for_seven(rig: &mut Rig) -> bool {
-    for n in 1..=MAX_DEVICES {
-        if attach_to(rig, Boot::Mouse, mouse(), Start::Ready) != Ok(n as u8) {
-            return false;
-        }
-    }
-    attach_to(rig, Boot::Keyboard, mouse(), Start::Ready) == Err(StackFault::TooManyDevices)
-}
-
-/// Motion that the first mouse has no room for.
-const TOO_FAR: [Run; 2] = [
-    (&[(1, Act::Move(2, 0, i32::MAX))], Ok(()), &[]),
-    (
-        &[(1, Act::Move(2, 0, 1))],
-        Err(RunFault {
-            at: 0,
-            fault: StackFault::Refused(ChangeFault::MotionFull),
-        }),
-        &[],
-    ),
-];
-
-/// How a run is printed that was refused in this step.
-fn is_stop_printed(rt: &HostRuntime, stopped: RunFault, text: &str) -> Result<bool, Fail> {
-    Ok(format!(in rt.alloc(); "{stopped}")?.as_str() == text)
-}
-
-/// Whether a bus refuses wrong devices, an eighth one, and motion that is too far.
-fn refuses(rt: &HostRuntime, rig: &mut Rig) -> Result<bool, Fail> {
-    Ok(
-        first_not_refused(rt, rig, &REFUSED)?.is_none()
-            && has_room_for_seven(rig)
-            && first_run_otherwise(rt, rig, &TOO_FAR)?.is_none(),
-    )
+/// Whether each step is answered as its row says, and none delivers an event.
+fn are_in_place(rt: &HostRuntime, rig: &mut Rig) -> Result<(), Fail> {
+    attach_all(rig, &DEVICES)?;
+    let mut out = Vec::new(rt.alloc());
+    none_is_wrong(first_answer_otherwise(rig, &ANSWERS, &mut out))
 }
 
 #[test]
-fn refusals_are_printed_as_their_codes(rt: HostRuntime) -> Result<(), Fail> {
+fn behind_a_refusal_steps_go_on(rt: HostRuntime) -> Result<(), Fail> {
     let mut rig = Rig::new(rt.alloc())?;
-    assert!(rt; refuses(&rt, &mut rig)?);
+    are_in_place(&rt, &mut rig)
+}
+
+#[rattlefmt::skip]
+const FAULTS: [StackFault; 9] = [
+    StackFault::Refused(ChangeFault::MotionFull),
+    StackFault::NoDevice,
+    StackFault::NotReady,
+    StackFault::Report(ReportFault::UnknownReport),
+    StackFault::TooManyDevices,
+    StackFault::Memory,
+    StackFault::BadDescriptor(DescriptorFault::Device(DeviceFault { cause: DeviceCause::Layout(Cause::PopEmpty), at: 0 })),
+    StackFault::BadDescriptor(DescriptorFault::Device(DeviceFault { cause: DeviceCause::RelativeWithoutZero, at: 0 })),
+    StackFault::BadDescriptor(DescriptorFault::Device(DeviceFault { cause: DeviceCause::BadConfig, at: 0 })),
+];
+
+/// What they print, and what a run prints that the first of them stopped at its step 4.
+const PRINTED: &str = "S3 U6\nS1\nS2\nS6 U9\nS7\nS8\nS5 V3 at 0\nS5 V19\nS5 V20\nstep 4: S3 U6\n";
+
+/// What each of these prints, a line each.
+fn print_all(faults: &[StackFault], text: &mut String) -> Result<(), Fail> {
+    for fault in faults {
+        writeln!(text, "{fault}")?;
+    }
     Ok(())
+}
+
+/// What a run prints that was refused there.
+fn print_stop(stopped: &RunFault, text: &mut String) -> Result<(), Fail> {
+    writeln!(text, "{stopped}")?;
+    Ok(())
+}
+
+fn are_printed(faults: &[StackFault], wanted: &str, text: &mut String) -> Result<(), Fail> {
+    print_all(faults, text)?;
+    if let [fault, ..] = faults {
+        print_stop(
+            &RunFault {
+                at: 4,
+                fault: *fault,
+            },
+            text,
+        )?;
+    }
+    holds("what is printed", text.as_str() == wanted)
 }
 
 #[test]
 fn a_fault_is_printed_as_its_code(rt: HostRuntime) -> Result<(), Fail> {
-    assert_eq!(rt; first_not_printed(&rt, &PRINTED)?, None);
-    let fault = StackFault::Refused(ChangeFault::MotionFull);
-    assert!(rt; is_stop_printed(&rt, RunFault { at: 4, fault }, "step 4: S3 U6")?);
-    Ok(())
+    let mut text = String::new(rt.alloc());
+    are_printed(&FAULTS, PRINTED, &mut text)
 }
