@@ -1,5 +1,5 @@
 //! The codec by words: the bytes that a field touches, five at most, are taken as one word.
-ghost use Rattle.std.specs.Prelude.{◌≡◌, ◌+◌, ◌*◌, ◌^◌, ◌<◌, ◌≤◌, length};
+ghost use Rattle.std.specs.Prelude.{◌≡◌, ◌+◌, ◌*◌, ◌^◌, ◌<◌, ◌≤◌, ℕ, length};
 ghost use Rattle.hid_fields.specs.Field.{pattern_of};
 ghost use Rattle.hid_fields.specs.Word.{spliced};
 
@@ -36,6 +36,31 @@ fn gather(bytes: &[u8]) -> u64
     }
 }
 
+/// Eight bytes as a word, the first one lowest.
+fn gather_eight(bytes: &[u8]) -> u64
+    requires { length bytes.now ≡ 8 }
+    ensures { result ≡ pattern_of bytes.now 0 (8 * length bytes.now) }
+{
+    match *bytes {
+        [a, b, c, d, e, f, g, h] => u64::from_le_bytes([a, b, c, d, e, f, g, h]),
+        _ => 0,
+    }
+}
+
+/// A word that begins with the bytes that a field touches: of eight bytes where there are as many, since they are taken
+/// at once.
+fn word_from(bytes: &[u8], first: usize, count: usize) -> u64
+    requires few { count ≤ MAX_TOUCHED }
+    requires inside { first + count ≤ length bytes.now }
+    ensures { (bits : ℕ) × (8 * count ≤ bits) × (result ≡ pattern_of bytes.now (8 * first) bits) }
+{
+    if bytes.len() - first < 8 {
+        gather(&bytes[first..first + count])
+    } else {
+        gather_eight(&bytes[first..first + 8])
+    }
+}
+
 /// Makes the bytes those of the word.
 fn scatter(bytes: &mut [u8], word: u64)
     requires count { length bytes.old ≤ MAX_TOUCHED }
@@ -69,7 +94,7 @@ fn splice(word: u64, shift: usize, width: u32, pattern: u32) -> u64
 impl FieldCodec for WordCodec {
     fn get(bytes: &[u8], at: usize, width: u32) -> u32 {
         let (first, shift) = (at / 8, at % 8);
-        let word = gather(&bytes[first..first + touched(shift, width)]);
+        let word = word_from(bytes, first, touched(shift, width));
         (word >> shift & ((1u64 << width) - 1)) as u32
     }
 

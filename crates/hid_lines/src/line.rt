@@ -1,9 +1,9 @@
 //! The lines of a script.
 
-ghost use Rattle.std.specs.Prelude.{◌≡◌, ◌≤◌, Err, IsTrue, length};
+ghost use Rattle.std.specs.Prelude.{◌≡◌, ◌≤◌, true, Err, IsTrue, length};
 ghost use Rattle.hid_lines.specs.Arguments.{with_bytes};
 ghost use Rattle.hid_lines.specs.Words.{hex_of, words_of};
-ghost use Rattle.hid_lines.specs.Line.{Gives, keyword_of, meaning_of, words_said, said_by, device_said};
+ghost use Rattle.hid_lines.specs.Line.{Gives, keyword_of, may_be_long, meaning_of, words_said, said_by, device_said};
 
 use super::arguments::{
     read_boot, read_control, read_frame, read_move, read_one_device, read_poll, read_set,
@@ -178,6 +178,7 @@ pub fn says_nothing(line: &[u8]) -> bool
 
 /// Reads one line, without its end. Of several causes the first is told: X2, X1, X3. No memory is taken: the words are read
 /// where they stand.
+#[inline(never)] // one place for what a line says
 #[tactic(auto, unfolding(crate::specs::Line::meaning_of))]
 pub fn parse_line(line: &[u8]) -> Result<Line, LineFault>
     ensures says { Gives result (meaning_of line.now) }
@@ -215,9 +216,9 @@ fn read_arguments(keyword: Keyword, text: &[u8]) -> Result<Line, LineFault>
     ensures { result ≡ said_by keyword (words_of text.now) }
 {
     match keyword {
-        Keyword::Layout => read_layout(text),
-        Keyword::Values => read_values(text),
-        Keyword::Device => read_attachment(text),
+        Keyword::Layout | Keyword::Values | Keyword::Device | Keyword::Begin => {
+            read_long(keyword, text)
+        }
         Keyword::Press => {
             let (dev, usage) = read_control(text).ok_or(LineFault::Syntax)?;
             Ok(Line::Press { dev, usage })
@@ -250,7 +251,6 @@ fn read_arguments(keyword: Keyword, text: &[u8]) -> Result<Line, LineFault>
             let (dev, fate, count) = read_poll(text).ok_or(LineFault::Syntax)?;
             Ok(Line::Control { dev, fate, count })
         }
-        Keyword::Begin => read_begin(text),
         Keyword::Reset => {
             let dev = read_one_device(text).ok_or(LineFault::Syntax)?;
             Ok(Line::Reset { dev })
@@ -262,8 +262,25 @@ fn read_arguments(keyword: Keyword, text: &[u8]) -> Result<Line, LineFault>
     }
 }
 
+/// What stands behind a keyword whose line may have many bytes.
+#[inline(never)] // no other line makes room for them
+#[tactic(auto, unfolding(crate::specs::Line::said_by))]
+fn read_long(keyword: Keyword, text: &[u8]) -> Result<Line, LineFault>
+    requires short { length text.now ≤ 1024 }
+    requires long { may_be_long keyword ≡ true }
+    ensures { result ≡ said_by keyword (words_of text.now) }
+{
+    match keyword {
+        Keyword::Layout => read_layout(text),
+        Keyword::Values => read_values(text),
+        Keyword::Device => read_attachment(text),
+        Keyword::Begin => read_begin(text),
+        _ => unreachable!(),
+    }
+}
+
 /// `HEX`: a report descriptor.
-#[inline(never)] // no other line makes room for its bytes
+#[inline(never)]
 fn read_layout(text: &[u8]) -> Result<Line, LineFault>
     requires { length text.now ≤ 1024 }
     ensures { result ≡ with_bytes Line.Layout (hex_of (words_of text.now)) }

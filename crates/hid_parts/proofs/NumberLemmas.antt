@@ -1,5 +1,7 @@
 -- Runs of fields.
-use Rattle.std.proofs.Common.{◌≡◌, ℕ, zero, suc, ◌+◌, ◌*◌, ◌<◌, ◌≤◌, Bool, ℤ, List, [], ◌∷◌, ◌++◌, length, length-append, get_or, take, refl, sym, ◌∙◌, add-one, inl, inr, arith}
+use Rattle.std.proofs.Common.{◌≡◌, ℕ, zero, suc, ◌+◌, ◌*◌, ◌<◌, ◌≤◌, Bool, ℤ, List, [], ◌∷◌, ◌++◌, length, length-append, get_or, take, Some, refl, sym, ◌∙◌, add-one, inl, inr, arith}
+use Rattle.std.specs.List.{slice_get}
+use Rattle.std.proofs.lemmas.Bool.{cases_lt}
 use Rattle.std.proofs.lemmas.Grind.{common_steps}
 use Rattle.hid_fields.specs.Field.{bit_of, pattern_of, IsOutside}
 use Rattle.hid_parts.specs.Numbers.{number_at, numbers_in}
@@ -10,6 +12,28 @@ numbers_in-length bytes at w signed (suc n) = grind (arith, length-append, numbe
 
 pub numbers_in-next : (bytes : List ℕ) (at w : ℕ) (signed : Bool) (n : ℕ) → numbers_in bytes at w signed n ++ number_at bytes (at + w * n) w signed ∷ [] ≡ numbers_in bytes at w signed (n + 1)
 numbers_in-next bytes at w signed n = rw add-one refl
+
+get-front : {A : Type 0} (xs ys : List A) (j : ℕ) → j < length xs → slice_get (xs ++ ys) j ≡ slice_get xs j
+get-front [] ys j h = absurd (omega arith)
+get-front (x ∷ xs) ys zero h = refl
+get-front (x ∷ xs) ys (suc j) h = get-front xs ys j (omega arith)
+
+get-last : {A : Type 0} (xs : List A) (y : A) (j : ℕ) → length xs ≡ j → slice_get (xs ++ y ∷ []) j ≡ Some y
+get-last [] y zero h = refl
+get-last [] y (suc j) h = absurd (omega arith)
+get-last (x ∷ xs) y zero h = absurd (omega arith)
+get-last (x ∷ xs) y (suc j) h = get-last xs y j (omega arith)
+
+-- the number of an element, of all that are read
+pub numbers_in-at : (bytes : List ℕ) (at w : ℕ) (signed : Bool) (n j : ℕ) → j < n → slice_get (numbers_in bytes at w signed n) j ≡ Some (number_at bytes (at + w * j) w signed)
+numbers_in-at bytes at w signed zero j h = absurd (omega arith)
+numbers_in-at bytes at w signed (suc n) j h = elim (cases_lt j n) [
+  | inl lt ↦ get-front (numbers_in bytes at w signed n) _ j (omega (arith, numbers_in-length bytes at w signed n)) ∙ numbers_in-at bytes at w signed n j lt
+  | inr ge ↦ let e : j ≡ n = omega arith in rw e (get-last (numbers_in bytes at w signed n) _ n (numbers_in-length bytes at w signed n))
+]
+
+-- the numbers of a run of fields, one by one
+pub ruleset run_numbers = (numbers_in-at, numbers_in-length)
 
 -- a field's pattern is that of its bits
 pub pattern_of-agree : (xs ys : List ℕ) (at w : ℕ) → ((n : ℕ) → at ≤ n → n < at + w → bit_of xs n ≡ bit_of ys n) → pattern_of xs at w ≡ pattern_of ys at w

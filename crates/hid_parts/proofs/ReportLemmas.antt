@@ -27,7 +27,7 @@ use Rattle.hid_parts.specs.Numbers.{number_at, numbers_in}
 use Rattle.hid_parts.specs.Encoded.{bit_among, bit_sent, packed, packed_bytes, part_bytes}
 use Rattle.std.specs.Prelude.{nat_le, nat_lt, if◌then◌else◌}
 use Rattle.std.proofs.lemmas.Bool.Decides.{nat_tests}
-use Rattle.hid_parts.proofs.NumberLemmas.{numbers_in-length}
+use Rattle.hid_parts.proofs.NumberLemmas.{numbers_in-length, numbers_in-at}
 use Rattle.hid_parts.proofs.EncodingLemmas.{cell_numbers, data_if, no_data_if}
 use Rattle.hid_cells.proofs.ItemLemmas.{items_from-at, items_of-length, got}
 use Rattle.hid_parts.proofs.SendLemmas.{can_send, few_places}
@@ -81,25 +81,6 @@ can_send_all layout r parts laid input fits = record {
       let item = items_from-at layout layout.items layout.entries i m.0 es.0 m.1 es.1 in
       item_room layout m.0 es.0 cell (laid.elements i m.0 m.1) (laid.some_usage i m.0 es.0 m.1 es.1) (fits.room i (item_of layout m.0 es.0) cell item h);
 }
-
-get-front : {A : Type 0} (xs ys : List A) (j : ℕ) → j < length xs → slice_get (xs ++ ys) j ≡ slice_get xs j
-get-front [] ys j h = absurd (omega arith)
-get-front (x ∷ xs) ys zero h = refl
-get-front (x ∷ xs) ys (suc j) h = get-front xs ys j (omega arith)
-
-get-last : {A : Type 0} (xs : List A) (y : A) (j : ℕ) → length xs ≡ j → slice_get (xs ++ y ∷ []) j ≡ Some y
-get-last [] y zero h = refl
-get-last [] y (suc j) h = absurd (omega arith)
-get-last (x ∷ xs) y zero h = absurd (omega arith)
-get-last (x ∷ xs) y (suc j) h = get-last xs y j (omega arith)
-
--- the number of an element, of all that are read
-pub numbers_in-at : (bytes : List ℕ) (at w : ℕ) (signed : Bool) (n j : ℕ) → j < n → slice_get (numbers_in bytes at w signed n) j ≡ Some (number_at bytes (at + w * j) w signed)
-numbers_in-at bytes at w signed zero j h = absurd (omega arith)
-numbers_in-at bytes at w signed (suc n) j h = elim (cases_lt j n) [
-  | inl lt ↦ get-front (numbers_in bytes at w signed n) _ j (omega (arith, numbers_in-length bytes at w signed n)) ∙ numbers_in-at bytes at w signed n j lt
-  | inr ge ↦ let e : j ≡ n = omega arith in rw e (get-last (numbers_in bytes at w signed n) _ n (numbers_in-length bytes at w signed n))
-]
 
 -- two lists of bytes with the same numbers have the same bits there
 same_bits : (xs ys : List ℕ) (at w : ℕ) (signed : Bool) (n m : ℕ) → 0 < w → numbers_in xs at w signed n ≡ numbers_in ys at w signed n → at ≤ m → m < at + w * n → bit_of xs m ≡ bit_of ys m

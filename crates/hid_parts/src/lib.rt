@@ -13,6 +13,6 @@ mod shown;
 mod snapshot;
 
 pub use encode::{bare_report, encode_report, first_bit, is_data};
-pub use numbers::{MAX_NUMBERS, get_all};
+pub use numbers::{FieldRun, MAX_NUMBERS};
 pub use shown::Shown;
 pub use snapshot::Snapshot;

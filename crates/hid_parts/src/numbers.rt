@@ -1,37 +1,71 @@
 //! The numbers that stand in a run of fields.
-ghost use Rattle.std.specs.Prelude.{◌≡◌, ◌<◌, ◌≤◌, ◌+◌, ◌*◌, ℕ, Bool, length, All, vec_capacity};
+ghost use Rattle.std.specs.Prelude.{◌≡◌, ◌<◌, ◌≤◌, ◌+◌, ◌*◌, ℕ, Bool, length, slice_get, Some, All};
 ghost use Rattle.hid_fields.specs.Field.{bit_of, IsOutside};
 ghost use Rattle.hid_fields.specs.Value.{FitsEitherSign, FitsField};
-ghost use Rattle.hid_parts.specs.Numbers.{number_at, numbers_in};
+ghost use Rattle.hid_parts.specs.Numbers.{IsRun, number_at, numbers_in};
 
 use crate::send::Sending;
 use hid_fields::{FieldCodec, to_pattern, to_value};
+use std::marker::Model;
 
 /// The most numbers of one item: each has a bit at least, and a report has 256 bytes at most.
 pub const MAX_NUMBERS: usize = 2048;
 
-/// Puts the numbers of these fields, one behind the other, in place of what the list has. There is room for them.
-pub fn get_all<C: FieldCodec>(
-    bytes: &[u8],
+/// The fields of an item's elements, one behind the other in the bytes of a report. A contract sees the numbers that
+/// stand in them.
+#[derive(Drop)]
+pub struct FieldRun<'a> {
+    bytes: &'a [u8],
+    /// In bits, where the first one stands.
     at: usize,
+    /// In bits, of each.
     width: u32,
-    signed: bool,
+    is_signed: bool,
     count: usize,
-    numbers: &mut Vec<i64>,
-)
-    requires some { 0 < width }
-    requires width { width ≤ 32 }
-    requires few { count ≤ MAX_NUMBERS }
-    requires inside { at + width * count ≤ 8 * length bytes.now }
-    requires short { at + width * count ≤ 4096 }
-    requires room { count ≤ vec_capacity numbers.old }
-    ensures items { numbers.new.items ≡ numbers_in bytes.now at width signed count }
-    ensures room { vec_capacity numbers.new ≡ vec_capacity numbers.old }
-{
-    numbers.clear();
-    for k in 0..count {
-        let pattern = C::get(bytes, at + width as usize * k, width);
-        numbers.push_reserved(to_value(pattern, width, signed));
+}
+
+impl<'a> Model for FieldRun<'a> {
+    ghost use Rattle.std.specs.Prelude.{List, ℤ, ◌<◌, ◌≤◌, ◌+◌, ◌*◌, length};
+    ghost use Rattle.hid_parts.specs.Numbers.{numbers_in, IsRun};
+
+    ghost Value = { List ℤ };
+
+    ghost view = { λ f. numbers_in f.bytes.now f.at f.width f.is_signed f.count };
+
+    ghost invariant = { λ f. IsRun f.bytes.now f.at f.width f.count };
+}
+
+impl<'a> FieldRun<'a> {
+    /// So many fields of this width in bits, from this bit of the bytes on.
+    pub fn new(bytes: &'a [u8], at: usize, width: u32, is_signed: bool, count: usize) -> FieldRun<'a>
+        requires { IsRun bytes.now at width count }
+        ensures { result ≡ numbers_in bytes.now at width is_signed count }
+    {
+        FieldRun {
+            bytes,
+            at,
+            width,
+            is_signed,
+            count,
+        }
+    }
+
+    /// How many there are.
+    #[tactic(auto, using(crate::proofs::NumberLemmas::run_numbers))]
+    pub fn len(&self) -> usize
+        ensures { result ≡ length self.now }
+    {
+        self.count
+    }
+
+    /// The number of the field at an index.
+    #[tactic(auto, using(crate::proofs::NumberLemmas::run_numbers))]
+    pub fn number<C: FieldCodec>(&self, index: usize) -> i64
+        requires { index < length self.now }
+        ensures { slice_get self.now index ≡ Some result }
+    {
+        let pattern = C::get(self.bytes, self.at + self.width as usize * index, self.width);
+        to_value(pattern, self.width, self.is_signed)
     }
 }
 

@@ -1,6 +1,6 @@
 //! What ends a round but its polls: a halt of the endpoint by the device itself, and requests to halt it and to end a halt
 //! (USB 2.0, 9.4.5 and 9.4.9).
-ghost use Rattle.std.specs.Prelude.{◌≡◌, ◌≤◌, false, length, vec_capacity};
+ghost use Rattle.std.specs.Prelude.{◌≡◌, ◌≤◌, Bool, false, length, vec_capacity};
 ghost use Rattle.hid_layout.specs.Controls.{items_of, max_events};
 ghost use Rattle.hid_lives.specs.Lives.{cut_events};
 ghost use Rattle.hid_device.specs.Device.{core_of};
@@ -37,6 +37,24 @@ fn tell_cut(device: &Device, host: &HostDevice, events: &mut Vec<Event>)
     is_sound(device);
     events.clear();
     host.tell_cut(device.open_round(), device.piece(), device.fixed(), events);
+}
+
+/// The same where a try may end the round; else nothing is told.
+fn tell_cut_if(may_cut: bool, device: &Device, host: &HostDevice, events: &mut Vec<Event>)
+    requires together { StandTogether device.now host.now.clearing host.now.phase }
+    requires knows { Knows host.now device.now.control }
+    requires room { max_events (items_of (core_of device.now).layout) ≤ vec_capacity events.old }
+    ensures events { (is_open : Bool) → kept_if may_cut is_open events.new.items
+        ≡ kept_if may_cut is_open (cut_events (items_of (core_of device.now).layout)
+        (station_of (core_of device.now) host.now.phase)) }
+    ensures few { length events.new.items ≤ max_events (items_of (core_of device.now).layout) }
+    ensures capacity { vec_capacity events.new ≡ vec_capacity events.old }
+{
+    if may_cut {
+        tell_cut(device, host, events);
+    } else {
+        events.clear();
+    }
 }
 
 /// A device halts its endpoint by itself. The motion of an open round that hasn't crossed is dropped.
@@ -91,8 +109,8 @@ pub(crate) fn control_pair(
 {
     hosts_know_their_devices();
     control_steps_are_computed();
-    tell_cut(device, host, events);
     let may_cut = host.may_cut();
+    tell_cut_if(may_cut, device, host, events);
     let result = host.control_step(device.control(), fate);
     is_sound(device);
     let is_open = device.open_round().is_some();

@@ -10,7 +10,7 @@ use Rattle.hid_fields.specs.Field.{bit_of, pattern_of}
 use Rattle.hid_fields.proofs.WordLemmas.{bit_at-pattern_of}
 use Rattle.hid_parts.specs.Numbers.{number_at, numbers_in}
 use Rattle.hid_parts.proofs.NumberLemmas.{numbers_in-length}
-use Rattle.hid_parts.proofs.ReportLemmas.{numbers_in-at}
+use Rattle.hid_parts.proofs.NumberLemmas.{numbers_in-at}
 use Rattle.hid_cells.specs.Words.{words_of, bits_in}
 use Rattle.hid_cells.proofs.WordLemmas.{bits_in-at, bits_in-length, word_keeps}
 use Rattle.hid_cells.proofs.FillLemmas.{map_zip_at, length_map_zip}

@@ -12,5 +12,6 @@ pub mod NamingLemmas
 pub mod CrossingLemmas
 pub mod OneReportLemmas
 pub mod CrossingVectors
+pub mod ElementLemmas
 pub mod DropLemmas
 pub mod InitialLemmas

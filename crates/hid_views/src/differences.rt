@@ -13,9 +13,11 @@ ghost use Rattle.hid_views.specs.Reading.{read_motion};
 
 use crate::bounds::Bounds;
 use hid_cells::{Cell, Event, Flags, Values, cell_at, item_at, item_count};
+use hid_fields::FieldCodec;
 use hid_layout::{
     ControlId, Controls, Layout, MainItem, Shape, Usage, usage_at as usage_in, usage_count,
 };
+use hid_parts::FieldRun;
 
 /// The place in an item's usage list that has the usage of an element, or of a place of an array's list: an element
 /// behind the last usage has that one.
@@ -130,7 +132,7 @@ fn value_event(
 }
 
 /// The same, of the value at an index of an item.
-fn tell_value(
+pub(crate) fn tell_value(
     layout: &Layout,
     item: usize,
     index: usize,
@@ -274,12 +276,12 @@ pub(crate) fn presses(
 
 /// The motion that an element's number is read as: none, 0, where it is out of the range.
 #[tactic(auto, using(hid_cells::proofs::ListLemmas::map_at))]
-fn motion(bounds: &Bounds, numbers: &[i64], index: usize) -> i64
+fn motion<C: FieldCodec>(bounds: &Bounds, numbers: &FieldRun<'_>, index: usize) -> i64
     requires { index < length numbers.now }
     ensures { slice_get (map (read_motion bounds.now.least bounds.now.greatest) numbers.now) index
         ≡ Some result }
 {
-    let number = numbers[index];
+    let number = numbers.number::<C>(index);
     if bounds.least <= number && number <= bounds.greatest {
         number
     } else {
@@ -288,11 +290,11 @@ fn motion(bounds: &Bounds, numbers: &[i64], index: usize) -> i64
 }
 
 /// The motions that these numbers carry, by rising index.
-pub(crate) fn motions(
+pub(crate) fn motions<C: FieldCodec>(
     layout: &Layout,
     item: usize,
     bounds: &Bounds,
-    numbers: &[i64],
+    numbers: &FieldRun<'_>,
     out: &mut Vec<Event>,
 )
     requires numbers { length numbers.now ≡ length (usages_at layout.now item) }
@@ -302,7 +304,13 @@ pub(crate) fn motions(
         (map (read_motion bounds.now.least bounds.now.greatest) numbers.now)) out.new }
 {
     for index in 0..numbers.len() {
-        tell_motion(layout, item, index, motion(bounds, numbers, index), out);
+        tell_motion(
+            layout,
+            item,
+            index,
+            motion::<C>(bounds, numbers, index),
+            out,
+        );
     }
 }
 

@@ -12,6 +12,7 @@ mod bits;
 mod bounds;
 mod differences;
 mod drops;
+mod elements;
 mod input;
 pub mod laws;
 mod read;

@@ -1,108 +1,16 @@
-//! What is kept of an item in a view once its numbers are read.
+//! The keys of an array that its elements name.
 
-ghost use Rattle.std.specs.Prelude.{◌≡◌, ◌<◌, ℕ, map, length, slice_get, Some, ◌≢◌, ◌≤◌, ◌*◌, ◌+ℤ◌, pos, ◌++◌, [], ◌∷◌, ℤ, List, MatchOption, not, true, ◌&&◌, int_le};
-ghost use Rattle.std.specs.List.{zip, list_any};
+ghost use Rattle.std.specs.Prelude.{◌≡◌, ◌<◌, ℕ, length, slice_get, Some, ◌≢◌, ◌≤◌, ◌*◌, ◌+ℤ◌, pos, ◌++◌, [], ◌∷◌, ℤ, List, MatchOption, not, true, ◌&&◌, int_le};
+ghost use Rattle.std.specs.List.{list_any};
 ghost use Rattle.hid_descriptor.specs.Usages.{usage_list, is_rollover};
 ghost use Rattle.hid_layout.specs.Controls.{is_key};
-ghost use Rattle.hid_views.specs.Reading.{array_keys, AreBounds, named_from, names_rollover, read_switch, read_value};
+ghost use Rattle.hid_views.specs.Reading.{array_keys, AreBounds, named_from, names_rollover};
 
 use crate::bounds::Bounds;
-use hid_cells::{Flags, Values};
+use hid_cells::Flags;
+use hid_fields::FieldCodec;
 use hid_layout::{MAX_KEYS, MainItem, Usage, usage_at, usage_count};
-
-fn number_at(numbers: &[i64], index: usize) -> i64
-    requires { index < length numbers.now }
-    ensures { slice_get numbers.now index ≡ Some result }
-{
-    numbers[index]
-}
-
-fn switch_at(before: &Flags, numbers: &[i64], index: usize) -> bool
-    requires before { index < length before.now }
-    requires numbers { index < length numbers.now }
-    ensures { slice_get (map (λ p. read_switch p.0 p.1) (zip before.now numbers.now)) index
-        ≡ Some result }
-{
-    let before = before.get(index);
-    let number = number_at(numbers, index);
-    read_switch(before, &number)
-}
-
-/// A switch, as an element's number leaves it.
-fn read_switch(before: bool, number: &i64) -> bool
-    ensures { result ≡ read_switch before number.now }
-{
-    if *number == 0 {
-        false
-    } else if *number == 1 {
-        true
-    } else {
-        before
-    }
-}
-
-/// Switches, as these numbers leave them.
-#[tactic(auto, using(crate::proofs::NamedLemmas::fills))]
-pub(crate) fn read_switches(before: &Flags, numbers: &[i64], after: &mut Flags)
-    requires numbers { length numbers.now ≡ length before.now }
-    requires after { length after.old ≡ length before.now }
-    ensures { after.new ≡ map (λ p. read_switch p.0 p.1) (zip before.now numbers.now) }
-{
-    for index in 0..before.len() {
-        after.set(index, switch_at(before, numbers, index));
-    }
-}
-
-fn value_at(
-    before: &Values,
-    has_null: bool,
-    bounds: &Bounds,
-    numbers: &[i64],
-    index: usize,
-) -> Option<i64>
-    requires before { index < length before.now }
-    requires numbers { index < length numbers.now }
-    ensures { slice_get (map (λ p. read_value has_null bounds.now.least bounds.now.greatest p.0 p.1)
-        (zip before.now numbers.now)) index ≡ Some result }
-{
-    let before = before.get(index);
-    let number = number_at(numbers, index);
-    read_value(before, has_null, bounds, &number)
-}
-
-/// A value, as an element's number leaves it.
-fn read_value(before: Option<i64>, has_null: bool, bounds: &Bounds, number: &i64) -> Option<i64>
-    ensures { result
-        ≡ read_value has_null bounds.now.least bounds.now.greatest before number.now }
-{
-    if bounds.least <= *number && *number <= bounds.greatest {
-        Some(*number)
-    } else if has_null {
-        None
-    } else {
-        before
-    }
-}
-
-/// Values, as these numbers leave them.
-#[tactic(auto, using(crate::proofs::NamedLemmas::fills))]
-pub(crate) fn read_values(
-    before: &Values,
-    has_null: bool,
-    bounds: &Bounds,
-    numbers: &[i64],
-    after: &mut Values,
-)
-    requires numbers { length numbers.now ≡ length before.now }
-    requires after { length after.old ≡ length before.now }
-    ensures { after.new
-        ≡ map (λ p. read_value has_null bounds.now.least bounds.now.greatest p.0 p.1)
-        (zip before.now numbers.now) }
-{
-    for index in 0..before.len() {
-        after.set(index, value_at(before, has_null, bounds, numbers, index));
-    }
-}
+use hid_parts::FieldRun;
 
 /// The place that an element of this number names, of so many.
 fn place_of(item: &MainItem, number: &i64, count: usize) -> Option<usize>
@@ -204,7 +112,11 @@ fn add_key(array: &KeyArray<'_>, count: usize, number: &i64, after: &mut Flags) 
 }
 
 /// The keys that these numbers name; false where one names ErrorRollOver.
-pub(crate) fn read_keys(array: &KeyArray<'_>, numbers: &[i64], after: &mut Flags) -> bool
+pub(crate) fn read_keys<C: FieldCodec>(
+    array: &KeyArray<'_>,
+    numbers: &FieldRun<'_>,
+    after: &mut Flags,
+) -> bool
     requires entries { length array.now.entries.now ≤ 64 }
     requires range { AreBounds array.now.item.now array.now.range.least array.now.range.greatest }
     requires after { length after.old
@@ -221,7 +133,7 @@ pub(crate) fn read_keys(array: &KeyArray<'_>, numbers: &[i64], after: &mut Flags
     let count = usage_count(array.entries);
     after.release_all();
     for k in 0..numbers.len() {
-        let number = number_at(numbers, k);
+        let number = numbers.number::<C>(k);
         if !add_key(array, count, &number, after) {
             return false;
         }

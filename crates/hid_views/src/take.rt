@@ -1,7 +1,6 @@
 //! What a report of any bytes makes of a view, and the events of it.
 
-ghost use Rattle.std.specs.Prelude.{All, pos, ◌≡◌, ◌<◌, ◌≤◌, ◌++◌, false, map, length, slice_get, Some, vec_capacity};
-ghost use Rattle.std.specs.List.{zip};
+ghost use Rattle.std.specs.Prelude.{All, pos, ◌≡◌, ◌<◌, ◌≤◌, ◌++◌, false, length, slice_get, Some};
 ghost use Rattle.hid_layout.specs.Controls.{items_of, form_at, head_of};
 ghost use Rattle.hid_layout.specs.Index.{plan_of};
 ghost use Rattle.hid_descriptor.specs.Usages.{usage_list};
@@ -10,23 +9,25 @@ ghost use Rattle.hid_layout.specs.Reports.{HasElements, IsLayout, report_bytes};
 ghost use Rattle.hid_views.specs.Appending.{HasSpace, Appends};
 ghost use Rattle.hid_views.specs.Taking.{IsFormOf, usages_in, keys_in, form_in, read_in, told_in, read_carried, motion_carried, read_by_report, told_by_report, read_view, read_events, ArePairs};
 ghost use Rattle.hid_cells.specs.Parts.{IsInput};
+ghost use Rattle.hid_cells.specs.declared.cell.Cell.{Cell as CellValue};
 ghost use Rattle.hid_layout.specs.declared.control.Controls.TheVariants as head;
 ghost use Rattle.hid_cells.specs.Cells.{HasRoom, FitsView};
-ghost use Rattle.hid_cells.specs.Events.{element_events, key_events, switch_events, value_events, HasPlaces};
+ghost use Rattle.hid_cells.specs.Events.{element_events, key_events, HasPlaces};
 ghost use Rattle.hid_cells.specs.Views.{HasNext, motions_of};
-ghost use Rattle.hid_views.specs.Reading.{array_keys, has_null, read_switch, read_value, read_keys, item_numbers};
+ghost use Rattle.hid_views.specs.Reading.{array_keys, read_keys, item_numbers};
 ghost use Rattle.hid_views.specs.Bits.{read_bits};
 ghost use Rattle.hid_parts.specs.Encoding.{IsData};
 ghost use Rattle.hid_layout.specs.declared.control.ControlKind.TheVariants as ControlKind;
 
 use crate::bits::{are_bits, take_bits};
 use crate::bounds::{Bounds, bounds_of};
-use crate::differences::{flag_changes, motions, switch_changes, value_changes};
-use crate::read::{KeyArray, read_keys as read_named_keys, read_switches, read_values};
-use hid_cells::{Cell, Event, Flags, Values, item_at};
+use crate::differences::{flag_changes, motions};
+use crate::elements::{Carriable, take_switches, take_values};
+use crate::read::{KeyArray, read_keys};
+use hid_cells::{Cell, Event, Flags, item_at};
 use hid_fields::FieldCodec;
 use hid_layout::{ControlKind, Controls, Layout, MainItem, Shape, Usage};
-use hid_parts::{MAX_NUMBERS, first_bit, get_all, is_data};
+use hid_parts::{FieldRun, first_bit, is_data};
 use std::mem;
 
 /// The bytes of an Input report, with its layout and its number there.
@@ -50,7 +51,7 @@ struct Listed<'a> {
 struct Carried<'a> {
     kind: ControlKind,
     bounds: Bounds,
-    numbers: &'a [i64],
+    numbers: &'a FieldRun<'a>,
 }
 
 /// What is kept of a layout's items once the bytes of a report, whose items stand at these places, are read, and what
@@ -58,7 +59,6 @@ struct Carried<'a> {
 pub(crate) fn take_items<C: FieldCodec>(
     received: &Received<'_>,
     places: &[usize],
-    numbers: &mut Vec<i64>,
     cells: &mut [Cell],
     nexts: &mut [Cell],
     out: &mut Vec<Event>,
@@ -70,12 +70,10 @@ pub(crate) fn take_items<C: FieldCodec>(
         ≡ length received.now.layout.now.items }
     requires whole { report_bytes received.now.layout.now received.now.report
         ≤ length received.now.bytes.now }
-    requires numbers { MAX_NUMBERS ≤ vec_capacity numbers.old }
     requires fits { FitsView (items_of received.now.layout.now) cells.old }
     requires pairs { ArePairs cells.old nexts.old }
     requires room { HasSpace out.old (read_events received.now.layout.now received.now.report
         received.now.bytes.now cells.old) }
-    ensures numbers { vec_capacity numbers.new ≡ vec_capacity numbers.old }
     ensures view { cells.new
         ≡ read_view received.now.layout.now received.now.report received.now.bytes.now cells.old }
     ensures pairs { ArePairs cells.new nexts.new }
@@ -84,7 +82,7 @@ pub(crate) fn take_items<C: FieldCodec>(
 {
     for place in places {
         let i = *place;
-        take_item::<C>(received, i, numbers, &mut cells[i], &mut nexts[i], out);
+        take_item::<C>(received, i, &mut cells[i], &mut nexts[i], out);
     }
 }
 
@@ -92,7 +90,6 @@ pub(crate) fn take_items<C: FieldCodec>(
 fn take_item<C: FieldCodec>(
     received: &Received<'_>,
     place: usize,
-    numbers: &mut Vec<i64>,
     cell: &mut Cell,
     next: &mut Cell,
     out: &mut Vec<Event>,
@@ -101,12 +98,10 @@ fn take_item<C: FieldCodec>(
     requires input { IsInput received.now.layout.now received.now.report }
     requires whole { report_bytes received.now.layout.now received.now.report
         ≤ length received.now.bytes.now }
-    requires numbers { MAX_NUMBERS ≤ vec_capacity numbers.old }
     requires held { HasRoom (head_of (form_at (items_of received.now.layout.now) place)) cell.old }
     requires next { HasNext cell.old next.old }
     requires room { HasSpace out.old (told_by_report received.now.layout.now received.now.report
         received.now.bytes.now place cell.old) }
-    ensures numbers { vec_capacity numbers.new ≡ vec_capacity numbers.old }
     ensures cell { cell.new
         ≡ read_by_report received.now.layout.now received.now.report received.now.bytes.now place
         cell.old }
@@ -122,7 +117,7 @@ fn take_item<C: FieldCodec>(
             place,
             item,
         };
-        take_fields::<C>(&listed, received.bytes, numbers, cell, next, out);
+        take_fields::<C>(&listed, received.bytes, cell, next, out);
     }
 }
 
@@ -130,7 +125,6 @@ fn take_item<C: FieldCodec>(
 fn take_fields<C: FieldCodec>(
     listed: &Listed<'_>,
     bytes: &[u8],
-    numbers: &mut Vec<i64>,
     cell: &mut Cell,
     next: &mut Cell,
     out: &mut Vec<Event>,
@@ -141,13 +135,11 @@ fn take_fields<C: FieldCodec>(
         listed.now.item.now }
     requires whole { report_bytes listed.now.layout.now listed.now.item.now.report
         ≤ length bytes.now }
-    requires numbers { MAX_NUMBERS ≤ vec_capacity numbers.old }
     requires held { HasRoom (head_of (form_in listed.now)) cell.old }
     requires next { HasNext cell.old next.old }
     requires room { HasSpace out.old (told_in listed.now cell.old
         (read_in listed.now cell.old (item_numbers listed.now.layout.now bytes.now
         listed.now.item.now)) (item_numbers listed.now.layout.now bytes.now listed.now.item.now)) }
-    ensures numbers { vec_capacity numbers.new ≡ vec_capacity numbers.old }
     ensures cell { cell.new
         ≡ read_in listed.now cell.old
         (item_numbers listed.now.layout.now bytes.now listed.now.item.now) }
@@ -160,9 +152,8 @@ fn take_fields<C: FieldCodec>(
     if are_bits(item) {
         take_pattern(listed, C::get(bytes, at, item.count), cell, out);
     } else {
-        let count = item.count as usize;
-        get_all::<C>(bytes, at, item.size, item.min < 0, count, numbers);
-        take_numbers(listed, numbers, cell, next, out);
+        let numbers = FieldRun::new(bytes, at, item.size, item.min < 0, item.count as usize);
+        take_numbers::<C>(listed, &numbers, cell, next, out);
     }
 }
 
@@ -184,9 +175,9 @@ fn take_pattern(listed: &Listed<'_>, pattern: u32, cell: &mut Cell, out: &mut Ve
 }
 
 /// What is kept of an item, as these numbers of its elements leave it, and what they tell.
-fn take_numbers(
+fn take_numbers<C: FieldCodec>(
     listed: &Listed<'_>,
-    numbers: &[i64],
+    numbers: &FieldRun<'_>,
     cell: &mut Cell,
     next: &mut Cell,
     out: &mut Vec<Event>,
@@ -218,11 +209,11 @@ fn take_numbers(
                 bounds: Bounds { least, greatest },
                 numbers,
             };
-            take_elements(listed, &carried, cell, next, out);
+            take_elements::<C>(listed, &carried, cell, out);
         }
         Controls::Keys { .. } => {
             let entries = listed.layout.entries(listed.place);
-            take_array(listed, entries, numbers, cell, next, out);
+            take_array::<C>(listed, entries, numbers, cell, next, out);
         }
     }
 }
@@ -248,113 +239,54 @@ fn controls_of(listed: &Listed<'_>) -> Controls
 }
 
 /// The elements of a variable item, as these numbers leave them, and what they tell.
-fn take_elements(
+#[tactic(auto, using(crate::proofs::ElementLemmas::nexts))]
+fn take_elements<C: FieldCodec>(
     listed: &Listed<'_>,
     carried: &Carried<'_>,
     cell: &mut Cell,
-    next: &mut Cell,
     out: &mut Vec<Event>,
 )
     requires numbers { length carried.now.numbers.now ≡ length (usages_in listed.now) }
     requires held { HasRoom (head.Elements carried.now.kind carried.now.bounds.least
         carried.now.bounds.greatest (length (usages_in listed.now))) cell.old }
-    requires next { HasNext cell.old next.old }
     requires room { HasSpace out.old (element_events listed.now.place
         (usages_in listed.now) cell.old (read_carried carried.now cell.old)
         ++ motions_of listed.now.place (usages_in listed.now) (motion_carried carried.now)) }
     ensures cell { cell.new ≡ read_carried carried.now cell.old }
-    ensures next { HasNext cell.new next.new }
+    ensures next { (next : CellValue) → HasNext cell.old next → HasNext cell.new next }
     ensures told { Appends out.old (element_events listed.now.place
         (usages_in listed.now) cell.old cell.new ++ motions_of listed.now.place
         (usages_in listed.now) (motion_carried carried.now)) out.new }
 {
+    let Listed { layout, place, .. } = *listed;
     match carried.kind {
         ControlKind::Switch => match cell {
-            Cell::Pressed(held) => match next {
-                Cell::Pressed(room) => take_switches(listed, carried.numbers, held, room, out),
-                Cell::Vacant | Cell::Holding(_) | Cell::Moved(_) | Cell::RolledOver(_) => {}
-            },
+            Cell::Pressed(held) => {
+                take_switches::<C>(layout, place, carried.numbers, held, out);
+            }
             Cell::Vacant | Cell::Holding(_) | Cell::Moved(_) | Cell::RolledOver(_) => {}
         },
         ControlKind::Value | ControlKind::NullValue => match cell {
-            Cell::Holding(held) => match next {
-                Cell::Holding(room) => take_values(listed, carried, held, room, out),
-                Cell::Vacant | Cell::Pressed(_) | Cell::Moved(_) | Cell::RolledOver(_) => {}
-            },
+            Cell::Holding(held) => {
+                let carriable = Carriable {
+                    has_null: carried.kind.has_null(),
+                    bounds: carried.bounds,
+                };
+                take_values::<C>(layout, place, &carriable, carried.numbers, held, out);
+            }
             Cell::Vacant | Cell::Pressed(_) | Cell::Moved(_) | Cell::RolledOver(_) => {}
         },
-        ControlKind::Relative => motions(
-            listed.layout,
-            listed.place,
-            &carried.bounds,
-            carried.numbers,
-            out,
-        ),
+        ControlKind::Relative => {
+            motions::<C>(layout, place, &carried.bounds, carried.numbers, out);
+        }
     }
 }
 
-/// Switches, as these numbers leave them, and what they tell.
-fn take_switches(
-    listed: &Listed<'_>,
-    numbers: &[i64],
-    held: &mut Flags,
-    next: &mut Flags,
-    out: &mut Vec<Event>,
-)
-    requires numbers { length numbers.now ≡ length (usages_in listed.now) }
-    requires held { length held.old ≡ length (usages_in listed.now) }
-    requires next { length next.old ≡ length (usages_in listed.now) }
-    requires room { HasSpace out.old (switch_events listed.now.place (usages_in listed.now) held.old
-        (map (λ p. read_switch p.0 p.1) (zip held.old numbers.now))) }
-    ensures held { held.new ≡ map (λ p. read_switch p.0 p.1) (zip held.old numbers.now) }
-    ensures held_len { length held.new ≡ length held.old }
-    ensures next_len { length next.new ≡ length held.old }
-    ensures told { Appends out.old (switch_events listed.now.place
-        (usages_in listed.now) held.old held.new) out.new }
-{
-    read_switches(held, numbers, next);
-    switch_changes(listed.layout, listed.place, held, next, out);
-    keep(held, next);
-}
-
-/// Values, as these numbers leave them, and what they tell.
-fn take_values(
-    listed: &Listed<'_>,
-    carried: &Carried<'_>,
-    held: &mut Values,
-    next: &mut Values,
-    out: &mut Vec<Event>,
-)
-    requires numbers { length carried.now.numbers.now ≡ length (usages_in listed.now) }
-    requires held { length held.old ≡ length (usages_in listed.now) }
-    requires next { length next.old ≡ length (usages_in listed.now) }
-    requires room { HasSpace out.old (value_events listed.now.place (usages_in listed.now) held.old
-        (map (λ p. read_value (has_null carried.now.kind) carried.now.bounds.least
-        carried.now.bounds.greatest p.0 p.1) (zip held.old carried.now.numbers.now))) }
-    ensures held { held.new
-        ≡ map (λ p. read_value (has_null carried.now.kind) carried.now.bounds.least
-        carried.now.bounds.greatest p.0 p.1) (zip held.old carried.now.numbers.now) }
-    ensures held_len { length held.new ≡ length held.old }
-    ensures next_len { length next.new ≡ length held.old }
-    ensures told { Appends out.old (value_events listed.now.place
-        (usages_in listed.now) held.old held.new) out.new }
-{
-    read_values(
-        held,
-        carried.kind.has_null(),
-        &carried.bounds,
-        carried.numbers,
-        next,
-    );
-    value_changes(listed.layout, listed.place, held, next, out);
-    mem::swap(held, next);
-}
-
 /// The keys of an array, as these numbers leave them, and what they tell.
-fn take_array(
+fn take_array<C: FieldCodec>(
     listed: &Listed<'_>,
     entries: &[(Usage, Usage)],
-    numbers: &[i64],
+    numbers: &FieldRun<'_>,
     cell: &mut Cell,
     next: &mut Cell,
     out: &mut Vec<Event>,
@@ -378,7 +310,7 @@ fn take_array(
     match cell {
         Cell::Pressed(held) => match next {
             Cell::Pressed(named) => {
-                take_flags(listed, entries, numbers, held, named, out);
+                take_flags::<C>(listed, entries, numbers, held, named, out);
             }
             Cell::Vacant | Cell::Holding(_) | Cell::Moved(_) | Cell::RolledOver(_) => {}
         },
@@ -388,10 +320,10 @@ fn take_array(
 
 /// The held keys of an array, as these numbers leave them, and what they tell. Where one names ErrorRollOver, the keys
 /// stay (HID 1.11, appendix C).
-fn take_flags(
+fn take_flags<C: FieldCodec>(
     listed: &Listed<'_>,
     entries: &[(Usage, Usage)],
-    numbers: &[i64],
+    numbers: &FieldRun<'_>,
     held: &mut Flags,
     named: &mut Flags,
     out: &mut Vec<Event>,
@@ -418,7 +350,7 @@ fn take_flags(
         entries,
         range: bounds_of(listed.item),
     };
-    if read_named_keys(&array, numbers, named) {
+    if read_keys::<C>(&array, numbers, named) {
         flag_changes(listed.layout, listed.place, held, named, out);
         keep(held, named);
     }

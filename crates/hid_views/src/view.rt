@@ -18,7 +18,7 @@ use hid_cells::{
 };
 use hid_fields::FieldCodec;
 use hid_layout::{ControlId, Layout};
-use hid_parts::{MAX_NUMBERS, Shown};
+use hid_parts::Shown;
 use std::alloc::Global;
 use std::marker::Model;
 
@@ -29,12 +29,10 @@ pub struct View {
     cells: Vec<Cell>,
     /// Room for what the next report makes of the cells.
     nexts: Vec<Cell>,
-    /// Room for the numbers of an item.
-    numbers: Vec<i64>,
 }
 
 impl Model for View {
-    ghost use Rattle.std.specs.Prelude.{List, ◌≤◌, vec_capacity};
+    ghost use Rattle.std.specs.Prelude.{List};
     ghost use Rattle.hid_cells.specs.declared.cell.Cell.{Cell};
 
     ghost Value = { List Cell };
@@ -42,9 +40,8 @@ impl Model for View {
     ghost view = { λ v. v.cells.items };
 
     ghost use Rattle.hid_views.specs.Taking.{ArePairs};
-    ghost use Rattle.hid_parts.specs.declared.numbers.TheConstants.{MAX_NUMBERS};
 
-    ghost invariant = { λ v. ArePairs v.cells.items v.nexts.items × (MAX_NUMBERS ≤ vec_capacity v.numbers) };
+    ghost invariant = { λ v. ArePairs v.cells.items v.nexts.items };
 }
 
 impl View {
@@ -53,16 +50,8 @@ impl View {
         ensures initial { IfOk result (λ view. view ≡ blank (items_of layout.now)) }
         ensures fits { IfOk result (λ view. FitsView (items_of layout.now) view) }
     {
-        let (cells, nexts) = match blank_pairs(alloc, layout) {
-            Ok(pairs) => pairs,
-            Err(_) => return Err(MemoryFault),
-        };
-        match Vec::with_capacity(alloc, MAX_NUMBERS) {
-            Ok(numbers) => Ok(View {
-                cells,
-                nexts,
-                numbers,
-            }),
+        match blank_pairs(alloc, layout) {
+            Ok((cells, nexts)) => Ok(View { cells, nexts }),
             Err(_) => Err(MemoryFault),
         }
     }
@@ -93,14 +82,7 @@ impl View {
                     report,
                     bytes,
                 };
-                take_items::<C>(
-                    &received,
-                    places,
-                    &mut self.numbers,
-                    &mut self.cells,
-                    &mut self.nexts,
-                    out,
-                );
+                take_items::<C>(&received, places, &mut self.cells, &mut self.nexts, out);
                 Ok(())
             }
             Err(fault) => Err(fault),

@@ -131,6 +131,7 @@ impl<R: Requests> DevControl<R> {
     }
 
     // Decides on a request.
+    #[inline(never)] // no other packet makes room for what a write will bring
     fn decide(&mut self, setup: &Setup)
         ensures decided { (said : Bool) × R.prepare_gives self.old.requests setup.now said self.new.requests
             × (self.new.stage ≡ begun said (reads setup.now) setup.now.length) }

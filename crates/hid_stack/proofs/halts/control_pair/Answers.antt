@@ -53,7 +53,7 @@ returns-clause-events c =
     let told = cut_events (items_of (core_of c.args.device.now).layout) (station_of (core_of c.args.device.now) c.args.host.now.phase) in
     let is_open : c.is_some-is_open.result ≡ is_some c.control_step-result.new.control.requests.current = c.is_some-is_open.ensures ∙ ap is_some c.open_round.ensures ∙ shown_open c.control_step-result.new.control.requests in
     c.keep_if_cut.ensures.events
-    ∙ ap (kept_if c.may_cut-may_cut.result c.is_some-is_open.result) c.tell_cut.ensures.events
+    ∙ c.tell_cut_if.ensures.events c.is_some-is_open.result
     ∙ ap (λ (b : Bool). kept_if b c.is_some-is_open.result told) c.may_cut-may_cut.ensures
     ∙ ap (λ (b : Bool). kept_if (may_cut (running c.args.host.now.transfer)) b told) is_open
     ∙ kept_at_try c.args.fate c.args.device.now c.control_step-result.new.control c.args.host.now c.control_step-result.new.self (running c.args.host.now.transfer) c.control_step-result.result step c.requires.together

@@ -8,7 +8,7 @@ use Rattle.hid_views.proofs.EventLemmas.{all_appended, each-from, each_end, room
 use Rattle.hid_views.proofs.differences.motions.Goals as goal
 
 pub tell_motion-requires-clause-room : goal.tell_motion-requires-clause-room
-tell_motion-requires-clause-room c = λ usage usage_here.
+tell_motion-requires-clause-room g c = λ usage usage_here.
     let all = map (read_motion c.args.bounds.now.least c.args.bounds.now.greatest) c.args.numbers.now in
     let by = to_z w64 (of_z w64 c.motion.result) in
     let same : by ≡ c.motion.result = search (rules, to_z-of_z) in
@@ -16,7 +16,7 @@ tell_motion-requires-clause-room c = λ usage usage_here.
     room_for _ _ _ _ _ (each-from (λ j u m. motion_event (at c.args.item j) u m) (usages_at c.args.layout.now c.args.item) all c.loop-index.index usage by usage_here here) c.loop-index.invariant.room
 
 pub loop-index-preserved : goal.loop-index-preserved
-loop-index-preserved c =
+loop-index-preserved g c =
     let u = got (usages_at c.args.layout.now c.args.item) c.loop-index.index (omega arith) in
     let all = map (read_motion c.args.bounds.now.least c.args.bounds.now.greatest) c.args.numbers.now in
     let by = to_z w64 (of_z w64 c.motion.result) in
@@ -30,6 +30,6 @@ loop-index-preserved c =
     }
 
 pub returns : goal.returns
-returns c =
+returns g c =
     let all = map (read_motion c.args.bounds.now.least c.args.bounds.now.greatest) c.args.numbers.now in
     all_appended _ _ _ _ (each_end (λ j u m. motion_event (at c.args.item j) u m) (usages_at c.args.layout.now c.args.item) (drop c.loop-index.index all) c.loop-index.index (omega arith)) c.loop-index.invariant.events c.loop-index.invariant.same_room

@@ -4,7 +4,7 @@ use Rattle.hid_cells.specs.Events.{usages_at, at, motion_event, motion_events, e
 use Rattle.hid_views.proofs.differences.motions.Given as goal
 
 abbrev pub invariant-loop-index : goal.invariant-loop-index
-invariant-loop-index l =
+invariant-loop-index g l =
     let us = usages_at l.layout l.item in
     let left = each (λ j u m. motion_event (at l.item j) u m) l.index (drop l.index us) (drop l.index (map (read_motion l.bounds.least l.bounds.greatest) l.numbers)) in
     record {

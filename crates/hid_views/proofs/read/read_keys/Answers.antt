@@ -11,18 +11,18 @@ use Rattle.hid_views.proofs.PressLemmas.{is_not, is_so}
 use Rattle.hid_views.proofs.read.read_keys.Goals as goal
 
 pub loop-k-init : goal.loop-k-init
-loop-k-init c = record {
+loop-k-init g c = record {
   so_far = c.release_all.ensures ∙ ap (λ n. replicate n false) c.requires.after ∙ named_none c.args.array.now.item.now 0 (array_keys c.args.array.now.item.now (usage_list c.args.array.now.entries.now));
   len = ap length c.release_all.ensures ∙ length-replicate (length c.args.after.now) false;
   none = refl;
 }
 
 pub loop-k-preserved : goal.loop-k-preserved
-loop-k-preserved c =
+loop-k-preserved g c =
     let us = usage_list c.args.array.now.entries.now in
-    let v = to_z w64 (of_z w64 c.number_at-number.result) in
-    let number : v ≡ c.number_at-number.result = search (rules, to_z-of_z) in
-    let here : slice_get c.args.numbers.now c.loop-k.k ≡ Some v = c.number_at-number.ensures ∙ ap (λ (n : ℤ). Some n) (sym number) in
+    let v = to_z w64 (of_z w64 c.number-number.result) in
+    let number : v ≡ c.number-number.result = search (rules, to_z-of_z) in
+    let here : slice_get c.args.numbers.now c.loop-k.k ≡ Some v = c.number-number.ensures ∙ ap (λ (n : ℤ). Some n) (sym number) in
     let on : c.add_key.result ≡ true = search rules in
     let off : names_rollover c.args.array.now.item.now us v ≡ false = is_not (names_rollover c.args.array.now.item.now us v) c.add_key.result c.add_key.ensures.rolls on in
     record {
@@ -32,11 +32,11 @@ loop-k-preserved c =
     }
 
 pub returns-then-not-add_key-clause-rolls : goal.returns-then-not-add_key-clause-rolls
-returns-then-not-add_key-clause-rolls c =
+returns-then-not-add_key-clause-rolls g c =
     let us = usage_list c.args.array.now.entries.now in
-    let v = to_z w64 (of_z w64 c.number_at-number.result) in
-    let number : v ≡ c.number_at-number.result = search (rules, to_z-of_z) in
-    let here : slice_get c.args.numbers.now c.loop-k.k ≡ Some v = c.number_at-number.ensures ∙ ap (λ (n : ℤ). Some n) (sym number) in
+    let v = to_z w64 (of_z w64 c.number-number.result) in
+    let number : v ≡ c.number-number.result = search (rules, to_z-of_z) in
+    let here : slice_get c.args.numbers.now c.loop-k.k ≡ Some v = c.number-number.ensures ∙ ap (λ (n : ℤ). Some n) (sym number) in
     let no : c.add_key.result ≡ false = search rules in
     let on : names_rollover c.args.array.now.item.now us v ≡ true = is_so (names_rollover c.args.array.now.item.now us v) c.add_key.result c.add_key.ensures.rolls no in
     ap not (sym (sym c.loop-k.invariant.none ∙ any_from_hit (names_rollover c.args.array.now.item.now us) c.args.numbers.now c.loop-k.k v here on))

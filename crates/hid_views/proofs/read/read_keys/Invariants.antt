@@ -5,7 +5,7 @@ use Rattle.hid_views.specs.Reading.{array_keys, named_from, names_rollover}
 use Rattle.hid_views.proofs.read.read_keys.Given as goal
 
 abbrev pub invariant-loop-k : goal.invariant-loop-k
-invariant-loop-k l =
+invariant-loop-k g l =
     let us = usage_list l.array.entries.now in
     record {
       so_far : l.after ≡ named_from l.array.item.now (take l.k l.numbers) 0 (array_keys l.array.item.now us);

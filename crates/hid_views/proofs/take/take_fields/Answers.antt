@@ -15,34 +15,20 @@ use Rattle.hid_views.proofs.take.take_fields.Goals as goal
 pub are_bits-requires : goal.are_bits-requires
 are_bits-requires g c = c.requires.layout.elements c.args.listed.now.place c.args.listed.now.item.now c.requires.data.listed c.requires.data.no_padding
 
-pub get_all-requires-clause-some : goal.get_all-requires-clause-some
-get_all-requires-clause-some g c = (c.requires.layout.elements c.args.listed.now.place c.args.listed.now.item.now c.requires.data.listed c.requires.data.no_padding).some_bits
-
-pub get_all-requires-clause-width : goal.get_all-requires-clause-width
-get_all-requires-clause-width g c = (c.requires.layout.elements c.args.listed.now.place c.args.listed.now.item.now c.requires.data.listed c.requires.data.no_padding).narrow
-
-pub get_all-requires-clause-few : goal.get_all-requires-clause-few
-get_all-requires-clause-few g c = (c.requires.layout.elements c.args.listed.now.place c.args.listed.now.item.now c.requires.data.listed c.requires.data.no_padding).few
-
-pub get_all-requires-clause-inside : goal.get_all-requires-clause-inside
-get_all-requires-clause-inside g c =
+pub new-numbers-requires : goal.new-numbers-requires
+new-numbers-requires g c =
+    let elements = c.requires.layout.elements c.args.listed.now.place c.args.listed.now.item.now c.requires.data.listed c.requires.data.no_padding in
     let inside = place_inside c.args.listed.now.layout.now c.args.listed.now.item.now.report c.args.listed.now.place c.args.listed.now.item.now c.requires.layout c.requires.data in
-    omega (arith, c.first_bit.ensures.value, c.requires.whole)
-
-pub get_all-requires-clause-short : goal.get_all-requires-clause-short
-get_all-requires-clause-short g c =
-    let inside = place_inside c.args.listed.now.layout.now c.args.listed.now.item.now.report c.args.listed.now.place c.args.listed.now.item.now c.requires.layout c.requires.data in
-    omega (arith, c.first_bit.ensures.value, c.requires.layout.short c.args.listed.now.item.now.report)
-
-pub get_all-requires-clause-room : goal.get_all-requires-clause-room
-get_all-requires-clause-room g c =
-    let few = (c.requires.layout.elements c.args.listed.now.place c.args.listed.now.item.now c.requires.data.listed c.requires.data.no_padding).few in
-    omega (arith, few, c.requires.numbers)
+    record {
+      some = elements.some_bits;
+      narrow = elements.narrow;
+      inside = omega (arith, c.first_bit.ensures.value, c.requires.whole);
+      short = omega (arith, c.first_bit.ensures.value, c.requires.layout.short c.args.listed.now.item.now.report);
+    }
 
 pub take_numbers-requires-clause-numbers : goal.take_numbers-requires-clause-numbers
 take_numbers-requires-clause-numbers g c =
-    let same : length c.deref.result.now ≡ length c.get_all.new.numbers.items = search rules in
-    same ∙ ap length c.get_all.ensures.items ∙ numbers_in-length c.args.bytes.now _ c.args.listed.now.item.now.size _ c.args.listed.now.item.now.count
+    ap length c.new-numbers.ensures ∙ numbers_in-length c.args.bytes.now _ c.args.listed.now.item.now.size _ c.args.listed.now.item.now.count
 
 pub get-requires-clause-some : goal.get-requires-clause-some
 get-requires-clause-some g c = (c.requires.layout.elements c.args.listed.now.place c.args.listed.now.item.now c.requires.data.listed c.requires.data.no_padding).some

@@ -49,7 +49,6 @@ loop-place-preserved g c =
         fits = room_left _ _ _ _ _ _ _ step next.holds.fits c.take_item.ensures.told.len c.take_item.ensures.told.room;
       });
       pairs = pairs_set c.loop-place.cells c.loop-place.nexts (get_or c.args.places.now c.loop-place.place-index 0) c.take_item.new.cell c.take_item.new.next c.loop-place.invariant.pairs (omega (arith, within, c.loop-place.auto.cells)) c.take_item.ensures.next;
-      numbers = c.take_item.ensures.numbers ∙ c.loop-place.invariant.numbers;
       same_room = c.take_item.ensures.told.room ∙ c.loop-place.invariant.same_room;
     }
 

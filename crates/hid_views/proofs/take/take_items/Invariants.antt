@@ -8,6 +8,5 @@ abbrev pub invariant-loop-place : goal.invariant-loop-place
 invariant-loop-place g l = record {
   along : IsAlong l.received.layout.now l.received.report l.place-index (HasTaken l.received.layout.now l.received.report l.received.bytes.now l.fn.cells l.cells l.fn.out.items l.out.items (vec_len l.out) (vec_capacity l.out));
   pairs : ArePairs l.cells l.nexts;
-  numbers : vec_capacity l.numbers ≡ vec_capacity l.fn.numbers;
   same_room : vec_capacity l.out ≡ vec_capacity l.fn.out;
 }

@@ -1,0 +1,160 @@
+//! The elements of a variable item, as the numbers of a report leave them, one by one, and what they tell.
+
+ghost use Rattle.std.specs.Prelude.{◌≡◌, ◌<◌, Bool, Option, ℤ, map, length, slice_get, slice_set, Some};
+ghost use Rattle.std.specs.List.{zip};
+ghost use Rattle.hid_descriptor.specs.declared.usage.Usage.{Usage as UsageValue};
+ghost use Rattle.hid_cells.specs.Events.{at, usages_at, switch_event, switch_events, value_event, value_events};
+ghost use Rattle.hid_views.specs.Appending.{HasSpace, Appends};
+ghost use Rattle.hid_views.specs.Reading.{read_switch, read_value};
+
+use crate::bounds::Bounds;
+use crate::differences::{tell_switch, tell_value};
+use hid_cells::{Event, Flags, Values};
+use hid_fields::FieldCodec;
+use hid_layout::Layout;
+use hid_parts::FieldRun;
+
+/// A switch, as an element's number leaves it.
+fn read_switch(before: bool, number: &i64) -> bool
+    ensures { result ≡ read_switch before number.now }
+{
+    if *number == 0 {
+        false
+    } else if *number == 1 {
+        true
+    } else {
+        before
+    }
+}
+
+/// The switch at an index, as an element's number leaves it, and what it tells.
+fn take_switch(
+    layout: &Layout,
+    item: usize,
+    index: usize,
+    number: &i64,
+    held: &mut Flags,
+    out: &mut Vec<Event>,
+)
+    requires index { index < length (usages_at layout.now item) }
+    requires held { length held.old ≡ length (usages_at layout.now item) }
+    requires room { (usage : UsageValue) (before : Bool)
+        → slice_get (usages_at layout.now item) index ≡ Some usage
+        → slice_get held.old index ≡ Some before → HasSpace out.old
+        (switch_event (at item index) usage before (read_switch before number.now)) }
+    ensures held { (before : Bool) → slice_get held.old index ≡ Some before
+        → held.new ≡ slice_set held.old index (read_switch before number.now) }
+    ensures told { (usage : UsageValue) (before : Bool)
+        → slice_get (usages_at layout.now item) index ≡ Some usage
+        → slice_get held.old index ≡ Some before → Appends out.old
+        (switch_event (at item index) usage before (read_switch before number.now)) out.new }
+{
+    let before = held.get(index);
+    let after = read_switch(before, number);
+    tell_switch(layout, item, index, before, after, out);
+    held.set(index, after);
+}
+
+/// Switches, as these numbers leave them, and what they tell.
+pub(crate) fn take_switches<C: FieldCodec>(
+    layout: &Layout,
+    item: usize,
+    numbers: &FieldRun<'_>,
+    held: &mut Flags,
+    out: &mut Vec<Event>,
+)
+    requires numbers { length numbers.now ≡ length (usages_at layout.now item) }
+    requires held { length held.old ≡ length (usages_at layout.now item) }
+    requires room { HasSpace out.old (switch_events item (usages_at layout.now item) held.old
+        (map (λ p. read_switch p.0 p.1) (zip held.old numbers.now))) }
+    ensures held { held.new ≡ map (λ p. read_switch p.0 p.1) (zip held.old numbers.now) }
+    ensures len { length held.new ≡ length held.old }
+    ensures told { Appends out.old (switch_events item (usages_at layout.now item) held.old
+        (map (λ p. read_switch p.0 p.1) (zip held.old numbers.now))) out.new }
+{
+    for index in 0..held.len() {
+        let number = numbers.number::<C>(index);
+        take_switch(layout, item, index, &number, held, out);
+    }
+}
+
+/// A value, as an element's number leaves it.
+fn read_value(before: Option<i64>, has_null: bool, bounds: &Bounds, number: &i64) -> Option<i64>
+    ensures { result
+        ≡ read_value has_null bounds.now.least bounds.now.greatest before number.now }
+{
+    if bounds.least <= *number && *number <= bounds.greatest {
+        Some(*number)
+    } else if has_null {
+        None
+    } else {
+        before
+    }
+}
+
+/// What the elements of a variable item can carry.
+#[derive(Clone, Copy)]
+pub(crate) struct Carriable {
+    pub(crate) has_null: bool,
+    pub(crate) bounds: Bounds,
+}
+
+/// The value at an index, as an element's number leaves it, and what it tells.
+fn take_value(
+    layout: &Layout,
+    item: usize,
+    index: usize,
+    carriable: &Carriable,
+    number: &i64,
+    held: &mut Values,
+    out: &mut Vec<Event>,
+)
+    requires index { index < length (usages_at layout.now item) }
+    requires held { length held.old ≡ length (usages_at layout.now item) }
+    requires room { (usage : UsageValue) (before : Option ℤ)
+        → slice_get (usages_at layout.now item) index ≡ Some usage
+        → slice_get held.old index ≡ Some before → HasSpace out.old
+        (value_event (at item index) usage before (read_value carriable.now.has_null
+        carriable.now.bounds.least carriable.now.bounds.greatest before number.now)) }
+    ensures held { (before : Option ℤ) → slice_get held.old index ≡ Some before
+        → held.new ≡ slice_set held.old index (read_value carriable.now.has_null
+        carriable.now.bounds.least carriable.now.bounds.greatest before number.now) }
+    ensures told { (usage : UsageValue) (before : Option ℤ)
+        → slice_get (usages_at layout.now item) index ≡ Some usage
+        → slice_get held.old index ≡ Some before → Appends out.old
+        (value_event (at item index) usage before (read_value carriable.now.has_null
+        carriable.now.bounds.least carriable.now.bounds.greatest before number.now)) out.new }
+{
+    let before = held.get(index);
+    let after = read_value(before, carriable.has_null, &carriable.bounds, number);
+    tell_value(layout, item, index, before, after, out);
+    held.set(index, after);
+}
+
+/// Values, as these numbers leave them, and what they tell.
+pub(crate) fn take_values<C: FieldCodec>(
+    layout: &Layout,
+    item: usize,
+    carriable: &Carriable,
+    numbers: &FieldRun<'_>,
+    held: &mut Values,
+    out: &mut Vec<Event>,
+)
+    requires numbers { length numbers.now ≡ length (usages_at layout.now item) }
+    requires held { length held.old ≡ length (usages_at layout.now item) }
+    requires room { HasSpace out.old (value_events item (usages_at layout.now item) held.old
+        (map (λ p. read_value carriable.now.has_null carriable.now.bounds.least
+        carriable.now.bounds.greatest p.0 p.1) (zip held.old numbers.now))) }
+    ensures held { held.new ≡ map (λ p. read_value carriable.now.has_null
+        carriable.now.bounds.least carriable.now.bounds.greatest p.0 p.1)
+        (zip held.old numbers.now) }
+    ensures len { length held.new ≡ length held.old }
+    ensures told { Appends out.old (value_events item (usages_at layout.now item) held.old
+        (map (λ p. read_value carriable.now.has_null carriable.now.bounds.least
+        carriable.now.bounds.greatest p.0 p.1) (zip held.old numbers.now))) out.new }
+{
+    for index in 0..held.len() {
+        let number = numbers.number::<C>(index);
+        take_value(layout, item, index, carriable, &number, held, out);
+    }
+}
