@@ -2,3 +2,4 @@ pub mod WordLemmas
 pub mod PartLemmas
 pub mod NumberLemmas
 mod Vectors
+pub mod ShortLemmas

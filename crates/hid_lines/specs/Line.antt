@@ -1,5 +1,5 @@
 -- What a line says (our choice: the script language of docs/SCRIPT.md).
-use Rattle.std.specs.Prelude.{◌≡◌, ◌⊎◌, ◌==◌, ℕ, Bool, true, false, List, [], ◌∷◌, length, nat_lt, slice_index, Option, None, Some, Result, Ok, Err, MatchResult, codes, if◌then◌else◌}
+use Rattle.std.specs.Prelude.{◌≡◌, ◌⊎◌, ◌==◌, ℕ, List, [], ◌∷◌, length, nat_lt, slice_index, Option, None, Some, Result, Ok, Err, MatchResult, codes, if◌then◌else◌}
 use Rattle.hid_device.specs.declared.config.Boot.{Boot}
 use Rattle.hid_host.specs.declared.phase.Start.{Start}
 use Rattle.hid_lines.specs.declared.line.Keyword.{Keyword}
@@ -20,14 +20,6 @@ keyword_of = look_up (
     ∷ (codes "set", keywords.Set) ∷ (codes "move", keywords.Move) ∷ (codes "frame", keywords.Frame)
     ∷ (codes "poll", keywords.Poll) ∷ (codes "control", keywords.Control) ∷ (codes "begin", keywords.Begin)
     ∷ (codes "reset", keywords.Reset) ∷ (codes "halt", keywords.Halt) ∷ [])
-
--- the lines that may have many bytes of hex words
-abbrev pub may_be_long : Keyword → Bool
-may_be_long keywords.Layout = true
-may_be_long keywords.Values = true
-may_be_long keywords.Device = true
-may_be_long keywords.Begin = true
-may_be_long _ = false
 
 -- a device and its descriptor: START and KIND are looked at before the hex words
 abbrev pub attachment : Option (Start × Boot) → List Word → Result Line LineFault

@@ -14,7 +14,7 @@
 //!   values 0                             BadHex
 //! ```
 //! The rule to know: a line is read without its end, and alone: what came before it doesn't change what it says.
-//! [`parse_line`] gives exactly what the definition `meaning_of` says (`exact`), and takes no memory.
+//! Most lines are short: [`read_short`] reads them into a smaller room. [`parse_line`] gives exactly what the definition `meaning_of` says (`exact`), and takes no memory.
 #![tactic(auto)]
 
 mod arguments;
@@ -22,9 +22,11 @@ mod fault;
 mod line;
 mod numbers;
 mod requests;
+mod short;
 mod words;
 
 pub use fault::LineFault;
 pub use line::{HEX_LIMIT, LINE_LIMIT, Line, parse_line, says_nothing};
 pub use numbers::read_number;
+pub use short::{ShortLine, read_short};
 pub use words::words_of_line;

@@ -2,15 +2,14 @@
 
 ghost use Rattle.std.specs.Prelude.{◌≡◌, ◌≤◌, true, Err, IsTrue, length};
 ghost use Rattle.hid_lines.specs.Arguments.{with_bytes};
+ghost use Rattle.hid_lines.specs.Short.{may_be_long};
 ghost use Rattle.hid_lines.specs.Words.{hex_of, words_of};
-ghost use Rattle.hid_lines.specs.Line.{Gives, keyword_of, may_be_long, meaning_of, words_said, said_by, device_said};
+ghost use Rattle.hid_lines.specs.Line.{Gives, keyword_of, meaning_of, words_said, said_by, device_said};
 
-use super::arguments::{
-    read_boot, read_control, read_frame, read_move, read_one_device, read_poll, read_set,
-    read_start,
-};
+use super::arguments::{read_boot, read_start};
 use super::fault::LineFault;
 use super::requests::read_begin;
+use super::short::read_short_words;
 use super::words::{first_word, look_up, no_blank, read_hex};
 use arrayvec::ArrayVec;
 use hid_descriptor::Usage;
@@ -103,7 +102,7 @@ pub enum Line {
 }
 
 #[derive(Clone, Copy, Debug)]
-enum Keyword {
+pub(crate) enum Keyword {
     Layout,
     Values,
     Device,
@@ -120,7 +119,7 @@ enum Keyword {
     Halt,
 }
 
-fn read_keyword(word: &[u8]) -> Option<Keyword>
+pub(crate) fn read_keyword(word: &[u8]) -> Option<Keyword>
     ensures { result ≡ keyword_of word.now }
 {
     match word.len() {
@@ -210,7 +209,7 @@ fn read_words(text: &[u8]) -> Result<Line, LineFault>
     }
 }
 
-#[tactic(auto, unfolding(crate::specs::Line::said_by))]
+#[tactic(auto, using(crate::proofs::ShortLemmas::short_lines))]
 fn read_arguments(keyword: Keyword, text: &[u8]) -> Result<Line, LineFault>
     requires { length text.now ≤ 1024 }
     ensures { result ≡ said_by keyword (words_of text.now) }
@@ -219,46 +218,10 @@ fn read_arguments(keyword: Keyword, text: &[u8]) -> Result<Line, LineFault>
         Keyword::Layout | Keyword::Values | Keyword::Device | Keyword::Begin => {
             read_long(keyword, text)
         }
-        Keyword::Press => {
-            let (dev, usage) = read_control(text).ok_or(LineFault::Syntax)?;
-            Ok(Line::Press { dev, usage })
-        }
-        Keyword::Release => {
-            let (dev, usage) = read_control(text).ok_or(LineFault::Syntax)?;
-            Ok(Line::Release { dev, usage })
-        }
-        Keyword::Null => {
-            let (dev, usage) = read_control(text).ok_or(LineFault::Syntax)?;
-            Ok(Line::Null { dev, usage })
-        }
-        Keyword::Set => {
-            let (dev, usage, value) = read_set(text).ok_or(LineFault::Syntax)?;
-            Ok(Line::Set { dev, usage, value })
-        }
-        Keyword::Move => {
-            let (dev, usage, by) = read_move(text).ok_or(LineFault::Syntax)?;
-            Ok(Line::Move { dev, usage, by })
-        }
-        Keyword::Frame => {
-            let count = read_frame(text).ok_or(LineFault::Syntax)?;
-            Ok(Line::Frame { count })
-        }
-        Keyword::Poll => {
-            let (dev, fate, count) = read_poll(text).ok_or(LineFault::Syntax)?;
-            Ok(Line::Poll { dev, fate, count })
-        }
-        Keyword::Control => {
-            let (dev, fate, count) = read_poll(text).ok_or(LineFault::Syntax)?;
-            Ok(Line::Control { dev, fate, count })
-        }
-        Keyword::Reset => {
-            let dev = read_one_device(text).ok_or(LineFault::Syntax)?;
-            Ok(Line::Reset { dev })
-        }
-        Keyword::Halt => {
-            let dev = read_one_device(text).ok_or(LineFault::Syntax)?;
-            Ok(Line::Halt { dev })
-        }
+        _ => match read_short_words(keyword, text) {
+            Some(short) => Ok(Line::of(short)),
+            None => Err(LineFault::Syntax),
+        },
     }
 }
 

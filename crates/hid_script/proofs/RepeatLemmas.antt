@@ -67,3 +67,8 @@ last_time n count Once session now next other x y cause (Err e) below h k is =
 -- as many times as were asked for
 pub all_times : (n count : ℕ) (Once : Session → Outcome → Type 0) (session now : Session) (x : List ℕ) → n ≡ count → Repeats n Once session (accepted x now) → Repeats count Once session (accepted x now)
 all_times n count Once session now x same h = subst (λ m. Repeats m Once session (accepted x now)) same h
+
+-- a part that is told once alone
+pub once_alone : (Once : Session → Outcome → Type 0) (session next : Session) (y : List ℕ) (r : Result (Unit {0}) Cause) → WritesOnce (Once session) y r next → Writes (Repeats 1 Once session) (Begins 1 Once session) y r next
+once_alone Once session next y (Ok u) told = one_more 0 Once session session next [] y (no_times Once session) told
+once_alone Once session next y (Err cause) told = last_time 0 1 Once session session next next [] y cause (Err cause) (omega arith) (no_times Once session) told refl

@@ -1,5 +1,5 @@
 -- A line tells one thing, and begins with a front of it.
-use Rattle.std.proofs.Common.{◌≡◌, ℕ, zero, suc, ◌≤◌, List, [], ◌∷◌, ◌++◌, length, refl, sym, ap, ◌∙◌, subst, inl, inr, arith, append_assoc, Option, Some, Result, Ok, Err}
+use Rattle.std.proofs.Common.{◌≡◌, true, ℕ, zero, suc, ◌≤◌, List, [], ◌∷◌, ◌++◌, length, refl, sym, ap, ◌∙◌, subst, inl, inr, arith, append_assoc, Option, Some, Result, Ok, Err}
 use Rattle.std.specs.Prelude.{slice_get}
 use Rattle.hid_descriptor.specs.declared.fault.LayoutFault.{LayoutFault}
 use Rattle.hid_descriptor.specs.declared.usage.Usage.{Usage}
@@ -22,6 +22,7 @@ use Rattle.hid_lines.specs.declared.fault.LineFault.{LineFault}
 use Rattle.hid_lines.specs.declared.line.Line.{Line}
 use Rattle.hid_lines.specs.declared.line.Line.TheVariants as line
 use Rattle.hid_lines.specs.Line.{meaning_of}
+use Rattle.hid_lines.specs.Short.{is_long}
 use Rattle.hid_script.specs.Output.{IsFront}
 use Rattle.hid_script.specs.Session.{Session, Outcome, accepted, after_text, Joins, Repeats}
 use Rattle.hid_script.specs.Steps.{TellsLayout, TellsDevice, TellsStep, TellsFound, TellsChange, lays_out, refuses_layout, attaches, stepped, refuses_step, config_of, change_of}
@@ -185,3 +186,24 @@ front_meant reading apart cause place one session (Err why) text o h k = rw h (o
 pub fronts : HasOneReading → AcceptsNoRefused → HasOneCause → HasOnePlace → HasOneAnswer → BeginsWithFronts
 unfolding LineTells LineBegins
 fronts reading apart cause place one session bytes text o h k = front_meant reading apart cause place one session (meaning_of bytes) text o h k
+
+-- ---- long lines
+
+-- a line that isn't short is told once
+pub long_once : (said : Line) → is_long said ≡ true → times said ≡ 1
+unfolding times
+long_once line.Nothing long = refl
+long_once (line.Layout bytes) long = refl
+long_once (line.Values bytes) long = refl
+long_once (line.Device start kind bytes) long = refl
+long_once (line.Begin dev request) long = refl
+long_once (line.Press dev usage) long = refl
+long_once (line.Release dev usage) long = refl
+long_once (line.Null dev usage) long = refl
+long_once (line.Set dev usage value) long = refl
+long_once (line.Move dev usage by) long = refl
+long_once (line.Frame count) long = absurd (cc)
+long_once (line.Poll dev fate count) long = absurd (cc)
+long_once (line.Control dev fate count) long = absurd (cc)
+long_once (line.Reset dev) long = refl
+long_once (line.Halt dev) long = refl

@@ -1,6 +1,7 @@
 //! A session: what stands between two lines, and how a line is carried out.
 
-ghost use Rattle.std.specs.Prelude.{◌≡◌};
+ghost use Rattle.std.specs.Prelude.{◌≡◌, true};
+ghost use Rattle.hid_lines.specs.Short.{is_long, line_of};
 ghost use Rattle.hid_script.specs.Session.{at_first};
 ghost use Rattle.hid_script.specs.Steps.{TellsLayout, TellsValues, TellsDevice, TellsStep, TellsChange, got_by};
 ghost use Rattle.hid_script.specs.Telling.{Once, times, CarriesOut, Begins, LineTells, LineBegins};
@@ -12,7 +13,7 @@ use super::output::write_text;
 use super::wanted::{Wanted, change_of};
 use hid_device::{Boot, Config};
 use hid_layout::{Layout, Usage};
-use hid_lines::{Line, parse_line, says_nothing};
+use hid_lines::{Line, ShortLine, parse_line, read_short, says_nothing};
 use hid_stack::{Delivered, Request, Rig, Start, Step};
 use hid_text::{print_layout, print_step, print_values};
 use hid_usages::input_report;
@@ -45,25 +46,20 @@ pub struct Interpreter {
 
 /// How many times a line is carried out.
 #[tactic(auto, unfolding(crate::specs::Telling::times))]
-fn times(line: &Line) -> u16
-    ensures { result ≡ times line.now }
+fn times(line: &ShortLine) -> u16
+    ensures { result ≡ times (line_of line.now) }
 {
     match line {
-        Line::Frame { count } => *count,
-        Line::Poll { count, .. } => *count,
-        Line::Control { count, .. } => *count,
-        Line::Nothing
-        | Line::Layout { .. }
-        | Line::Values { .. }
-        | Line::Device { .. }
-        | Line::Press { .. }
-        | Line::Release { .. }
-        | Line::Null { .. }
-        | Line::Set { .. }
-        | Line::Move { .. }
-        | Line::Begin { .. }
-        | Line::Reset { .. }
-        | Line::Halt { .. } => 1,
+        ShortLine::Frame { count } => *count,
+        ShortLine::Poll { count, .. } => *count,
+        ShortLine::Control { count, .. } => *count,
+        ShortLine::Press { .. }
+        | ShortLine::Release { .. }
+        | ShortLine::Null { .. }
+        | ShortLine::Set { .. }
+        | ShortLine::Move { .. }
+        | ShortLine::Reset { .. }
+        | ShortLine::Halt { .. } => 1,
     }
 }
 
@@ -129,6 +125,19 @@ impl Interpreter {
             (LineTells (session_of self.old) line.now)
             (LineBegins (session_of self.old) line.now) result (session_of self.new) }
     {
+        match read_short(line) {
+            Some(line) => self.repeat(&line, writer),
+            None => self.run_any(line, writer),
+        }
+    }
+
+    /// The same, with room for the bytes of hex words.
+    #[inline(never)] // a short line makes none
+    fn run_any<W: Write>(&mut self, line: &[u8], writer: &mut W) -> Result<(), Cause>
+        ensures { AppendsTold (W.contents writer.old) (W.contents writer.new)
+            (LineTells (session_of self.old) line.now)
+            (LineBegins (session_of self.old) line.now) result (session_of self.new) }
+    {
         match &parse_line(line) {
             Ok(line) => self.carry_out(line, writer),
             Err(fault) => Err(Cause::from(*fault)),
@@ -143,15 +152,59 @@ impl Interpreter {
             (Begins (times line.now) (Once line.now) (session_of self.old)) result
             (session_of self.new) }
     {
+        match line.short() {
+            Some(line) => self.repeat(&line, writer),
+            None => self.carry_out_long(line, writer),
+        }
+    }
+
+    /// The same of a short line.
+    fn repeat<W: Write>(&mut self, line: &ShortLine, writer: &mut W) -> Result<(), Cause>
+        ensures { AppendsTold (W.contents writer.old) (W.contents writer.new)
+            (CarriesOut (session_of self.old) (line_of line.now))
+            (Begins (times (line_of line.now)) (Once (line_of line.now)) (session_of self.old)) result
+            (session_of self.new) }
+    {
         for _ in 0..times(line) {
             self.carry_out_once(line, writer)?;
         }
         Ok(())
     }
 
-    /// What a line tells each time.
+    /// What a short line tells each time.
     #[tactic(auto, unfolding(crate::specs::Telling::Once))]
-    fn carry_out_once<W: Write>(&mut self, line: &Line, writer: &mut W) -> Result<(), Cause>
+    fn carry_out_once<W: Write>(&mut self, line: &ShortLine, writer: &mut W) -> Result<(), Cause>
+        ensures { AppendsOnce (W.contents writer.old) (W.contents writer.new)
+            (Once (line_of line.now) (session_of self.old)) result (session_of self.new) }
+    {
+        match line {
+            ShortLine::Press { dev, usage } => self.change(*dev, *usage, Wanted::Press, writer),
+            ShortLine::Release { dev, usage } => self.change(*dev, *usage, Wanted::Release, writer),
+            ShortLine::Null { dev, usage } => self.change(*dev, *usage, Wanted::Null, writer),
+            ShortLine::Set { dev, usage, value } => self.change(
+                *dev,
+                *usage,
+                Wanted::Set(*value),
+                writer,
+            ),
+            ShortLine::Move { dev, usage, by } => self.change(
+                *dev,
+                *usage,
+                Wanted::Move(*by),
+                writer,
+            ),
+            ShortLine::Frame { .. } => self.frame(writer),
+            ShortLine::Poll { dev, fate, .. } => self.poll(*dev, *fate, writer),
+            ShortLine::Control { dev, fate, .. } => self.control(*dev, *fate, writer),
+            ShortLine::Reset { dev } => self.reset(*dev, writer),
+            ShortLine::Halt { dev } => self.halt(*dev, writer),
+        }
+    }
+
+    /// What another line tells.
+    #[tactic(auto, unfolding(crate::specs::Telling::Once))]
+    fn carry_out_long<W: Write>(&mut self, line: &Line, writer: &mut W) -> Result<(), Cause>
+        requires { is_long line.now ≡ true }
         ensures { AppendsOnce (W.contents writer.old) (W.contents writer.new)
             (Once line.now (session_of self.old)) result (session_of self.new) }
     {
@@ -165,22 +218,8 @@ impl Interpreter {
                 bytes.as_slice(),
                 writer,
             ),
-            Line::Press { dev, usage } => self.change(*dev, *usage, Wanted::Press, writer),
-            Line::Release { dev, usage } => self.change(*dev, *usage, Wanted::Release, writer),
-            Line::Null { dev, usage } => self.change(*dev, *usage, Wanted::Null, writer),
-            Line::Set { dev, usage, value } => self.change(
-                *dev,
-                *usage,
-                Wanted::Set(*value),
-                writer,
-            ),
-            Line::Move { dev, usage, by } => self.change(*dev, *usage, Wanted::Move(*by), writer),
-            Line::Frame { .. } => self.frame(writer),
-            Line::Poll { dev, fate, .. } => self.poll(*dev, *fate, writer),
-            Line::Control { dev, fate, .. } => self.control(*dev, *fate, writer),
             Line::Begin { dev, request } => self.begin(*dev, request, writer),
-            Line::Reset { dev } => self.reset(*dev, writer),
-            Line::Halt { dev } => self.halt(*dev, writer),
+            _ => unreachable!(),
         }
     }
 

@@ -3,18 +3,6 @@ use Rattle.std.proofs.lemmas.Int.{to_z-of_z}
 use Rattle.hid_script.specs.Telling.{Once}
 use Rattle.hid_script.proofs.interpreter.Interpreter.carry_out_once.Goals as goal
 
-pub returns-in-Layout : goal.returns-in-Layout
-unfolding Once
-returns-in-Layout g c = rw c.in-Layout.is (rw c.as_slice.ensures.value at c.lay_out.ensures)
-
-pub returns-in-Values : goal.returns-in-Values
-unfolding Once
-returns-in-Values g c = rw c.in-Values.is (rw c.as_slice-in-Values.ensures.value at c.tell_values.ensures)
-
-pub returns-in-Device : goal.returns-in-Device
-unfolding Once
-returns-in-Device g c = rw c.in-Device.is (rw c.as_slice-in-Device.ensures.value at c.attach.ensures)
-
 pub returns-in-Press : goal.returns-in-Press
 unfolding Once
 returns-in-Press g c = rw c.in-Press.is c.change.ensures
@@ -46,7 +34,3 @@ returns-in-Poll g c = rw c.in-Poll.is c.poll.ensures
 pub returns-in-Control : goal.returns-in-Control
 unfolding Once
 returns-in-Control g c = rw c.in-Control.is c.control.ensures
-
-pub returns-in-Begin : goal.returns-in-Begin
-unfolding Once
-returns-in-Begin g c = rw c.in-Begin.is c.begin.ensures

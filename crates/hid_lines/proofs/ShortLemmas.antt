@@ -1,0 +1,55 @@
+-- Short lines are lines.
+use Rattle.std.proofs.Common.{◌≡◌, ◌<◌, ◌≤◌, ℕ, true, false, List, [], ◌∷◌, length, Option, Some, None, Result, Ok, Err, refl, sym, ap, ◌∙◌, arith}
+use Rattle.std.specs.Option.{option_map}
+use Rattle.hid_lines.specs.declared.line.Keyword.{Keyword}
+use Rattle.hid_lines.specs.declared.line.Keyword.TheVariants as keywords
+use Rattle.hid_lines.specs.declared.line.Line.{Line}
+use Rattle.hid_lines.specs.declared.short.ShortLine.{ShortLine}
+use Rattle.hid_lines.specs.declared.fault.LineFault.{LineFault}
+use Rattle.hid_lines.specs.Words.{Word}
+use Rattle.hid_lines.specs.Arguments.{or_syntax, control_said, set_said, move_said, frame_said, poll_said, one_device_said}
+use Rattle.hid_lines.specs.Line.{said_by}
+use Rattle.hid_lines.specs.Short.{line_of, may_be_long, short_said}
+
+-- what is made of words and then of a line is made of the words
+made : {A : Type 0} (make : A → ShortLine) (said : Option A) → or_syntax line_of (option_map make said) ≡ or_syntax (λ it. line_of (make it)) said
+made make None = refl
+made make (Some it) = refl
+
+-- the words behind the keyword of a short line say what they say behind any
+pub short_is_said : (keyword : Keyword) (words : List Word) → may_be_long keyword ≡ false → said_by keyword words ≡ or_syntax line_of (short_said keyword words)
+unfolding said_by short_said
+short_is_said keywords.Layout words short = absurd (cc)
+short_is_said keywords.Values words short = absurd (cc)
+short_is_said keywords.Device words short = absurd (cc)
+short_is_said keywords.Begin words short = absurd (cc)
+short_is_said keywords.Press words short = sym (made _ (control_said words))
+short_is_said keywords.Release words short = sym (made _ (control_said words))
+short_is_said keywords.Null words short = sym (made _ (control_said words))
+short_is_said keywords.Set words short = sym (made _ (set_said words))
+short_is_said keywords.Move words short = sym (made _ (move_said words))
+short_is_said keywords.Frame words short = sym (made _ (frame_said words))
+short_is_said keywords.Poll words short = sym (made _ (poll_said words))
+short_is_said keywords.Control words short = sym (made _ (poll_said words))
+short_is_said keywords.Reset words short = sym (made _ (one_device_said words))
+short_is_said keywords.Halt words short = sym (made _ (one_device_said words))
+
+-- a keyword behind which short words stand is that of a short line
+pub short_keyword : (keyword : Keyword) (words : List Word) (short : ShortLine) → short_said keyword words ≡ Some short → said_by keyword words ≡ Ok (line_of short)
+unfolding short_said
+short_keyword keywords.Layout words short is = absurd (cc)
+short_keyword keywords.Values words short is = absurd (cc)
+short_keyword keywords.Device words short is = absurd (cc)
+short_keyword keywords.Begin words short is = absurd (cc)
+short_keyword keywords.Press words short is = short_is_said keywords.Press words refl ∙ ap (or_syntax line_of) is
+short_keyword keywords.Release words short is = short_is_said keywords.Release words refl ∙ ap (or_syntax line_of) is
+short_keyword keywords.Null words short is = short_is_said keywords.Null words refl ∙ ap (or_syntax line_of) is
+short_keyword keywords.Set words short is = short_is_said keywords.Set words refl ∙ ap (or_syntax line_of) is
+short_keyword keywords.Move words short is = short_is_said keywords.Move words refl ∙ ap (or_syntax line_of) is
+short_keyword keywords.Frame words short is = short_is_said keywords.Frame words refl ∙ ap (or_syntax line_of) is
+short_keyword keywords.Poll words short is = short_is_said keywords.Poll words refl ∙ ap (or_syntax line_of) is
+short_keyword keywords.Control words short is = short_is_said keywords.Control words refl ∙ ap (or_syntax line_of) is
+short_keyword keywords.Reset words short is = short_is_said keywords.Reset words refl ∙ ap (or_syntax line_of) is
+short_keyword keywords.Halt words short is = short_is_said keywords.Halt words refl ∙ ap (or_syntax line_of) is
+
+pub ruleset short_lines = (short_keyword, short_is_said)
