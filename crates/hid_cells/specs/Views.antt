@@ -77,11 +77,3 @@ as_dropped (event.Null c u) = event.Null c u
 -- What changes from one view to another, and the motions of report r's part, which are dropped.
 abbrev pub drops_between : List Item → ℕ → List Cell → List Cell → List Cell → List Event
 drops_between items r before after parts = map as_dropped (events_between items r before after parts)
-
--- the cell that is written next has the room of the present one
-abbrev pub HasNext : Cell → Cell → Type 0
-HasNext (Pressed bs) (Pressed xs) = length xs ≡ length bs
-HasNext (Holding bs) (Holding xs) = length xs ≡ length bs
-HasNext (Moved bs) (Moved xs) = length xs ≡ length bs
-HasNext Vacant Vacant = Unit {0}
-HasNext _ _ = ⊥

@@ -9,7 +9,7 @@ use Rattle.hid_views.proofs.elements.take_values.Goals as goal
 
 pub loop-index-init : goal.loop-index-init
 loop-index-init g c = record {
-  taken = record { so_far = refl; same_length = refl; events = refl; fits = c.requires.room; };
+  taken = record { so_far = refl; same_length = refl; events = refl; fits = c.requires.room };
   same_room = refl;
 }
 
