@@ -1,19 +1,16 @@
 -- What is kept of the controls, made what it was at first in the same room.
-use Rattle.std.proofs.Common.{◌≡◌, ℕ, Bool, false, nat_lt, zero, suc, ◌+◌, ◌<◌, ◌≤◌, List, [], ◌∷◌, ◌++◌, length, map, take, drop, replicate, Some, ℤ, pos, negsuc, refl, ap, ◌∙◌, sym, subst, take_all, arith}
+use Rattle.std.proofs.Common.{◌≡◌, ℕ, Bool, false, nat_lt, zero, suc, ◌+◌, ◌<◌, List, [], ◌∷◌, ◌++◌, length, map, take, drop, replicate, Some, ℤ, pos, negsuc, refl, ap, ◌∙◌, sym, arith}
 use Rattle.std.specs.List.{slice_get, slice_set}
 use Rattle.std.proofs.lemmas.Bool.Decides.{nat_tests}
 use Rattle.hid_layout.specs.declared.control.Controls.{Controls}
-use Rattle.std.proofs.lemmas.List.{append-nil, drop_all, length-map}
-use Rattle.hid_layout.specs.Layout.{Contents}
-use Rattle.hid_layout.specs.Reports.{IsLayout}
-use Rattle.hid_layout.specs.Controls.{Form, Item, form_at, head_of, items_of}
+use Rattle.hid_layout.specs.Controls.{Form, Item, form_at, head_of}
 use Rattle.hid_layout.specs.declared.control.Controls.TheVariants as head
 use Rattle.hid_layout.specs.declared.control.ControlKind.TheVariants.{Switch, Value, NullValue, Relative}
 use Rattle.hid_cells.specs.declared.cell.Cell.{Cell}
 use Rattle.hid_cells.specs.declared.cell.Cell.TheVariants.{Moved}
-use Rattle.hid_cells.specs.Cells.{blank, blank_cell, pressed_count, FitsView}
+use Rattle.hid_cells.specs.Cells.{blank_cell, pressed_count}
 use Rattle.hid_cells.specs.Parts.{clamp, shown_cell, blank_parts}
-use Rattle.hid_cells.proofs.BlankLemmas.{initial_fits, none_pressed}
+use Rattle.hid_cells.proofs.BlankLemmas.{none_pressed}
 use Rattle.hid_cells.proofs.FillLemmas.{fill_next}
 use Rattle.hid_cells.proofs.ItemLemmas.{got, form_at-is}
 use Rattle.hid_cells.proofs.ListLemmas.{map_at}

@@ -1,5 +1,5 @@
 -- A host's view of the controls, and the events between two views (our choice).
-use Rattle.std.specs.Prelude.{◌≡◌, length, ℕ, ◌+◌, if◌then◌else◌, List, [], ◌∷◌, ◌++◌, map, Option, None, ℤ, unwrap_or, slice_get}
+use Rattle.std.specs.Prelude.{ℕ, ◌+◌, if◌then◌else◌, List, [], ◌∷◌, ◌++◌, map, Option, None, ℤ, unwrap_or, slice_get}
 use Rattle.hid_descriptor.specs.declared.usage.Usage.{Usage}
 use Rattle.hid_layout.specs.Controls.{Form, NoControls, Elements, Keys, Item}
 use Rattle.hid_cells.specs.declared.cell.Cell.{Cell}

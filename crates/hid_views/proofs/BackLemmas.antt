@@ -1,9 +1,7 @@
 -- What leads from a view back to the initial one.
-use Rattle.std.proofs.Common.{◌≡◌, ℕ, zero, suc, ◌+◌, ◌<◌, ◌≤◌, ℤ, Bool, true, false, List, [], ◌∷◌, ◌++◌, length, replicate, Option, Some, append-nil, refl, sym, ap, ◌∙◌, subst, arith}
+use Rattle.std.proofs.Common.{◌≡◌, ℕ, zero, suc, ◌+◌, ◌<◌, ◌≤◌, ℤ, Bool, true, false, List, [], ◌∷◌, ◌++◌, length, replicate, Option, Some, append-nil, refl, sym, ap, ◌∙◌, arith}
 use Rattle.std.specs.List.{slice_get, zip}
-use Rattle.std.proofs.lemmas.List.{length-map}
 use Rattle.hid_descriptor.specs.declared.usage.Usage.{Usage}
-use Rattle.hid_layout.specs.declared.control.Controls.{Controls}
 use Rattle.hid_layout.specs.declared.control.Controls.TheVariants as head
 use Rattle.hid_layout.specs.declared.control.ControlKind.{ControlKind}
 use Rattle.hid_layout.specs.declared.control.ControlKind.TheVariants.{Switch, Value, NullValue, Relative}
@@ -12,7 +10,7 @@ use Rattle.hid_cells.specs.declared.cell.Cell.{Cell}
 use Rattle.hid_cells.specs.declared.cell.Cell.TheVariants.{Vacant, Pressed, Holding, Moved, RolledOver}
 use Rattle.hid_cells.specs.declared.event.Event.{Event}
 use Rattle.hid_cells.specs.Cells.{blank, blank_cell, first_value, FitsShown, FitsView, HasRoom, InView}
-use Rattle.hid_cells.specs.Events.{at, each, switch_event, up_event, down_event, switch_events, ups, downs, usages_of, key_usages, element_events, change_events}
+use Rattle.hid_cells.specs.Events.{at, each, switch_event, up_event, down_event, ups, usages_of, key_usages, element_events, change_events}
 use Rattle.hid_cells.specs.Views.{changes_between}
 use Rattle.hid_cells.proofs.BlankLemmas.{blank_in_view, blank_room, suits_all}
 use Rattle.hid_cells.proofs.ItemLemmas.{got, form_at-is}

@@ -11,7 +11,6 @@ use Rattle.hid_layout.specs.declared.control.ControlKind.TheVariants.{Switch, Va
 use Rattle.hid_layout.specs.Controls.{Item, head_of}
 use Rattle.hid_cells.specs.declared.cell.Cell.{Cell}
 use Rattle.hid_cells.specs.declared.cell.Cell.TheVariants.{Vacant, Pressed, Holding, Moved, RolledOver}
-use Rattle.hid_cells.specs.declared.event.Event.{Event}
 use Rattle.hid_cells.specs.Cells.{FitsView, HasRoom}
 use Rattle.hid_cells.specs.Events.{at, up_event, down_event, each, ups, downs}
 use Rattle.hid_cells.specs.Words.{is_on, is_alone, IsFirst}

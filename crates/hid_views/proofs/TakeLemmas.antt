@@ -1,7 +1,7 @@
 -- The items of a report that is read.
-use Rattle.std.proofs.Common.{◌≡◌, ℕ, zero, suc, ◌+◌, ◌<◌, ◌≤◌, inl, inr, Bool, true, false, cond, List, [], ◌∷◌, ◌++◌, length, length-append, map, take, drop, get_or, Option, Some, None, ℤ, zero-add, refl, sym, ap, ◌∙◌, subst, arith, append-nil, ◌==◌, ◌&&◌, not, nat_lt, Result, Ok, Err}
+use Rattle.std.proofs.Common.{◌≡◌, ℕ, zero, suc, ◌+◌, ◌<◌, ◌≤◌, Bool, true, false, cond, List, [], ◌∷◌, ◌++◌, length, length-append, map, take, drop, get_or, Option, Some, None, ℤ, zero-add, refl, sym, ap, ◌∙◌, subst, arith, append-nil, ◌==◌, ◌&&◌, not, nat_lt, Result, Ok, Err}
 use Rattle.std.specs.List.{slice_get, slice_set, list_any, position}
-use Rattle.std.proofs.lemmas.List.{length-map, drop_all}
+use Rattle.std.proofs.lemmas.List.{drop_all}
 use Rattle.std.proofs.lemmas.Option.{slice_get_within, slice_get-get_or}
 use Rattle.hid_layout.specs.declared.main_item.MainItem.{MainItem}
 use Rattle.hid_descriptor.specs.declared.shape.Shape.{Shape}
@@ -21,15 +21,13 @@ use Rattle.hid_cells.proofs.PlanLemmas.{Skips}
 use Rattle.hid_cells.specs.declared.cell.Cell.{Cell}
 use Rattle.hid_cells.specs.declared.event.Event.{Event}
 use Rattle.hid_cells.specs.Views.{motions_of, motions_told}
-use Rattle.std.proofs.lemmas.Bool.{cases_eq}
 use Rattle.hid_views.proofs.EventLemmas.{drop_at}
-use Rattle.hid_cells.proofs.FillLemmas.{unfilled_at, fill_next, set_length, length_map_zip}
+use Rattle.hid_cells.proofs.FillLemmas.{unfilled_at, fill_next, length_map_zip}
 use Rattle.hid_layout.specs.declared.control.ControlKind.TheVariants.{Switch, Value, NullValue, Relative}
 use Rattle.hid_cells.specs.declared.cell.Cell.TheVariants.{Vacant, Pressed, Holding, Moved, RolledOver}
-use Rattle.hid_cells.specs.Cells.{blank, blank_cell, pressed_count, HasRoom, InView, Suits}
+use Rattle.hid_cells.specs.Cells.{pressed_count, HasRoom, InView, Suits}
 use Rattle.hid_views.proofs.NamedLemmas.{named_length}
 use Rattle.hid_views.proofs.KeyLemmas.{named_count}
-use Rattle.hid_cells.proofs.ListLemmas.{map_at}
 use Rattle.hid_views.proofs.ViewLemmas.{sum_cons, element_few, motions_few, change_few}
 use Rattle.hid_cells.specs.Parts.{IsInput}
 use Rattle.hid_fields.specs.Value.{is_negative}
@@ -42,7 +40,7 @@ use Rattle.hid_cells.specs.declared.fault.ReportFault.TheVariants.{Short}
 use Rattle.std.proofs.lemmas.List.Quantifiers.{position-Some}
 use Rattle.hid_cells.proofs.CodeLemmas.{both_true}
 use Rattle.hid_parts.specs.Encoding.{IsData}
-use Rattle.hid_cells.proofs.ItemLemmas.{items_of-length, set_same, set_here, set_there, got, items_from-at, form_at-is}
+use Rattle.hid_cells.proofs.ItemLemmas.{items_of-length, set_same, got, items_from-at, form_at-is}
 use Rattle.hid_parts.proofs.ReportLemmas.{form_in_input}
 use Rattle.hid_parts.proofs.SendLemmas.{spread-length, places_few}
 

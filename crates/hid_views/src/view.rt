@@ -30,7 +30,8 @@ use std::marker::Model;
 #[derive(Drop)]
 pub struct View {
     cells: Vec<Cell>,
-    /// Room for the keys that a report names, as many as the longest array has: none is set between two calls.
+    /// Flags for the keys that a report names, as many as the most switches or keys of one item. Between two calls none is
+    /// set.
     named: Flags,
 }
 
@@ -95,8 +96,8 @@ impl View {
         }
     }
 
-    /// Appends what changes until the view is the initial one again, as [`changes`] does. There is
-    /// reserved room for `max_events` more; no memory is taken.
+    /// Appends what changes until the view is the initial one again, as [`changes`] does. There is reserved room for
+    /// `max_events` more; no memory is taken.
     #[tactic(auto, using(crate::proofs::BackLemmas::few_back))]
     pub fn changes_back(&self, layout: &Layout, out: &mut Vec<Event>)
         requires fits { FitsView (items_of layout.now) self.now }
