@@ -1,19 +1,16 @@
 -- What is kept of the controls, made what it was at first in the same room.
-use Rattle.std.proofs.Common.{◌≡◌, ℕ, Bool, false, nat_lt, zero, suc, ◌+◌, ◌<◌, ◌≤◌, List, [], ◌∷◌, ◌++◌, length, map, take, drop, replicate, Some, ℤ, pos, negsuc, refl, ap, ◌∙◌, sym, subst, take_all, arith}
+use Rattle.std.proofs.Common.{◌≡◌, ℕ, Bool, false, nat_lt, zero, suc, ◌+◌, ◌<◌, List, [], ◌∷◌, ◌++◌, length, map, take, drop, replicate, Some, ℤ, pos, negsuc, refl, ap, ◌∙◌, sym, arith}
 use Rattle.std.specs.List.{slice_get, slice_set}
 use Rattle.std.proofs.lemmas.Bool.Decides.{nat_tests}
 use Rattle.hid_layout.specs.declared.control.Controls.{Controls}
-use Rattle.std.proofs.lemmas.List.{append-nil, drop_all, length-map}
-use Rattle.hid_layout.specs.Layout.{Contents}
-use Rattle.hid_layout.specs.Reports.{IsLayout}
-use Rattle.hid_layout.specs.Controls.{Form, Item, form_at, head_of, items_of}
+use Rattle.hid_layout.specs.Controls.{Form, Item, form_at, head_of}
 use Rattle.hid_layout.specs.declared.control.Controls.TheVariants as head
 use Rattle.hid_layout.specs.declared.control.ControlKind.TheVariants.{Switch, Value, NullValue, Relative}
 use Rattle.hid_cells.specs.declared.cell.Cell.{Cell}
 use Rattle.hid_cells.specs.declared.cell.Cell.TheVariants.{Moved}
-use Rattle.hid_cells.specs.Cells.{blank, blank_cell, pressed_count, FitsView}
+use Rattle.hid_cells.specs.Cells.{blank_cell, pressed_count}
 use Rattle.hid_cells.specs.Parts.{clamp, shown_cell, blank_parts}
-use Rattle.hid_cells.proofs.BlankLemmas.{initial_fits, none_pressed}
+use Rattle.hid_cells.proofs.BlankLemmas.{none_pressed}
 use Rattle.hid_cells.proofs.FillLemmas.{fill_next}
 use Rattle.hid_cells.proofs.ItemLemmas.{got, form_at-is}
 use Rattle.hid_cells.proofs.ListLemmas.{map_at}
@@ -37,25 +34,6 @@ pub fill_more : {A : Type 0} (start now : List A) (j : ℕ) (v : A) → now ≡ 
     → slice_set now j v ≡ take (j + 1) (replicate (length start) v) ++ drop (j + 1) start
 fill_more start now j v so_far within =
     ap (λ xs. slice_set xs j v) so_far ∙ fill_next (replicate (length start) v) start j v (same_at (length start) j v within) within
-
--- one cell more is made anew
-pub cell_next : (items : List Item) (start now : List Cell) (i : ℕ) (new : Cell) → length start ≡ length items → now ≡ take i (blank items) ++ drop i start
-    → i < length items → new ≡ blank_cell (head_of (form_at items i))
-    → slice_set now i new ≡ take (i + 1) (blank items) ++ drop (i + 1) start
-cell_next items start now i new long so_far within is =
-    let item = got items i within in
-    let target : slice_get (blank items) i ≡ Some (blank_cell (head_of item.0.form)) = map_at _ items i item.0 item.1 in
-    let made : new ≡ blank_cell (head_of item.0.form) = is ∙ ap (λ (f : Form). blank_cell (head_of f)) (form_at-is items i item.0 item.1) in
-    ap (λ xs. slice_set xs i new) so_far ∙ fill_next (blank items) start i new (target ∙ ap Some (sym made)) (omega arith)
-
--- all cells are made anew
-pub cells_made : (layout : Contents) (start now : List Cell) (i : ℕ) → IsLayout layout → length start ≡ length (items_of layout) → length (items_of layout) ≤ i
-    → now ≡ take i (blank (items_of layout)) ++ drop i start → FitsView (items_of layout) now
-cells_made layout start now i laid long all so_far =
-    let taken : take i (blank (items_of layout)) ≡ blank (items_of layout) = take_all i (blank (items_of layout)) (omega (arith, length-map (items_of layout) (λ (it : Item). blank_cell (head_of it.form)))) in
-    let dropped : drop i start ≡ [] = drop_all i start (omega arith) in
-    let is : now ≡ blank (items_of layout) = so_far ∙ rw (taken, dropped) (append-nil (blank (items_of layout))) in
-    subst (FitsView (items_of layout)) (sym is) (initial_fits layout laid)
 
 none_over : (elements n : ℕ) → (let p : List Bool = replicate n false in nat_lt elements (pressed_count p) ≡ false)
 none_over elements n = rw (none_pressed n) (grind (arith, nat_tests))

@@ -107,10 +107,6 @@ pub record Suits (stands : Form → Cell → Type 0) (items : List Item) (cells 
   pub suits : (i : ℕ) (item : Item) (cell : Cell) → slice_get items i ≡ Some item
       → slice_get cells i ≡ Some cell → stands item.form cell
 
--- there is one cell for each item, with room for its controls
-abbrev pub HaveRoom : List Item → List Cell → Type 0
-HaveRoom items cells = Suits (λ form cell. Unit {0}) items cells
-
 -- the cells of a snapshot suit these items
 abbrev pub FitsSnapshot : List Item → List Cell → Type 0
 FitsSnapshot items cells = Suits InSnapshot items cells

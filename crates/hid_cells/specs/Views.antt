@@ -1,5 +1,5 @@
 -- A host's view of the controls, and the events between two views (our choice).
-use Rattle.std.specs.Prelude.{◌≡◌, length, ℕ, ◌+◌, if◌then◌else◌, List, [], ◌∷◌, ◌++◌, map, Option, None, ℤ, unwrap_or, slice_get}
+use Rattle.std.specs.Prelude.{ℕ, ◌+◌, if◌then◌else◌, List, [], ◌∷◌, ◌++◌, map, Option, None, ℤ, unwrap_or, slice_get}
 use Rattle.hid_descriptor.specs.declared.usage.Usage.{Usage}
 use Rattle.hid_layout.specs.Controls.{Form, NoControls, Elements, Keys, Item}
 use Rattle.hid_cells.specs.declared.cell.Cell.{Cell}
@@ -77,11 +77,3 @@ as_dropped (event.Null c u) = event.Null c u
 -- What changes from one view to another, and the motions of report r's part, which are dropped.
 abbrev pub drops_between : List Item → ℕ → List Cell → List Cell → List Cell → List Event
 drops_between items r before after parts = map as_dropped (events_between items r before after parts)
-
--- the cell that is written next has the room of the present one
-abbrev pub HasNext : Cell → Cell → Type 0
-HasNext (Pressed bs) (Pressed xs) = length xs ≡ length bs
-HasNext (Holding bs) (Holding xs) = length xs ≡ length bs
-HasNext (Moved bs) (Moved xs) = length xs ≡ length bs
-HasNext Vacant Vacant = Unit {0}
-HasNext _ _ = ⊥

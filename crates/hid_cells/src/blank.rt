@@ -13,7 +13,8 @@ use crate::parts::show_cell;
 use hid_layout::{ControlKind, Controls, Layout};
 use std::alloc::{AllocError, Global};
 
-pub(crate) fn first_value(kind: ControlKind, least: &i64, greatest: &i64) -> Option<i64>
+/// What a value of an element is at first.
+pub fn first_value(kind: ControlKind, least: &i64, greatest: &i64) -> Option<i64>
     ensures { result ≡ first_value kind least.now greatest.now }
 {
     match kind {
@@ -65,24 +66,6 @@ pub fn blank_cells(alloc: Global, layout: &Layout) -> Result<Vec<Cell>, AllocErr
         cells.push(blank_cell(alloc, &controls)?)?;
     }
     Ok(cells)
-}
-
-/// The same twice, of items whose controls are looked up once.
-pub fn blank_pairs(alloc: Global, layout: &Layout) -> Result<(Vec<Cell>, Vec<Cell>), AllocError>
-    ensures blank { IfOk result (λ pairs. pairs.0.items ≡ blank (items_of layout.now)) }
-    ensures twice { IfOk result (λ pairs. pairs.1.items ≡ blank (items_of layout.now)) }
-    ensures fits { IfOk result (λ pairs. FitsView (items_of layout.now) pairs.0.items) }
-    ensures layout { IsLayout layout.now }
-{
-    let count = item_count(layout);
-    let mut cells = Vec::with_capacity(alloc, count)?;
-    let mut others = Vec::with_capacity(alloc, count)?;
-    for i in 0..count {
-        let controls = layout.controls(i);
-        cells.push_reserved(blank_cell(alloc, &controls)?);
-        others.push_reserved(blank_cell(alloc, &controls)?);
-    }
-    Ok((cells, others))
 }
 
 /// What is shown of an item's controls at first.

@@ -1,6 +1,6 @@
 //! Pressed places, kept as words of 64 bits (our choice).
 
-ghost use Rattle.std.specs.Prelude.{◌≡◌, ◌≢◌, ◌+◌, ◌<◌, ◌*◌, ◌/◌, ◌^◌, ◌==◌, ℕ, Bool, List, true, false, length, slice_get, slice_set, replicate, Some, IfOk, IfSome, unwrap_or, if◌then◌else◌};
+ghost use Rattle.std.specs.Prelude.{◌≡◌, ◌≢◌, ◌+◌, ◌++◌, ◌<◌, ◌*◌, ◌/◌, ◌^◌, ◌==◌, ◌≤◌, ℕ, Bool, List, true, false, length, slice_get, slice_set, take, drop, replicate, Some, IfOk, IfSome, unwrap_or, if◌then◌else◌};
 ghost use Rattle.std.specs.Int.{bit_at};
 ghost use Rattle.hid_cells.specs.Cells.{pressed_count};
 ghost use Rattle.hid_cells.specs.Parts.{same_flags};
@@ -95,6 +95,25 @@ impl Flags {
         self.words.copy_from_slice(&other.words);
     }
 
+    /// Makes these the first ones of the other, of which none is pressed behind them.
+    pub fn copy_first(&mut self, other: &Flags)
+        requires places { length self.old ≤ length other.now }
+        requires none { (i : ℕ) → length self.old ≤ i → is_on other.now i ≡ false }
+        ensures { self.new ≡ take (length self.old) other.now }
+    {
+        let count = self.words.len();
+        self.words.copy_from_slice(&other.words[..count]);
+    }
+
+    /// None is pressed, where none is behind the first ones: their words alone are written.
+    pub fn release_first(&mut self, count: usize)
+        requires places { count ≤ length self.old }
+        requires none { (i : ℕ) → count ≤ i → is_on self.old i ≡ false }
+        ensures { self.new ≡ replicate (length self.old) false }
+    {
+        clear_words(&mut self.words, count.div_ceil(64));
+    }
+
     /// Whether the same are pressed, of as many places.
     pub fn is_same(&self, other: &Flags) -> bool
         ensures { result ≡ same_flags self.now other.now }
@@ -123,6 +142,16 @@ impl Flags {
         ensures behind { IfSome result (λ place. place + 1 < 2 ^ 64) }
     {
         first_alone(&self.words, &other.words, from)
+    }
+}
+
+/// Makes the first words 0.
+fn clear_words(words: &mut [u64], count: usize)
+    requires { count ≤ length words.old }
+    ensures { words.new ≡ take count (replicate (length words.old) 0) ++ drop count words.old }
+{
+    for k in 0..count {
+        words[k] = 0;
     }
 }
 

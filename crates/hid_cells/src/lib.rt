@@ -3,11 +3,11 @@
 //! ```text
 //!   Cell of an item    Vacant | Pressed | Holding | Moved | RolledOver      one for each listed item
 //!
-//!   blank_cells, blank_pairs: nothing is pressed, nothing has moved
+//!   blank_cells: nothing is pressed, nothing has moved
 //!   show_cells: motions clamped to what elements carry, an array with more keys than elements rolled over
 //!   show_still: the same, with every motion 0
 //!   take_cells: the motion that a part carries is taken out
-//!   reset_cells, reset_parts: blank cells, and the parts that they show, once more in the same room
+//!   reset_parts: the parts that blank cells show, once more in the same room
 //! ```
 //! A list of these is a snapshot, the shown parts of a device's reports, or a host's view; the crates above make a type
 //! of each. The rule to know: `FitsSnapshot`, `FitsShown` and `FitsView` say that a list belongs to a layout.
@@ -26,7 +26,7 @@ mod parts;
 mod pieces;
 mod reset;
 
-pub use blank::{blank_cell, blank_cells, blank_pairs, blank_parts};
+pub use blank::{blank_cell, blank_cells, blank_parts, first_value};
 pub use cell::{Cell, Motions, Values};
 pub use change::{Change, ChangeFault};
 pub use codes::has_empty_codes;
@@ -37,4 +37,4 @@ pub use items::{is_input, is_of, item_at, item_count, plan_of};
 pub use keys::{has_keys, key_words};
 pub use parts::{cell_at, has_zeros, is_changed, show_cell, show_cells, show_still, take_cells};
 pub use pieces::{MAX_PIECE, piece_of, pieces_of};
-pub use reset::{reset_cells, reset_parts};
+pub use reset::reset_parts;

@@ -1,9 +1,9 @@
-//! What is kept and shown of the controls at first, once more in the same room.
+//! What is shown of the controls at first, once more in the same room.
 
 ghost use Rattle.std.specs.Prelude.{◌≡◌, ◌<◌, Bool, List, false, length, pos, replicate};
 ghost use Rattle.hid_layout.specs.Controls.{items_of, form_at, head_of};
 ghost use Rattle.hid_layout.specs.Reports.{IsLayout};
-ghost use Rattle.hid_cells.specs.Cells.{blank, blank_cell, FitsShown, FitsView, HasRoom, HaveRoom};
+ghost use Rattle.hid_cells.specs.Cells.{blank_cell, FitsShown, HasRoom};
 ghost use Rattle.hid_cells.specs.Parts.{blank_parts, shown_cell};
 
 use crate::blank::first_value;
@@ -87,17 +87,6 @@ fn reset_part(layout: &Layout, i: usize, part: &mut Cell)
     match part {
         Cell::Moved(_) => show_cell(part, &layout.controls(i)),
         Cell::Vacant | Cell::Pressed(_) | Cell::Holding(_) | Cell::RolledOver(_) => {}
-    }
-}
-
-/// Makes what is kept of each item's controls what it was at first. No memory is taken.
-pub fn reset_cells(layout: &Layout, cells: &mut [Cell])
-    requires { HaveRoom (items_of layout.now) cells.old }
-    ensures blank { cells.new ≡ blank (items_of layout.now) }
-    ensures fits { FitsView (items_of layout.now) cells.new }
-{
-    for i in 0..item_count(layout) {
-        reset_cell(layout, i, &mut cells[i]);
     }
 }
 

@@ -21,7 +21,7 @@ use Rattle.hid_cells.specs.Events.{at, each, switch_event, switch_events, usages
 use Rattle.hid_views.specs.Reading.{read_switch, read_cell, motion_cell, item_numbers}
 use Rattle.hid_views.specs.Bits.{is_variable, are_bits, read_bits, is_first_word}
 use Rattle.hid_layout.specs.ControlKinds.{is_switch}
-use Rattle.hid_cells.specs.Views.{motions_told, HasNext}
+use Rattle.hid_cells.specs.Views.{motions_told}
 use Rattle.hid_views.specs.Taking.{list_at, IsFormOf, read_by_numbers, told_by_numbers}
 use Rattle.hid_views.proofs.TakeLemmas.{list_at-is}
 use Rattle.hid_parts.proofs.SendLemmas.{spread-length}
@@ -204,15 +204,3 @@ reads_as_bits layout bytes i m cell laid listed form bits room =
           ∙ told_by_bits i (element_kind m) (least_of m) (greatest_of m) (spread m.count us) cell after (item_numbers layout bytes m) bits.kind
           ∙ ap (λ (f : Form). change_events i f cell after ++ motions_told i f (motion_cell f (item_numbers layout bytes m))) (sym is);
     }
-
--- the room for the next report stays
-pub next_of_bits : (pattern : ℕ) (cell next : Cell) → HasNext cell next → HasNext (read_bits pattern cell) next
-next_of_bits pattern (Pressed bs) (Pressed xs) h = h ∙ sym (bits_in-length (length bs) pattern)
-next_of_bits pattern (Pressed bs) Vacant h = absurd h
-next_of_bits pattern (Pressed bs) (Holding xs) h = absurd h
-next_of_bits pattern (Pressed bs) (Moved xs) h = absurd h
-next_of_bits pattern (Pressed bs) (RolledOver xs) h = absurd h
-next_of_bits pattern Vacant next h = h
-next_of_bits pattern (Holding vs) next h = h
-next_of_bits pattern (Moved vs) next h = h
-next_of_bits pattern (RolledOver bs) next h = h

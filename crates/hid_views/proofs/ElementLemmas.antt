@@ -1,9 +1,6 @@
 -- The elements of a variable item are read in place, one after another, and each tells its change.
-use Rattle.std.proofs.Common.{Vec, vec_len, vec_capacity, ◌≡◌, ℕ, ◌+◌, ◌<◌, ◌≤◌, ℤ, Bool, Option, List, ◌++◌, length, take, drop, map, Some, refl, sym, ap, ◌∙◌, arith}
+use Rattle.std.proofs.Common.{Vec, vec_len, vec_capacity, ◌≡◌, ℕ, ◌+◌, ◌<◌, ◌≤◌, ℤ, List, ◌++◌, length, take, drop, map, Some, refl, sym, ap, ◌∙◌, arith}
 use Rattle.std.specs.List.{slice_get, slice_set, zip}
-use Rattle.hid_cells.specs.declared.cell.Cell.{Cell}
-use Rattle.hid_cells.specs.declared.cell.Cell.TheVariants.{Vacant, Pressed, Holding, Moved, RolledOver}
-use Rattle.hid_cells.specs.Views.{HasNext}
 use Rattle.hid_descriptor.specs.declared.usage.Usage.{Usage}
 use Rattle.hid_cells.specs.declared.event.Event.{Event}
 use Rattle.hid_cells.specs.Events.{each}
@@ -67,23 +64,7 @@ pub all_taken : {A : Type 0} {Z : Type 0} (read : A × ℤ → A) (tell : ℕ �
     → AreTaken read tell us start numbers now (before.items ++ all) out.items (vec_len out) (vec_capacity out) i → vec_capacity out ≡ vec_capacity before
     → (now ≡ read_all read start numbers) × Appends before all out
 all_taken read tell us start now numbers all before out i same done past taken room =
-    let len : length (read_all read start numbers) ≡ length start = length_map_zip read start numbers (sym same) in
-    (taken.so_far ∙ filled (read_all read start numbers) start i (omega (arith, len)) (sym len),
-    all_appended before out _ all (each_end tell us (drop i (zip start (read_all read start numbers))) i past) taken.events room)
-
--- what is read has as many places as before, so that what is read next has its room
-pub next_switches : (before after : List Bool) (next : Cell) → length after ≡ length before → HasNext (Pressed before) next → HasNext (Pressed after) next
-next_switches before after Vacant same has = absurd has
-next_switches before after (Pressed xs) same has = has ∙ sym same
-next_switches before after (Holding xs) same has = absurd has
-next_switches before after (Moved xs) same has = absurd has
-next_switches before after (RolledOver xs) same has = absurd has
-
-pub next_values : (before after : List (Option ℤ)) (next : Cell) → length after ≡ length before → HasNext (Holding before) next → HasNext (Holding after) next
-next_values before after Vacant same has = absurd has
-next_values before after (Pressed xs) same has = absurd has
-next_values before after (Holding xs) same has = has ∙ sym same
-next_values before after (Moved xs) same has = absurd has
-next_values before after (RolledOver xs) same has = absurd has
-
-pub ruleset nexts = (next_switches, next_values)
+    let len : length (read_all read start numbers) ≡ length start = length_map_zip read start numbers (sym same) in (
+      taken.so_far ∙ filled (read_all read start numbers) start i (omega (arith, len)) (sym len),
+      all_appended before out _ all (each_end tell us (drop i (zip start (read_all read start numbers))) i past) taken.events room,
+    )

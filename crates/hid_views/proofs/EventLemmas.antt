@@ -117,7 +117,7 @@ each_quiet f us cs from (suc n) within within' quiet =
     ∙ each_quiet f us cs (from + 1) n (omega arith) (omega arith) (λ j v d a b. quiet j v d (omega arith) (omega arith))
     ∙ ap (λ (k : ℕ). each f k (drop k us) (drop k cs)) e
 
-length_zip : {A B : Type 0} (xs : List A) (ys : List B) → length xs ≡ length ys → length (zip xs ys) ≡ length xs
+length_zip : {A B : Type 0} (xs : List A) (ys : List B) → length xs ≤ length ys → length (zip xs ys) ≡ length xs
 length_zip [] ys h = refl
 length_zip (x ∷ xs) [] h = absurd (omega arith)
 length_zip (x ∷ xs) (y ∷ ys) h = ap suc (length_zip xs ys (omega arith))
@@ -169,13 +169,13 @@ downs_by i bs xs = record {
 }
 
 -- the next event, of the first index that passes the test
-pub each_next : (f : ℕ → Usage → Bool × Bool → List Event) (test : ℕ → Bool) (bs xs : List Bool) (told_at : ℕ → Usage → Event) (us : List Usage) (from j : ℕ) (u : Usage) → TellsBy f test bs xs told_at → length bs ≡ length us → length xs ≡ length us
+pub each_next : (f : ℕ → Usage → Bool × Bool → List Event) (test : ℕ → Bool) (bs xs : List Bool) (told_at : ℕ → Usage → Event) (us : List Usage) (from j : ℕ) (u : Usage) → TellsBy f test bs xs told_at → length bs ≡ length us → length us ≤ length xs
     → IsFirst test from (length us) j → slice_get us j ≡ Some u
     → each f from (drop from us) (drop from (zip bs xs)) ≡ (told_at j u ∷ []) ++ each f (j + 1) (drop (j + 1) us) (drop (j + 1) (zip bs xs))
 each_next f test bs xs told_at us from j u tells long long' first here =
     let low = first.low in
     let high = first.high in
-    let pairs : length (zip bs xs) ≡ length us = length_zip bs xs (long ∙ sym long') ∙ long in
+    let pairs : length (zip bs xs) ≡ length us = length_zip bs xs (omega (arith, long, long')) ∙ long in
     let e : from + (j - from) ≡ j = omega arith in
     let p = got (zip bs xs) j (omega arith) in
     each_quiet f us (zip bs xs) from (j - from) (omega arith) (omega arith) (λ k v q a b h g. tells.none k v q g (first.before k a (omega arith)))
@@ -184,10 +184,10 @@ each_next f test bs xs told_at us from j u tells long long' first here =
     ∙ ap (λ (t : List Event). t ++ each f (j + 1) (drop (j + 1) us) (drop (j + 1) (zip bs xs))) (tells.one j u p.0 p.1 first.hit)
 
 -- no event is left where no index passes
-pub each_done : (f : ℕ → Usage → Bool × Bool → List Event) (test : ℕ → Bool) (bs xs : List Bool) (told_at : ℕ → Usage → Event) (us : List Usage) (from : ℕ) → TellsBy f test bs xs told_at → length bs ≡ length us → length xs ≡ length us → from ≤ length us
+pub each_done : (f : ℕ → Usage → Bool × Bool → List Event) (test : ℕ → Bool) (bs xs : List Bool) (told_at : ℕ → Usage → Event) (us : List Usage) (from : ℕ) → TellsBy f test bs xs told_at → length bs ≡ length us → length us ≤ length xs → from ≤ length us
     → ((j : ℕ) → from ≤ j → j < length us → test j ≡ false) → each f from (drop from us) (drop from (zip bs xs)) ≡ []
 each_done f test bs xs told_at us from tells long long' within none =
-    let pairs : length (zip bs xs) ≡ length us = length_zip bs xs (long ∙ sym long') ∙ long in
+    let pairs : length (zip bs xs) ≡ length us = length_zip bs xs (omega (arith, long, long')) ∙ long in
     let e : from + (length us - from) ≡ length us = omega arith in
     each_quiet f us (zip bs xs) from (length us - from) (omega arith) (omega arith) (λ k v q a b h g. tells.none k v q g (none k a (omega arith)))
     ∙ ap (λ (k : ℕ). each f k (drop k us) (drop k (zip bs xs))) e

@@ -14,4 +14,5 @@ pub mod OneReportLemmas
 pub mod CrossingVectors
 pub mod ElementLemmas
 pub mod DropLemmas
-pub mod InitialLemmas
+pub mod RoomLemmas
+pub mod BackLemmas

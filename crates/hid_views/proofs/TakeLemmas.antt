@@ -1,7 +1,7 @@
 -- The items of a report that is read.
-use Rattle.std.proofs.Common.{◌≡◌, ℕ, zero, suc, ◌+◌, ◌<◌, ◌≤◌, inl, inr, Bool, true, false, cond, List, [], ◌∷◌, ◌++◌, length, length-append, map, take, drop, get_or, Option, Some, None, ℤ, zero-add, refl, sym, ap, ◌∙◌, subst, arith, append-nil, ◌==◌, ◌&&◌, not, nat_lt, Result, Ok, Err}
+use Rattle.std.proofs.Common.{◌≡◌, ℕ, zero, suc, ◌+◌, ◌<◌, ◌≤◌, Bool, true, false, cond, List, [], ◌∷◌, ◌++◌, length, length-append, map, take, drop, get_or, Option, Some, None, ℤ, zero-add, refl, sym, ap, ◌∙◌, subst, arith, append-nil, ◌==◌, ◌&&◌, not, nat_lt, Result, Ok, Err}
 use Rattle.std.specs.List.{slice_get, slice_set, list_any, position}
-use Rattle.std.proofs.lemmas.List.{length-map, drop_all}
+use Rattle.std.proofs.lemmas.List.{drop_all}
 use Rattle.std.proofs.lemmas.Option.{slice_get_within, slice_get-get_or}
 use Rattle.hid_layout.specs.declared.main_item.MainItem.{MainItem}
 use Rattle.hid_descriptor.specs.declared.shape.Shape.{Shape}
@@ -16,20 +16,18 @@ use Rattle.hid_layout.specs.Reports.{IsLayout, HasElements, first_bit, report_by
 use Rattle.hid_layout.specs.Controls.{Form, NoControls, Elements, Keys, Item, items_of, item_of, form_of, form_at, head_of, array_keys, max_events, Key, has_place, rollover_from, element_kind, least_of, greatest_of, events_in, is_input_report}
 use Rattle.hid_cells.specs.Events.{usages_of, usages_at, element_events, key_events, key_usages, change_events}
 use Rattle.hid_views.specs.Reading.{keys_of, keys_at, read_motion, names_rollover, named_from, read_elements, read_named, read_keys, read_cell, motion_elements, motion_cell, is_data_in, item_numbers, first_byte, is_input_with, whole_report, report_named}
-use Rattle.hid_views.specs.Taking.{list_at, IsFormOf, read_by_report, told_by_report, read_from, told_from, read_view, read_events, ArePairs, read_by_numbers, told_by_numbers}
+use Rattle.hid_views.specs.Taking.{list_at, IsFormOf, read_by_report, told_by_report, read_from, told_from, read_view, read_events, read_by_numbers, told_by_numbers}
 use Rattle.hid_cells.proofs.PlanLemmas.{Skips}
 use Rattle.hid_cells.specs.declared.cell.Cell.{Cell}
 use Rattle.hid_cells.specs.declared.event.Event.{Event}
-use Rattle.hid_cells.specs.Views.{HasNext, motions_of, motions_told}
-use Rattle.std.proofs.lemmas.Bool.{cases_eq}
+use Rattle.hid_cells.specs.Views.{motions_of, motions_told}
 use Rattle.hid_views.proofs.EventLemmas.{drop_at}
-use Rattle.hid_cells.proofs.FillLemmas.{unfilled_at, fill_next, set_length, length_map_zip}
+use Rattle.hid_cells.proofs.FillLemmas.{unfilled_at, fill_next, length_map_zip}
 use Rattle.hid_layout.specs.declared.control.ControlKind.TheVariants.{Switch, Value, NullValue, Relative}
 use Rattle.hid_cells.specs.declared.cell.Cell.TheVariants.{Vacant, Pressed, Holding, Moved, RolledOver}
-use Rattle.hid_cells.specs.Cells.{blank, blank_cell, pressed_count, HasRoom, InView, Suits}
+use Rattle.hid_cells.specs.Cells.{pressed_count, HasRoom, InView, Suits}
 use Rattle.hid_views.proofs.NamedLemmas.{named_length}
 use Rattle.hid_views.proofs.KeyLemmas.{named_count}
-use Rattle.hid_cells.proofs.ListLemmas.{map_at}
 use Rattle.hid_views.proofs.ViewLemmas.{sum_cons, element_few, motions_few, change_few}
 use Rattle.hid_cells.specs.Parts.{IsInput}
 use Rattle.hid_fields.specs.Value.{is_negative}
@@ -42,7 +40,7 @@ use Rattle.hid_cells.specs.declared.fault.ReportFault.TheVariants.{Short}
 use Rattle.std.proofs.lemmas.List.Quantifiers.{position-Some}
 use Rattle.hid_cells.proofs.CodeLemmas.{both_true}
 use Rattle.hid_parts.specs.Encoding.{IsData}
-use Rattle.hid_cells.proofs.ItemLemmas.{items_of-length, set_same, set_here, set_there, got, items_from-at, form_at-is}
+use Rattle.hid_cells.proofs.ItemLemmas.{items_of-length, set_same, got, items_from-at, form_at-is}
 use Rattle.hid_parts.proofs.ReportLemmas.{form_in_input}
 use Rattle.hid_parts.proofs.SendLemmas.{spread-length, places_few}
 
@@ -124,24 +122,6 @@ pub read_next : (layout : Contents) (r : ℕ) (bytes : List ℕ) (start now : Li
 read_next layout r bytes start now i d new so_far within ln is =
     let there = read_start layout r bytes start now i d so_far within ln in
     ap (λ xs. slice_set xs i new) so_far ∙ fill_next (read_view layout r bytes start) start i new (read_view-at layout r bytes start i (get_or now i d) there ∙ ap Some (sym is)) within
-
-pub pairs_set : (cells nexts : List Cell) (i : ℕ) (cell next : Cell) → ArePairs cells nexts → i < length cells → HasNext cell next → ArePairs (slice_set cells i cell) (slice_set nexts i next)
-pairs_set cells nexts i cell next pairs within here = record {
-  one_each = set_length nexts i next ∙ pairs.one_each ∙ sym (set_length cells i cell);
-  each = λ k a b g h. elim (cases_eq i k) [
-    | inl same ↦
-        let e : a ≡ cell = same_place (slice_set cells i cell) i a cell (let P : ℕ → Type 0 = λ n. slice_get (slice_set cells i cell) n ≡ Some a in subst P (sym same) g) (set_here cells i cell within) in
-        let f : b ≡ next = same_place (slice_set nexts i next) i b next (let P : ℕ → Type 0 = λ n. slice_get (slice_set nexts i next) n ≡ Some b in subst P (sym same) h) (set_here nexts i next (omega (arith, pairs.one_each))) in
-        rw (e, f) here
-    | inr ne ↦ pairs.each k a b (sym (set_there cells i k cell ne) ∙ g) (sym (set_there nexts i k next ne) ∙ h)
-  ];
-}
-  where
-    same_place : (xs : List Cell) (j : ℕ) (a b : Cell) → slice_get xs j ≡ Some a → slice_get xs j ≡ Some b → a ≡ b
-    same_place xs j a b g h = cc
-
-pub pair_at : (cells nexts : List Cell) (i : ℕ) (d e : Cell) → ArePairs cells nexts → i < length cells → HasNext (get_or cells i d) (get_or nexts i e)
-pair_at cells nexts i d e pairs within = pairs.each i (get_or cells i d) (get_or nexts i e) (slice_get-get_or cells i d within) (slice_get-get_or nexts i e (omega (arith, pairs.one_each)))
 
 found_input : (id : ℕ) (layout : Contents) (r : ℕ) → position (is_input_with id) layout.reports ≡ Some r → IsInput layout r
 found_input id layout r h =
@@ -318,26 +298,6 @@ read_events_few layout r bytes view laid input fits =
     let well = well_at layout r bytes view laid input fits k item cell h g in
     let zero_ : 0 + k ≡ k = omega arith in
     omega (arith, well.1.few, ap (λ (f : Form). events_in f) well.0, ap (λ (j : ℕ). length (told_by_report layout r bytes j cell)) zero_))
-
-next_blank : (form : Form) → HasNext (blank_cell (head_of form)) (blank_cell (head_of form))
-next_blank NoControls = tt
-next_blank (Elements Switch least greatest us) = refl
-next_blank (Elements Value least greatest us) = refl
-next_blank (Elements NullValue least greatest us) = refl
-next_blank (Elements Relative least greatest us) = refl
-next_blank (Keys elements rolls keys) = refl
-
--- blank cells are room for one another
-pub blank_pairs : (items : List Item) → ArePairs (blank items) (blank items)
-blank_pairs items = record {
-  one_each = refl;
-  each = λ i c n h g.
-      let item = got items i (omega (arith, slice_get_within (blank items) i c h, length-map items (λ (it : Item). blank_cell (head_of it.form)))) in
-      let is = map_at (λ (it : Item). blank_cell (head_of it.form)) items i item.0 item.1 in
-      let e : blank_cell (head_of item.0.form) ≡ c = cc in
-      let f : blank_cell (head_of item.0.form) ≡ n = cc in
-      rw (← e, ← f) (next_blank item.0.form);
-}
 
 -- Reading along the plan: the items before a place are read, and the rest is as it was.
 pub record HasTaken (layout : Contents) (r : ℕ) (bytes : List ℕ) (start now : List Cell) (before told : List Event) (len room i : ℕ) : Type 0 where

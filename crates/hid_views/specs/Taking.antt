@@ -1,5 +1,5 @@
 -- What the numbers of one listed item's elements make of a view, and what they tell (our choice).
-use Rattle.std.specs.Prelude.{◌≡◌, ℕ, ◌+◌, List, [], ◌∷◌, ◌++◌, length, if◌then◌else◌, Some, None, Result, Ok, Err, ℤ, slice_get}
+use Rattle.std.specs.Prelude.{◌≡◌, ℕ, ◌+◌, ◌≤◌, Bool, false, List, [], ◌∷◌, ◌++◌, length, replicate, if◌then◌else◌, Some, None, Result, Ok, Err, ℤ, slice_get}
 use Rattle.hid_cells.specs.declared.fault.ReportFault.{ReportFault}
 use Rattle.hid_layout.specs.declared.main_item.MainItem.{MainItem}
 use Rattle.hid_descriptor.specs.declared.usage.Usage.{Usage}
@@ -7,11 +7,12 @@ use Rattle.hid_descriptor.specs.Usages.{usage_list}
 use Rattle.hid_layout.specs.Layout.{Contents}
 use Rattle.hid_layout.specs.Controls.{Form, Key, items_of, form_at, form_of}
 use Rattle.hid_cells.specs.declared.cell.Cell.{Cell}
+use Rattle.hid_cells.specs.declared.cell.Cell.TheVariants.{Vacant, Pressed, Holding, Moved, RolledOver}
 use Rattle.hid_cells.specs.declared.event.Event.{Event}
 use Rattle.hid_views.specs.declared.take.Listed.{Listed}
 use Rattle.hid_views.specs.declared.take.Carried.{Carried}
 use Rattle.hid_cells.specs.Events.{change_events, usages_at}
-use Rattle.hid_cells.specs.Views.{motions_told, HasNext}
+use Rattle.hid_cells.specs.Views.{motions_told}
 use Rattle.hid_views.specs.Reading.{read_cell, motion_cell, read_elements, motion_elements, keys_at, is_data_in, item_numbers, report_named}
 
 -- the usage list of a listed item
@@ -101,11 +102,18 @@ read_view layout r bytes view = read_from layout r bytes 0 view
 abbrev pub read_events : Contents → ℕ → List ℕ → List Cell → List Event
 read_events layout r bytes view = told_from layout r bytes 0 view
 
--- there is a cell to be written for each present one, with its room
-pub record ArePairs (cells nexts : List Cell) : Type 0 where
-  pub one_each : length nexts ≡ length cells
-  pub each : (i : ℕ) (cell next : Cell) → slice_get cells i ≡ Some cell
-      → slice_get nexts i ≡ Some next → HasNext cell next
+-- how many places of a cell can be pressed
+abbrev pub flag_places : Cell → ℕ
+flag_places (Pressed ps) = length ps
+flag_places (RolledOver ps) = length ps
+flag_places (Holding vs) = 0
+flag_places (Moved ms) = 0
+flag_places Vacant = 0
+
+-- no flag of these is set, and there is one for each place of a cell that can be pressed
+pub record NamesNone (cells : List Cell) (named : List Bool) : Type 0 where
+  pub none : named ≡ replicate (length named) false
+  pub each : (i : ℕ) (cell : Cell) → slice_get cells i ≡ Some cell → flag_places cell ≤ length named
 
 -- Taking a report: the view is read and the events follow, or the report is refused and nothing changes.
 abbrev pub TakesReport : Contents → List ℕ → List Cell → List Event → Result (Unit {0}) ReportFault

@@ -1,11 +1,12 @@
 //! What changed from one view to another, in events.
 
-ghost use Rattle.std.specs.Prelude.{◌≡◌, ◌<◌, ◌≤◌, ◌++◌, length, slice_get, map, Some};
+ghost use Rattle.std.specs.Prelude.{◌≡◌, ◌<◌, ◌≤◌, ◌++◌, ℕ, false, length, slice_get, map, Some};
 ghost use Rattle.hid_descriptor.specs.declared.usage.Usage.{Usage as UsageValue};
 ghost use Rattle.hid_descriptor.specs.Usages.{usage_list};
 ghost use Rattle.hid_layout.specs.Reports.{usage_of};
 ghost use Rattle.hid_layout.specs.Controls.{items_of, form_at, head_of};
 ghost use Rattle.hid_cells.specs.Cells.{HasRoom, FitsView};
+ghost use Rattle.hid_cells.specs.Words.{is_on};
 ghost use Rattle.hid_views.specs.Appending.{HasSpace, Appends};
 ghost use Rattle.hid_cells.specs.Views.{changes_between};
 ghost use Rattle.hid_cells.specs.Events.{element_events, key_events, change_events, HasPlaces, at, usages_at, usage_place, switch_event, value_event, motion_event, switch_events, value_events, motion_events, ups, downs};
@@ -229,7 +230,7 @@ pub(crate) fn value_changes(
     }
 }
 
-/// The keys of an array that are released, by rising index.
+/// The keys of an array that are released, by rising index; the flags after may be more than the keys.
 pub(crate) fn releases(
     layout: &Layout,
     item: usize,
@@ -238,7 +239,7 @@ pub(crate) fn releases(
     out: &mut Vec<Event>,
 )
     requires before { length before.now ≡ length (usages_at layout.now item) }
-    requires after { length after.now ≡ length (usages_at layout.now item) }
+    requires after { length (usages_at layout.now item) ≤ length after.now }
     requires room { HasSpace out.old (ups item (usages_at layout.now item) before.now after.now) }
     ensures { Appends out.old (ups item (usages_at layout.now item) before.now after.now) out.new }
 {
@@ -251,7 +252,7 @@ pub(crate) fn releases(
     }
 }
 
-/// The keys of an array that are pressed, by rising index.
+/// The keys of an array that are pressed, by rising index; the flags after may be more than the keys.
 pub(crate) fn presses(
     layout: &Layout,
     item: usize,
@@ -260,7 +261,9 @@ pub(crate) fn presses(
     out: &mut Vec<Event>,
 )
     requires before { length before.now ≡ length (usages_at layout.now item) }
-    requires after { length after.now ≡ length (usages_at layout.now item) }
+    requires after { length (usages_at layout.now item) ≤ length after.now }
+    requires behind { (i : ℕ) → length (usages_at layout.now item) ≤ i
+        → is_on after.now i ≡ false }
     requires room { HasSpace out.old (downs item (usages_at layout.now item) before.now after.now) }
     ensures { Appends out.old (downs item (usages_at layout.now item) before.now after.now)
         out.new }
@@ -343,6 +346,7 @@ pub(crate) fn element_changes(
 }
 
 /// The events of the keys of an array: each release, and then each press.
+#[tactic(auto, using(crate::proofs::RoomLemmas::past))]
 pub(crate) fn key_changes(
     layout: &Layout,
     item: usize,
@@ -366,6 +370,7 @@ pub(crate) fn key_changes(
     }
 }
 
+/// The same, of the keys before and the flags after, which may be more.
 pub(crate) fn flag_changes(
     layout: &Layout,
     item: usize,
@@ -374,7 +379,9 @@ pub(crate) fn flag_changes(
     out: &mut Vec<Event>,
 )
     requires before { length before.now ≡ length (usages_at layout.now item) }
-    requires after { length after.now ≡ length (usages_at layout.now item) }
+    requires after { length (usages_at layout.now item) ≤ length after.now }
+    requires behind { (i : ℕ) → length (usages_at layout.now item) ≤ i
+        → is_on after.now i ≡ false }
     requires room { HasSpace out.old (ups item (usages_at layout.now item) before.now after.now
         ++ downs item (usages_at layout.now item) before.now after.now) }
     ensures { Appends out.old (ups item (usages_at layout.now item) before.now after.now

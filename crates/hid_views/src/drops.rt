@@ -55,7 +55,7 @@ fn motion_drops(dropped: &Dropped<'_>, item: usize, count: usize, out: &mut Vec<
 }
 
 /// The same of an item of the report, by the kind of its controls.
-fn item_drops(dropped: &Dropped<'_>, item: usize, out: &mut Vec<Event>)
+pub(crate) fn item_drops(dropped: &Dropped<'_>, item: usize, out: &mut Vec<Event>)
     requires input { IsInput dropped.now.layout.now dropped.now.report }
     requires listed { item < length dropped.now.layout.now.items }
     requires part { HasRoom (head_of (form_at (items_of dropped.now.layout.now) item))

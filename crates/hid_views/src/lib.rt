@@ -8,6 +8,7 @@
 //! Any bytes give one view and one list of events: `taken` on [`View::take_report`].
 #![tactic(auto)]
 
+mod back;
 mod bits;
 mod bounds;
 mod differences;

@@ -1,9 +1,10 @@
 //! The keys of an array that its elements name.
 
-ghost use Rattle.std.specs.Prelude.{◌≡◌, ◌<◌, ℕ, length, slice_get, Some, ◌≢◌, ◌≤◌, ◌*◌, ◌+ℤ◌, pos, ◌++◌, [], ◌∷◌, ℤ, List, MatchOption, not, true, ◌&&◌, int_le};
+ghost use Rattle.std.specs.Prelude.{◌≡◌, ◌<◌, ℕ, false, length, replicate, take, slice_get, Some, ◌≢◌, ◌≤◌, ◌*◌, ◌+ℤ◌, pos, ◌++◌, [], ◌∷◌, ℤ, List, MatchOption, not, true, ◌&&◌, int_le};
 ghost use Rattle.std.specs.List.{list_any};
 ghost use Rattle.hid_descriptor.specs.Usages.{usage_list, is_rollover};
 ghost use Rattle.hid_layout.specs.Controls.{is_key};
+ghost use Rattle.hid_cells.specs.Words.{is_on};
 ghost use Rattle.hid_views.specs.Reading.{array_keys, AreBounds, named_from, names_rollover};
 
 use crate::bounds::Bounds;
@@ -54,15 +55,18 @@ fn press(array: &KeyArray<'_>, number: &i64, place: usize, usage: &Usage, after:
     requires range { AreBounds array.now.item.now array.now.range.least array.now.range.greatest }
     requires number { number.now ≡ array.now.item.now.min +ℤ pos place }
     requires usage { slice_get (usage_list array.now.entries.now) place ≡ Some usage.now }
-    requires after { length after.old
-        ≡ length (array_keys array.now.item.now (usage_list array.now.entries.now)) }
+    requires after { length (array_keys array.now.item.now (usage_list array.now.entries.now))
+        ≤ length after.old }
     ensures keys { (numbers : List ℤ)
-        → after.old
+        → take (length (array_keys array.now.item.now (usage_list array.now.entries.now))) after.old
         ≡ named_from array.now.item.now numbers 0
         (array_keys array.now.item.now (usage_list array.now.entries.now))
-        → after.new
+        → take (length (array_keys array.now.item.now (usage_list array.now.entries.now))) after.new
         ≡ named_from array.now.item.now (numbers ++ number.now
         ∷ []) 0 (array_keys array.now.item.now (usage_list array.now.entries.now)) }
+    ensures behind { (i : ℕ)
+        → length (array_keys array.now.item.now (usage_list array.now.entries.now)) ≤ i
+        → is_on after.new i ≡ is_on after.old i }
     ensures len { length after.new ≡ length after.old }
 {
     if is_pressable(array.item, &array.range, number, place, usage) {
@@ -82,17 +86,20 @@ fn add_key(array: &KeyArray<'_>, count: usize, number: &i64, after: &mut Flags) 
     requires count { count ≡ length (usage_list array.now.entries.now) }
     requires few { count ≤ 64 * 65536 }
     requires range { AreBounds array.now.item.now array.now.range.least array.now.range.greatest }
-    requires after { length after.old
-        ≡ length (array_keys array.now.item.now (usage_list array.now.entries.now)) }
+    requires after { length (array_keys array.now.item.now (usage_list array.now.entries.now))
+        ≤ length after.old }
     ensures rolls { result
         ≡ not (names_rollover array.now.item.now (usage_list array.now.entries.now) number.now) }
     ensures keys { (numbers : List ℤ) → result ≡ true
-        → after.old
+        → take (length (array_keys array.now.item.now (usage_list array.now.entries.now))) after.old
         ≡ named_from array.now.item.now numbers 0
         (array_keys array.now.item.now (usage_list array.now.entries.now))
-        → after.new
+        → take (length (array_keys array.now.item.now (usage_list array.now.entries.now))) after.new
         ≡ named_from array.now.item.now (numbers ++ number.now
         ∷ []) 0 (array_keys array.now.item.now (usage_list array.now.entries.now)) }
+    ensures behind { (i : ℕ)
+        → length (array_keys array.now.item.now (usage_list array.now.entries.now)) ≤ i
+        → is_on after.new i ≡ is_on after.old i }
     ensures len { length after.new ≡ length after.old }
 {
     match place_of(array.item, number, count) {
@@ -111,7 +118,7 @@ fn add_key(array: &KeyArray<'_>, count: usize, number: &i64, after: &mut Flags) 
     }
 }
 
-/// The keys that these numbers name; false where one names ErrorRollOver.
+/// Sets the keys that these numbers name, of which none is set before; false where one names ErrorRollOver.
 pub(crate) fn read_keys<C: FieldCodec>(
     array: &KeyArray<'_>,
     numbers: &FieldRun<'_>,
@@ -119,19 +126,22 @@ pub(crate) fn read_keys<C: FieldCodec>(
 ) -> bool
     requires entries { length array.now.entries.now ≤ 64 }
     requires range { AreBounds array.now.item.now array.now.range.least array.now.range.greatest }
-    requires after { length after.old
-        ≡ length (array_keys array.now.item.now (usage_list array.now.entries.now)) }
+    requires after { length (array_keys array.now.item.now (usage_list array.now.entries.now))
+        ≤ length after.old }
+    requires none { after.old ≡ replicate (length after.old) false }
     ensures rolls { result
         ≡ not (list_any (names_rollover array.now.item.now (usage_list array.now.entries.now))
         numbers.now) }
     ensures keys { result ≡ true
-        → after.new
+        → take (length (array_keys array.now.item.now (usage_list array.now.entries.now))) after.new
         ≡ named_from array.now.item.now numbers.now 0
         (array_keys array.now.item.now (usage_list array.now.entries.now)) }
+    ensures behind { (i : ℕ)
+        → length (array_keys array.now.item.now (usage_list array.now.entries.now)) ≤ i
+        → is_on after.new i ≡ false }
     ensures len { length after.new ≡ length after.old }
 {
     let count = usage_count(array.entries);
-    after.release_all();
     for k in 0..numbers.len() {
         let number = numbers.number::<C>(k);
         if !add_key(array, count, &number, after) {

@@ -1,20 +1,20 @@
 //! What a report of any bytes makes of a view, and the events of it.
 
-ghost use Rattle.std.specs.Prelude.{All, pos, ◌≡◌, ◌<◌, ◌≤◌, ◌++◌, false, length, slice_get, Some};
+ghost use Rattle.std.specs.Prelude.{All, pos, ◌≡◌, ◌<◌, ◌≤◌, ◌++◌, ℕ, false, length, replicate, slice_get, Some};
 ghost use Rattle.hid_layout.specs.Controls.{items_of, form_at, head_of};
 ghost use Rattle.hid_layout.specs.Index.{plan_of};
 ghost use Rattle.hid_descriptor.specs.Usages.{usage_list};
 ghost use Rattle.hid_descriptor.specs.Fields.{is_padding};
 ghost use Rattle.hid_layout.specs.Reports.{HasElements, IsLayout, report_bytes};
 ghost use Rattle.hid_views.specs.Appending.{HasSpace, Appends};
-ghost use Rattle.hid_views.specs.Taking.{IsFormOf, usages_in, keys_in, form_in, read_in, told_in, read_carried, motion_carried, read_by_report, told_by_report, read_view, read_events, ArePairs};
+ghost use Rattle.hid_views.specs.Taking.{IsFormOf, usages_in, keys_in, form_in, read_in, told_in, read_carried, motion_carried, read_by_report, told_by_report, read_view, read_events, flag_places, NamesNone};
 ghost use Rattle.hid_cells.specs.Parts.{IsInput};
-ghost use Rattle.hid_cells.specs.declared.cell.Cell.{Cell as CellValue};
+ghost use Rattle.hid_cells.specs.Words.{is_on};
 ghost use Rattle.hid_layout.specs.declared.control.Controls.TheVariants as head;
 ghost use Rattle.hid_cells.specs.Cells.{HasRoom, FitsView};
-ghost use Rattle.hid_cells.specs.Events.{element_events, key_events, HasPlaces};
-ghost use Rattle.hid_cells.specs.Views.{HasNext, motions_of};
-ghost use Rattle.hid_views.specs.Reading.{array_keys, read_keys, item_numbers};
+ghost use Rattle.hid_cells.specs.Events.{element_events, key_events, usages_at, HasPlaces};
+ghost use Rattle.hid_cells.specs.Views.{motions_of};
+ghost use Rattle.hid_views.specs.Reading.{AreBounds, array_keys, keys_at, read_keys, item_numbers};
 ghost use Rattle.hid_views.specs.Bits.{read_bits};
 ghost use Rattle.hid_parts.specs.Encoding.{IsData};
 ghost use Rattle.hid_layout.specs.declared.control.ControlKind.TheVariants as ControlKind;
@@ -28,7 +28,6 @@ use hid_cells::{Cell, Event, Flags, item_at};
 use hid_fields::FieldCodec;
 use hid_layout::{ControlKind, Controls, Layout, MainItem, Shape, Usage};
 use hid_parts::{FieldRun, first_bit, is_data};
-use std::mem;
 
 /// The bytes of an Input report, with its layout and its number there.
 #[derive(Clone, Copy)]
@@ -60,7 +59,7 @@ pub(crate) fn take_items<C: FieldCodec>(
     received: &Received<'_>,
     places: &[usize],
     cells: &mut [Cell],
-    nexts: &mut [Cell],
+    named: &mut Flags,
     out: &mut Vec<Event>,
 )
     requires input { IsInput received.now.layout.now received.now.report }
@@ -71,18 +70,18 @@ pub(crate) fn take_items<C: FieldCodec>(
     requires whole { report_bytes received.now.layout.now received.now.report
         ≤ length received.now.bytes.now }
     requires fits { FitsView (items_of received.now.layout.now) cells.old }
-    requires pairs { ArePairs cells.old nexts.old }
+    requires named { NamesNone cells.old named.old }
     requires room { HasSpace out.old (read_events received.now.layout.now received.now.report
         received.now.bytes.now cells.old) }
     ensures view { cells.new
         ≡ read_view received.now.layout.now received.now.report received.now.bytes.now cells.old }
-    ensures pairs { ArePairs cells.new nexts.new }
+    ensures named { named.new ≡ named.old }
     ensures told { Appends out.old (read_events received.now.layout.now received.now.report
         received.now.bytes.now cells.old) out.new }
 {
     for place in places {
         let i = *place;
-        take_item::<C>(received, i, &mut cells[i], &mut nexts[i], out);
+        take_item::<C>(received, i, &mut cells[i], named, out);
     }
 }
 
@@ -91,7 +90,7 @@ fn take_item<C: FieldCodec>(
     received: &Received<'_>,
     place: usize,
     cell: &mut Cell,
-    next: &mut Cell,
+    named: &mut Flags,
     out: &mut Vec<Event>,
 )
     requires listed { place < length received.now.layout.now.items }
@@ -99,13 +98,14 @@ fn take_item<C: FieldCodec>(
     requires whole { report_bytes received.now.layout.now received.now.report
         ≤ length received.now.bytes.now }
     requires held { HasRoom (head_of (form_at (items_of received.now.layout.now) place)) cell.old }
-    requires next { HasNext cell.old next.old }
+    requires places { flag_places cell.old ≤ length named.old }
+    requires none { named.old ≡ replicate (length named.old) false }
     requires room { HasSpace out.old (told_by_report received.now.layout.now received.now.report
         received.now.bytes.now place cell.old) }
     ensures cell { cell.new
         ≡ read_by_report received.now.layout.now received.now.report received.now.bytes.now place
         cell.old }
-    ensures next { HasNext cell.new next.new }
+    ensures named { named.new ≡ named.old }
     ensures told { Appends out.old (told_by_report received.now.layout.now received.now.report
         received.now.bytes.now place cell.old) out.new }
 {
@@ -117,7 +117,7 @@ fn take_item<C: FieldCodec>(
             place,
             item,
         };
-        take_fields::<C>(&listed, received.bytes, cell, next, out);
+        take_fields::<C>(&listed, received.bytes, cell, named, out);
     }
 }
 
@@ -126,7 +126,7 @@ fn take_fields<C: FieldCodec>(
     listed: &Listed<'_>,
     bytes: &[u8],
     cell: &mut Cell,
-    next: &mut Cell,
+    named: &mut Flags,
     out: &mut Vec<Event>,
 )
     requires layout { IsLayout listed.now.layout.now }
@@ -136,14 +136,15 @@ fn take_fields<C: FieldCodec>(
     requires whole { report_bytes listed.now.layout.now listed.now.item.now.report
         ≤ length bytes.now }
     requires held { HasRoom (head_of (form_in listed.now)) cell.old }
-    requires next { HasNext cell.old next.old }
+    requires places { flag_places cell.old ≤ length named.old }
+    requires none { named.old ≡ replicate (length named.old) false }
     requires room { HasSpace out.old (told_in listed.now cell.old
         (read_in listed.now cell.old (item_numbers listed.now.layout.now bytes.now
         listed.now.item.now)) (item_numbers listed.now.layout.now bytes.now listed.now.item.now)) }
     ensures cell { cell.new
         ≡ read_in listed.now cell.old
         (item_numbers listed.now.layout.now bytes.now listed.now.item.now) }
-    ensures next { HasNext cell.new next.new }
+    ensures named { named.new ≡ named.old }
     ensures told { Appends out.old (told_in listed.now cell.old cell.new
         (item_numbers listed.now.layout.now bytes.now listed.now.item.now)) out.new }
 {
@@ -153,7 +154,7 @@ fn take_fields<C: FieldCodec>(
         take_pattern(listed, C::get(bytes, at, item.count), cell, out);
     } else {
         let numbers = FieldRun::new(bytes, at, item.size, item.min < 0, item.count as usize);
-        take_numbers::<C>(listed, &numbers, cell, next, out);
+        take_numbers::<C>(listed, &numbers, cell, named, out);
     }
 }
 
@@ -179,7 +180,7 @@ fn take_numbers<C: FieldCodec>(
     listed: &Listed<'_>,
     numbers: &FieldRun<'_>,
     cell: &mut Cell,
-    next: &mut Cell,
+    named: &mut Flags,
     out: &mut Vec<Event>,
 )
     requires layout { IsLayout listed.now.layout.now }
@@ -189,11 +190,12 @@ fn take_numbers<C: FieldCodec>(
     requires data { is_padding listed.now.item.now.shape ≡ false }
     requires numbers { length numbers.now ≡ listed.now.item.now.count }
     requires held { HasRoom (head_of (form_in listed.now)) cell.old }
-    requires next { HasNext cell.old next.old }
+    requires places { flag_places cell.old ≤ length named.old }
+    requires none { named.old ≡ replicate (length named.old) false }
     requires room { HasSpace out.old (told_in listed.now cell.old
         (read_in listed.now cell.old numbers.now) numbers.now) }
     ensures cell { cell.new ≡ read_in listed.now cell.old numbers.now }
-    ensures next { HasNext cell.new next.new }
+    ensures named { named.new ≡ named.old }
     ensures told { Appends out.old (told_in listed.now cell.old cell.new numbers.now) out.new }
 {
     match controls_of(listed) {
@@ -213,7 +215,7 @@ fn take_numbers<C: FieldCodec>(
         }
         Controls::Keys { .. } => {
             let entries = listed.layout.entries(listed.place);
-            take_array::<C>(listed, entries, numbers, cell, next, out);
+            take_array::<C>(listed, entries, numbers, cell, named, out);
         }
     }
 }
@@ -239,7 +241,6 @@ fn controls_of(listed: &Listed<'_>) -> Controls
 }
 
 /// The elements of a variable item, as these numbers leave them, and what they tell.
-#[tactic(auto, using(crate::proofs::ElementLemmas::nexts))]
 fn take_elements<C: FieldCodec>(
     listed: &Listed<'_>,
     carried: &Carried<'_>,
@@ -253,7 +254,6 @@ fn take_elements<C: FieldCodec>(
         (usages_in listed.now) cell.old (read_carried carried.now cell.old)
         ++ motions_of listed.now.place (usages_in listed.now) (motion_carried carried.now)) }
     ensures cell { cell.new ≡ read_carried carried.now cell.old }
-    ensures next { (next : CellValue) → HasNext cell.old next → HasNext cell.new next }
     ensures told { Appends out.old (element_events listed.now.place
         (usages_in listed.now) cell.old cell.new ++ motions_of listed.now.place
         (usages_in listed.now) (motion_carried carried.now)) out.new }
@@ -288,7 +288,7 @@ fn take_array<C: FieldCodec>(
     entries: &[(Usage, Usage)],
     numbers: &FieldRun<'_>,
     cell: &mut Cell,
-    next: &mut Cell,
+    named: &mut Flags,
     out: &mut Vec<Event>,
 )
     requires elements { HasElements listed.now.item.now }
@@ -296,24 +296,20 @@ fn take_array<C: FieldCodec>(
     requires keys { keys_in listed.now ≡ array_keys listed.now.item.now (usage_list entries.now) }
     requires usages { length (usages_in listed.now) ≡ length (keys_in listed.now) }
     requires held { HasPlaces cell.old (length (keys_in listed.now)) }
-    requires next { HasNext cell.old next.old }
+    requires places { flag_places cell.old ≤ length named.old }
+    requires none { named.old ≡ replicate (length named.old) false }
     requires room { HasSpace out.old (key_events listed.now.place (usages_in listed.now) cell.old
         (read_keys listed.now.item.now (usage_list entries.now)
         (keys_in listed.now) cell.old numbers.now)) }
     ensures cell { cell.new
         ≡ read_keys listed.now.item.now (usage_list entries.now)
         (keys_in listed.now) cell.old numbers.now }
-    ensures next { HasNext cell.new next.new }
+    ensures named { named.new ≡ named.old }
     ensures told { Appends out.old (key_events listed.now.place
         (usages_in listed.now) cell.old cell.new) out.new }
 {
     match cell {
-        Cell::Pressed(held) => match next {
-            Cell::Pressed(named) => {
-                take_flags::<C>(listed, entries, numbers, held, named, out);
-            }
-            Cell::Vacant | Cell::Holding(_) | Cell::Moved(_) | Cell::RolledOver(_) => {}
-        },
+        Cell::Pressed(held) => take_flags::<C>(listed, entries, numbers, held, named, out),
         Cell::Vacant | Cell::Holding(_) | Cell::Moved(_) | Cell::RolledOver(_) => {}
     }
 }
@@ -333,15 +329,15 @@ fn take_flags<C: FieldCodec>(
     requires keys { keys_in listed.now ≡ array_keys listed.now.item.now (usage_list entries.now) }
     requires usages { length (usages_in listed.now) ≡ length (keys_in listed.now) }
     requires held { length held.old ≡ length (keys_in listed.now) }
-    requires named { length named.old ≡ length (keys_in listed.now) }
+    requires places { length held.old ≤ length named.old }
+    requires none { named.old ≡ replicate (length named.old) false }
     requires room { HasSpace out.old (key_events listed.now.place (usages_in listed.now)
         (Cell.Pressed held.old) (read_keys listed.now.item.now (usage_list entries.now)
         (keys_in listed.now) (Cell.Pressed held.old) numbers.now)) }
     ensures held { Cell.Pressed held.new
         ≡ read_keys listed.now.item.now (usage_list entries.now) (keys_in listed.now)
         (Cell.Pressed held.old) numbers.now }
-    ensures held_len { length held.new ≡ length held.old }
-    ensures named_len { length named.new ≡ length held.old }
+    ensures named { named.new ≡ named.old }
     ensures told { Appends out.old (key_events listed.now.place (usages_in listed.now)
         (Cell.Pressed held.old) (Cell.Pressed held.new)) out.new }
 {
@@ -350,16 +346,43 @@ fn take_flags<C: FieldCodec>(
         entries,
         range: bounds_of(listed.item),
     };
-    if read_keys::<C>(&array, numbers, named) {
-        flag_changes(listed.layout, listed.place, held, named, out);
-        keep(held, named);
-    }
+    let Listed { layout, place, .. } = *listed;
+    let count = held.len();
+    take_named::<C>(layout, place, &array, numbers, held, named, out);
+    named.release_first(count);
 }
 
-/// Keeps what was read; what was held is the room for what is read next.
-fn keep(held: &mut Flags, read: &mut Flags)
-    ensures held { held.new ≡ read.old }
-    ensures read { read.new ≡ held.old }
+/// The same; the keys that the numbers name stay set in the room for them.
+fn take_named<C: FieldCodec>(
+    layout: &Layout,
+    place: usize,
+    array: &KeyArray<'_>,
+    numbers: &FieldRun<'_>,
+    held: &mut Flags,
+    named: &mut Flags,
+    out: &mut Vec<Event>,
+)
+    requires entries { length array.now.entries.now ≤ 64 }
+    requires range { AreBounds array.now.item.now array.now.range.least array.now.range.greatest }
+    requires keys { keys_at layout.now place
+        ≡ array_keys array.now.item.now (usage_list array.now.entries.now) }
+    requires usages { length (usages_at layout.now place) ≡ length (keys_at layout.now place) }
+    requires held { length held.old ≡ length (keys_at layout.now place) }
+    requires places { length held.old ≤ length named.old }
+    requires none { named.old ≡ replicate (length named.old) false }
+    requires room { HasSpace out.old (key_events place (usages_at layout.now place)
+        (Cell.Pressed held.old) (read_keys array.now.item.now (usage_list array.now.entries.now)
+        (keys_at layout.now place) (Cell.Pressed held.old) numbers.now)) }
+    ensures held { Cell.Pressed held.new
+        ≡ read_keys array.now.item.now (usage_list array.now.entries.now)
+        (keys_at layout.now place) (Cell.Pressed held.old) numbers.now }
+    ensures behind { (i : ℕ) → length held.old ≤ i → is_on named.new i ≡ false }
+    ensures len { length named.new ≡ length named.old }
+    ensures told { Appends out.old (key_events place (usages_at layout.now place)
+        (Cell.Pressed held.old) (Cell.Pressed held.new)) out.new }
 {
-    mem::swap(held, read);
+    if read_keys::<C>(array, numbers, named) {
+        flag_changes(layout, place, held, named, out);
+        held.copy_first(named);
+    }
 }

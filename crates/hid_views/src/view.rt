@@ -1,20 +1,23 @@
 //! A host's view of a device's controls.
 
-ghost use Rattle.std.specs.Prelude.{◌≡◌, ◌≤◌, ◌+◌, ◌++◌, true, length, IfOk, vec_len, vec_capacity};
+ghost use Rattle.std.specs.Prelude.{◌≡◌, ◌≤◌, ◌+◌, ◌++◌, ℕ, true, length, slice_get, Some, IfOk, vec_len, vec_capacity};
 ghost use Rattle.hid_layout.specs.Controls.{items_of, max_events};
+ghost use Rattle.hid_cells.specs.declared.cell.Cell.{Cell as CellValue};
 ghost use Rattle.hid_cells.specs.Cells.{blank, FitsShown, FitsView};
 ghost use Rattle.hid_cells.specs.Parts.{IsInput};
 ghost use Rattle.hid_cells.specs.Snapshots.{is_pressed, cell_at};
 ghost use Rattle.hid_cells.specs.Keys.{keys_at, has_keys_at, key_words, AreKeyWords};
-ghost use Rattle.hid_views.specs.Taking.{ArePairs, TakesReport};
+ghost use Rattle.hid_views.specs.Taking.{TakesReport, flag_places};
 ghost use Rattle.hid_cells.specs.Views.{value_in, changes_between, drops_between};
 
+use crate::back::{all_changes_back, all_changes_back_and_drops};
 use crate::differences::all_changes;
 use crate::drops::{Dropped, all_changes_and_drops};
 use crate::input::input_report;
 use crate::take::{Received, take_items};
 use hid_cells::{
-    Cell, Event, MemoryFault, ReportFault, blank_pairs, key_words, plan_of, reset_cells,
+    Cell, Event, Flags, MemoryFault, ReportFault, blank_cells, cell_at as cell_in, key_words,
+    plan_of,
 };
 use hid_fields::FieldCodec;
 use hid_layout::{ControlId, Layout};
@@ -27,8 +30,9 @@ use std::marker::Model;
 #[derive(Drop)]
 pub struct View {
     cells: Vec<Cell>,
-    /// Room for what the next report makes of the cells.
-    nexts: Vec<Cell>,
+    /// Flags for the keys that a report names, as many as the most switches or keys of one item. Between two calls none is
+    /// set.
+    named: Flags,
 }
 
 impl Model for View {
@@ -39,9 +43,9 @@ impl Model for View {
 
     ghost view = { λ v. v.cells.items };
 
-    ghost use Rattle.hid_views.specs.Taking.{ArePairs};
+    ghost use Rattle.hid_views.specs.Taking.{NamesNone};
 
-    ghost invariant = { λ v. ArePairs v.cells.items v.nexts.items };
+    ghost invariant = { λ v. NamesNone v.cells.items v.named };
 }
 
 impl View {
@@ -50,8 +54,11 @@ impl View {
         ensures initial { IfOk result (λ view. view ≡ blank (items_of layout.now)) }
         ensures fits { IfOk result (λ view. FitsView (items_of layout.now) view) }
     {
-        match blank_pairs(alloc, layout) {
-            Ok((cells, nexts)) => Ok(View { cells, nexts }),
+        match blank_cells(alloc, layout) {
+            Ok(cells) => match Flags::clear(alloc, most_places(&cells)) {
+                Ok(named) => Ok(View { cells, named }),
+                Err(_) => Err(MemoryFault),
+            },
             Err(_) => Err(MemoryFault),
         }
     }
@@ -82,48 +89,51 @@ impl View {
                     report,
                     bytes,
                 };
-                take_items::<C>(&received, places, &mut self.cells, &mut self.nexts, out);
+                take_items::<C>(&received, places, &mut self.cells, &mut self.named, out);
                 Ok(())
             }
             Err(fault) => Err(fault),
         }
     }
 
-    /// Appends what changes until the view is the initial one again, as [`changes`] does, and leaves the view. There is
-    /// reserved room for `max_events` more; no memory is taken.
-    pub fn changes_back(&mut self, layout: &Layout, out: &mut Vec<Event>)
-        requires fits { FitsView (items_of layout.now) self.old }
+    /// Appends what changes until the view is the initial one again, as [`changes`] does. There is reserved room for
+    /// `max_events` more; no memory is taken.
+    #[tactic(auto, using(crate::proofs::BackLemmas::few_back))]
+    pub fn changes_back(&self, layout: &Layout, out: &mut Vec<Event>)
+        requires fits { FitsView (items_of layout.now) self.now }
         requires room { vec_len out.old + max_events (items_of layout.now) ≤ vec_capacity out.old }
-        ensures view { self.new ≡ self.old }
         ensures events { out.new.items
-            ≡ out.old.items ++ changes_between (items_of layout.now) self.old (blank (items_of layout.now)) }
+            ≡ out.old.items ++ changes_between (items_of layout.now) self.now (blank (items_of layout.now)) }
         ensures few { vec_len out.new ≤ vec_len out.old + max_events (items_of layout.now) }
         ensures room { vec_capacity out.new ≡ vec_capacity out.old }
     {
-        make_initial(layout, &self.cells, &mut self.nexts);
-        changes(layout, &self.cells, &self.nexts, out);
+        all_changes_back(layout, &self.cells, &self.named, out);
     }
 
     /// The same, and the motion of an Input report's part as dropped, as [`changes_and_drops`] does.
+    #[tactic(auto, using(crate::proofs::BackLemmas::drops_back))]
     pub fn changes_back_and_drops(
-        &mut self,
+        &self,
         layout: &Layout,
         report: usize,
         shown: &Shown,
         out: &mut Vec<Event>,
     )
         requires input { IsInput layout.now report }
-        requires fits { FitsView (items_of layout.now) self.old }
+        requires fits { FitsView (items_of layout.now) self.now }
         requires shown { FitsShown (items_of layout.now) shown.now }
         requires room { vec_len out.old + max_events (items_of layout.now) ≤ vec_capacity out.old }
-        ensures view { self.new ≡ self.old }
         ensures events { out.new.items ≡ out.old.items ++ drops_between (items_of layout.now) report
-            self.old (blank (items_of layout.now)) shown.now }
+            self.now (blank (items_of layout.now)) shown.now }
         ensures few { vec_len out.new ≤ vec_len out.old + max_events (items_of layout.now) }
         ensures room { vec_capacity out.new ≡ vec_capacity out.old }
     {
-        make_initial(layout, &self.cells, &mut self.nexts);
-        changes_and_drops(layout, &self.cells, &self.nexts, report, shown, out);
+        let dropped = Dropped {
+            layout,
+            report,
+            shown,
+        };
+        all_changes_back_and_drops(&dropped, &self.cells, &self.named, out);
     }
 
     /// Whether a switch is held; false for another kind.
@@ -167,16 +177,34 @@ impl View {
     }
 }
 
-/// Makes the cells of the initial view in the room for what the next report makes of these.
-#[tactic(auto, using(crate::proofs::InitialLemmas::rooms))]
-fn make_initial(layout: &Layout, cells: &[Cell], nexts: &mut [Cell])
-    requires fits { FitsView (items_of layout.now) cells.now }
-    requires pairs { ArePairs cells.now nexts.old }
-    ensures blank { nexts.new ≡ blank (items_of layout.now) }
-    ensures fits { FitsView (items_of layout.now) nexts.new }
-    ensures pairs { ArePairs cells.now nexts.new }
+/// How many places of a cell can be pressed.
+fn flag_places(cell: &Cell) -> usize
+    ensures { result ≡ flag_places cell.now }
 {
-    reset_cells(layout, nexts);
+    match cell {
+        Cell::Pressed(flags) | Cell::RolledOver(flags) => flags.len(),
+        Cell::Vacant | Cell::Holding(_) | Cell::Moved(_) => 0,
+    }
+}
+
+/// The greater of a number and of how many places of a cell can be pressed.
+fn more_places(most: usize, cell: &Cell) -> usize
+    ensures most { most ≤ result }
+    ensures places { flag_places cell.now ≤ result }
+{
+    most.max(flag_places(cell))
+}
+
+/// The greatest number of places of one cell that can be pressed, or more.
+fn most_places(cells: &[Cell]) -> usize
+    ensures { (i : ℕ) (cell : CellValue) → slice_get cells.now i ≡ Some cell
+        → flag_places cell ≤ result }
+{
+    let mut most = 0;
+    for i in 0..cells.len() {
+        most = more_places(most, cell_in(cells, i));
+    }
+    most
 }
 
 /// Appends what changes from the cells of one view to those of another: of a variable item by rising index, of an array

@@ -7,7 +7,7 @@ use Rattle.hid_views.proofs.EventLemmas.{all_appended, ups_by, each_next, each_d
 use Rattle.hid_views.proofs.differences.releases.Goals as goal
 
 pub usage_at-usage-requires : goal.usage_at-usage-requires
-usage_at-usage-requires c = let high = c.in-Some.ensures.first.high in omega (arith, c.requires.before, c.requires.after)
+usage_at-usage-requires c = let high = c.in-Some.ensures.first.high in omega (arith, c.requires.before)
 
 pub push_reserved-requires : goal.push_reserved-requires
 push_reserved-requires c =
@@ -24,7 +24,7 @@ loop-index-preserved c =
     let high = c.in-Some.ensures.first.high in
     let step = each_next (λ j u p. up_event (at c.args.item j) u p.0 p.1) (is_alone c.args.before.now c.args.after.now) c.args.before.now c.args.after.now (λ j u. event.Up (at c.args.item j) u) (usages_at c.args.layout.now c.args.item) c.loop-index.from c.in-Some.index c.usage_at-usage.result (ups_by c.args.item c.args.before.now c.args.after.now) c.requires.before c.requires.after (subst (λ (n : ℕ). IsFirst (is_alone c.args.before.now c.args.after.now) c.loop-index.from n c.in-Some.index) c.requires.before c.in-Some.ensures.first) c.usage_at-usage.ensures in
     record {
-      within = omega (arith, c.requires.before, c.requires.after);
+      within = omega (arith, c.requires.before);
       events = told _ _ _ _ now _ step c.loop-index.invariant.events c.push_reserved.ensures.items;
       room = room_left _ _ _ _ _ now _ step c.loop-index.invariant.room c.push_reserved.ensures.len c.push_reserved.ensures.capacity;
       same_room = c.push_reserved.ensures.capacity ∙ c.loop-index.invariant.same_room;

@@ -1,4 +1,4 @@
-use Rattle.std.proofs.Common.{◌≡◌, ◌<◌, ◌∙◌, Bool, ℤ, to_z, of_z, w64, Some, length, sym, refl, ap, rules, arith}
+use Rattle.std.proofs.Common.{◌≡◌, ◌∙◌, Bool, ℤ, to_z, of_z, w64, Some, length, sym, refl, ap, rules, arith}
 use Rattle.std.specs.List.{slice_get}
 use Rattle.std.proofs.lemmas.Int.{to_z-of_z}
 use Rattle.hid_cells.proofs.ItemLemmas.{got}
@@ -9,7 +9,7 @@ use Rattle.hid_views.proofs.elements.take_switches.Goals as goal
 
 pub loop-index-init : goal.loop-index-init
 loop-index-init g c = record {
-  taken = record { so_far = refl; same_length = refl; events = refl; fits = c.requires.room; };
+  taken = record { so_far = refl; same_length = refl; events = refl; fits = c.requires.room };
   same_room = refl;
 }
 

@@ -1,19 +1,24 @@
-use Rattle.std.proofs.Common.{◌≡◌, ◌∙◌, refl, Some, true, false, not, ℤ, List, to_z, of_z, w64, take, replicate, ap, sym, length, rules}
+use Rattle.std.proofs.Common.{◌≡◌, ◌∙◌, refl, Some, true, false, not, ℤ, Bool, List, to_z, of_z, w64, take, ap, sym, length, rules}
 use Rattle.std.specs.List.{slice_get}
 use Rattle.std.proofs.lemmas.Int.{to_z-of_z}
-use Rattle.std.proofs.lemmas.List.{length-replicate}
+use Rattle.std.proofs.lemmas.List.{take-replicate}
 use Rattle.hid_descriptor.specs.Usages.{usage_list}
 use Rattle.hid_cells.proofs.ListLemmas.{take_at}
 use Rattle.hid_cells.proofs.FillLemmas.{any_from_hit, any_from_miss}
 use Rattle.hid_views.specs.Reading.{array_keys, named_from, names_rollover}
 use Rattle.hid_views.proofs.KeyLemmas.{named_none}
 use Rattle.hid_views.proofs.PressLemmas.{is_not, is_so}
+use Rattle.hid_views.proofs.RoomLemmas.{none_on}
 use Rattle.hid_views.proofs.read.read_keys.Goals as goal
 
 pub loop-k-init : goal.loop-k-init
 loop-k-init g c = record {
-  so_far = c.release_all.ensures ∙ ap (λ n. replicate n false) c.requires.after ∙ named_none c.args.array.now.item.now 0 (array_keys c.args.array.now.item.now (usage_list c.args.array.now.entries.now));
-  len = ap length c.release_all.ensures ∙ length-replicate (length c.args.after.now) false;
+  so_far =
+      ap (λ (ps : List Bool). take (length (array_keys c.args.array.now.item.now (usage_list c.args.array.now.entries.now))) ps) c.requires.none
+      ∙ take-replicate (length (array_keys c.args.array.now.item.now (usage_list c.args.array.now.entries.now))) (length c.args.after.now) false c.requires.after
+      ∙ named_none c.args.array.now.item.now 0 (array_keys c.args.array.now.item.now (usage_list c.args.array.now.entries.now));
+  behind = λ i h. none_on c.args.after.now i c.requires.none;
+  len = refl;
   none = refl;
 }
 
@@ -27,6 +32,7 @@ loop-k-preserved g c =
     let off : names_rollover c.args.array.now.item.now us v ≡ false = is_not (names_rollover c.args.array.now.item.now us v) c.add_key.result c.add_key.ensures.rolls on in
     record {
       so_far = c.add_key.ensures.keys (take c.loop-k.k c.args.numbers.now) on c.loop-k.invariant.so_far ∙ ap (λ (vs : List ℤ). named_from c.args.array.now.item.now vs 0 (array_keys c.args.array.now.item.now us)) (sym (take_at c.args.numbers.now c.loop-k.k v here));
+      behind = λ i h. c.add_key.ensures.behind i h ∙ c.loop-k.invariant.behind i h;
       len = c.add_key.ensures.len ∙ c.loop-k.invariant.len;
       none = sym (any_from_miss (names_rollover c.args.array.now.item.now us) c.args.numbers.now c.loop-k.k v here off) ∙ c.loop-k.invariant.none;
     }
@@ -40,3 +46,6 @@ returns-then-not-add_key-clause-rolls g c =
     let no : c.add_key.result ≡ false = search rules in
     let on : names_rollover c.args.array.now.item.now us v ≡ true = is_so (names_rollover c.args.array.now.item.now us v) c.add_key.result c.add_key.ensures.rolls no in
     ap not (sym (sym c.loop-k.invariant.none ∙ any_from_hit (names_rollover c.args.array.now.item.now us) c.args.numbers.now c.loop-k.k v here on))
+
+pub returns-then-not-add_key-clause-behind : goal.returns-then-not-add_key-clause-behind
+returns-then-not-add_key-clause-behind g c = λ i h. c.add_key.ensures.behind i h ∙ c.loop-k.invariant.behind i h

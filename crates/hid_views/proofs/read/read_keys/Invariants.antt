@@ -1,5 +1,6 @@
-use Rattle.std.proofs.Common.{◌≡◌, take, drop, length}
+use Rattle.std.proofs.Common.{◌≡◌, ◌≤◌, ℕ, false, take, drop, length}
 use Rattle.std.specs.List.{list_any}
+use Rattle.hid_cells.specs.Words.{is_on}
 use Rattle.hid_descriptor.specs.Usages.{usage_list}
 use Rattle.hid_views.specs.Reading.{array_keys, named_from, names_rollover}
 use Rattle.hid_views.proofs.read.read_keys.Given as goal
@@ -8,7 +9,8 @@ abbrev pub invariant-loop-k : goal.invariant-loop-k
 invariant-loop-k g l =
     let us = usage_list l.array.entries.now in
     record {
-      so_far : l.after ≡ named_from l.array.item.now (take l.k l.numbers) 0 (array_keys l.array.item.now us);
+      so_far : take (length (array_keys l.array.item.now us)) l.after ≡ named_from l.array.item.now (take l.k l.numbers) 0 (array_keys l.array.item.now us);
+      behind : (i : ℕ) → length (array_keys l.array.item.now us) ≤ i → is_on l.after i ≡ false;
       len : length l.after ≡ length l.fn.after;
       none : list_any (names_rollover l.array.item.now us) (drop l.k l.numbers) ≡ list_any (names_rollover l.array.item.now us) l.numbers;
     }

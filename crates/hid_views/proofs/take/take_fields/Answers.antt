@@ -1,4 +1,4 @@
-use Rattle.std.proofs.Common.{◌≡◌, ◌*◌, ◌∙◌, ℕ, true, List, sym, ap, subst, length, arith, rules}
+use Rattle.std.proofs.Common.{◌≡◌, ◌*◌, ◌∙◌, ℕ, true, List, ap, subst, length, arith, rules}
 use Rattle.hid_cells.specs.declared.cell.Cell.{Cell}
 use Rattle.hid_cells.specs.declared.event.Event.{Event}
 use Rattle.hid_views.specs.Appending.{Appends}
@@ -6,8 +6,7 @@ use Rattle.hid_cells.specs.Events.{usages_at, element_events}
 use Rattle.hid_views.specs.Reading.{item_numbers}
 use Rattle.hid_views.specs.Taking.{read_by_numbers}
 use Rattle.hid_views.specs.Bits.{are_bits, read_bits}
-use Rattle.hid_cells.specs.Views.{HasNext}
-use Rattle.hid_views.proofs.BitLemmas.{pattern_in, has_bits, reads_as_bits, next_of_bits}
+use Rattle.hid_views.proofs.BitLemmas.{pattern_in, has_bits, reads_as_bits}
 use Rattle.hid_parts.proofs.EncodingLemmas.{place_inside}
 use Rattle.hid_parts.proofs.NumberLemmas.{numbers_in-length}
 use Rattle.hid_views.proofs.take.take_fields.Goals as goal
@@ -74,10 +73,6 @@ returns-then-are_bits-clause-cell g c =
     let reads = reads_as_bits c.args.listed.now.layout.now c.args.bytes.now c.args.listed.now.place c.args.listed.now.item.now c.args.cell.now c.requires.layout c.requires.data.listed c.requires.input (has_bits c.args.listed.now.item.now on) c.requires.held in
     let pattern : c.get.result ≡ pattern_in c.args.listed.now.layout.now c.args.bytes.now c.args.listed.now.item.now = search rules in
     c.take_pattern.ensures.cell ∙ ap (λ (p : ℕ). read_bits p c.args.cell.now) pattern ∙ reads.read
-
-pub returns-then-are_bits-clause-next : goal.returns-then-are_bits-clause-next
-returns-then-are_bits-clause-next g c =
-    subst (λ (cell : Cell). HasNext cell c.args.next.now) (sym c.take_pattern.ensures.cell) (next_of_bits c.get.result c.args.cell.now c.args.next.now c.requires.next)
 
 pub returns-then-are_bits-clause-told : goal.returns-then-are_bits-clause-told
 returns-then-are_bits-clause-told g c =

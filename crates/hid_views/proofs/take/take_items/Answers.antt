@@ -1,11 +1,11 @@
-use Rattle.std.proofs.Common.{◌≡◌, ◌<◌, ◌∙◌, get_or, length, arith, vec_len, vec_capacity}
+use Rattle.std.proofs.Common.{◌≡◌, ◌<◌, ◌∙◌, Bool, false, List, get_or, length, replicate, ap, sym, subst, arith, vec_len, vec_capacity}
 use Rattle.hid_layout.specs.Controls.{items_of}
 use Rattle.hid_cells.specs.Cells.{InView}
 use Rattle.hid_views.specs.Taking.{read_view}
 use Rattle.hid_views.proofs.EventLemmas.{appends, room_for, room_left, told}
 use Rattle.hid_cells.proofs.FillLemmas.{filled}
 use Rattle.hid_cells.proofs.PlanLemmas.{along_next, along_step, along_end}
-use Rattle.hid_views.proofs.TakeLemmas.{read_start, read_next, told_from-next, pairs_set, pair_at, read_from-length, taking_skips, all_told}
+use Rattle.hid_views.proofs.TakeLemmas.{read_start, read_next, told_from-next, read_from-length, taking_skips, all_told}
 use Rattle.hid_views.proofs.ViewLemmas.{room_at}
 use Rattle.hid_views.proofs.take.take_items.Goals as goal
 
@@ -18,11 +18,17 @@ take_item-requires-clause-held g c =
     let there = read_start c.args.received.now.layout.now c.args.received.now.report c.args.received.now.bytes.now c.args.cells.now c.loop-place.cells (get_or c.args.places.now c.loop-place.place-index 0) c.index-cells-i.result next.holds.cells within c.loop-place.auto.cells in
     room_at InView (items_of c.args.received.now.layout.now) c.args.cells.now (get_or c.args.places.now c.loop-place.place-index 0) _ c.requires.fits (omega (arith, here, c.requires.all)) there
 
-pub take_item-requires-clause-next : goal.take_item-requires-clause-next
-take_item-requires-clause-next g c =
+pub take_item-requires-clause-places : goal.take_item-requires-clause-places
+take_item-requires-clause-places g c =
+    let skips = taking_skips c.args.received.now.layout.now c.args.received.now.report c.args.received.now.bytes.now c.args.cells.now c.loop-place.cells c.args.out.now.items c.loop-place.out.items (vec_len c.loop-place.out) (vec_capacity c.loop-place.out) (c.requires.fits.one_each ∙ c.requires.all) c.loop-place.auto.cells in
+    let next = along_next c.args.received.now.layout.now c.args.received.now.report c.loop-place.place-index c.args.places.now _ skips c.requires.plan (omega arith) c.loop-place.invariant.along in
     let here : (get_or c.args.places.now c.loop-place.place-index 0) < length c.args.received.now.layout.now.items = c.requires.within c.loop-place.place-index 0 (omega arith) in
     let within : (get_or c.args.places.now c.loop-place.place-index 0) < length c.args.cells.now = omega (arith, here, c.requires.fits.one_each, c.requires.all) in
-    pair_at c.loop-place.cells c.loop-place.nexts (get_or c.args.places.now c.loop-place.place-index 0) c.index-cells-i.result c.index-nexts-i.result c.loop-place.invariant.pairs (omega (arith, within, c.loop-place.auto.cells))
+    let there = read_start c.args.received.now.layout.now c.args.received.now.report c.args.received.now.bytes.now c.args.cells.now c.loop-place.cells (get_or c.args.places.now c.loop-place.place-index 0) c.index-cells-i.result next.holds.cells within c.loop-place.auto.cells in
+    omega (arith, c.requires.named.each (get_or c.args.places.now c.loop-place.place-index 0) _ there, ap length c.loop-place.invariant.named)
+
+pub take_item-requires-clause-none : goal.take_item-requires-clause-none
+take_item-requires-clause-none g c = subst (λ (ps : List Bool). ps ≡ replicate (length ps) false) (sym c.loop-place.invariant.named) c.requires.named.none
 
 pub take_item-requires-clause-room : goal.take_item-requires-clause-room
 take_item-requires-clause-room g c =
@@ -48,7 +54,7 @@ loop-place-preserved g c =
         events = told _ _ _ _ _ _ step next.holds.events c.take_item.ensures.told.items;
         fits = room_left _ _ _ _ _ _ _ step next.holds.fits c.take_item.ensures.told.len c.take_item.ensures.told.room;
       });
-      pairs = pairs_set c.loop-place.cells c.loop-place.nexts (get_or c.args.places.now c.loop-place.place-index 0) c.take_item.new.cell c.take_item.new.next c.loop-place.invariant.pairs (omega (arith, within, c.loop-place.auto.cells)) c.take_item.ensures.next;
+      named = c.take_item.ensures.named ∙ c.loop-place.invariant.named;
       same_room = c.take_item.ensures.told.room ∙ c.loop-place.invariant.same_room;
     }
 

@@ -3,8 +3,9 @@ use Rattle.std.proofs.lemmas.Grind.{common_steps}
 use Rattle.hid_layout.specs.Controls.{items_of}
 use Rattle.hid_cells.specs.declared.cell.Cell.{Cell}
 use Rattle.hid_cells.specs.Cells.{InView, Suits}
-use Rattle.hid_views.specs.Taking.{read_view, read_events}
+use Rattle.hid_views.specs.Taking.{read_view, read_events, NamesNone}
 use Rattle.hid_views.proofs.TakeLemmas.{named_input, read_view_fits, read_events_few}
+use Rattle.hid_views.proofs.RoomLemmas.{names_stay}
 use Rattle.hid_views.proofs.view.View.take_report.Goals as goal
 
 pub plan_of-places-requires : goal.plan_of-places-requires
@@ -32,3 +33,11 @@ returns-in-Ok-clause-few g c =
     let same : c.deref_mut.result.now ≡ c.args.self.now = search rules in
     let few = read_events_few c.args.layout.now c.in-Ok.report c.args.bytes.now c.args.self.now c.plan_of-places.ensures.layout input c.requires.fits in
     omega (arith, few, ap (λ (view : List Cell). length (read_events c.args.layout.now c.in-Ok.report c.args.bytes.now view)) same, c.take_items.ensures.told.len)
+
+pub invariant_of-self : goal.invariant_of-self
+invariant_of-self g c =
+    let input = named_input c.args.layout.now c.args.bytes.now c.in-Ok.report (sym c.input_report.ensures ∙ c.in-Ok.is) in
+    let is : take c.self.inside.cells.len (c.take_items.new.cells ++ drop (length c.take_items.new.cells) c.self.inside.cells.items) ≡ read_view c.args.layout.now c.in-Ok.report c.args.bytes.now c.args.self.now = grind (arith, common_steps) in
+    let fits = subst (λ (cells : List Cell). Suits InView (items_of c.args.layout.now) cells) (sym is) (read_view_fits c.args.layout.now c.in-Ok.report c.args.bytes.now c.args.self.now c.plan_of-places.ensures.layout input c.requires.fits) in
+    let names = subst (λ (cells : List Cell). NamesNone cells c.self.inside.named) c.self.view_is c.self.invariant in
+    names_stay (items_of c.args.layout.now) c.args.self.now _ c.self.inside.named c.take_items.new.named c.requires.fits fits names c.take_items.ensures.named
