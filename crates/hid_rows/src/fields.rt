@@ -25,10 +25,6 @@ fn lies(bytes: &[u8], at: usize, width: u32) -> bool
         && at + width as usize <= 8 * bytes.len()
 }
 
-fn fits(pattern: u32, width: u32) -> bool {
-    width < 32 && pattern < 1 << width || width == 32
-}
-
 /// The pattern of a field, where it lies in these bytes.
 fn read<C: FieldCodec>(bytes: &[u8], at: usize, width: u32) -> Option<u32> {
     if lies(bytes, at, width) {

@@ -2,7 +2,7 @@
 //! reports and sessions: of `hid_items`, `hid_fields`, `hid_names`, `hid_layout`, `hid_cells`, `hid_parts`, `hid_views`,
 //! `hid_usages` and `hid_session`, by what they export.
 //! ```text
-//!   stdin --> test_sheets::judge --> each row that is wrong, and `51 tables, 455 rows, 0 wrong`
+//!   stdin --> test_sheets::judge --> each row that is wrong, and `52 tables, 456 rows, 0 wrong`
 //!                     |
 //!                     +-- question, given --> Answers: a file of src/ for each sort of question
 //! ```
