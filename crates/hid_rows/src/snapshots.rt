@@ -1,0 +1,288 @@
+//! Changes of snapshots, what reports show of them, and when these are due, as steps with `;` between them:
+//!
+//! - `press C`, `release C`, `set C V`, `null C`, `move C BY` change a control, and tell a refusal;
+//! - `show R` and `still R` set the part of a report, or its still part, and tell its bytes; `fix R` tells nothing;
+//! - `take R` sets the part, and takes its motion out of the snapshot; `reset` makes all parts blank again;
+//! - `due R`, `motion C`, `keys I`, `input R` and `codes` tell what there is.
+
+ghost use Rattle.std.specs.Prelude.{IfOk};
+ghost use Rattle.hid_layout.specs.Controls.{items_of};
+ghost use Rattle.hid_cells.specs.Cells.{FitsSnapshot, FitsShown};
+
+use crate::words::control_of;
+use arrayvec::ArrayVec;
+use hid_cells::{Change, ChangeFault, has_empty_codes, has_keys, has_zeros, is_input};
+use hid_fields::{BitCodec, FieldCodec, WordCodec};
+use hid_layout::Layout;
+use hid_parts::{Shown, Snapshot, encode_report};
+use std::alloc::Global;
+use test_sheets::{
+    RowFault, number_of, signed_of, split, tell, tell_bytes, tell_debug, tell_number, tell_shown,
+    tell_whether,
+};
+
+/// A blank snapshot.
+pub fn blank_snapshot(alloc: Global, layout: &Layout) -> Result<Snapshot, RowFault>
+    ensures { IfOk result (λ snapshot. FitsSnapshot (items_of layout.now) snapshot) }
+{
+    match Snapshot::blank(alloc, layout) {
+        Ok(snapshot) => Ok(snapshot),
+        Err(_) => Err(RowFault::Memory),
+    }
+}
+
+/// The parts of a blank snapshot.
+pub fn blank_parts(alloc: Global, layout: &Layout) -> Result<Shown, RowFault>
+    ensures { IfOk result (λ parts. FitsShown (items_of layout.now) parts) }
+{
+    match Shown::blank(alloc, layout) {
+        Ok(parts) => Ok(parts),
+        Err(_) => Err(RowFault::Memory),
+    }
+}
+
+/// The change that words name.
+fn change_of(verb: &str, words: &str) -> Result<Change, RowFault> {
+    let (control, amount) = split(words, ' ');
+    let control = control_of(control)?;
+    Ok(match verb {
+        "press" => Change::Press(control),
+        "release" => Change::Release(control),
+        "null" => Change::Null(control),
+        "set" => Change::Set(control, signed_of(amount)?),
+        _ => Change::Move(control, amount.parse()?),
+    })
+}
+
+fn make(snapshot: &mut Snapshot, layout: &Layout, change: &Change) -> Result<(), ChangeFault>
+    requires { FitsSnapshot (items_of layout.now) snapshot.old }
+    ensures { FitsSnapshot (items_of layout.now) snapshot.new }
+{
+    match change {
+        Change::Press(control) => snapshot.press(layout, *control),
+        Change::Release(control) => snapshot.release(layout, *control),
+        Change::Set(control, value) => snapshot.set(layout, *control, *value),
+        Change::Null(control) => snapshot.set_null(layout, *control),
+        Change::Move(control, by) => snapshot.shift(layout, *control, *by),
+    }
+}
+
+/// Changes a control, and tells a refusal.
+pub fn change(
+    told: &mut String,
+    layout: &Layout,
+    snapshot: &mut Snapshot,
+    change: &Change,
+) -> Result<(), RowFault>
+    requires { FitsSnapshot (items_of layout.now) snapshot.old }
+    ensures { FitsSnapshot (items_of layout.now) snapshot.new }
+{
+    match make(snapshot, layout, change) {
+        Ok(()) => Ok(()),
+        Err(fault) => tell_shown(told, &fault),
+    }
+}
+
+/// Sets the part of a report, or its still part; false where it has none.
+pub fn fix(
+    layout: &Layout,
+    snapshot: &Snapshot,
+    parts: &mut Shown,
+    report: usize,
+    still: bool,
+) -> bool
+    requires snapshot { FitsSnapshot (items_of layout.now) snapshot.now }
+    requires parts { FitsShown (items_of layout.now) parts.old }
+    ensures { FitsShown (items_of layout.now) parts.new }
+{
+    if !is_input(layout, report) || !has_zeros(layout) {
+        return false;
+    }
+    if still {
+        snapshot.still(layout, report, parts);
+    } else {
+        snapshot.shown(layout, report, parts);
+    }
+    true
+}
+
+/// The bytes of a report's part; none where it has none.
+fn encoded<F: FieldCodec>(layout: &Layout, parts: &Shown, report: usize) -> ArrayVec<u8, 256>
+    requires { FitsShown (items_of layout.now) parts.now }
+{
+    let mut bytes = ArrayVec::new();
+    if is_input(layout, report) && has_zeros(layout) && has_empty_codes(layout) {
+        encode_report::<F>(layout, report, parts, &mut bytes);
+    }
+    bytes
+}
+
+/// The bytes of a report's part, by both codecs.
+fn tell_part(
+    told: &mut String,
+    layout: &Layout,
+    parts: &Shown,
+    report: usize,
+) -> Result<(), RowFault>
+    requires { FitsShown (items_of layout.now) parts.now }
+{
+    let by_words = encoded::<WordCodec>(layout, parts, report);
+    let by_bits = encoded::<BitCodec>(layout, parts, report);
+    if by_words == by_bits {
+        tell_bytes(told, &by_words)
+    } else {
+        tell(told, "codecs differ")
+    }
+}
+
+/// Sets a part, and tells its bytes unless it is only fixed.
+fn show(
+    told: &mut String,
+    layout: &Layout,
+    snapshot: &Snapshot,
+    parts: &mut Shown,
+    verb: &str,
+    report: usize,
+) -> Result<(), RowFault>
+    requires snapshot { FitsSnapshot (items_of layout.now) snapshot.now }
+    requires parts { FitsShown (items_of layout.now) parts.old }
+    ensures { FitsShown (items_of layout.now) parts.new }
+{
+    if !fix(layout, snapshot, parts, report, verb == "still") {
+        return tell(told, "no report");
+    }
+    if verb == "fix" {
+        Ok(())
+    } else {
+        tell_part(told, layout, parts, report)
+    }
+}
+
+/// Sets a part, and takes its motion out of the snapshot.
+fn take(
+    told: &mut String,
+    layout: &Layout,
+    snapshot: &mut Snapshot,
+    parts: &mut Shown,
+    report: usize,
+) -> Result<(), RowFault>
+    requires snapshot { FitsSnapshot (items_of layout.now) snapshot.old }
+    requires parts { FitsShown (items_of layout.now) parts.old }
+    ensures snapshot { FitsSnapshot (items_of layout.now) snapshot.new }
+    ensures parts { FitsShown (items_of layout.now) parts.new }
+{
+    if !is_input(layout, report) || !has_zeros(layout) {
+        return tell(told, "no report");
+    }
+    snapshot.shown(layout, report, parts);
+    snapshot.take_motion(layout, report, parts);
+    Ok(())
+}
+
+fn tell_due(
+    told: &mut String,
+    layout: &Layout,
+    snapshot: &Snapshot,
+    parts: &Shown,
+    report: usize,
+) -> Result<(), RowFault>
+    requires snapshot { FitsSnapshot (items_of layout.now) snapshot.now }
+    requires parts { FitsShown (items_of layout.now) parts.now }
+{
+    if !is_input(layout, report) {
+        return tell(told, "no report");
+    }
+    tell_whether(told, snapshot.due(layout, report, parts), "due", "not due")
+}
+
+/// The pressed keys of an array, as words.
+fn tell_keys(
+    told: &mut String,
+    layout: &Layout,
+    snapshot: &Snapshot,
+    item: usize,
+) -> Result<(), RowFault>
+    requires { FitsSnapshot (items_of layout.now) snapshot.now }
+{
+    if !has_keys(layout, item) {
+        return tell(told, "no array");
+    }
+    tell_debug(told, &snapshot.key_words(layout, item))
+}
+
+/// Tells what there is.
+fn tell_state(
+    told: &mut String,
+    layout: &Layout,
+    snapshot: &Snapshot,
+    parts: &Shown,
+    step: &str,
+) -> Result<(), RowFault>
+    requires snapshot { FitsSnapshot (items_of layout.now) snapshot.now }
+    requires parts { FitsShown (items_of layout.now) parts.now }
+{
+    let (verb, word) = split(step, ' ');
+    match verb {
+        "due" => tell_due(told, layout, snapshot, parts, number_of(word)?),
+        "motion" => tell_number(told, Some(parts.motion(control_of(word)?))),
+        "keys" => tell_keys(told, layout, snapshot, number_of(word)?),
+        "input" => tell_whether(told, is_input(layout, number_of(word)?), "input", "none"),
+        "codes" => tell_whether(told, has_empty_codes(layout), "codes", "no code"),
+        _ => Err(RowFault::Unread),
+    }
+}
+
+fn play_step(
+    told: &mut String,
+    layout: &Layout,
+    snapshot: &mut Snapshot,
+    parts: &mut Shown,
+    step: &str,
+) -> Result<(), RowFault>
+    requires snapshot { FitsSnapshot (items_of layout.now) snapshot.old }
+    requires parts { FitsShown (items_of layout.now) parts.old }
+    ensures snapshot { FitsSnapshot (items_of layout.now) snapshot.new }
+    ensures parts { FitsShown (items_of layout.now) parts.new }
+{
+    let (verb, words) = split(step, ' ');
+    match verb {
+        "press" | "release" | "set" | "null" | "move" => {
+            change(told, layout, snapshot, &change_of(verb, words)?)
+        }
+        "show" | "still" | "fix" => { show(told, layout, snapshot, parts, verb, number_of(words)?) }
+        "take" => take(told, layout, snapshot, parts, number_of(words)?),
+        "reset" => {
+            parts.reset(layout);
+            Ok(())
+        }
+        _ => tell_state(told, layout, snapshot, parts, step),
+    }
+}
+
+fn play(
+    told: &mut String,
+    layout: &Layout,
+    snapshot: &mut Snapshot,
+    parts: &mut Shown,
+    steps: &str,
+) -> Result<(), RowFault>
+    requires snapshot { FitsSnapshot (items_of layout.now) snapshot.old }
+    requires parts { FitsShown (items_of layout.now) parts.old }
+{
+    for step in steps.split(';') {
+        play_step(told, layout, snapshot, parts, step.trim())?;
+    }
+    Ok(())
+}
+
+/// What the steps tell of a blank snapshot and blank parts.
+pub fn tell_snapshot(
+    told: &mut String,
+    alloc: Global,
+    layout: &Layout,
+    steps: &str,
+) -> Result<(), RowFault> {
+    let mut snapshot = blank_snapshot(alloc, layout)?;
+    let mut parts = blank_parts(alloc, layout)?;
+    play(told, layout, &mut snapshot, &mut parts, steps)
+}

@@ -1,0 +1,319 @@
+//! Reports of any bytes in a view, as steps with `;` between them: `take HEX` tells the events of a report, or its refusal,
+//! `bits HEX` too, bit by bit, and `feed HEX` a refusal alone; `held C`, `value C` and `keys I` tell what there is.
+
+ghost use Rattle.std.specs.Prelude.{◌≤◌, ◌+◌, IfOk, vec_len, vec_capacity};
+ghost use Rattle.hid_layout.specs.Controls.{items_of, max_events};
+ghost use Rattle.hid_cells.specs.Cells.{FitsSnapshot, FitsShown, FitsView};
+
+use crate::events::tell_events;
+use crate::snapshots::{blank_parts, blank_snapshot, change, fix};
+use crate::words::control_of;
+use hid_fields::{BitCodec, WordCodec};
+use hid_layout::Layout;
+use hid_usages::{
+    Change, Event, ReportFault, Shown, Snapshot, View, bytes_awaited, changes, changes_and_drops,
+    has_keys, input_report, is_input,
+};
+use std::alloc::Global;
+use test_sheets::{
+    RowFault, Sheet, bytes_of, number_of, split, tell, tell_debug, tell_number, tell_shown,
+    tell_whether,
+};
+
+fn initial_view(alloc: Global, layout: &Layout) -> Result<View, RowFault>
+    ensures { IfOk result (λ view. FitsView (items_of layout.now) view) }
+{
+    match View::initial(alloc, layout) {
+        Ok(view) => Ok(view),
+        Err(_) => Err(RowFault::Memory),
+    }
+}
+
+/// Room for the events of a report.
+fn room_of(alloc: Global, layout: &Layout) -> Result<Vec<Event>, RowFault>
+    ensures { IfOk result (λ events. vec_len events + max_events (items_of layout.now)
+        ≤ vec_capacity events) }
+{
+    Ok(Vec::with_capacity(alloc, layout.max_events())?)
+}
+
+/// Takes a report, by words or bit by bit.
+fn take(
+    layout: &Layout,
+    view: &mut View,
+    report: &[u8],
+    by_words: bool,
+    events: &mut Vec<Event>,
+) -> Result<(), ReportFault>
+    requires view { FitsView (items_of layout.now) view.old }
+    requires room { vec_len events.old + max_events (items_of layout.now) ≤ vec_capacity events.old }
+    ensures { FitsView (items_of layout.now) view.new }
+{
+    if by_words {
+        view.take_report::<WordCodec>(layout, report, events)
+    } else {
+        view.take_report::<BitCodec>(layout, report, events)
+    }
+}
+
+/// Tells the events of a report or its refusal, if they are asked for.
+fn tell_taken(
+    told: &mut String,
+    taken: Result<(), ReportFault>,
+    verb: &str,
+    events: &[Event],
+) -> Result<(), RowFault> {
+    match taken {
+        Ok(()) if verb == "feed" => Ok(()),
+        Ok(()) => tell_events(told, events),
+        Err(fault) => tell_shown(told, &fault),
+    }
+}
+
+fn take_bytes(
+    told: &mut String,
+    alloc: Global,
+    layout: &Layout,
+    view: &mut View,
+    verb: &str,
+    report: &[u8],
+) -> Result<(), RowFault>
+    requires { FitsView (items_of layout.now) view.old }
+    ensures { FitsView (items_of layout.now) view.new }
+{
+    let mut events = room_of(alloc, layout)?;
+    let taken = take(layout, view, report, verb != "bits", &mut events);
+    tell_taken(told, taken, verb, &events)
+}
+
+fn take_words(
+    told: &mut String,
+    sheet: &Sheet<'_>,
+    layout: &Layout,
+    view: &mut View,
+    verb: &str,
+    words: &str,
+) -> Result<(), RowFault>
+    requires { FitsView (items_of layout.now) view.old }
+    ensures { FitsView (items_of layout.now) view.new }
+{
+    let report = bytes_of(sheet, words)?;
+    take_bytes(told, sheet.alloc, layout, view, verb, &report)
+}
+
+/// The held keys of an array, as words.
+fn tell_keys(told: &mut String, layout: &Layout, view: &View, item: usize) -> Result<(), RowFault>
+    requires { FitsView (items_of layout.now) view.now }
+{
+    if !has_keys(layout, item) {
+        return tell(told, "no array");
+    }
+    tell_debug(told, &view.key_words(layout, item))
+}
+
+fn play_step(
+    told: &mut String,
+    sheet: &Sheet<'_>,
+    layout: &Layout,
+    view: &mut View,
+    step: &str,
+) -> Result<(), RowFault>
+    requires { FitsView (items_of layout.now) view.old }
+    ensures { FitsView (items_of layout.now) view.new }
+{
+    let (verb, words) = split(step, ' ');
+    match verb {
+        "take" | "bits" | "feed" => take_words(told, sheet, layout, view, verb, words),
+        "held" => tell_whether(told, view.held(control_of(words)?), "held", "not held"),
+        "value" => tell_number(told, view.value(control_of(words)?)),
+        "keys" => tell_keys(told, layout, view, number_of(words)?),
+        _ => Err(RowFault::Unread),
+    }
+}
+
+fn play(
+    told: &mut String,
+    sheet: &Sheet<'_>,
+    layout: &Layout,
+    view: &mut View,
+    steps: &str,
+) -> Result<(), RowFault>
+    requires { FitsView (items_of layout.now) view.old }
+    ensures { FitsView (items_of layout.now) view.new }
+{
+    for step in steps.split(';') {
+        play_step(told, sheet, layout, view, step.trim())?;
+    }
+    Ok(())
+}
+
+/// What the steps tell of the initial view.
+pub fn tell_view(
+    told: &mut String,
+    sheet: &Sheet<'_>,
+    layout: &Layout,
+    steps: &str,
+) -> Result<(), RowFault> {
+    let mut view = initial_view(sheet.alloc, layout)?;
+    play(told, sheet, layout, &mut view, steps)
+}
+
+fn tell_changes(
+    told: &mut String,
+    alloc: Global,
+    layout: &Layout,
+    old: &View,
+    new: &View,
+) -> Result<(), RowFault>
+    requires old { FitsView (items_of layout.now) old.now }
+    requires new { FitsView (items_of layout.now) new.now }
+{
+    let mut events = room_of(alloc, layout)?;
+    changes(layout, old.cells(), new.cells(), &mut events);
+    tell_events(told, &events)
+}
+
+fn play_between(
+    told: &mut String,
+    sheet: &Sheet<'_>,
+    layout: &Layout,
+    old: &mut View,
+    new: &mut View,
+    words: &str,
+) -> Result<(), RowFault>
+    requires old { FitsView (items_of layout.now) old.old }
+    requires new { FitsView (items_of layout.now) new.old }
+{
+    let (before, after) = split(words, ';');
+    take_words(told, sheet, layout, old, "feed", before)?;
+    take_words(told, sheet, layout, new, "feed", after)?;
+    tell_changes(told, sheet.alloc, layout, old, new)
+}
+
+/// The events that lead from the view of one report to that of another, `HEX; HEX`.
+pub fn tell_between(
+    told: &mut String,
+    sheet: &Sheet<'_>,
+    layout: &Layout,
+    words: &str,
+) -> Result<(), RowFault> {
+    let mut old = initial_view(sheet.alloc, layout)?;
+    let mut new = initial_view(sheet.alloc, layout)?;
+    play_between(told, sheet, layout, &mut old, &mut new, words)
+}
+
+fn tell_drops(
+    told: &mut String,
+    alloc: Global,
+    layout: &Layout,
+    view: &View,
+    initial: &View,
+    parts: &Shown,
+    report: usize,
+) -> Result<(), RowFault>
+    requires view { FitsView (items_of layout.now) view.now }
+    requires initial { FitsView (items_of layout.now) initial.now }
+    requires parts { FitsShown (items_of layout.now) parts.now }
+{
+    if !is_input(layout, report) {
+        return tell(told, "no report");
+    }
+    let mut events = room_of(alloc, layout)?;
+    changes_and_drops(
+        layout,
+        view.cells(),
+        initial.cells(),
+        report,
+        parts,
+        &mut events,
+    );
+    tell_events(told, &events)
+}
+
+/// Takes a report, and tells what leads back from there to the initial view.
+fn forget(
+    told: &mut String,
+    sheet: &Sheet<'_>,
+    layout: &Layout,
+    parts: &Shown,
+    bytes: &str,
+    report: usize,
+) -> Result<(), RowFault>
+    requires { FitsShown (items_of layout.now) parts.now }
+{
+    let mut view = initial_view(sheet.alloc, layout)?;
+    let initial = initial_view(sheet.alloc, layout)?;
+    take_words(told, sheet, layout, &mut view, "feed", bytes)?;
+    tell_drops(told, sheet.alloc, layout, &view, &initial, parts, report)
+}
+
+/// Moves a control, and fixes the part of a report.
+fn move_and_fix(
+    told: &mut String,
+    layout: &Layout,
+    snapshot: &mut Snapshot,
+    parts: &mut Shown,
+    moved: &str,
+    report: usize,
+) -> Result<(), RowFault>
+    requires snapshot { FitsSnapshot (items_of layout.now) snapshot.old }
+    requires parts { FitsShown (items_of layout.now) parts.old }
+    ensures { FitsShown (items_of layout.now) parts.new }
+{
+    let (control, by) = split(moved, ' ');
+    let moved = Change::Move(control_of(control)?, by.parse()?);
+    change(told, layout, snapshot, &moved)?;
+    tell_whether(
+        told,
+        fix(layout, snapshot, parts, report, false),
+        "shown",
+        "no report",
+    )
+}
+
+/// What leads from the view of a report back to the initial one, where a motion was made since then, a report shows it and one
+/// is dropped, `HEX; C BY; R; R`.
+pub fn tell_forgotten(
+    told: &mut String,
+    sheet: &Sheet<'_>,
+    layout: &Layout,
+    words: &str,
+) -> Result<(), RowFault> {
+    let (bytes, words) = split(words, ';');
+    let (moved, words) = split(words, ';');
+    let (shows, drops) = split(words, ';');
+    let (shows, drops) = (number_of(shows)?, number_of(drops)?);
+    let mut snapshot = blank_snapshot(sheet.alloc, layout)?;
+    let mut parts = blank_parts(sheet.alloc, layout)?;
+    move_and_fix(told, layout, &mut snapshot, &mut parts, moved, shows)?;
+    forget(told, sheet, layout, &parts, bytes, drops)
+}
+
+fn tell_report(told: &mut String, layout: &Layout, bytes: &[u8]) -> Result<(), RowFault> {
+    match input_report(layout, bytes) {
+        Ok(report) => tell_number(told, Some(report as i64)),
+        Err(fault) => tell_shown(told, &fault),
+    }
+}
+
+/// The number of the Input report that these bytes are.
+pub fn tell_named(
+    told: &mut String,
+    sheet: &Sheet<'_>,
+    layout: &Layout,
+    words: &str,
+) -> Result<(), RowFault> {
+    let bytes = bytes_of(sheet, words)?;
+    tell_report(told, layout, &bytes)
+}
+
+/// How many bytes the Input report has that begins with these.
+pub fn tell_awaited(
+    told: &mut String,
+    sheet: &Sheet<'_>,
+    layout: &Layout,
+    words: &str,
+) -> Result<(), RowFault> {
+    let bytes = bytes_of(sheet, words)?;
+    tell_number(told, Some(bytes_awaited(layout, &bytes) as i64))
+}

@@ -1,0 +1,26 @@
+//! Want of memory, where a descriptor is read: each test is also run with each of its allocations refused in turn.
+
+use hid_layout::boot::{KEYBOARD, MOUSE};
+use hid_layout::{Cause, Layout, LayoutFault};
+use std::alloc::Global;
+
+/// Whether a layout has so many items, or memory is wanting, which is told at 0.
+fn is_whole_or_wants(alloc: Global, descriptor: &[u8], items: usize) -> bool {
+    match Layout::parse(alloc, descriptor) {
+        Ok(layout) => layout.items().len() == items,
+        Err(fault) => {
+            fault
+                == LayoutFault {
+                    cause: Cause::Memory,
+                    at: 0,
+                }
+        }
+    }
+}
+
+/// Where memory is wanting, that is told; else the layout is whole.
+#[test]
+fn want_of_memory_is_told(rt: HostRuntime) {
+    assert!(rt; is_whole_or_wants(rt.alloc(), &KEYBOARD, 5));
+    assert!(rt; is_whole_or_wants(rt.alloc(), &MOUSE, 3));
+}

@@ -1,0 +1,74 @@
+//! Bytes as words: pairs of hex digits, or a name. Where `*N` follows, the word is repeated, and `@@` in it is the number of
+//! the turn, from 01 on.
+
+use crate::fault::RowFault;
+use crate::sheet::Sheet;
+
+/// The byte of a pair of digits, in a turn.
+fn byte_of(pair: &str, turn: u8) -> Result<u8, RowFault> {
+    if pair == "@@" {
+        return Ok(turn);
+    }
+    Ok(u8::from_str_radix(pair, 16)?)
+}
+
+fn push_digits(bytes: &mut Vec<u8>, digits: &str, turn: u8) -> Result<(), RowFault> {
+    if digits.len() % 2 != 0 {
+        return Err(RowFault::Unread);
+    }
+    for at in 0..digits.len() / 2 {
+        let pair = digits.get(2 * at..2 * at + 2).unwrap_or("");
+        bytes.extend_from_slice(&[byte_of(pair, turn)?])?;
+    }
+    Ok(())
+}
+
+/// The digits that a line gives to this name.
+fn digits_in<'a>(line: &'a str, name: &str) -> Option<&'a str> {
+    match line.split_once('=') {
+        Some((named, digits)) if named.trim() == name => Some(digits),
+        _ => None,
+    }
+}
+
+/// The digits that the sheet gives to this name.
+fn named<'a>(sheet: &Sheet<'a>, name: &str) -> Option<&'a str> {
+    for line in sheet.names.lines() {
+        if let Some(digits) = digits_in(line, name) {
+            return Some(digits);
+        }
+    }
+    None
+}
+
+fn push_turn(bytes: &mut Vec<u8>, digits: &str, turn: u8) -> Result<(), RowFault> {
+    for word in digits.split_whitespace() {
+        push_digits(bytes, word, turn)?;
+    }
+    Ok(())
+}
+
+fn push_times(bytes: &mut Vec<u8>, digits: &str, times: usize) -> Result<(), RowFault> {
+    let mut turn = 0u8;
+    for _ in 0..times {
+        turn = turn.wrapping_add(1);
+        push_turn(bytes, digits, turn)?;
+    }
+    Ok(())
+}
+
+fn push_words(bytes: &mut Vec<u8>, sheet: &Sheet<'_>, words: &str) -> Result<(), RowFault> {
+    for word in words.split_whitespace() {
+        let (word, times) = word.split_once('*').unwrap_or((word, "1"));
+        let digits = named(sheet, word).unwrap_or(word);
+        push_times(bytes, digits, times.parse()?)?;
+    }
+    Ok(())
+}
+
+/// The bytes that are spelled by words.
+pub fn bytes_of(sheet: &Sheet<'_>, words: &str) -> Result<Vec<u8>, RowFault> {
+    let mut bytes = Vec::new(sheet.alloc);
+    push_words(&mut bytes, sheet, words)?;
+    Ok(bytes)
+}
