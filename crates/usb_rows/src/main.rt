@@ -1,0 +1,37 @@
+//! Plays the tables of standard input (`stdin`), which are the tests of packets, transactions and control transfers: of
+//! `usb_packet`, `usb_transact` and `usb_control`, by what they export.
+//! ```text
+//!   stdin --> test_sheets::judge --> each row that is wrong, and how many tables and rows there were
+//!                     |
+//!                     +-- question, given --> Answers: a file of src/ for each sort of question
+//! ```
+//! The rule to know: `stdout` has nothing but the last line, so a row that is wrong or lost is seen.
+#![tactic(auto)]
+
+mod asked;
+mod descriptors;
+mod device;
+mod foreign;
+mod keyboard;
+mod packets;
+mod requests;
+mod sent;
+mod transactions;
+mod transfers;
+
+use asked::Questions;
+use std::io;
+use std::process::ExitCode;
+use test_sheets::judge;
+
+fn main(rt: HostRuntime) -> ExitCode {
+    let Ok(text) = io::read_to_string(rt.alloc(), rt.stdin()) else {
+        return ExitCode::FAILURE;
+    };
+    let mut report = String::new(rt.alloc());
+    let judged = judge(&Questions, &mut report, rt.alloc(), &text);
+    if judged.is_err() || print!(rt; "{report}").is_err() {
+        return ExitCode::FAILURE;
+    }
+    ExitCode::SUCCESS
+}

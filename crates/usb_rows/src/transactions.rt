@@ -1,0 +1,223 @@
+//! Transactions of `usb_transact`: both ends of a pipe play steps with `;` between them, and the last is told, with both
+//! toggles, the host's and the device's, the bytes that are armed, and whether the device is halted. A try is written by what is
+//! lost in it: `lost` the token, `reply`, `late` the ACK, or `clean`; `hear HEX` gives the host a packet, or nothing; `answer` and
+//! `ask` tell what the device and the host send.
+
+use crate::packets::{read, tell_packet};
+use arrayvec::ArrayVec;
+use test_sheets::{RowFault, Sheet, bytes_of, split, tell, tell_bytes, tell_numbers};
+use usb_packet::Packet;
+use usb_transact::{Bus, DevPipe, Fate, HostPipe, Phase, Took, carried, exchange, replied};
+
+/// The fate of a try by what is lost in it.
+pub fn fate_of(word: &str) -> Option<Fate> {
+    match word {
+        "clean" => Some(Fate::Clean),
+        "lost" => Some(Fate::TokenLost),
+        "reply" => Some(Fate::ReplyLost),
+        "late" => Some(Fate::AckLost),
+        _ => None,
+    }
+}
+
+/// What the host takes.
+fn tell_took(told: &mut String, took: &Took) -> Result<(), RowFault> {
+    match took {
+        Took::Fresh(bytes) => {
+            tell(told, "fresh")?;
+            tell_bytes(told, bytes)
+        }
+        Took::Again => tell(told, "again"),
+        Took::Nak => tell(told, "nak"),
+        Took::Silent => tell(told, "silent"),
+        Took::Stall => tell(told, "stall"),
+    }
+}
+
+fn digit(toggle: bool) -> i64 {
+    if toggle { 1 } else { 0 }
+}
+
+/// How both ends stand.
+fn tell_stand(told: &mut String, host: &HostPipe, device: &DevPipe) -> Result<(), RowFault> {
+    tell_numbers(told, &[digit(host.expects()), digit(device.toggle())])?;
+    if let Some(bytes) = device.armed() {
+        tell(told, "armed")?;
+        tell_bytes(told, bytes)?;
+    }
+    if device.halted() {
+        return tell(told, "halted");
+    }
+    Ok(())
+}
+
+/// Arms the device where it may be.
+fn arm(device: &mut DevPipe, bytes: &[u8]) {
+    if device.armed().is_none() && !device.halted() && bytes.len() <= 64 {
+        device.arm(bytes);
+    }
+}
+
+/// A step of one end of which nothing is told.
+fn act(host: &mut HostPipe, device: &mut DevPipe, step: &str) -> Result<(), RowFault> {
+    match step {
+        "halt" => device.halt(),
+        "acknowledged" => device.acknowledged(),
+        "restart host" => host.restart(),
+        "restart device" => device.restart(),
+        _ => return Err(RowFault::Unread),
+    }
+    Ok(())
+}
+
+fn tried(host: &mut HostPipe, device: &mut DevPipe, fate: Fate) -> Took {
+    exchange(host, device, fate)
+}
+
+fn heard(host: &mut HostPipe, packet: &[u8]) -> Took {
+    host.take(read(packet).ok().as_ref())
+}
+
+/// A step with bytes.
+fn step_with_bytes(
+    told: &mut String,
+    host: &mut HostPipe,
+    device: &mut DevPipe,
+    verb: &str,
+    bytes: &[u8],
+) -> Result<(), RowFault> {
+    if verb == "hear" {
+        return tell_took(told, &heard(host, bytes));
+    }
+    arm(device, bytes);
+    Ok(())
+}
+
+fn play_words(
+    told: &mut String,
+    sheet: &Sheet<'_>,
+    host: &mut HostPipe,
+    device: &mut DevPipe,
+    step: &str,
+) -> Result<(), RowFault> {
+    let (verb, words) = split(step, ' ');
+    let bytes = bytes_of(sheet, words)?;
+    step_with_bytes(told, host, device, verb, &bytes)
+}
+
+fn play_step(
+    told: &mut String,
+    sheet: &Sheet<'_>,
+    host: &mut HostPipe,
+    device: &mut DevPipe,
+    step: &str,
+) -> Result<(), RowFault> {
+    if let Some(fate) = fate_of(step) {
+        return tell_took(told, &tried(host, device, fate));
+    }
+    match step {
+        "answer" => tell_packet(told, &device.answer()),
+        "ask" => tell_packet(told, &host.token()),
+        _ if step.starts_with("hear") || step.starts_with("arm") => {
+            play_words(told, sheet, host, device, step)
+        }
+        _ => act(host, device, step),
+    }
+}
+
+/// Steps, and what is told of the last one.
+fn play(
+    told: &mut String,
+    sheet: &Sheet<'_>,
+    host: &mut HostPipe,
+    device: &mut DevPipe,
+    steps: &str,
+) -> Result<(), RowFault> {
+    for step in steps.split(';') {
+        told.clear();
+        play_step(told, sheet, host, device, step.trim())?;
+    }
+    tell_stand(told, host, device)
+}
+
+/// What two new ends tell, by an address and an endpoint and, behind `|`, steps.
+pub fn tell_ends(told: &mut String, sheet: &Sheet<'_>, words: &str) -> Result<(), RowFault> {
+    let (names, steps) = split(words, '|');
+    let (addr, endp) = split(names, ' ');
+    let (addr, endp) = (addr.parse()?, endp.parse()?);
+    if addr > 127 || endp > 15 {
+        return Err(RowFault::Unread);
+    }
+    play(
+        told,
+        sheet,
+        &mut HostPipe::new(addr, endp),
+        &mut DevPipe::new(),
+        steps,
+    )
+}
+
+/// What a device's default end tells by steps.
+pub fn tell_answers(told: &mut String, sheet: &Sheet<'_>, steps: &str) -> Result<(), RowFault> {
+    play(
+        told,
+        sheet,
+        &mut HostPipe::new(1, 1),
+        &mut DevPipe::default(),
+        steps,
+    )
+}
+
+fn phase_of(word: &str) -> Result<Phase, RowFault> {
+    Ok(match word {
+        "token" => Phase::Token,
+        "data" => Phase::HostData,
+        "reply" => Phase::Reply,
+        "handshake" => Phase::Handshake,
+        "acknowledgement" => Phase::Acknowledgement,
+        _ => return Err(RowFault::Unread),
+    })
+}
+
+/// A packet that arrives, or `lost`.
+fn tell_arrived(told: &mut String, packet: Option<Packet>) -> Result<(), RowFault> {
+    match packet {
+        Some(packet) => tell_packet(told, &packet),
+        None => tell(told, "lost"),
+    }
+}
+
+/// Whether NAK arrives, by a fate and a phase.
+pub fn tell_fate(told: &mut String, words: &str) -> Result<(), RowFault> {
+    let (fate, phase) = split(words, ' ');
+    let Some(fate) = fate_of(fate) else {
+        return Err(RowFault::Unread);
+    };
+    tell_arrived(told, carried(&fate, phase_of(phase)?, &Packet::Nak))
+}
+
+/// A bus on which ACK arrives, whatever is sent.
+struct Stuck;
+
+impl Bus for Stuck {
+    ghost use Rattle.std.specs.Prelude.{Some, ◌∷◌, []};
+
+    ghost arrives = { λ bus phase bytes. Some (0xD2 ∷ []) };
+
+    fn hand_on(&self, _phase: Phase, bytes: &mut ArrayVec<u8, 65>) -> bool {
+        bytes.clear();
+        bytes.push(0xD2);
+        true
+    }
+}
+
+/// What arrives on that bus of a NAK that is sent, one that is replied, or of nothing.
+pub fn tell_stuck(told: &mut String, word: &str) -> Result<(), RowFault> {
+    let arrived = match word {
+        "sent" => carried(&Stuck, Phase::Reply, &Packet::Nak),
+        "replied" => replied(&Stuck, Phase::Reply, Some(&Packet::Nak)),
+        "nothing" => replied(&Stuck, Phase::Reply, None),
+        _ => return Err(RowFault::Unread),
+    };
+    tell_arrived(told, arrived)
+}
