@@ -28,3 +28,13 @@ fn a_line_sets_a_number_of_18_digits(_rt: HostRuntime) -> Result<(), Fail> {
         ),
     )
 }
+
+/// Whether a line says nothing.
+fn is_comment(line: &[u8]) -> bool {
+    matches!(parse_line(line), Ok(Line::Nothing))
+}
+
+#[test]
+fn a_comment_may_be_one_word(_rt: HostRuntime) -> Result<(), Fail> {
+    holds("a comment", is_comment(b" #layout"))
+}
