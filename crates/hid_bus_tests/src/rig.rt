@@ -156,14 +156,6 @@ fn take_all(
 /// A request, and how many tries it takes where nothing is lost.
 type Asks = (Asked, usize);
 
-/// The requests that bring a boot keyboard up: its configuration has 34 bytes and its report descriptor 63, which go in
-/// pieces of 8.
-const BRINGS_UP: [Asks; 3] = [
-    (Asked::Config, 7),
-    (Asked::Report, 10),
-    (Asked::Configure, 2),
-];
-
 /// A request of a device with so many tries.
 fn ask(rig: &mut Rig, dev: u8, asks: Asks, out: &mut Vec<Delivered>) -> Result<(), StackFault> {
     let (asked, tries) = asks;

@@ -32,43 +32,44 @@ fn ready_host(rt: &HostRuntime, descriptor: &[u8]) -> Result<HostDevice, Fail>
     Ok(HostDevice::ready(rt.alloc(), 1, descriptor)?)
 }
 
-/// A poll of a host that is ready, and what it delivers.
-fn polled(
-    rt: &HostRuntime,
-    fate: Fate,
-    device: &mut Device,
-    host: &mut HostDevice,
-) -> Result<(Told, Vec<Event>), Fail>
-    requires { IsReady host.old.phase }
-{
-    let mut out = Vec::with_capacity(rt.alloc(), host.max_events())?;
-    let told = poll(&fate, device, host, &mut out)?;
-    Ok((told, out))
-}
-
-/// Whether a poll tells the report with the key a, as a fresh one.
-fn is_told(told: &Told) -> bool {
+/// Whether a poll told the report with the key a, as a fresh one.
+fn is_told(told: &Result<Told, StackFault>) -> bool {
     match told {
-        Told::Polled {
-            reply: Some(bytes),
-            took: Took::Fresh(_),
-        } => bytes.as_slice() == [0xC3, 0, 0, 0x04, 0, 0, 0, 0, 0].as_slice(),
+        Ok(
+            Told::Polled {
+                reply: Some(bytes),
+                took: Took::Fresh(_),
+            },
+        ) => bytes.as_slice() == [0xC3, 0, 0, 0x04, 0, 0, 0, 0, 0].as_slice(),
         _ => false,
     }
 }
 
 /// Whether a poll whose ACK is lost tells and delivers the key a.
-fn tells_the_key(rt: &HostRuntime, device: &mut Device, descriptor: &[u8]) -> Result<bool, Fail> {
+fn is_key_told(device: &mut Device, host: &mut HostDevice, out: &mut Vec<Event>) -> bool {
+    let told = poll(&Fate::AckLost, device, host, out);
+    is_told(&told) && out.as_slice() == [event_of(Given::Down(4))].as_slice()
+}
+
+/// The same, of a host that is ready.
+fn tells_the_key(rt: &HostRuntime, device: &mut Device, host: &mut HostDevice) -> Result<bool, Fail>
+    requires { IsReady host.old.phase }
+{
+    let mut out = Vec::with_capacity(rt.alloc(), host.max_events())?;
+    Ok(is_key_told(device, host, &mut out))
+}
+
+/// The same, of a host that is made for it.
+fn tells_a_host(rt: &HostRuntime, device: &mut Device, descriptor: &[u8]) -> Result<bool, Fail> {
     let mut host = ready_host(rt, descriptor)?;
-    let (told, out) = polled(rt, Fate::AckLost, device, &mut host)?;
-    Ok(is_told(&told) && out.as_slice() == [event_of(Given::Down(4))].as_slice())
+    tells_the_key(rt, device, &mut host)
 }
 
 /// Whether a device that is configured, with its key a pressed, is polled so.
 fn is_polled(rt: &HostRuntime, device: &mut Device, descriptor: &[u8]) -> Result<(), Fail> {
     configure(device);
     press(device, key(4))?;
-    let is_so = tells_the_key(rt, device, descriptor)?;
+    let is_so = tells_a_host(rt, device, descriptor)?;
     holds(
         "a poll",
         is_so && is_pipe(device, false, Some(A_PRESSED.as_slice())),
@@ -81,12 +82,17 @@ fn two_ends_are_polled_without_a_rig(rt: HostRuntime) -> Result<(), Fail> {
     is_polled(&rt, &mut device, keyboard())
 }
 
+/// Whether a poll is refused, since the host isn't ready, and delivers nothing.
+fn is_refused(device: &mut Device, host: &mut HostDevice, out: &mut Vec<Event>) -> bool {
+    let told = poll(&Fate::Clean, device, host, out);
+    matches!(&told, Err(StackFault::NotReady)) && out.is_empty()
+}
+
 /// Whether a host that knows nothing of a device polls nothing.
 fn polls_nothing(rt: &HostRuntime, device: &mut Device) -> bool {
     let mut host = HostDevice::cold(rt.alloc(), 1);
     let mut out = Vec::new(rt.alloc());
-    let told = poll(&Fate::Clean, device, &mut host, &mut out);
-    matches!(&told, Err(StackFault::NotReady)) && out.is_empty()
+    is_refused(device, &mut host, &mut out)
 }
 
 /// Whether it polls nothing of a device that is configured, with its key a pressed.

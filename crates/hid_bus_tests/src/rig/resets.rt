@@ -2,8 +2,8 @@
 //! 9.1.1.3; HID 1.11, 7.2), worked out by hand from the definitions.
 
 use super::{
-    Act, Asked, Asks, BRINGS_UP, Boots, CLEAN, TRY, ask, ask_all, attach_all, state_of, step_of,
-    take_all, take_step,
+    Act, Asked, Asks, Boots, CLEAN, TRY, ask, ask_all, attach_all, state_of, step_of, take_all,
+    take_step,
 };
 use crate::verdict::none_is_wrong;
 use arrayvec::ArrayVec;
@@ -43,7 +43,7 @@ const BEFORE: [&[Act]; 6] = [
     &[CLEAN],
 ];
 
-/// The first of these devices, from 0, that isn't forgotten behind its acts and a reset.
+/// The first of these devices, from 1, that isn't forgotten behind its acts and a reset.
 fn first_remembered(
     rig: &mut Rig,
     rows: &[&'static [Act]],
@@ -53,7 +53,7 @@ fn first_remembered(
         take_all(rig, dev, acts, out)?;
         take_step(rig, &step_of(dev, Act::Reset), out)?;
         if !is_forgotten(rig, dev)? {
-            return Ok(Some(dev as usize - 1));
+            return Ok(Some(dev as usize));
         }
     }
     Ok(None)
@@ -75,20 +75,28 @@ fn behind_a_reset_the_host_knows_nothing_and_the_device_is_at_rest(
 
 const COLD: [Boots; 4] = [(Boot::Keyboard, Start::Cold); 4];
 
-/// The first number of requests behind which a reset amid a transfer leaves anything of it: behind none the host is cold;
-/// behind one each more it is described, parsed and ready.
+/// The requests that bring a boot keyboard up, as far as its host is cold, described, parsed and ready: its configuration has
+/// 34 bytes and its report descriptor 63, which go in pieces of 8.
+#[rattlefmt::skip]
+const FRONTS: [&[Asks]; 4] = [
+    &[],
+    &[(Asked::Config, 7)],
+    &[(Asked::Config, 7), (Asked::Report, 10)],
+    &[(Asked::Config, 7), (Asked::Report, 10), (Asked::Configure, 2)],
+];
+
+/// The first of these devices, from 1, of which a reset amid a transfer leaves anything.
 fn first_not_reset(
     rig: &mut Rig,
-    requests: &[Asks],
+    rows: &[&'static [Asks]],
     out: &mut Vec<Delivered>,
 ) -> Result<Option<usize>, StackFault> {
-    for count in 0..=requests.len() {
-        let dev = count as u8 + 1;
-        ask_all(rig, dev, &requests[..count], out)?;
+    for (dev, requests) in (1..8).zip(rows.iter()) {
+        ask_all(rig, dev, requests, out)?;
         ask(rig, dev, (Asked::Status, 1), out)?;
         take_step(rig, &step_of(dev, Act::Reset), out)?;
         if !is_forgotten(rig, dev)? {
-            return Ok(Some(count));
+            return Ok(Some(dev as usize));
         }
     }
     Ok(None)
@@ -97,7 +105,7 @@ fn first_not_reset(
 fn are_reset(rt: &HostRuntime, rig: &mut Rig) -> Result<(), Fail> {
     attach_all(rig, &COLD)?;
     let mut out = Vec::new(rt.alloc());
-    none_is_wrong(first_not_reset(rig, &BRINGS_UP, &mut out)?)
+    none_is_wrong(first_not_reset(rig, &FRONTS, &mut out)?)
 }
 
 #[test]
@@ -160,7 +168,7 @@ fn is_ended(
     Ok(is_before && are_lights(rig, dev, 0)? && is_forgotten(rig, dev)? && out.is_empty())
 }
 
-/// The first of these writes that doesn't end so, each of a device of its own.
+/// The first of these writes, from 1, that doesn't end so, each of a device of its own.
 fn first_not_ended(
     rig: &mut Rig,
     rows: &[Write],
@@ -169,7 +177,7 @@ fn first_not_ended(
     for (dev, row) in (1..8).zip(rows.iter()) {
         begin_lights(rig, dev, &[2], out)?;
         if !is_ended(rig, dev, row, out)? {
-            return Ok(Some(dev as usize - 1));
+            return Ok(Some(dev as usize));
         }
     }
     Ok(None)
