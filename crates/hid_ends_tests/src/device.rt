@@ -66,6 +66,16 @@ fn is_changed(device: &mut Device, words: &[&str], told: &mut Told) -> bool {
     true
 }
 
+/// Resets endpoint 0. It promises nothing, so that what is lent and given back is before the prover here alone.
+fn reset_control(device: &mut Device) {
+    device.control().reset();
+}
+
+/// Carries out what is pending at endpoint 0.
+fn apply(device: &mut Device) {
+    device.control().requests_mut().apply(&[]);
+}
+
 /// Does what is one of these words; false where it is something else.
 fn is_acted(device: &mut Device, words: &[&str]) -> bool {
     match *words {
@@ -73,8 +83,8 @@ fn is_acted(device: &mut Device, words: &[&str]) -> bool {
         ["frame"] => device.frame(),
         ["bus", "reset"] => device.reset(),
         ["halt"] => device.halt(),
-        ["reset"] => device.control().reset(),
-        ["apply"] => device.control().requests_mut().apply(&[]),
+        ["reset"] => reset_control(device),
+        ["apply"] => apply(device),
         _ => return false,
     }
     true
@@ -150,29 +160,33 @@ fn tell_run(transfer: &mut HostTransfer, device: &mut Device, told: &mut Told) {
     tell_end(transfer, told);
 }
 
-/// Tells of a transfer of these setup data, with these data where it writes.
+/// Tells of a transfer of these setup data, with these data where it writes: as many as they say.
 fn tell_transfer(alloc: Global, device: &mut Device, setup: Setup, data: &[u8], told: &mut Told) {
+    let sent = if setup.is_read() {
+        0
+    } else {
+        usize::from(setup.length)
+    };
+    if data.len() != sent {
+        return told.unread();
+    }
     match HostTransfer::begin(alloc, 1, setup, data) {
         Ok(mut transfer) => tell_run(&mut transfer, device, told),
         Err(_) => told.unread(),
     }
 }
 
-/// The same of setup data as bytes, where there are as many data as they say.
+/// The same of setup data as bytes.
 fn tell_request(alloc: Global, device: &mut Device, bytes: &[u8], told: &mut Told) {
-    let Some((request, data)) = bytes.split_first_chunk::<8>() else {
-        return told.unread();
-    };
-    let setup = Setup::from_bytes(request);
-    let sent = if setup.is_read() {
-        0
-    } else {
-        usize::from(setup.length)
-    };
-    if data.len() == sent {
-        tell_transfer(alloc, device, setup, data, told);
-    } else {
-        told.unread();
+    match bytes.split_first_chunk::<8>() {
+        Some((request, data)) => tell_transfer(
+            alloc,
+            device,
+            Setup::from_bytes(request),
+            data,
+            told,
+        ),
+        None => told.unread(),
     }
 }
 

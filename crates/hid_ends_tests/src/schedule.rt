@@ -25,7 +25,10 @@ pub struct Heading<'a> {
 
 /// How often: a number, and `times` behind it.
 fn times_of(text: &str) -> Option<usize> {
-    number(text.strip_suffix(" times")?)
+    match text.split_once(' ')? {
+        (count, "times") => number(count),
+        _ => None,
+    }
 }
 
 pub fn heading_of(line: &str) -> Option<Heading<'_>> {

@@ -150,7 +150,7 @@ impl Tally {
     /// Passes the lines of a block that is no schedule; says of others that they can't be read.
     fn pass(&mut self, table: &str, lines: &str) {
         for line in lines.lines() {
-            if !is_aside(line) {
+            if !line.is_empty() && !is_aside(line) {
                 self.unread(
                     Place {
                         table,
@@ -162,28 +162,28 @@ impl Tally {
         }
     }
 
-    /// Plays a block: the table that it begins, or the one in which it stands.
-    fn play_block<'a>(&mut self, text: &str, table: &'a str, block: &'a str) -> &'a str {
-        let (first, rest) = block.split_once('\n').unwrap_or((block, ""));
-        if is_aside(first) {
-            self.pass(table, rest);
-            return table;
+    /// Plays a table: its name, remarks, and behind an empty line its schedules.
+    fn play_table(&mut self, text: &str, table: &str) {
+        self.tables = self.tables.saturating_add(1);
+        let (head, schedules) = table.split_once("\n\n").unwrap_or((table, ""));
+        let (name, remarks) = head.split_once('\n').unwrap_or((head, ""));
+        self.pass(name, remarks);
+        for block in schedules.split("\n\n") {
+            let (schedule, rows) = block.split_once('\n').unwrap_or((block, ""));
+            let table = name;
+            self.play_schedule(text, Place { table, schedule }, rows);
         }
-        if let Some(name) = first.strip_prefix("table ") {
-            self.tables = self.tables.saturating_add(1);
-            self.pass(name, rest);
-            return name;
-        }
-        let schedule = first;
-        self.play_schedule(text, Place { table, schedule }, rest);
-        table
     }
 
-    /// Plays all blocks of a text.
+    /// Plays all tables of a text, behind its descriptors.
     pub fn play(&mut self, text: &str) {
-        let mut table = "";
-        for block in text.trim_end().split("\n\n") {
-            table = self.play_block(text, table, block);
+        let (head, tables) = text
+            .trim_end()
+            .split_once("\n\ntable ")
+            .unwrap_or((text, ""));
+        self.pass("", head);
+        for table in tables.split("\n\ntable ") {
+            self.play_table(text, table);
         }
     }
 
