@@ -37,7 +37,13 @@ impl<'a> Model for FieldRun<'a> {
 
 impl<'a> FieldRun<'a> {
     /// So many fields of this width in bits, from this bit of the bytes on.
-    pub fn new(bytes: &'a [u8], at: usize, width: u32, is_signed: bool, count: usize) -> FieldRun<'a>
+    pub fn new(
+        bytes: &'a [u8],
+        at: usize,
+        width: u32,
+        is_signed: bool,
+        count: usize,
+    ) -> FieldRun<'a>
         requires { IsRun bytes.now at width count }
         ensures { result ≡ numbers_in bytes.now at width is_signed count }
     {
@@ -64,7 +70,11 @@ impl<'a> FieldRun<'a> {
         requires { index < length self.now }
         ensures { slice_get self.now index ≡ Some result }
     {
-        let pattern = C::get(self.bytes, self.at + self.width as usize * index, self.width);
+        let pattern = C::get(
+            self.bytes,
+            self.at + self.width as usize * index,
+            self.width,
+        );
         to_value(pattern, self.width, self.is_signed)
     }
 }
