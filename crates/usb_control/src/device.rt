@@ -1,5 +1,5 @@
 //! The device's end of endpoint 0 (USB 2.0, 8.5.3).
-ghost use Rattle.std.specs.Prelude.{◌≡◌, ◌≤◌, ◌+◌, None, Some, Option, ℕ, Bool, length, IfSome};
+ghost use Rattle.std.specs.Prelude.{◌≡◌, ◌≤◌, ◌+◌, None, Some, Option, ℕ, Bool, true, false, length, IfSome};
 ghost use Rattle.usb_packet.specs.Spelling.{Fits};
 ghost use Rattle.usb_control.specs.SetupBytes.{reads};
 ghost use Rattle.usb_control.specs.Device.{Does, acknowledged, asked, begun, data_heard, effect, given, read_piece};
@@ -138,23 +138,58 @@ impl<R: Requests> DevControl<R> {
         ensures heard { self.new.heard ≡ self.old.heard }
     {
         let length = usize::from(setup.length);
-        self.stage = if !self.requests.prepare(setup) {
-            Stage::Idle
+        if !self.requests.prepare(setup) {
+            self.refuse();
         } else if !setup.is_read() {
-            Stage::WriteData {
-                length,
-                one: true,
-                bytes: ArrayVec::new(),
-                more: 0 < length,
-            }
+            self.begin_write(length);
         } else if length == 0 {
-            Stage::StatusIn
+            self.begin_status();
         } else {
-            Stage::ReadData {
-                length,
-                sent: 0,
-                one: true,
-            }
+            self.begin_read(length);
+        }
+    }
+
+    // Each stage is made where it stands, in a function of its own: else all of them make room at each decision.
+
+    // Goes on with no request.
+    #[inline(never)]
+    fn refuse(&mut self)
+        ensures { self.new ≡ record self.old { stage = Stage.Idle } }
+    {
+        self.stage = Stage::Idle;
+    }
+
+    // Awaits the status of a read of no bytes.
+    #[inline(never)]
+    fn begin_status(&mut self)
+        ensures { self.new ≡ record self.old { stage = Stage.StatusIn } }
+    {
+        self.stage = Stage::StatusIn;
+    }
+
+    // Sends the data of a read.
+    #[inline(never)]
+    fn begin_read(&mut self, length: usize)
+        ensures { self.new ≡ record self.old { stage = Stage.ReadData length 0 true } }
+    {
+        self.stage = Stage::ReadData {
+            length,
+            sent: 0,
+            one: true,
+        };
+    }
+
+    // Awaits the data of a write.
+    #[inline(never)]
+    fn begin_write(&mut self, length: usize)
+        requires { length ≤ MAX_WRITE }
+        ensures { self.new ≡ record self.old { stage = begun true false length } }
+    {
+        self.stage = Stage::WriteData {
+            length,
+            one: true,
+            bytes: ArrayVec::new(),
+            more: 0 < length,
         };
     }
 

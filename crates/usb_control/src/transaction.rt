@@ -18,6 +18,7 @@ use usb_transact::{Bus, Fate, Phase, carried, replied};
 
 impl<R: Requests> DevControl<R> {
     // Hears the packet that came, if one did, and gives the answer to it.
+    #[inline(never)] // it stands where its caller wants it
     fn hear(&mut self, packet: Option<&Packet>) -> Option<Packet>
         ensures hears { Hears R.prepare_gives R.apply_gives R.answer_of (option_copied packet.entry)
             self.old self.new result }

@@ -8,7 +8,10 @@ use crate::packet::{Packet, TokenKind};
 use crate::pid;
 use arrayvec::ArrayVec;
 
+// What reads one sort of packet makes no room for another.
+
 // A token with this kind, from what follows its PID.
+#[inline(never)]
 fn token(kind: TokenKind, body: &[u8]) -> Result<Packet, PacketFault>
     ensures { Reads result (token_pid kind ∷ body.now) }
 {
@@ -27,6 +30,7 @@ fn token(kind: TokenKind, body: &[u8]) -> Result<Packet, PacketFault>
 }
 
 // A data packet with this toggle, from what follows its PID.
+#[inline(never)]
 fn data(one: bool, body: &[u8]) -> Result<Packet, PacketFault>
     ensures { Reads result (data_pid one ∷ body.now) }
 {
@@ -46,6 +50,27 @@ fn handshake(packet: Packet, body: &[u8]) -> Result<Packet, PacketFault>
     } else {
         Err(PacketFault::BadLength)
     }
+}
+
+#[inline(never)]
+fn ack(body: &[u8]) -> Result<Packet, PacketFault>
+    ensures { Reads result (pid_of Packet.Ack ∷ body.now) }
+{
+    handshake(Packet::Ack, body)
+}
+
+#[inline(never)]
+fn nak(body: &[u8]) -> Result<Packet, PacketFault>
+    ensures { Reads result (pid_of Packet.Nak ∷ body.now) }
+{
+    handshake(Packet::Nak, body)
+}
+
+#[inline(never)]
+fn stall(body: &[u8]) -> Result<Packet, PacketFault>
+    ensures { Reads result (pid_of Packet.Stall ∷ body.now) }
+{
+    handshake(Packet::Stall, body)
 }
 
 /// The packet that the bytes spell (USB 2.0, 8.3 and 8.4), for all bytes of any number.
@@ -72,9 +97,9 @@ pub fn decode(bytes: &[u8]) -> Result<Packet, PacketFault>
         pid::SETUP => token(TokenKind::Setup, body),
         pid::DATA0 => data(false, body),
         pid::DATA1 => data(true, body),
-        pid::ACK => handshake(Packet::Ack, body),
-        pid::NAK => handshake(Packet::Nak, body),
-        pid::STALL => handshake(Packet::Stall, body),
+        pid::ACK => ack(body),
+        pid::NAK => nak(body),
+        pid::STALL => stall(body),
         _ => Err(PacketFault::UnknownPid),
     }
 }

@@ -1,5 +1,5 @@
 //! From a packet to its bytes (USB 2.0, 8.3 and 8.4).
-ghost use Rattle.std.specs.Prelude.{◌≡◌};
+ghost use Rattle.std.specs.Prelude.{◌≡◌, []};
 ghost use Rattle.usb_packet.specs.Spelling.{Fits, Spells, token_pid, data_pid};
 
 use crate::packet::{Packet, TokenKind};
@@ -30,6 +30,16 @@ pub fn encode(packet: &Packet) -> ArrayVec<u8, 65>
     ensures spelled { Spells packet.now result.items }
 {
     let mut bytes = ArrayVec::new();
+    spell(packet, &mut bytes);
+    bytes
+}
+
+/// Writes the bytes that spell the packet where none are yet, as [`encode`] gives them.
+pub fn spell(packet: &Packet, bytes: &mut ArrayVec<u8, 65>)
+    requires fits { Fits packet.now }
+    requires empty { bytes.old.items ≡ [] }
+    ensures spelled { Spells packet.now bytes.new.items }
+{
     match packet {
         Packet::Token { kind, addr, endp } => {
             let fields = u16::from(*endp) << 7 | u16::from(*addr);
@@ -46,5 +56,4 @@ pub fn encode(packet: &Packet) -> ArrayVec<u8, 65>
         Packet::Nak => bytes.push(pid::NAK),
         Packet::Stall => bytes.push(pid::STALL),
     }
-    bytes
 }

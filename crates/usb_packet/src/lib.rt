@@ -24,6 +24,6 @@ mod packet;
 mod pid;
 
 pub use decoding::decode;
-pub use encoding::encode;
+pub use encoding::{encode, spell};
 pub use fault::PacketFault;
 pub use packet::{MAX_ADDRESS, MAX_ENDPOINT, MAX_PAYLOAD, Packet, TokenKind, fits};

@@ -5,7 +5,7 @@ ghost use Rattle.usb_packet.specs.Spelling.{Fits};
 ghost use Rattle.usb_transact.specs.Bus.{Carries, Replies};
 
 use arrayvec::ArrayVec;
-use usb_packet::{Packet, decode, encode};
+use usb_packet::{Packet, decode, spell};
 
 /// The phases of a transaction, by the packet that is sent in each (USB 2.0, 8.5). An interrupt-IN transaction has the
 /// token, the reply and the acknowledgement (8.5.4), a SETUP or OUT transaction the token, the host's data and the
@@ -44,7 +44,8 @@ pub fn carried<B: Bus>(bus: &B, phase: Phase, packet: &Packet) -> Option<Packet>
     requires fits { Fits packet.now }
     ensures { Carries (B.arrives bus.now) phase packet.now result }
 {
-    let mut bytes = encode(packet);
+    let mut bytes = ArrayVec::new();
+    spell(packet, &mut bytes);
     if !bus.hand_on(phase, &mut bytes) {
         return None;
     }
@@ -52,6 +53,7 @@ pub fn carried<B: Bus>(bus: &B, phase: Phase, packet: &Packet) -> Option<Packet>
 }
 
 /// What the other end reads of an answer, where there is one.
+#[inline(never)] // it stands where its caller wants it
 pub fn replied<B: Bus>(bus: &B, phase: Phase, answer: Option<&Packet>) -> Option<Packet>
     requires fits { IfSome (option_copied answer) Fits }
     ensures { Replies (B.arrives bus.now) phase (option_copied answer.entry) result }
