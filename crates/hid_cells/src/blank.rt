@@ -60,10 +60,11 @@ pub fn blank_cells(alloc: Global, layout: &Layout) -> Result<Vec<Cell>, AllocErr
     ensures fits { IfOk result (λ cells. FitsView (items_of layout.now) cells.items) }
     ensures layout { IsLayout layout.now }
 {
-    let mut cells = Vec::with_capacity(alloc, item_count(layout))?;
-    for i in 0..item_count(layout) {
+    let count = item_count(layout);
+    let mut cells = Vec::with_capacity(alloc, count)?;
+    for i in 0..count {
         let controls = layout.controls(i);
-        cells.push(blank_cell(alloc, &controls)?)?;
+        cells.push_reserved(blank_cell(alloc, &controls)?);
     }
     Ok(cells)
 }
