@@ -14,12 +14,27 @@ fn tell_head(told: &mut String, at: usize, sort: &str, code: u8) -> Result<(), R
     add_hex(told, u32::from(code))
 }
 
-/// The data of a short item without and with a sign.
-fn tell_numbers_of(told: &mut String, item: &Item<'_>) -> Result<(), RowFault> {
-    add(told, " ")?;
-    add_shown(told, &item.unsigned())?;
-    add(told, " ")?;
-    add_shown(told, &item.signed())
+/// The data of the first item without and with a sign, where it is a short one.
+fn numbers(bytes: &[u8]) -> Option<(u64, i64)> {
+    match Items::new(bytes).next() {
+        Some(Ok(item)) => match item.kind {
+            ItemKind::Short { .. } => Some((item.unsigned(), item.signed())),
+            ItemKind::Long { .. } => None,
+        },
+        _ => None,
+    }
+}
+
+fn tell_data(told: &mut String, bytes: &[u8]) -> Result<(), RowFault> {
+    match numbers(bytes) {
+        Some((unsigned, signed)) => {
+            add(told, " ")?;
+            add_shown(told, &unsigned)?;
+            add(told, " ")?;
+            add_shown(told, &signed)
+        }
+        None => add(told, " no data"),
+    }
 }
 
 /// Its bytes, its place, and of a short item its prefix and its data without and with a sign, of a long one its tag.
@@ -29,7 +44,7 @@ fn tell_item(told: &mut String, item: &Item<'_>) -> Result<(), RowFault> {
     match item.kind {
         ItemKind::Short { prefix } => {
             tell_head(told, at, " short ", prefix)?;
-            tell_numbers_of(told, item)
+            tell_data(told, item.bytes)
         }
         ItemKind::Long { tag } => tell_head(told, at, " long ", tag),
     }

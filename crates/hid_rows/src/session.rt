@@ -84,7 +84,7 @@ fn play_step(
     let (verb, words) = split(step, ' ');
     match verb {
         "feed" => feed_words(told, sheet, session, words),
-        "room" => tell_number(told, Some(session.room() as i64)),
+        "room" => tell_shown(told, &session.room()),
         "held" => tell_whether(told, session.held(control_of(words)?), "held", "not held"),
         _ => Err(RowFault::Unread),
     }

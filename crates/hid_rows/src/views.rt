@@ -291,7 +291,7 @@ pub fn tell_forgotten(
 
 fn tell_report(told: &mut String, layout: &Layout, bytes: &[u8]) -> Result<(), RowFault> {
     match input_report(layout, bytes) {
-        Ok(report) => tell_number(told, Some(report as i64)),
+        Ok(report) => tell_shown(told, &report),
         Err(fault) => tell_shown(told, &fault),
     }
 }
@@ -315,5 +315,5 @@ pub fn tell_awaited(
     words: &str,
 ) -> Result<(), RowFault> {
     let bytes = bytes_of(sheet, words)?;
-    tell_number(told, Some(bytes_awaited(layout, &bytes) as i64))
+    tell_shown(told, &bytes_awaited(layout, &bytes))
 }

@@ -4,7 +4,7 @@ use crate::keyboard::Keyboard;
 use crate::requests::{begin, request_in, tell_outcome, tell_refused};
 use crate::transactions::fate_of;
 use std::alloc::Global;
-use test_sheets::{RowFault, tell, tell_numbers, tell_shown};
+use test_sheets::{RowFault, add, add_shown, tell, tell_numbers, tell_shown};
 use usb_control::{ControlFault, DevControl, HostTransfer, Outcome};
 use usb_transact::Fate;
 
@@ -52,8 +52,9 @@ fn tell_kept(told: &mut String, keyboard: &Keyboard, data: &[u8]) -> Result<(), 
         output,
         ..
     } = keyboard;
-    let (decisions, effects) = (i64::from(*decisions), i64::from(*effects));
-    tell_numbers(told, &[decisions, effects, output.len() as i64])?;
+    tell_numbers(told, &[i64::from(*decisions), i64::from(*effects)])?;
+    add(told, " ")?;
+    add_shown(told, &output.len())?;
     if data.starts_with(output) {
         Ok(())
     } else {
