@@ -76,6 +76,15 @@ class Row:
         return True
 
 
+def fault_of(row, programs):
+    """Why a row is none, or None."""
+    if row.program not in programs:
+        return f"it runs none of {', '.join(programs)}"
+    if row.printed and (row.parts or row.others or row.items is not None) or row.said and row.named is not None:
+        return "a whole text, and what has to stand in it"
+    return None
+
+
 def rows_of(path):
     """The rows of a table."""
     table, files, known, rows = os.path.basename(path), {}, {}, []

@@ -25,6 +25,13 @@ class Row:
         """What is printed for them on standard output."""
         return "".join(text for _, text in self.lines[:count]).encode("latin-1")
 
+    def fault(self):
+        """Why it is no row, or None."""
+        has_own = self.words or self.lines or self.err or self.status or self.each
+        if self.example and has_own:
+            return "an example stands in place of all else"
+        return None if self.example or self.words and self.lines else "a row has a program and lines"
+
     def runs(self):
         """The rows that it stands for: itself, or one for each of its lines."""
         if not self.each:
@@ -48,6 +55,12 @@ class File:
                 self.place = f"{os.path.relpath(path, ROOT)}:{number}"
                 if line and not line.startswith("#"):
                     self.take(line)
+        if self.part is not None:
+            self.fail(f"nothing ends the part {self.part}")
+        for row in self.rows:
+            if row.fault():
+                self.place = row.place
+                self.fail(row.fault())
 
     def take(self, line):
         """A line of the file."""
@@ -76,7 +89,8 @@ class File:
         """A line of a row; whether it is one."""
         if line.startswith("+ "):
             for each in self.parts.get(line[2:]) or self.fail("no such part"):
-                self.take_in(row, each)
+                if not self.take_in(row, each):
+                    self.fail(f"no line of a row: {each}")
         elif line.startswith("$ "):
             row.words = shlex.split(line[2:])
         elif line == ">" or line.startswith("> "):
