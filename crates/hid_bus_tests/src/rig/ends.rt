@@ -45,18 +45,13 @@ fn is_told(told: &Result<Told, StackFault>) -> bool {
     }
 }
 
-/// Whether a poll whose ACK is lost tells and delivers the key a.
-fn is_key_told(device: &mut Device, host: &mut HostDevice, out: &mut Vec<Event>) -> bool {
-    let told = poll(&Fate::AckLost, device, host, out);
-    is_told(&told) && out.as_slice() == [event_of(Given::Down(4))].as_slice()
-}
-
-/// The same, of a host that is ready.
+/// Whether a poll of a host that is ready tells and delivers the key a, though its ACK is lost.
 fn tells_the_key(rt: &HostRuntime, device: &mut Device, host: &mut HostDevice) -> Result<bool, Fail>
     requires { IsReady host.old.phase }
 {
     let mut out = Vec::with_capacity(rt.alloc(), host.max_events())?;
-    Ok(is_key_told(device, host, &mut out))
+    let told = poll(&Fate::AckLost, device, host, &mut out);
+    Ok(is_told(&told) && out.as_slice() == [event_of(Given::Down(4))].as_slice())
 }
 
 /// The same, of a host that is made for it.
@@ -82,17 +77,12 @@ fn two_ends_are_polled_without_a_rig(rt: HostRuntime) -> Result<(), Fail> {
     is_polled(&rt, &mut device, keyboard())
 }
 
-/// Whether a poll is refused, since the host isn't ready, and delivers nothing.
-fn is_refused(device: &mut Device, host: &mut HostDevice, out: &mut Vec<Event>) -> bool {
-    let told = poll(&Fate::Clean, device, host, out);
-    matches!(&told, Err(StackFault::NotReady)) && out.is_empty()
-}
-
 /// Whether a host that knows nothing of a device polls nothing.
 fn polls_nothing(rt: &HostRuntime, device: &mut Device) -> bool {
     let mut host = HostDevice::cold(rt.alloc(), 1);
     let mut out = Vec::new(rt.alloc());
-    is_refused(device, &mut host, &mut out)
+    let told = poll(&Fate::Clean, device, &mut host, &mut out);
+    matches!(&told, Err(StackFault::NotReady)) && out.is_empty()
 }
 
 /// Whether it polls nothing of a device that is configured, with its key a pressed.
