@@ -268,12 +268,15 @@ fn an_interrupted_read_counts_as_a_read(rt: HostRuntime) -> Result<(), Fail> {
 
 const TWO_LAYOUTS: [Given; 2] = [Given::Piece("layout\n"), Given::Piece("layout\n")];
 
+/// Behind how many flushes one fails, and the line at which it ends the run.
+const UNREAD: [(usize, u64); 3] = [(0, 1), (1, 2), (2, 3)];
+
 /// Whether the flush behind so many ends a run that fails there, before the next read.
-fn is_unread(alloc: Global, given: &[Given], flushes: usize) -> bool {
+fn is_unread(alloc: Global, given: &[Given], flushes: usize, line: u64) -> bool {
     let calls = RefCell::new(Vec::new(alloc));
     let end = recorded(alloc, given, flushes, &calls);
     let lost = ScriptFault {
-        line: flushes as u64 + 1,
+        line,
         cause: Cause::Write,
     };
     end == Err(lost)
@@ -281,11 +284,11 @@ fn is_unread(alloc: Global, given: &[Given], flushes: usize) -> bool {
         && count(&calls, Call::Write) == flushes
 }
 
-/// The first number of flushes behind which it doesn't.
-fn first_read(alloc: Global, given: &[Given]) -> Option<usize> {
-    for flushes in 0..3 {
-        if !is_unread(alloc, given, flushes) {
-            return Some(flushes);
+/// The first row that it doesn't end so.
+fn first_read(alloc: Global, given: &[Given], rows: &[(usize, u64)]) -> Option<usize> {
+    for (at, (flushes, line)) in rows.iter().enumerate() {
+        if !is_unread(alloc, given, *flushes, *line) {
+            return Some(at);
         }
     }
     None
@@ -295,7 +298,7 @@ fn first_read(alloc: Global, given: &[Given]) -> Option<usize> {
 fn a_flush_that_fails_before_a_read_ends_the_run_at_the_line_that_is_read(
     rt: HostRuntime,
 ) -> Result<(), Fail> {
-    none_is_wrong(first_read(rt.alloc(), &TWO_LAYOUTS))
+    none_is_wrong(first_read(rt.alloc(), &TWO_LAYOUTS, &UNREAD))
 }
 
 /// How runs end: what reads give, how many there are, whether the writer takes bytes, the line, and the cause if there is
