@@ -51,6 +51,7 @@ mod frames;
 mod inputs;
 pub mod laws;
 mod outputs;
+mod room;
 mod state;
 
 pub use config::{Boot, Config};

@@ -20,8 +20,8 @@ use crate::config::Config;
 use crate::decisions::{Answer, Pending};
 use crate::fault::{DeviceCause, DeviceFault};
 use crate::frames::{count_frame, is_idle_over, set_idle};
-use crate::inputs::input_count;
-use crate::outputs::{KeptReport, bare_outputs, input_with, kept_place, reset_outputs};
+use crate::outputs::{KeptReport, input_with, kept_place, reset_outputs};
+use crate::room::Room;
 use arrayvec::ArrayVec;
 use hid_cells::{Change, ChangeFault, has_empty_codes, has_zeros, piece_of, pieces_of};
 use hid_fields::WordCodec;
@@ -168,25 +168,22 @@ impl Core {
         ensures made { IfOk result (λ core. core ≡ new_core config.now descriptor.now layout) }
         ensures wanting { IfErr result (λ fault. fault ≡ no_memory) }
     {
-        let count = input_count(&layout);
-        let descriptor = Vec::from_slice(alloc, descriptor)?;
-        let snapshot = Snapshot::blank(alloc, &layout)?;
-        let fixed = Shown::blank(alloc, &layout)?;
-        let frames = vec![in alloc; 0; count]?;
-        let idle = vec![in alloc; 0; count]?;
-        let cut = vec![in alloc; false; count]?;
-        let outputs = bare_outputs(alloc, &layout)?;
-        let still = Shown::blank(alloc, &layout)?;
+        let Room {
+            descriptor,
+            controls,
+            counts,
+            outputs,
+        } = Room::of(alloc, &layout, descriptor)?;
         Ok(Core {
             layout,
             config: *config,
             descriptor,
             is_configured: false,
-            snapshot,
-            fixed,
-            frames,
-            idle,
-            cut,
+            snapshot: controls.snapshot,
+            fixed: controls.fixed,
+            frames: counts.frames,
+            idle: counts.idle,
+            cut: counts.cut,
             pipe: DevPipe::new(),
             current: None,
             round: ArrayVec::new(),
@@ -194,7 +191,7 @@ impl Core {
             is_calm: false,
             protocol: Protocol::Report,
             outputs,
-            still,
+            still: controls.still,
             answer: None,
             written: ArrayVec::new(),
             pending: Pending::Nothing,

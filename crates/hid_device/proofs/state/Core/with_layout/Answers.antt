@@ -9,17 +9,15 @@ use Rattle.hid_device.proofs.state.Core.with_layout.Goals as goal
 
 pub invariant_of-result : goal.invariant_of-result
 invariant_of-result c =
-    let kept : c.in_ok-descriptor.descriptor.items ≡ c.args.descriptor.now = search rules in
-    let outputs : c.in_ok-outputs.outputs.items ≡ bare_outputs c.args.layout = c.in_ok-outputs.ensures in
     let armed : c.new.result.armed ≡ None = ap (λ (pipe : DevPipeState). pipe.armed) c.new.ensures in
     record {
       sound = record {
-        lays = subst (λ (bytes : List ℕ). Lays bytes c.args.layout) (sym kept) c.requires.lays;
+        lays = subst (λ (bytes : List ℕ). Lays bytes c.args.layout) (sym c.in_ok-descriptor.ensures.descriptor) c.requires.lays;
         empty_codes = c.requires.empty_codes;
         zeros = c.requires.zeros;
         inputs_first = inputs_first c.args.descriptor.now c.args.layout c.requires.lays;
-        snapshot = c.in_ok-snapshot.ensures.fits;
-        fixed = c.in_ok-fixed.ensures.fits;
+        snapshot = c.in_ok-descriptor.ensures.fits;
+        fixed = c.in_ok-descriptor.ensures.fits_fixed;
         each_frames = grind (arith, common_steps);
         each_idle = grind (arith, common_steps);
         each_cut = grind (arith, common_steps);
@@ -27,9 +25,10 @@ invariant_of-result c =
         piece = refl;
         sends = tt;
         quiet = tt;
-        outputs = subst (λ (outputs : List (List ℕ)). AreOutputs c.args.layout outputs) (sym outputs) (bare_are c.args.layout);
+        outputs = subst (λ (outputs : List (List ℕ)). AreOutputs c.args.layout outputs) (sym c.in_ok-descriptor.ensures.outputs)
+            (bare_are c.args.layout);
       };
-      room = c.in_ok-still.ensures.fits;
+      room = c.in_ok-descriptor.ensures.fits_still;
       calm = tt;
       armed = armed;
       round = tt;

@@ -1,0 +1,104 @@
+//! The room for what a device keeps of its reports. It is made with the device, and no later call takes memory.
+
+ghost use Rattle.std.specs.Prelude.{◌≡◌, replicate, false, IfOk, IfErr};
+ghost use Rattle.hid_layout.specs.Controls.{items_of};
+ghost use Rattle.hid_cells.specs.Cells.{blank, FitsSnapshot, FitsShown};
+ghost use Rattle.hid_cells.specs.Parts.{blank_parts};
+ghost use Rattle.hid_device.specs.Inputs.{input_count};
+ghost use Rattle.hid_device.specs.Outputs.{bare_outputs};
+ghost use Rattle.hid_device.specs.Making.{no_memory};
+
+use crate::fault::DeviceFault;
+use crate::inputs::input_count;
+use crate::outputs::{KeptReport, bare_outputs};
+use hid_cells::MemoryFault;
+use hid_layout::Layout;
+use hid_parts::{Shown, Snapshot};
+use std::alloc::{AllocError, Global};
+
+/// The controls of a device, and room for the parts that its reports show of them.
+#[derive(Drop)]
+pub(crate) struct Controls {
+    pub(crate) snapshot: Snapshot,
+    pub(crate) fixed: Shown,
+    pub(crate) still: Shown,
+}
+
+impl Controls {
+    fn blank(alloc: Global, layout: &Layout) -> Result<Controls, MemoryFault>
+        ensures snapshot { IfOk result (λ made. made.snapshot ≡ blank (items_of layout.now)) }
+        ensures fixed { IfOk result (λ made. made.fixed ≡ blank_parts (items_of layout.now)) }
+        ensures fits { IfOk result (λ made. FitsSnapshot (items_of layout.now) made.snapshot) }
+        ensures fits_fixed { IfOk result (λ made. FitsShown (items_of layout.now) made.fixed) }
+        ensures fits_still { IfOk result (λ made. FitsShown (items_of layout.now) made.still) }
+    {
+        let snapshot = Snapshot::blank(alloc, layout)?;
+        let fixed = Shown::blank(alloc, layout)?;
+        let still = Shown::blank(alloc, layout)?;
+        Ok(Controls {
+            snapshot,
+            fixed,
+            still,
+        })
+    }
+}
+
+/// What is counted of each Input report.
+#[derive(Drop)]
+pub(crate) struct Counts {
+    pub(crate) frames: Vec<u16>,
+    pub(crate) idle: Vec<u8>,
+    pub(crate) cut: Vec<bool>,
+}
+
+impl Counts {
+    fn zeros(alloc: Global, count: usize) -> Result<Counts, AllocError>
+        ensures frames { IfOk result (λ made. made.frames.items ≡ replicate count 0) }
+        ensures idle { IfOk result (λ made. made.idle.items ≡ replicate count 0) }
+        ensures cut { IfOk result (λ made. made.cut.items ≡ replicate count false) }
+    {
+        let frames = vec![in alloc; 0; count]?;
+        let idle = vec![in alloc; 0; count]?;
+        let cut = vec![in alloc; false; count]?;
+        Ok(Counts { frames, idle, cut })
+    }
+}
+
+/// All of it, with the bytes of the report descriptor.
+#[derive(Drop)]
+pub(crate) struct Room {
+    pub(crate) descriptor: Vec<u8>,
+    pub(crate) controls: Controls,
+    pub(crate) counts: Counts,
+    pub(crate) outputs: Vec<KeptReport>,
+}
+
+impl Room {
+    pub(crate) fn of(alloc: Global, layout: &Layout, descriptor: &[u8]) -> Result<Room, DeviceFault>
+        ensures descriptor { IfOk result (λ room. room.descriptor.items ≡ descriptor.now) }
+        ensures snapshot { IfOk result (λ room. room.controls.snapshot ≡ blank (items_of layout.now)) }
+        ensures fixed { IfOk result (λ room. room.controls.fixed ≡ blank_parts (items_of layout.now)) }
+        ensures fits { IfOk result (λ room. FitsSnapshot (items_of layout.now) room.controls.snapshot) }
+        ensures fits_fixed { IfOk result (λ room. FitsShown (items_of layout.now) room.controls.fixed) }
+        ensures fits_still { IfOk result (λ room. FitsShown (items_of layout.now) room.controls.still) }
+        ensures frames { IfOk result
+            (λ room. room.counts.frames.items ≡ replicate (input_count layout.now.reports) 0) }
+        ensures idle { IfOk result
+            (λ room. room.counts.idle.items ≡ replicate (input_count layout.now.reports) 0) }
+        ensures cut { IfOk result
+            (λ room. room.counts.cut.items ≡ replicate (input_count layout.now.reports) false) }
+        ensures outputs { IfOk result (λ room. room.outputs.items ≡ bare_outputs layout.now) }
+        ensures wanting { IfErr result (λ fault. fault ≡ no_memory) }
+    {
+        let descriptor = Vec::from_slice(alloc, descriptor)?;
+        let controls = Controls::blank(alloc, layout)?;
+        let counts = Counts::zeros(alloc, input_count(layout))?;
+        let outputs = bare_outputs(alloc, layout)?;
+        Ok(Room {
+            descriptor,
+            controls,
+            counts,
+            outputs,
+        })
+    }
+}
