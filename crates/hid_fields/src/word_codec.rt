@@ -1,4 +1,5 @@
-//! The codec by words: the bytes that a field touches, five at most, are taken as one word.
+//! The codec by words: the bytes that a field touches, five at most, are taken as one word. To be read they are taken
+//! with those behind them, eight at once, where there are as many.
 ghost use Rattle.std.specs.Prelude.{◌≡◌, ◌+◌, ◌*◌, ◌^◌, ◌<◌, ◌≤◌, ℕ, length};
 ghost use Rattle.hid_fields.specs.Field.{pattern_of};
 ghost use Rattle.hid_fields.specs.Word.{spliced};
@@ -8,7 +9,7 @@ use crate::codec::{FieldCodec, MAX_WIDTH};
 /// In bytes: the most that a field touches, 32 bits from the last bit of a byte on.
 const MAX_TOUCHED: usize = 5;
 
-/// Gathers the bytes that a field touches into a 64-bit word, shifts and masks.
+/// Gathers the bytes that a field touches, or eight from its first one on, into a 64-bit word, shifts and masks.
 pub struct WordCodec;
 
 /// How many bytes a field of this width touches that begins at this bit of a byte.

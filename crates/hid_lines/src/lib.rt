@@ -14,7 +14,8 @@
 //!   values 0                             BadHex
 //! ```
 //! The rule to know: a line is read without its end, and alone: what came before it doesn't change what it says.
-//! Most lines are short: [`read_short`] reads them into a smaller room. [`parse_line`] gives exactly what the definition `meaning_of` says (`exact`), and takes no memory.
+//! Most lines are short: [`read_short`] reads them into a smaller room. [`parse_line`] gives exactly what the
+//! definition `meaning_of` says (`exact`), and takes no memory.
 #![tactic(auto)]
 
 mod arguments;

@@ -1,6 +1,8 @@
 //! The script language: lines lay descriptors out, read reports, and play devices on a bus, and what that tells is text.
 //! ```text
-//!   reader --> pieces --> lines --parse_line--> Line --carried out, by the rig--> text --> writer
+//!                           --read_short--> ShortLine --
+//!   reader --> pieces --> lines                         carried out, by the rig --> text --> writer
+//!                           --parse_line--> Line -------
 //!
 //!   layout 05 01 09 30 15 81 25 7F 75 08 95 01 81 06    report input 0 bytes 1
 //!                                                       item 0 input 0 at 0 8x1 relative -127..127 01:30
@@ -13,8 +15,9 @@
 //!   halt 1
 //!   poll 1                                              (with `trace`) 1 poll STALL stall
 //! ```
-//! A line is read whole, carried out, and its text is written at once, of a line with a count each time: a line that
-//! is refused ends the run, and what stands in the output is what was told before it.
+//! A line is read whole, by `read_short` of `hid_lines` or else by [`parse_line`], carried out, and its text is written
+//! at once, of a line with a count each time: a line that is refused ends the run, and what stands in the output is
+//! what was told before it.
 //! `run` writes exactly the text that the script tells: the clause on [`run`]. Its lines of a device's events are the texts
 //! of what the device lives through: law [`laws::lives_are_printed`].
 #![tactic(auto)]
