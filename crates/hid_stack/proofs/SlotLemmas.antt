@@ -1,6 +1,6 @@
 -- A device and its host as one slot of the bus.
 use Rattle.std.proofs.Common.{◌≡◌, ◌∙◌, ◌≤◌, ◌++◌, ℕ, Bool, true, false, ◌||◌, List, length, map, Option, Some, None, Result, Ok, Err, inl, refl, ap, sym, subst}
-use Rattle.std.specs.Prelude.{OnErr, if◌then◌else◌}
+use Rattle.std.specs.Prelude.{IfOk, OnErr, if◌then◌else◌}
 use Rattle.std.proofs.lemmas.List.{append-nil, nil_from_length}
 use Rattle.usb_transact.specs.declared.transaction.Fate.{Fate}
 use Rattle.usb_control.specs.declared.host.Progress.{Progress}
@@ -68,6 +68,14 @@ pub record Made (start : Start) (addr : ℕ) (config : Config) (descriptor : Lis
   pub together : StandTogether device host.clearing host.phase
   pub knows : Knows host device.control
   pub home : host.addr ≡ device.addr
+
+-- what a slot of the two gives begins as the member does
+pub joined_begins : (start : Start) (addr : ℕ) (config : Config) (descriptor : List ℕ) (device : DeviceState) (host : HostEnd)
+    → Made start addr config descriptor device host → (result : Result Member StackFault)
+    → IfOk result (λ slot. slot ≡ joint device host)
+    → IfOk result (λ slot. (layout : Contents) × Suits addr config descriptor layout × (slot ≡ member_at_start start addr config descriptor layout))
+joined_begins start addr config descriptor device host made (Ok slot) joins = (made.layout, made.suits, joins ∙ made.member)
+joined_begins start addr config descriptor device host made (Err fault) joins = tt
 
 -- laws of hosts that know their devices
 abbrev StartsReady : Type 0

@@ -16,7 +16,8 @@ ghost use Rattle.hid_host.specs.declared.fault.StackFault.{StackFault as Refusal
 ghost use Rattle.hid_host.specs.Bringing.{may_cut};
 ghost use Rattle.hid_host.specs.Host.{running};
 ghost use Rattle.hid_stack.specs.Members.{Scheduled, Begins, Controls, Halts, Resets, begin_refusal_at, cold_member, deed_at, events_by, fresh_member, member_after, polls_it};
-ghost use Rattle.hid_stack.specs.Slot.{TriesTransfer};
+ghost use Rattle.hid_host.specs.Knowing.{Knows};
+ghost use Rattle.hid_stack.specs.Slot.{StandTogether, TriesTransfer, joint};
 ghost use Rattle.hid_stack.specs.declared.step.Told.TheVariants as Tellings;
 ghost use Rattle.hid_stack.specs.Rig.{HasRoomToTry, most_tried, poll_refusal, tagged};
 ghost use Rattle.hid_stack.specs.Sums.{CutsByRequest, IsBetween};
@@ -154,19 +155,10 @@ impl Slot {
         hosts_know_their_devices();
         let mut device = made(alloc, addr, config, descriptor)?;
         device.configure();
-        let host = match HostDevice::ready(alloc, addr, descriptor) {
-            Ok(host) => host,
-            Err(fault) => return Err(fault),
-        };
-        let most_events = device.layout().max_events();
-        match Vec::with_capacity(alloc, most_events) {
-            Ok(events) => Ok(Slot {
-                device,
-                host,
-                events,
-                most_events,
-            }),
-            Err(_) => Err(StackFault::Memory),
+        is_sound(&device);
+        match HostDevice::ready(alloc, addr, descriptor) {
+            Ok(host) => Slot::of(alloc, device, host),
+            Err(fault) => Err(fault),
         }
     }
 
@@ -179,7 +171,17 @@ impl Slot {
     {
         hosts_know_their_devices();
         let device = made(alloc, addr, config, descriptor)?;
-        let host = HostDevice::cold(alloc, addr);
+        Slot::of(alloc, device, HostDevice::cold(alloc, addr))
+    }
+
+    /// A device and its host, with room for what a step of the two gives.
+    fn of(alloc: Global, device: Device, host: HostDevice) -> Result<Slot, StackFault>
+        requires together { StandTogether device host.clearing host.phase }
+        requires knows { Knows host device.control }
+        requires home { host.addr ≡ device.addr }
+        ensures joins { IfOk result (λ slot. slot ≡ joint device host) }
+        ensures wanting { IfErr result (λ fault. fault ≡ Refusal.Memory) }
+    {
         let most_events = device.layout().max_events();
         match Vec::with_capacity(alloc, most_events) {
             Ok(events) => Ok(Slot {

@@ -1,16 +1,20 @@
-use Rattle.std.proofs.Common.{arith, ap}
-use Rattle.hid_layout.specs.Controls.{items_of, max_events}
-use Rattle.hid_layout.specs.Layout.{Contents}
-use Rattle.hid_stack.proofs.SlotLemmas.{makes_cold}
+use Rattle.hid_host.specs.declared.phase.Start.TheVariants as starts
+use Rattle.hid_stack.proofs.SlotLemmas.{joined_begins, makes_cold}
 use Rattle.hid_stack.proofs.slot.Slot.cold.Goals as goal
 
-pub invariant_of-result : goal.invariant_of-result
-invariant_of-result c =
-    let made = makes_cold c.args.addr c.args.config.now c.args.descriptor.now c.in_ok-device.device c.cold-host.result c.hosts_know_their_devices.ensures.cold c.in_ok-device.ensures.made c.cold-host.ensures c.in_ok-device.ensures.sound in
-    let layout = ap (λ (l : Contents). max_events (items_of l)) c.layout.ensures.layout in
-    (made.together, made.knows, made.home, omega (arith, c.in-Ok.ensures.capacity, c.max_events-most_events.ensures, layout), omega (arith, c.max_events-most_events.ensures, layout))
+pub of-requires-clause-together : goal.of-requires-clause-together
+of-requires-clause-together c =
+    (makes_cold c.args.addr c.args.config.now c.args.descriptor.now c.in_ok-device.device c.cold.result c.hosts_know_their_devices.ensures.cold c.in_ok-device.ensures.made c.cold.ensures c.in_ok-device.ensures.sound).together
 
-pub returns-in-Ok-clause-cold : goal.returns-in-Ok-clause-cold
-returns-in-Ok-clause-cold c =
-    let made = makes_cold c.args.addr c.args.config.now c.args.descriptor.now c.in_ok-device.device c.cold-host.result c.hosts_know_their_devices.ensures.cold c.in_ok-device.ensures.made c.cold-host.ensures c.in_ok-device.ensures.sound in
-    (made.layout, made.suits, made.member)
+pub of-requires-clause-knows : goal.of-requires-clause-knows
+of-requires-clause-knows c =
+    (makes_cold c.args.addr c.args.config.now c.args.descriptor.now c.in_ok-device.device c.cold.result c.hosts_know_their_devices.ensures.cold c.in_ok-device.ensures.made c.cold.ensures c.in_ok-device.ensures.sound).knows
+
+pub of-requires-clause-home : goal.of-requires-clause-home
+of-requires-clause-home c =
+    (makes_cold c.args.addr c.args.config.now c.args.descriptor.now c.in_ok-device.device c.cold.result c.hosts_know_their_devices.ensures.cold c.in_ok-device.ensures.made c.cold.ensures c.in_ok-device.ensures.sound).home
+
+pub returns-clause-cold : goal.returns-clause-cold
+returns-clause-cold c =
+    let made = makes_cold c.args.addr c.args.config.now c.args.descriptor.now c.in_ok-device.device c.cold.result c.hosts_know_their_devices.ensures.cold c.in_ok-device.ensures.made c.cold.ensures c.in_ok-device.ensures.sound in
+    joined_begins starts.Cold c.args.addr c.args.config.now c.args.descriptor.now c.in_ok-device.device c.cold.result made c.of.result c.of.ensures.joins
