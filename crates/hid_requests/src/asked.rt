@@ -49,7 +49,7 @@ pub enum Asked {
     },
     /// GET_IDLE (7.2.3).
     GetIdle {
-        /// The Report ID, 0 for all Input reports.
+        /// The Report ID, 0 for the lowest Input report.
         id: u8,
     },
     /// GET_PROTOCOL (7.2.5).

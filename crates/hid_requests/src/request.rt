@@ -72,7 +72,7 @@ pub enum Request {
 /// What a host knows of a device when it asks.
 #[derive(Clone, Copy, Debug, PartialEq, Eq)]
 pub struct Asking {
-    /// In bytes, the report descriptor, by the configuration; 0 before that was read.
+    /// In bytes, the report descriptor, by the configuration; 0 before that was read, and of a host that is ready.
     pub report_length: u16,
     /// The number of the endpoint of its Input reports, by the configuration; 0 before that was read.
     pub endpoint: u8,

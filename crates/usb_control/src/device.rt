@@ -344,7 +344,7 @@ impl<R: Requests> DevControl<R> {
     /// | DATA0 with eight bytes, directly after SETUP | ACK, whatever is decided |
     /// | IN, in the data stage of a read | the next piece, until it is acknowledged |
     /// | IN, at the status of a write with all its bytes | DATA1 without a byte |
-    /// | the expected toggle directly after OUT, in the data stage of a write, at most wLength bytes in all | ACK |
+    /// | the expected toggle directly after OUT, in the data stage of a write, at most 8 bytes, and at most wLength in all | ACK |
     /// | the other toggle directly after OUT, in a write | ACK: they are thrown away |
     /// | DATA1 without a byte directly after OUT, in a read | ACK: the data stage is over |
     /// | another IN, and other data directly after OUT | STALL, until the next SETUP |

@@ -25,7 +25,8 @@
 //!   take: Done      <- DATA1 without a byte ------------  lost: the device sends it again
 //!                   -- ACK ---------------------------->  lost: nothing more is tried
 //! ```
-//! The third try in a row without an answer ends a transfer with C2, and a STALL, which refuses the request, with C1.
+//! The third try in a row without an answer ends a transfer with C2. A STALL to its data or its status, which refuses the
+//! request, ends it with C1; to SETUP it is no answer.
 //!
 //! The rule to know: what a device can do is a [`Requests`], which decides at SETUP, fixes the answer then, and carries a
 //! write out when it is told to. All else here is the same for every device.
