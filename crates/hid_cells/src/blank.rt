@@ -30,6 +30,7 @@ pub fn first_value(kind: ControlKind, least: &i64, greatest: &i64) -> Option<i64
 }
 
 /// What is kept of an item's controls at first.
+#[inline(always)] // it stands where its caller wants it
 pub fn blank_cell(alloc: Global, controls: &Controls) -> Result<Cell, AllocError>
     ensures { IfOk result (λ cell. cell ≡ blank_cell controls.now) }
 {

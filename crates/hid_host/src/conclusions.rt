@@ -3,7 +3,7 @@ ghost use Rattle.std.specs.Prelude.{◌≡◌, ◌≤◌, ℕ, List, [], Ok, Err
 ghost use Rattle.hid_descriptor.specs.Faults.{Explains};
 ghost use Rattle.usb_packet.specs.declared.packet.TheConstants.{MAX_ENDPOINT};
 ghost use Rattle.hid_device.specs.Laying.{Lays};
-ghost use Rattle.hid_requests.specs.declared.request.Request.TheVariants.{Configure};
+ghost use Rattle.hid_requests.specs.declared.request.Request.TheVariants.{Config, Configure, Report};
 ghost use Rattle.hid_host.specs.Conclusions.{ConfigRead, DeviceRead, IsNoLayout, Makes, ReportRead};
 ghost use Rattle.hid_host.specs.Phase.{HasEndpoint};
 
@@ -65,8 +65,39 @@ fn read_report(alloc: Global, info: &ConfigInfo, bytes: &[u8]) -> Result<Layout,
     layout_of(alloc, bytes)
 }
 
+// Each phase is made where it stands, in a function of its own: else the end of any request makes room for all of them.
+
+/// What a configuration says is kept.
+#[inline(never)]
+fn described(bytes: &[u8], phase: &mut HostPhase) -> Result<(), StackFault>
+    requires endpoint { HasEndpoint phase.old }
+    ensures makes { (addr : ℕ) → OnOk result (Makes addr Config phase.old bytes.now (Ok phase.new)) }
+    ensures refused { (addr : ℕ) → IfErr result (λ fault. Makes addr Config phase.old bytes.now (Err fault)) }
+    ensures err { OnErr result (phase.new ≡ phase.old) }
+    ensures endpoint { HasEndpoint phase.new }
+{
+    *phase = HostPhase::Described(read_config(bytes)?);
+    Ok(())
+}
+
+/// The layout of a report descriptor is kept, with what the configuration said.
+#[inline(never)]
+fn parsed(alloc: Global, bytes: &[u8], phase: &mut HostPhase) -> Result<(), StackFault>
+    requires endpoint { HasEndpoint phase.old }
+    ensures makes { (addr : ℕ) → OnOk result (Makes addr Report phase.old bytes.now (Ok phase.new)) }
+    ensures refused { (addr : ℕ) → IfErr result (λ fault. Makes addr Report phase.old bytes.now (Err fault)) }
+    ensures err { OnErr result (phase.new ≡ phase.old) }
+    ensures endpoint { HasEndpoint phase.new }
+{
+    if let HostPhase::Described(info) = &*phase {
+        let info = *info;
+        *phase = HostPhase::Parsed(info, read_report(alloc, &info, bytes)?);
+    }
+    Ok(())
+}
+
 /// A host whose device was configured becomes ready. It keeps its layout where no memory is found.
-#[inline(never)] // no other request makes room for a ready host
+#[inline(never)]
 fn configured(alloc: Global, addr: u8, phase: &mut HostPhase) -> Result<(), StackFault>
     requires addr { addr ≤ MAX_ADDRESS }
     requires endpoint { HasEndpoint phase.old }
@@ -104,17 +135,8 @@ pub(crate) fn conclude(
 {
     match request {
         Request::Device => read_device(bytes),
-        Request::Config => {
-            *phase = HostPhase::Described(read_config(bytes)?);
-            Ok(())
-        }
-        Request::Report => {
-            if let HostPhase::Described(info) = &*phase {
-                let info = *info;
-                *phase = HostPhase::Parsed(info, read_report(alloc, &info, bytes)?);
-            }
-            Ok(())
-        }
+        Request::Config => described(bytes, phase),
+        Request::Report => parsed(alloc, bytes, phase),
         Request::Configure => configured(alloc, addr, phase),
         Request::Clear => {
             if let HostPhase::Ready(host) = phase {

@@ -64,6 +64,7 @@ fn times(line: &ShortLine) -> u16
 }
 
 /// The bytes of a read that a step ended; none where it ended no read.
+#[inline(always)]
 #[tactic(auto, unfolding(crate::specs::Steps::got_by))]
 fn got_by<'a>(rig: &'a Rig, step: &Step) -> &'a [u8]
     ensures { result.now ≡ got_by rig.now step.now }
@@ -355,6 +356,7 @@ impl Interpreter {
     }
 
     /// Takes a step of the bus, and prints what it tells.
+    #[inline(always)] // each sort of step pays for no other
     fn step<W: Write>(&mut self, step: &Step, writer: &mut W) -> Result<(), Cause>
         ensures { AppendsOnce (W.contents writer.old) (W.contents writer.new)
             (TellsStep step.now (session_of self.old)) result (session_of self.new) }

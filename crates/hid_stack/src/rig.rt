@@ -164,6 +164,7 @@ impl Rig {
     /// [`StackFault::Memory`]. Of a try [`StackFault::Control`] where no transfer runs; then [`StackFault::Memory`], where a
     /// request to halt or to clear runs and there is no room for what it may drop: nothing is sent, and the transfer goes on;
     /// else where a layout or a view finds none.
+    #[inline(always)] // a caller that knows the sort of its step pays for no other
     pub fn step(&mut self, step: &Step, out: &mut Vec<Delivered>) -> Result<Told, StackFault>
         // What it tells, where the bus stands after it, and what it delivers.
         ensures told { IfOk result (λ told. Tells self.old step.now told) }

@@ -23,6 +23,7 @@ fn print_events(text: &mut String, delivered: &[Delivered]) -> Result<(), AllocE
 }
 
 /// Adds the line of a poll, where lines of steps are asked for, or of a try of a transfer; other steps have none.
+#[inline(always)]
 fn print_told(
     text: &mut String,
     trace: bool,
@@ -52,6 +53,7 @@ fn print_told(
 
 /// Adds what is printed of a step that was taken: its line, and its events. Lines of polls and of transfers that go on stand
 /// where lines of steps are asked for. `got` are the bytes of a read that the step ended.
+#[inline(always)]
 #[tactic(auto, unfolding(crate::specs::StepText::step_text))]
 pub fn print_step(
     text: &mut String,
