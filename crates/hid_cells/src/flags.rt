@@ -4,7 +4,7 @@ ghost use Rattle.std.specs.Prelude.{◌≡◌, ◌≢◌, ◌+◌, ◌++◌, ◌
 ghost use Rattle.std.specs.Int.{bit_at};
 ghost use Rattle.hid_cells.specs.Cells.{pressed_count};
 ghost use Rattle.hid_cells.specs.Parts.{same_flags};
-ghost use Rattle.hid_cells.specs.Words.{words_of, is_on, is_alone, is_bit, are_alone, FindsFirst};
+ghost use Rattle.hid_cells.specs.Words.{words_of, is_on, is_alone, is_unlike, is_bit, are_alone, FindsFirst};
 
 use std::alloc::{AllocError, Global};
 use std::marker::Model;
@@ -142,6 +142,15 @@ impl Flags {
         ensures behind { IfSome result (λ place. place + 1 < 2 ^ 64) }
     {
         first_alone(&self.words, &other.words, from)
+    }
+
+    /// The first bit from one on that isn't the same in a word of these and in another one.
+    #[inline(always)]
+    pub fn first_unlike(&self, index: usize, word: u64, from: usize) -> Option<usize>
+        requires { from < 64 }
+        ensures { FindsFirst (is_unlike self.now index word) from 64 result }
+    {
+        lowest_from(word_or_zero(&self.words, index) ^ word, from)
     }
 }
 
