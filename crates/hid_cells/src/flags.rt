@@ -105,6 +105,16 @@ impl Flags {
         self.words.copy_from_slice(&other.words[..count]);
     }
 
+    /// Whether these are the first ones of the other, of which none is pressed behind them.
+    pub fn is_first_of(&self, other: &Flags) -> bool
+        requires places { length self.now ≤ length other.now }
+        requires none { (i : ℕ) → length self.now ≤ i → is_on other.now i ≡ false }
+        ensures { result ≡ same_flags self.now (take (length self.now) other.now) }
+    {
+        let count = self.words.len();
+        self.words.as_slice() == &other.words[..count]
+    }
+
     /// None is pressed, where none is behind the first ones: their words alone are written.
     pub fn release_first(&mut self, count: usize)
         requires places { count ≤ length self.old }

@@ -1,4 +1,4 @@
-use Rattle.std.proofs.Common.{◌≡◌, ◌+◌, ◌-◌, ◌*◌, ◌<◌, ◌≤◌, min, Bool, ℕ, ℤ, length, arith}
+use Rattle.std.proofs.Common.{◌≡◌, ◌+◌, ◌-◌, ◌*◌, ◌<◌, length, arith}
 use Rattle.hid_views.proofs.ElementLemmas.{bit_kept, unlike_within}
 use Rattle.hid_views.proofs.elements.next_by_word.Goals as goal
 

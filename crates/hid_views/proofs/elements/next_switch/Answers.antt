@@ -1,6 +1,5 @@
-use Rattle.std.proofs.Common.{◌≡◌, ◌+◌, ◌*◌, ◌<◌, ◌≤◌, ◌⊎◌, min, max, Bool, ℕ, ℤ, length, inl, inr, arith}
+use Rattle.std.proofs.Common.{◌≡◌, ◌+◌, ◌*◌, ◌≤◌, ◌⊎◌, min, max, Bool, ℕ, ℤ, length, inl, inr, arith}
 use Rattle.std.proofs.lemmas.Bool.{cases_lt}
-use Rattle.hid_views.specs.Keeping.{AreKept, FindsKept}
 use Rattle.hid_views.specs.Reading.{read_switch}
 use Rattle.hid_views.proofs.ElementLemmas.{kept_on}
 use Rattle.hid_views.proofs.elements.next_switch.Goals as goal

@@ -1,10 +1,10 @@
-use Rattle.std.proofs.Common.{◌≡◌, ◌∙◌, ◌+◌, ◌<◌, ◌≤◌, Bool, Option, List, ℕ, ℤ, to_z, of_z, w64, Some, length, vec_len, vec_capacity, sym, refl, ap, rules, arith}
+use Rattle.std.proofs.Common.{◌≡◌, ◌∙◌, ◌<◌, Bool, ℤ, to_z, of_z, w64, Some, length, sym, refl, ap, rules, arith}
 use Rattle.std.specs.List.{slice_get}
 use Rattle.std.proofs.lemmas.Int.{to_z-of_z}
 use Rattle.hid_cells.proofs.ItemLemmas.{got}
-use Rattle.hid_cells.specs.Events.{at, usages_at, switch_event, value_event}
-use Rattle.hid_views.specs.Reading.{read_switch, read_value}
-use Rattle.hid_views.proofs.ElementLemmas.{room_next, taken_next, taken_to, all_taken, switch_stays, value_stays}
+use Rattle.hid_cells.specs.Events.{at, usages_at, switch_event}
+use Rattle.hid_views.specs.Reading.{read_switch}
+use Rattle.hid_views.proofs.ElementLemmas.{room_next, taken_next, taken_to, all_taken, switch_stays}
 use Rattle.hid_views.proofs.elements.take_switches.Goals as goal
 
 pub loop-index-init : goal.loop-index-init

@@ -1,4 +1,4 @@
-use Rattle.std.proofs.Common.{◌≡◌, ◌∙◌, ℕ, List, ap, unwrap_or}
+use Rattle.std.proofs.Common.{◌∙◌, ℕ, List, ap, unwrap_or}
 use Rattle.std.specs.List.{slice_get}
 use Rattle.hid_cells.proofs.WordLemmas.{found_unlike}
 use Rattle.hid_cells.proofs.flags.Flags.first_unlike.Goals as goal
