@@ -1,5 +1,5 @@
 -- Words of 64 bits, and the places that they keep.
-use Rattle.std.proofs.Common.{◌≡◌, ◌≢◌, ℕ, zero, suc, ◌+◌, ◌-◌, ◌*◌, ◌/◌, ◌%◌, ◌^◌, ◌<◌, ◌≤◌, ◌==◌, ◌⊎◌, inl, inr, ◌&&◌, not, min, Bool, true, false, cond, List, [], ◌∷◌, ◌++◌, length, take, drop, replicate, get_or, Option, Some, None, unwrap_or, nat_eq, bit_and, refl, sym, ap, ◌∙◌, subst, arith}
+use Rattle.std.proofs.Common.{◌≡◌, ◌≢◌, ℕ, zero, suc, ◌+◌, ◌-◌, ◌*◌, ◌/◌, ◌%◌, ◌^◌, ◌<◌, ◌≤◌, ◌==◌, ◌⊎◌, inl, inr, ◌&&◌, not, min, Bool, true, false, cond, List, [], ◌∷◌, ◌++◌, length, take, drop, replicate, get_or, Option, Some, None, unwrap_or, nat_eq, bit_and, bit_xor, refl, sym, ap, ◌∙◌, subst, arith}
 use Rattle.std.specs.List.{slice_get, slice_set, sum_by, count_by}
 use Rattle.std.specs.Int.{bit_at, bit_not, trailing_zeros, div_ceil}
 use mir.Syntax.{w64}
@@ -16,11 +16,11 @@ use Rattle.std.specs.Simd.Lanes.{mask_l}
 use Rattle.std.proofs.lemmas.List.{take_all, length-take, length-drop, get_or-drop, get_or-take, take-set-le, drop-set-lt, drop-set-add, get_or-set_same, get_or-set_other, map-id, drop-replicate, length-replicate, length-take-le}
 use Rattle.std.proofs.lemmas.List.Sums.{sum_by-cons, sum_by-take-drop, count_by-le-length}
 use Rattle.std.proofs.lemmas.Simd.{mask_l-lt, bit_mask_l, ones-mask_l}
-use Rattle.std.proofs.lemmas.Nat.Bits.{same_from_bits_below, bit_at-lt, bit_at-zero, bit_at-suc, bit_at_lowest, bit_at_and, bit_at_not, bit_at_above, bit_at-trailing_zeros}
+use Rattle.std.proofs.lemmas.Nat.Bits.{same_from_bits_below, bit_at-lt, bit_at-zero, bit_at-suc, bit_at_lowest, bit_at_and, bit_at_xor, bit_at_not, bit_at_above, bit_at-trailing_zeros}
 use Rattle.std.proofs.Math.Pow.{pow_mono}
 use Rattle.std.proofs.lemmas.Bool.{cases_lt, cases_eq}
 use Rattle.hid_cells.proofs.FillLemmas.{set_length}
-use Rattle.hid_cells.specs.Words.{words_in, words_of, bits_in, places_in, AreWords, is_on, is_alone, is_bit, are_alone, IsFirst, FindsFirst}
+use Rattle.hid_cells.specs.Words.{words_in, words_of, bits_in, places_in, AreWords, is_on, is_alone, is_unlike, is_bit, are_alone, IsFirst, FindsFirst}
 
 pub bits_in-word : (ps : List Bool) → bits_in (length ps) (mask_l ps) ≡ ps
 unfolding bits_in
@@ -439,3 +439,34 @@ first_cleared ws vs n count ps are e none is =
     ap (λ (xs : List ℕ). drop k xs) t.0 ∙ zeros_behind k (div_ceil (length ps) 64) ps (λ i h. none i (omega (arith, enough count))) ∙ ap (λ (j : ℕ). replicate (j - k) 0) (sym long) ∙ sym (drop-replicate k (length ws) 0)
     in
     cleared vs n (is ∙ ap (λ (xs : List ℕ). take k (replicate (length ws) 0) ++ xs) behind ∙ take_drop k (replicate (length ws) 0) ∙ ap (λ (j : ℕ). replicate j 0) t.2) are.small
+
+-- bits that aren't the same in two words
+bits_unlike : (x y : ℕ) → x < 2 → y < 2 → ((x + y) % 2 == 1) ≡ not (beq (x == 1) (y == 1))
+bits_unlike zero zero h k = refl
+bits_unlike zero (suc zero) h k = refl
+bits_unlike (suc zero) zero h k = refl
+bits_unlike (suc zero) (suc zero) h k = refl
+bits_unlike (suc (suc x)) y h k = absurd (omega arith)
+bits_unlike zero (suc (suc y)) h k = absurd (omega arith)
+bits_unlike (suc zero) (suc (suc y)) h k = absurd (omega arith)
+
+unlike_at : (ws : List ℕ) (n : ℕ) (ps : List Bool) (index v w b : ℕ) → AreWords ws n → places_in ws n ≡ ps → v ≡ unwrap_or (slice_get ws index) 0 → b < 64
+    → (bit_at (bit_xor v w) b == 1) ≡ is_unlike ps index w b
+unlike_at ws n ps index v w b are e is low =
+    let q : (64 * index + b) / 64 ≡ index = omega arith in
+    let r : (64 * index + b) % 64 ≡ b = omega arith in
+    let here : is_bit ws (64 * index + b) ≡ (bit_at v b == 1) = rw (q, r, ← is) refl in
+    ap (λ (x : ℕ). x == 1) (bit_at_xor v w b) ∙ bits_unlike (bit_at v b) (bit_at w b) (bit_at-lt v b) (bit_at-lt w b)
+    ∙ ap (λ (x : Bool). not (beq x (bit_at w b == 1))) (sym here ∙ bit_on_at ws n ps (64 * index + b) are e)
+
+found_below : (s t : ℕ → Bool) (from end : ℕ) (r : Option ℕ) → ((i : ℕ) → i < end → s i ≡ t i) → FindsFirst s from end r → FindsFirst t from end r
+found_below s t from end None same none = λ i a b. sym (same i b) ∙ none i a b
+found_below s t from end (Some p) same first =
+    let high = first.high in
+    record { low = first.low; high = first.high; before = λ i a b. sym (same i (omega arith)) ∙ first.before i a b; hit = sym (same p high) ∙ first.hit }
+
+-- the first bit that isn't the same in a word of places and in another one
+pub found_unlike : (ws : List ℕ) (n : ℕ) (ps : List Bool) (index v w from : ℕ) (r : Option ℕ) → AreWords ws n → places_in ws n ≡ ps → v ≡ unwrap_or (slice_get ws index) 0
+    → FindsFirst (λ b. bit_at (bit_xor v w) b == 1) from 64 r → FindsFirst (is_unlike ps index w) from 64 r
+found_unlike ws n ps index v w from r are e is found =
+    found_below (λ b. bit_at (bit_xor v w) b == 1) (is_unlike ps index w) from 64 r (λ b low. unlike_at ws n ps index v w b are e is low) found

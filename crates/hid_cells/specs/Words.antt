@@ -1,6 +1,7 @@
 -- Pressed places kept as words of 64 bits (our choice).
-use Rattle.std.specs.Prelude.{◌≡◌, ℕ, zero, suc, ◌-◌, ◌/◌, ◌%◌, ◌^◌, ◌==◌, ◌<◌, ◌≤◌, ◌&&◌, not, min, Bool, true, false, List, [], ◌∷◌, ◌++◌, length, take, drop, slice_get, unwrap_or, Option, Some, None}
+use Rattle.std.specs.Prelude.{◌≡◌, ℕ, zero, suc, ◌+◌, ◌-◌, ◌*◌, ◌/◌, ◌%◌, ◌^◌, ◌==◌, ◌<◌, ◌≤◌, ◌&&◌, not, min, Bool, true, false, List, [], ◌∷◌, ◌++◌, length, take, drop, slice_get, unwrap_or, Option, Some, None}
 use Rattle.std.specs.Int.{bit_at, div_ceil}
+use Rattle.std.specs.Bool.{beq}
 use Rattle.std.specs.Simd.Lanes.{mask_l}
 
 -- the word whose bit j is 1 exactly where place j is pressed
@@ -39,6 +40,10 @@ is_on ps i = unwrap_or (slice_get ps i) false
 -- pressed in the first and not in the second
 abbrev pub is_alone : List Bool → List Bool → ℕ → Bool
 is_alone ps qs i = is_on ps i && not (is_on qs i)
+
+-- a place of a word is pressed where that bit of another one is 0, or isn't where that is 1
+abbrev pub is_unlike : List Bool → ℕ → ℕ → ℕ → Bool
+is_unlike ps index w b = not (beq (is_on ps (64 * index + b)) (bit_at w b == 1))
 
 -- bit i mod 64 of word i div 64; 0 past the last word
 abbrev pub is_bit : List ℕ → ℕ → Bool

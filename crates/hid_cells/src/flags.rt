@@ -4,7 +4,7 @@ ghost use Rattle.std.specs.Prelude.{◌≡◌, ◌≢◌, ◌+◌, ◌++◌, ◌
 ghost use Rattle.std.specs.Int.{bit_at};
 ghost use Rattle.hid_cells.specs.Cells.{pressed_count};
 ghost use Rattle.hid_cells.specs.Parts.{same_flags};
-ghost use Rattle.hid_cells.specs.Words.{words_of, is_on, is_alone, is_bit, are_alone, FindsFirst};
+ghost use Rattle.hid_cells.specs.Words.{words_of, is_on, is_alone, is_unlike, is_bit, are_alone, FindsFirst};
 
 use std::alloc::{AllocError, Global};
 use std::marker::Model;
@@ -105,6 +105,16 @@ impl Flags {
         self.words.copy_from_slice(&other.words[..count]);
     }
 
+    /// Whether these are the first ones of the other, of which none is pressed behind them.
+    pub fn is_first_of(&self, other: &Flags) -> bool
+        requires places { length self.now ≤ length other.now }
+        requires none { (i : ℕ) → length self.now ≤ i → is_on other.now i ≡ false }
+        ensures { result ≡ same_flags self.now (take (length self.now) other.now) }
+    {
+        let count = self.words.len();
+        self.words.as_slice() == &other.words[..count]
+    }
+
     /// None is pressed, where none is behind the first ones: their words alone are written.
     pub fn release_first(&mut self, count: usize)
         requires places { count ≤ length self.old }
@@ -142,6 +152,15 @@ impl Flags {
         ensures behind { IfSome result (λ place. place + 1 < 2 ^ 64) }
     {
         first_alone(&self.words, &other.words, from)
+    }
+
+    /// The first bit from one on that isn't the same in a word of these and in another one.
+    #[inline(always)]
+    pub fn first_unlike(&self, index: usize, word: u64, from: usize) -> Option<usize>
+        requires { from < 64 }
+        ensures { FindsFirst (is_unlike self.now index word) from 64 result }
+    {
+        lowest_from(word_or_zero(&self.words, index) ^ word, from)
     }
 }
 

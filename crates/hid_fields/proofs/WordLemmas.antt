@@ -7,7 +7,8 @@ use Rattle.std.proofs.Math.Nat.{mod-eq_of_lt, mul-le-mul_right, pow-suc}
 use Rattle.std.proofs.lemmas.Bool.{cases_eq, cases_lt}
 use borrow.Rule.Slice.PartMut.{put_mid}
 use Rattle.std.specs.List.{between}
-use Rattle.hid_fields.proofs.PartLemmas.{bit_of-between, bit_of-put, bit_of-put_other}
+use Rattle.std.proofs.lemmas.List.Edits.{length-between}
+use Rattle.hid_fields.proofs.PartLemmas.{pattern_of-between, bit_of-between, bit_of-put, bit_of-put_other}
 use Rattle.hid_fields.specs.Field.{bit_of, pattern_of, IsOutside}
 use Rattle.hid_fields.specs.Word.{spliced}
 use Rattle.hid_fields.proofs.FieldLemmas.{pattern_of-lt}
@@ -116,6 +117,26 @@ field_of_word bytes at s w m h =
     in
     rw (parts, shr_high (pattern_of bytes ((at + s) + w) rest * 2 ^ w + pattern_of bytes (at + s) w) s (pattern_of bytes at s) (pattern_of-lt bytes at s))
     (mod_low (pattern_of bytes ((at + s) + w) rest) w (pattern_of bytes (at + s) w) (pattern_of-lt bytes (at + s) w))
+
+-- a field of a word of bytes, as it is read: shifted, and masked
+pub field_read : (bytes : List ℕ) (first at w m word : ℕ) → w ≤ 32 → 8 * first ≤ at → at + w ≤ 8 * first + m → word ≡ pattern_of bytes (8 * first) m
+    → bit_and (word / 2 ^ (at - 8 * first)) (1 * 2 ^ w % 2 ^ 64 - 1) ≡ pattern_of bytes at w
+field_read bytes first at w m word narrow low enough is =
+    let one : 1 * 2 ^ w % 2 ^ 64 ≡ 2 ^ w = mod-eq_of_lt (omega (arith, pow_below w 64 (omega arith))) ∙ omega arith in
+    let here : 8 * first + (at - 8 * first) ≡ at = omega arith in
+    rw (one, and_mask, is)
+    (field_of_word bytes (8 * first) (at - 8 * first) w m (omega arith) ∙ ap (λ (a : ℕ). pattern_of bytes a w) here)
+
+-- what is gathered of a part of the bytes
+pub gathered_part : (bytes : List ℕ) (first count word : ℕ) → first + count ≤ length bytes
+    → word ≡ pattern_of (between first (first + count) bytes) 0 (8 * length (between first (first + count) bytes))
+    → word ≡ pattern_of bytes (8 * first) (8 * count)
+gathered_part bytes first count word inside is =
+    let len : length (between first (first + count) bytes) ≡ count = length-between bytes first (first + count) (omega arith) ∙ omega arith in
+    let here : 8 * first + 0 ≡ 8 * first = omega arith in
+    is ∙ ap (λ (n : ℕ). pattern_of (between first (first + count) bytes) 0 (8 * n)) len
+    ∙ pattern_of-between bytes first (first + count) 0 (8 * count) (omega arith)
+    ∙ ap (λ (a : ℕ). pattern_of bytes a (8 * count)) here
 
 low_fits : (n s : ℕ) → n % 2 ^ s < 2 ^ s
 low_fits n s = mod_below n (2 ^ s) (pow_pos s)

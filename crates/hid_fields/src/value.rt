@@ -16,6 +16,7 @@ pub(crate) fn pattern_count(bits: u32) -> u64
 
 /// The number that a pattern of so many bits, 1 to 32, stands for: in two's complement where it is
 /// signed, else as it is.
+#[inline(always)]
 pub fn to_value(pattern: u32, width: u32, signed: bool) -> i64
     requires some { 0 < width }
     requires width { width ≤ MAX_WIDTH }

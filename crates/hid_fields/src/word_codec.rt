@@ -1,6 +1,6 @@
-//! The codec by words: the bytes that a field touches, five at most, are taken as one word. To be read they are taken
-//! with those behind them, eight at once, where there are as many.
-ghost use Rattle.std.specs.Prelude.{◌≡◌, ◌+◌, ◌*◌, ◌^◌, ◌<◌, ◌≤◌, ℕ, length};
+//! The codec by words: the bytes that a field touches, five at most, are taken as one word; to read one, eight bytes are
+//! taken at once where there are as many.
+ghost use Rattle.std.specs.Prelude.{◌≡◌, ◌+◌, ◌*◌, ◌^◌, ◌<◌, ◌≤◌, length};
 ghost use Rattle.hid_fields.specs.Field.{pattern_of};
 ghost use Rattle.hid_fields.specs.Word.{spliced};
 
@@ -9,7 +9,10 @@ use crate::codec::{FieldCodec, MAX_WIDTH};
 /// In bytes: the most that a field touches, 32 bits from the last bit of a byte on.
 const MAX_TOUCHED: usize = 5;
 
-/// Gathers the bytes that a field touches, or eight from its first one on, into a 64-bit word, shifts and masks.
+/// In bytes: what a word has.
+const WORD_BYTES: usize = 8;
+
+/// Gathers the bytes that a field touches, or eight of which they are some, into a 64-bit word, shifts and masks.
 pub struct WordCodec;
 
 /// How many bytes a field of this width touches that begins at this bit of a byte.
@@ -38,6 +41,7 @@ fn gather(bytes: &[u8]) -> u64
 }
 
 /// Eight bytes as a word, the first one lowest.
+#[inline(always)]
 fn gather_eight(bytes: &[u8]) -> u64
     requires { length bytes.now ≡ 8 }
     ensures { result ≡ pattern_of bytes.now 0 (8 * length bytes.now) }
@@ -48,18 +52,30 @@ fn gather_eight(bytes: &[u8]) -> u64
     }
 }
 
-/// A word that begins with the bytes that a field touches: of eight bytes where there are as many, since they are taken
-/// at once.
-fn word_from(bytes: &[u8], first: usize, count: usize) -> u64
-    requires few { count ≤ MAX_TOUCHED }
-    requires inside { first + count ≤ length bytes.now }
-    ensures { (bits : ℕ) × (8 * count ≤ bits) × (result ≡ pattern_of bytes.now (8 * first) bits) }
+/// The pattern of a field, of the bytes that it touches.
+fn touched_pattern(bytes: &[u8], at: usize, width: u32) -> u32
+    requires some { 0 < width }
+    requires width { width ≤ MAX_WIDTH }
+    requires inside { at + width ≤ 8 * length bytes.now }
+    ensures { result ≡ pattern_of bytes.now at width }
 {
-    if bytes.len() - first < 8 {
-        gather(&bytes[first..first + count])
-    } else {
-        gather_eight(&bytes[first..first + 8])
-    }
+    let (first, shift) = (at / 8, at % 8);
+    let word = gather(&bytes[first..first + touched(shift, width)]);
+    (word >> shift & ((1u64 << width) - 1)) as u32
+}
+
+/// The same, of eight bytes: those from its first one on, or the last ones.
+#[inline(always)]
+fn word_pattern(bytes: &[u8], at: usize, width: u32) -> u32
+    requires some { 0 < width }
+    requires width { width ≤ MAX_WIDTH }
+    requires inside { at + width ≤ 8 * length bytes.now }
+    requires long { WORD_BYTES ≤ length bytes.now }
+    ensures { result ≡ pattern_of bytes.now at width }
+{
+    let first = (at / 8).min(bytes.len() - WORD_BYTES);
+    let word = gather_eight(&bytes[first..first + WORD_BYTES]);
+    (word >> (at - 8 * first) & ((1u64 << width) - 1)) as u32
 }
 
 /// Makes the bytes those of the word.
@@ -93,10 +109,14 @@ fn splice(word: u64, shift: usize, width: u32, pattern: u32) -> u64
 }
 
 impl FieldCodec for WordCodec {
+    #[tactic(auto, using(crate::proofs::FieldLemmas::pattern_fits))]
+    #[inline(always)]
     fn get(bytes: &[u8], at: usize, width: u32) -> u32 {
-        let (first, shift) = (at / 8, at % 8);
-        let word = word_from(bytes, first, touched(shift, width));
-        (word >> shift & ((1u64 << width) - 1)) as u32
+        if bytes.len() < WORD_BYTES {
+            touched_pattern(bytes, at, width)
+        } else {
+            word_pattern(bytes, at, width)
+        }
     }
 
     fn put(bytes: &mut [u8], at: usize, width: u32, pattern: u32) {

@@ -1,10 +1,13 @@
 -- Runs of fields.
-use Rattle.std.proofs.Common.{◌≡◌, ℕ, zero, suc, ◌+◌, ◌*◌, ◌<◌, ◌≤◌, Bool, ℤ, List, [], ◌∷◌, ◌++◌, length, length-append, get_or, take, Some, refl, sym, ◌∙◌, add-one, inl, inr, arith}
+use Rattle.std.proofs.Common.{◌≡◌, ℕ, zero, suc, ◌+◌, ◌*◌, ◌<◌, ◌≤◌, ◌-◌, min, Bool, false, ℤ, pos, List, [], ◌∷◌, ◌++◌, length, length-append, get_or, take, Some, refl, sym, ap, ◌∙◌, add-one, inl, inr, arith}
 use Rattle.std.specs.List.{slice_get}
 use Rattle.std.proofs.lemmas.Bool.{cases_lt}
 use Rattle.std.proofs.lemmas.Grind.{common_steps}
 use Rattle.hid_fields.specs.Field.{bit_of, pattern_of, IsOutside}
-use Rattle.hid_parts.specs.Numbers.{number_at, numbers_in}
+use Rattle.std.proofs.lemmas.Nat.Bits.{bit_at_above}
+use Rattle.hid_fields.proofs.FieldLemmas.{pattern_of-lt}
+use Rattle.hid_fields.proofs.WordLemmas.{bit_at-pattern_of}
+use Rattle.hid_parts.specs.Numbers.{number_at, numbers_in, IsWordOf}
 
 pub numbers_in-length : (bytes : List ℕ) (at w : ℕ) (signed : Bool) (n : ℕ) → length (numbers_in bytes at w signed n) ≡ n
 numbers_in-length bytes at w signed zero = refl
@@ -34,6 +37,29 @@ numbers_in-at bytes at w signed (suc n) j h = elim (cases_lt j n) [
 
 -- the numbers of a run of fields, one by one
 pub ruleset run_numbers = (numbers_in-at, numbers_in-length)
+
+-- a field of one bit is that bit
+pub one_bit : (bytes : List ℕ) (b : ℕ) → number_at bytes b 1 false ≡ pos (bit_of bytes b)
+one_bit bytes b =
+    let here : b + 0 ≡ b = omega arith in
+    let is : pattern_of bytes b 1 ≡ bit_of bytes b = omega (arith, ap (bit_of bytes) here) in
+    ap pos is
+
+-- the pattern of fields of one bit is a word of their numbers
+pub word_is : (bytes : List ℕ) (at count index n : ℕ) → n ≡ min (count - 64 * index) 64
+    → IsWordOf (numbers_in bytes at 1 false count) index (pattern_of bytes (at + 64 * index) n)
+word_is bytes at count index n is =
+    let long = numbers_in-length bytes at 1 false count in
+    record {
+      bits = λ j low within.
+          let inside : 64 * index + j < count = omega arith in
+          let place : at + 1 * (64 * index + j) ≡ (at + 64 * index) + j = omega arith in
+          numbers_in-at bytes at 1 false count (64 * index + j) inside
+          ∙ ap (λ (v : ℤ). Some v)
+          (ap (λ (b : ℕ). number_at bytes b 1 false) place ∙ one_bit bytes ((at + 64 * index) + j)
+          ∙ ap pos (sym (bit_at-pattern_of bytes (at + 64 * index) n j (omega arith))));
+      behind = λ j past. bit_at_above (pattern_of bytes (at + 64 * index) n) n j (pattern_of-lt bytes (at + 64 * index) n) (omega arith);
+    }
 
 -- a field's pattern is that of its bits
 pub pattern_of-agree : (xs ys : List ℕ) (at w : ℕ) → ((n : ℕ) → at ≤ n → n < at + w → bit_of xs n ≡ bit_of ys n) → pattern_of xs at w ≡ pattern_of ys at w

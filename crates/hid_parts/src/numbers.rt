@@ -1,8 +1,8 @@
 //! The numbers that stand in a run of fields.
-ghost use Rattle.std.specs.Prelude.{◌≡◌, ◌<◌, ◌≤◌, ◌+◌, ◌*◌, ℕ, Bool, length, slice_get, Some, All};
-ghost use Rattle.hid_fields.specs.Field.{bit_of, IsOutside};
+ghost use Rattle.std.specs.Prelude.{◌≡◌, ◌<◌, ◌≤◌, ◌+◌, ◌*◌, ℕ, Bool, length, slice_get, Some, IfSome, All};
+ghost use Rattle.hid_fields.specs.Field.{bit_of, pattern_of, IsOutside};
 ghost use Rattle.hid_fields.specs.Value.{FitsEitherSign, FitsField};
-ghost use Rattle.hid_parts.specs.Numbers.{IsRun, number_at, numbers_in};
+ghost use Rattle.hid_parts.specs.Numbers.{IsRun, IsWordOf, number_at, numbers_in};
 
 use crate::send::Sending;
 use hid_fields::{FieldCodec, to_pattern, to_value};
@@ -66,6 +66,7 @@ impl<'a> FieldRun<'a> {
 
     /// The number of the field at an index.
     #[tactic(auto, using(crate::proofs::NumberLemmas::run_numbers))]
+    #[inline(always)]
     pub fn number<C: FieldCodec>(&self, index: usize) -> i64
         requires { index < length self.now }
         ensures { slice_get self.now index ≡ Some result }
@@ -76,6 +77,37 @@ impl<'a> FieldRun<'a> {
             self.width,
         );
         to_value(pattern, self.width, self.is_signed)
+    }
+
+    /// Of fields of one bit, up to 64 numbers as a word, the first one lowest; none of other fields.
+    #[inline(always)]
+    pub fn word<C: FieldCodec>(&self, index: usize) -> Option<u64>
+        requires { 64 * index < length self.now }
+        ensures { IfSome result (IsWordOf self.now index) }
+    {
+        if self.width == 1 && !self.is_signed {
+            let rest = self.count - 64 * index;
+            Some(wide_pattern::<C>(self.bytes, self.at + 64 * index, rest.min(64)))
+        } else {
+            None
+        }
+    }
+}
+
+/// The pattern of a field of up to 64 bits.
+fn wide_pattern<C: FieldCodec>(bytes: &[u8], at: usize, width: usize) -> u64
+    requires some { 0 < width }
+    requires width { width ≤ 64 }
+    requires inside { at + width ≤ 8 * length bytes.now }
+    requires short { at + width ≤ 4096 }
+    ensures { result ≡ pattern_of bytes.now at width }
+{
+    if width <= 32 {
+        u64::from(C::get(bytes, at, width as u32))
+    } else {
+        let low = C::get(bytes, at, 32);
+        let high = C::get(bytes, at + 32, (width - 32) as u32);
+        u64::from(high) << 32 | u64::from(low)
     }
 }
 

@@ -9,7 +9,7 @@ use Rattle.std.proofs.lemmas.Option.{get_or_from_slice_get, slice_get_within}
 use Rattle.hid_fields.specs.Field.{bit_of, pattern_of}
 use Rattle.hid_fields.proofs.WordLemmas.{bit_at-pattern_of}
 use Rattle.hid_parts.specs.Numbers.{number_at, numbers_in}
-use Rattle.hid_parts.proofs.NumberLemmas.{numbers_in-length}
+use Rattle.hid_parts.proofs.NumberLemmas.{numbers_in-length, one_bit}
 use Rattle.hid_parts.proofs.NumberLemmas.{numbers_in-at}
 use Rattle.hid_cells.specs.Words.{words_of, bits_in}
 use Rattle.hid_cells.proofs.WordLemmas.{bits_in-at, bits_in-length, word_keeps}
@@ -43,14 +43,7 @@ use Rattle.hid_cells.specs.Cells.{HasRoom}
 use Rattle.hid_cells.proofs.CodeLemmas.{both_true}
 use Rattle.hid_views.proofs.EventLemmas.{no_switch}
 
--- a field of one bit is that bit
-one_bit : (bytes : List ℕ) (b : ℕ) → number_at bytes b 1 false ≡ pos (bit_of bytes b)
-one_bit bytes b =
-    let here : b + 0 ≡ b = omega arith in
-    let is : pattern_of bytes b 1 ≡ bit_of bytes b = omega (arith, ap (bit_of bytes) here) in
-    ap pos is
-
-switch_of : (before : Bool) (x : ℕ) → x < 2 → (x == 1) ≡ read_switch before (pos x)
+pub switch_of : (before : Bool) (x : ℕ) → x < 2 → (x == 1) ≡ read_switch before (pos x)
 switch_of before zero h = refl
 switch_of before (suc zero) h = refl
 switch_of before (suc (suc x)) h = absurd (omega arith)

@@ -91,6 +91,22 @@ named_set item vs v i (k ∷ keys) (suc p) key h s e =
     without true false = refl
     without false n = refl
 
+-- a number that stands there names no key anew
+pub named_again : (item : MainItem) (vs : List ℤ) (v : ℤ) (i : ℕ) (keys : List Key) → named_from item (vs ++ v ∷ []) i keys ≡ named_from item ((vs ++ v ∷ []) ++ v ∷ []) i keys
+named_again item vs v i [] = refl
+named_again item vs v i (key ∷ keys) =
+    let same : names_key item (vs ++ v ∷ []) i ≡ names_key item ((vs ++ v ∷ []) ++ v ∷ []) i =
+    names_more item vs v i ∙ twice (names_key item vs i) (int_eq v (item.min +ℤ pos i))
+    ∙ ap (λ (b : Bool). b || int_eq v (item.min +ℤ pos i)) (sym (names_more item vs v i)) ∙ sym (names_more item (vs ++ v ∷ []) v i)
+    in
+    ap (λ t. (key.is_switch && names_key item (vs ++ v ∷ []) i) ∷ t) (named_again item vs v (i + 1) keys)
+    ∙ ap (λ (b : Bool). (key.is_switch && b) ∷ named_from item ((vs ++ v ∷ []) ++ v ∷ []) (i + 1) keys) same
+  where
+    twice : (n e : Bool) → (n || e) ≡ ((n || e) || e)
+    twice true e = refl
+    twice false true = refl
+    twice false false = refl
+
 -- whether a place is a control
 pub is_key_at : (layout : Contents) (i j : ℕ) (result : Bool) → j < length (keys_at layout i) → result ≡ is_some (control_of (items_of layout) (record { item = i; index = j })) → slice_get (map (λ (key : Key). key.is_switch) (keys_at layout i)) j ≡ Some result
 is_key_at layout i j result h is = by_item (slice_get (items_of layout) i) refl h is

@@ -8,3 +8,4 @@ pub mod Crossing
 pub mod OneReport
 pub mod Bits
 pub mod Dropping
+pub mod Keeping

@@ -1,11 +1,13 @@
 //! The elements of a variable item, as the numbers of a report leave them, one by one, and what they tell.
 
-ghost use Rattle.std.specs.Prelude.{◌≡◌, ◌<◌, Bool, Option, ℤ, map, length, slice_get, slice_set, Some};
+ghost use Rattle.std.specs.Prelude.{◌≡◌, ◌+◌, ◌*◌, ◌^◌, ◌<◌, ◌≤◌, min, Bool, Option, List, ℤ, map, length, slice_get, slice_set, Some, IfSome};
 ghost use Rattle.std.specs.List.{zip};
 ghost use Rattle.hid_descriptor.specs.declared.usage.Usage.{Usage as UsageValue};
 ghost use Rattle.hid_cells.specs.Events.{at, usages_at, switch_event, switch_events, value_event, value_events};
 ghost use Rattle.hid_views.specs.Appending.{HasSpace, Appends};
 ghost use Rattle.hid_views.specs.Reading.{read_switch, read_value};
+ghost use Rattle.hid_views.specs.Keeping.{FindsKept};
+ghost use Rattle.hid_parts.specs.Numbers.{IsWordOf};
 
 use crate::bounds::Bounds;
 use crate::differences::{tell_switch, tell_value};
@@ -25,6 +27,82 @@ fn read_switch(before: bool, number: &i64) -> bool
     } else {
         before
     }
+}
+
+/// The first switch from one on, of the 64 at an index, that isn't a bit of this word.
+fn next_by_word(held: &Flags, index: usize, word: u64, from: usize) -> Option<usize>
+    requires low { 64 * index ≤ from }
+    requires high { from < 64 * index + 64 }
+    requires within { 64 * index < length held.now }
+    ensures { (numbers : List ℤ) → IsWordOf numbers index word → length numbers ≡ length held.now
+        → FindsKept (λ p. read_switch p.0 p.1) held.now numbers from
+        (min (64 * index + 64) (length held.now)) result }
+{
+    let _count = held.len(); // a place is a number of the machine
+    match held.first_unlike(index, word, from - 64 * index) {
+        Some(bit) => Some(64 * index + bit),
+        None => None,
+    }
+}
+
+/// The first switch from one on, before an end, that its number changes.
+fn next_by_number<C: FieldCodec>(
+    held: &Flags,
+    numbers: &FieldRun<'_>,
+    from: usize,
+    end: usize,
+) -> Option<usize>
+    requires numbers { length numbers.now ≡ length held.now }
+    requires end { end ≤ length held.now }
+    ensures { FindsKept (λ p. read_switch p.0 p.1) held.now numbers.now from end result }
+{
+    for index in from..end {
+        let number = numbers.number::<C>(index);
+        let before = held.get(index);
+        if read_switch(before, &number) != before {
+            return Some(index);
+        }
+    }
+    None
+}
+
+/// The first switch from one on, of the 64 at an index, that its number changes: bits are compared at once.
+fn next_of_64<C: FieldCodec>(
+    held: &Flags,
+    numbers: &FieldRun<'_>,
+    index: usize,
+    from: usize,
+) -> Option<usize>
+    requires numbers { length numbers.now ≡ length held.now }
+    requires low { 64 * index ≤ from }
+    requires high { from < 64 * index + 64 }
+    requires within { 64 * index < length held.now }
+    ensures { FindsKept (λ p. read_switch p.0 p.1) held.now numbers.now from
+        (min (64 * index + 64) (length held.now)) result }
+{
+    match numbers.word::<C>(index) {
+        Some(word) => next_by_word(held, index, word, from),
+        None => {
+            let rest = held.len() - 64 * index;
+            next_by_number::<C>(held, numbers, from, 64 * index + rest.min(64))
+        }
+    }
+}
+
+/// The first switch from one on that its number changes.
+fn next_switch<C: FieldCodec>(held: &Flags, numbers: &FieldRun<'_>, from: usize) -> Option<usize>
+    requires numbers { length numbers.now ≡ length held.now }
+    ensures found { FindsKept (λ p. read_switch p.0 p.1) held.now numbers.now from
+        (length held.now) result }
+    ensures behind { IfSome result (λ place. place + 1 < 2 ^ 64) }
+{
+    for k in from / 64..held.len().div_ceil(64) {
+        match next_of_64::<C>(held, numbers, k, from.max(64 * k)) {
+            Some(index) => return Some(index),
+            None => {}
+        }
+    }
+    None
 }
 
 /// The switch at an index, as an element's number leaves it, and what it tells.
@@ -72,9 +150,11 @@ pub(crate) fn take_switches<C: FieldCodec>(
     ensures told { Appends out.old (switch_events item (usages_at layout.now item) held.old
         (map (λ p. read_switch p.0 p.1) (zip held.old numbers.now))) out.new }
 {
-    for index in 0..held.len() {
+    let mut from = 0;
+    while let Some(index) = next_switch::<C>(held, numbers, from) {
         let number = numbers.number::<C>(index);
         take_switch(layout, item, index, &number, held, out);
+        from = index + 1;
     }
 }
 
@@ -97,6 +177,29 @@ fn read_value(before: Option<i64>, has_null: bool, bounds: &Bounds, number: &i64
 pub(crate) struct Carriable {
     pub(crate) has_null: bool,
     pub(crate) bounds: Bounds,
+}
+
+/// The first value from one on that its number changes.
+fn next_value<C: FieldCodec>(
+    held: &Values,
+    carriable: &Carriable,
+    numbers: &FieldRun<'_>,
+    from: usize,
+) -> Option<usize>
+    requires numbers { length numbers.now ≡ length held.now }
+    ensures found { FindsKept (λ p. read_value carriable.now.has_null carriable.now.bounds.least
+        carriable.now.bounds.greatest p.0 p.1) held.now numbers.now from (length held.now) result }
+    ensures behind { IfSome result (λ place. place + 1 < 2 ^ 64) }
+{
+    let Carriable { has_null, bounds } = *carriable;
+    for index in from..held.len() {
+        let number = numbers.number::<C>(index);
+        let before = held.get(index);
+        if read_value(before, has_null, &bounds, &number) != before {
+            return Some(index);
+        }
+    }
+    None
 }
 
 /// The value at an index, as an element's number leaves it, and what it tells.
@@ -153,8 +256,10 @@ pub(crate) fn take_values<C: FieldCodec>(
         (map (λ p. read_value carriable.now.has_null carriable.now.bounds.least
         carriable.now.bounds.greatest p.0 p.1) (zip held.old numbers.now))) out.new }
 {
-    for index in 0..held.len() {
+    let mut from = 0;
+    while let Some(index) = next_value::<C>(held, carriable, numbers, from) {
         let number = numbers.number::<C>(index);
         take_value(layout, item, index, carriable, &number, held, out);
+        from = index + 1;
     }
 }

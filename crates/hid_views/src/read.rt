@@ -1,11 +1,12 @@
 //! The keys of an array that its elements name.
 
-ghost use Rattle.std.specs.Prelude.{◌≡◌, ◌<◌, ℕ, false, length, replicate, take, slice_get, Some, ◌≢◌, ◌≤◌, ◌*◌, ◌+ℤ◌, pos, ◌++◌, [], ◌∷◌, ℤ, List, MatchOption, not, true, ◌&&◌, int_le};
+ghost use Rattle.std.specs.Prelude.{◌≡◌, ◌<◌, ℕ, false, length, replicate, take, slice_get, Some, ◌≢◌, ◌≤◌, ◌*◌, ◌+ℤ◌, pos, ◌++◌, [], ◌∷◌, ℤ, List, MatchOption, IfSome, not, true, ◌&&◌, int_le};
 ghost use Rattle.std.specs.List.{list_any};
 ghost use Rattle.hid_descriptor.specs.Usages.{usage_list, is_rollover};
 ghost use Rattle.hid_layout.specs.Controls.{is_key};
 ghost use Rattle.hid_cells.specs.Words.{is_on};
 ghost use Rattle.hid_views.specs.Reading.{array_keys, AreBounds, named_from, names_rollover};
+ghost use Rattle.hid_views.specs.Keeping.{NamesNoneAnew};
 
 use crate::bounds::Bounds;
 use hid_cells::Flags;
@@ -118,6 +119,44 @@ fn add_key(array: &KeyArray<'_>, count: usize, number: &i64, after: &mut Flags) 
     }
 }
 
+/// The same, of the number behind another one, which names no key anew where it is the same.
+fn add_next_key(
+    array: &KeyArray<'_>,
+    count: usize,
+    before: Option<i64>,
+    number: &i64,
+    after: &mut Flags,
+) -> bool
+    requires count { count ≡ length (usage_list array.now.entries.now) }
+    requires few { count ≤ 64 * 65536 }
+    requires range { AreBounds array.now.item.now array.now.range.least array.now.range.greatest }
+    requires after { length (array_keys array.now.item.now (usage_list array.now.entries.now))
+        ≤ length after.old }
+    requires before { IfSome before (λ v. names_rollover array.now.item.now
+        (usage_list array.now.entries.now) v ≡ false) }
+    ensures rolls { result
+        ≡ not (names_rollover array.now.item.now (usage_list array.now.entries.now) number.now) }
+    ensures keys { (numbers : List ℤ) → result ≡ true
+        → NamesNoneAnew array.now.item.now numbers (array_keys array.now.item.now
+        (usage_list array.now.entries.now)) before
+        → take (length (array_keys array.now.item.now (usage_list array.now.entries.now))) after.old
+        ≡ named_from array.now.item.now numbers 0
+        (array_keys array.now.item.now (usage_list array.now.entries.now))
+        → take (length (array_keys array.now.item.now (usage_list array.now.entries.now))) after.new
+        ≡ named_from array.now.item.now (numbers ++ number.now
+        ∷ []) 0 (array_keys array.now.item.now (usage_list array.now.entries.now)) }
+    ensures behind { (i : ℕ)
+        → length (array_keys array.now.item.now (usage_list array.now.entries.now)) ≤ i
+        → is_on after.new i ≡ is_on after.old i }
+    ensures len { length after.new ≡ length after.old }
+{
+    if before == Some(*number) {
+        true
+    } else {
+        add_key(array, count, number, after)
+    }
+}
+
 /// Sets the keys that these numbers name, of which none is set before; false where one names ErrorRollOver.
 pub(crate) fn read_keys<C: FieldCodec>(
     array: &KeyArray<'_>,
@@ -142,11 +181,13 @@ pub(crate) fn read_keys<C: FieldCodec>(
     ensures len { length after.new ≡ length after.old }
 {
     let count = usage_count(array.entries);
+    let mut last = None;
     for k in 0..numbers.len() {
         let number = numbers.number::<C>(k);
-        if !add_key(array, count, &number, after) {
+        if !add_next_key(array, count, last, &number, after) {
             return false;
         }
+        last = Some(number);
     }
     true
 }

@@ -1,6 +1,6 @@
 //! What a report of any bytes makes of a view, and the events of it.
 
-ghost use Rattle.std.specs.Prelude.{All, pos, ◌≡◌, ◌<◌, ◌≤◌, ◌++◌, ℕ, false, length, replicate, slice_get, Some};
+ghost use Rattle.std.specs.Prelude.{All, pos, ◌≡◌, ◌<◌, ◌≤◌, ◌++◌, ℕ, false, length, replicate, slice_get, Some, take};
 ghost use Rattle.hid_layout.specs.Controls.{items_of, form_at, head_of};
 ghost use Rattle.hid_layout.specs.Index.{plan_of};
 ghost use Rattle.hid_descriptor.specs.Usages.{usage_list};
@@ -12,7 +12,7 @@ ghost use Rattle.hid_cells.specs.Parts.{IsInput};
 ghost use Rattle.hid_cells.specs.Words.{is_on};
 ghost use Rattle.hid_layout.specs.declared.control.Controls.TheVariants as head;
 ghost use Rattle.hid_cells.specs.Cells.{HasRoom, FitsView};
-ghost use Rattle.hid_cells.specs.Events.{element_events, key_events, usages_at, HasPlaces};
+ghost use Rattle.hid_cells.specs.Events.{element_events, key_events, ups, downs, usages_at, HasPlaces};
 ghost use Rattle.hid_cells.specs.Views.{motions_of};
 ghost use Rattle.hid_views.specs.Reading.{AreBounds, array_keys, keys_at, read_keys, item_numbers};
 ghost use Rattle.hid_views.specs.Bits.{read_bits};
@@ -382,6 +382,22 @@ fn take_named<C: FieldCodec>(
         (Cell.Pressed held.old) (Cell.Pressed held.new)) out.new }
 {
     if read_keys::<C>(array, numbers, named) {
+        take_first(layout, place, held, named, out);
+    }
+}
+
+/// Makes keys the first ones of these flags, and tells what changes: nothing where they are that.
+fn take_first(layout: &Layout, place: usize, held: &mut Flags, named: &Flags, out: &mut Vec<Event>)
+    requires held { length held.old ≡ length (usages_at layout.now place) }
+    requires places { length held.old ≤ length named.now }
+    requires behind { (i : ℕ) → length held.old ≤ i → is_on named.now i ≡ false }
+    requires room { HasSpace out.old (ups place (usages_at layout.now place) held.old named.now
+        ++ downs place (usages_at layout.now place) held.old named.now) }
+    ensures held { held.new ≡ take (length held.old) named.now }
+    ensures told { Appends out.old (ups place (usages_at layout.now place) held.old named.now
+        ++ downs place (usages_at layout.now place) held.old named.now) out.new }
+{
+    if !held.is_first_of(named) {
         flag_changes(layout, place, held, named, out);
         held.copy_first(named);
     }

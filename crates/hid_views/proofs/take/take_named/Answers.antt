@@ -17,14 +17,17 @@ use Rattle.hid_views.proofs.take.take_named.Goals as goal
 pub read_keys-requires-clause-after : goal.read_keys-requires-clause-after
 read_keys-requires-clause-after g c = omega (arith, c.requires.places, c.requires.held, ap length c.requires.keys)
 
-pub flag_changes-requires-clause-after : goal.flag_changes-requires-clause-after
-flag_changes-requires-clause-after g c = omega (arith, c.requires.places, c.requires.held, c.requires.usages, c.read_keys.ensures.len)
+pub take_first-requires-clause-held : goal.take_first-requires-clause-held
+take_first-requires-clause-held g c = omega (arith, c.requires.held, c.requires.usages)
 
-pub flag_changes-requires-clause-behind : goal.flag_changes-requires-clause-behind
-flag_changes-requires-clause-behind g c = λ i h. c.read_keys.ensures.behind i (omega (arith, h, c.requires.usages, ap length c.requires.keys))
+pub take_first-requires-clause-places : goal.take_first-requires-clause-places
+take_first-requires-clause-places g c = omega (arith, c.requires.places, c.read_keys.ensures.len)
 
-pub flag_changes-requires-clause-room : goal.flag_changes-requires-clause-room
-flag_changes-requires-clause-room g c =
+pub take_first-requires-clause-behind : goal.take_first-requires-clause-behind
+take_first-requires-clause-behind g c = λ i h. c.read_keys.ensures.behind i (omega (arith, h, c.requires.held, ap length c.requires.keys))
+
+pub take_first-requires-clause-room : goal.take_first-requires-clause-room
+take_first-requires-clause-room g c =
     let us = usage_list c.args.array.now.entries.now in
     let item = c.args.array.now.item.now in
     let keys = keys_at c.args.layout.now c.args.place in
@@ -37,12 +40,6 @@ flag_changes-requires-clause-room g c =
     let told = first_told c.args.place (usages_at c.args.layout.now c.args.place) c.args.held.now c.read_keys.new.after (length c.args.held.now) (omega arith) in
     omega (arith, c.requires.room, ap (λ (cell : Cell). length (key_events c.args.place (usages_at c.args.layout.now c.args.place) (Pressed c.args.held.now) cell)) read, ap (λ (es : List Event). length es) told)
 
-pub copy_first-requires-clause-places : goal.copy_first-requires-clause-places
-copy_first-requires-clause-places g c = omega (arith, c.requires.places, c.read_keys.ensures.len)
-
-pub copy_first-requires-clause-none : goal.copy_first-requires-clause-none
-copy_first-requires-clause-none g c = λ i h. c.read_keys.ensures.behind i (omega (arith, h, c.requires.held, ap length c.requires.keys))
-
 pub returns-then-read_keys-clause-held : goal.returns-then-read_keys-clause-held
 returns-then-read_keys-clause-held g c =
     let us = usage_list c.args.array.now.entries.now in
@@ -54,7 +51,7 @@ returns-then-read_keys-clause-held g c =
     ap (λ (n : ℕ). take n c.read_keys.new.after) long ∙ c.read_keys.ensures.keys (search rules) ∙ ap (λ (ks : List Key). named_from item c.args.numbers.now 0 ks) (sym c.requires.keys)
     in
     let read : read_keys item us keys (Pressed c.args.held.now) c.args.numbers.now ≡ Pressed (take (length c.args.held.now) c.read_keys.new.after) = keys_named item us keys c.args.held.now c.args.numbers.now off ∙ ap Pressed (sym named) in
-    ap Pressed c.copy_first.ensures ∙ sym read
+    ap Pressed c.take_first.ensures.held ∙ sym read
 
 pub returns-then-read_keys-clause-behind : goal.returns-then-read_keys-clause-behind
 returns-then-read_keys-clause-behind g c = λ i h. c.read_keys.ensures.behind i (omega (arith, h, c.requires.held, ap length c.requires.keys))
@@ -63,8 +60,8 @@ pub returns-then-read_keys-clause-told : goal.returns-then-read_keys-clause-told
 returns-then-read_keys-clause-told g c =
     let us = usages_at c.args.layout.now c.args.place in
     let told = first_told c.args.place us c.args.held.now c.read_keys.new.after (length c.args.held.now) (omega arith) in
-    let same = ap (λ (xs : List Bool). ups c.args.place us c.args.held.now xs ++ downs c.args.place us c.args.held.now xs) c.copy_first.ensures ∙ told in
-    subst (λ (es : List Event). Appends c.args.out.now es c.flag_changes.new.out) (sym same) c.flag_changes.ensures
+    let same = ap (λ (xs : List Bool). ups c.args.place us c.args.held.now xs ++ downs c.args.place us c.args.held.now xs) c.take_first.ensures.held ∙ told in
+    subst (λ (es : List Event). Appends c.args.out.now es c.take_first.new.out) (sym same) c.take_first.ensures.told
 
 pub returns-else-read_keys-clause-held : goal.returns-else-read_keys-clause-held
 returns-else-read_keys-clause-held g c =
