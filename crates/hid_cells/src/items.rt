@@ -1,6 +1,7 @@
 //! The listed items of a layout.
 
 ghost use Rattle.std.specs.Prelude.{◌≡◌, ◌<◌, length, slice_get, Some, All};
+ghost use Rattle.hid_descriptor.specs.Kinds.{same_kind};
 ghost use Rattle.hid_layout.specs.Controls.{items_of, is_input};
 ghost use Rattle.hid_layout.specs.Reports.{IsLayout};
 ghost use Rattle.hid_layout.specs.Index.{plan_of};
@@ -50,15 +51,21 @@ pub fn plan_of(layout: &Layout, report: usize) -> &[usize]
     layout.plan(report)
 }
 
+fn is_input_kind(kind: ReportKind) -> bool
+    ensures { result ≡ same_kind kind ReportKind.Input }
+{
+    match kind {
+        ReportKind::Input => true,
+        ReportKind::Output | ReportKind::Feature => false,
+    }
+}
+
 /// Whether a layout has an Input report of this number: the condition of the calls that take one.
 pub fn is_input(layout: &Layout, report: usize) -> bool
     ensures { result ≡ is_input layout.now.reports report }
 {
     match layout.reports().get(report) {
-        Some(report) => match report.kind {
-            ReportKind::Input => true,
-            ReportKind::Output | ReportKind::Feature => false,
-        },
+        Some(report) => is_input_kind(report.kind),
         None => false,
     }
 }

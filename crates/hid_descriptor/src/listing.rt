@@ -1,8 +1,8 @@
 //! The fields that a report descriptor lists, or why it is refused (HID 1.11, 6.2.2).
 
-ghost use Rattle.std.specs.Prelude.{List, IfOk, IfErr};
+ghost use Rattle.std.specs.Prelude.{List, length, IfOk, IfErr, OnOk};
 ghost use Rattle.hid_descriptor.specs.Items.{Spelled};
-ghost use Rattle.hid_descriptor.specs.Faults.{Accepts, Explains};
+ghost use Rattle.hid_descriptor.specs.Faults.{Reaches, Accepts, Explains};
 ghost use Rattle.hid_descriptor.specs.Parser.{StandsAt};
 ghost use Rattle.hid_descriptor.specs.Listing.{ListsFields};
 
@@ -52,6 +52,29 @@ fn listed_by(parser: Parser) -> ListedFields
     }
 }
 
+/// Refuses a descriptor whose items leave a collection open, or of which only some have a report ID.
+fn check_end(parser: &Parser, descriptor: &[u8]) -> Result<(), LayoutFault>
+    ensures ok { (before : List Spelled) → Reaches descriptor.now (length descriptor.now) before
+        → StandsAt before parser.now → OnOk result (Accepts descriptor.now before) }
+    ensures err { (before : List Spelled) → Reaches descriptor.now (length descriptor.now) before
+        → StandsAt before parser.now → IfErr result (λ f. Explains descriptor.now f.cause f.at) }
+{
+    let at = descriptor.len();
+    if parser.collections.open.len() != 0 {
+        return Err(LayoutFault {
+            cause: Cause::Unclosed,
+            at,
+        });
+    }
+    if parser.mixes_ids() {
+        return Err(LayoutFault {
+            cause: Cause::MixedReportId,
+            at,
+        });
+    }
+    Ok(())
+}
+
 /// The fields that a report descriptor lists. A refusal has the first cause in the order of [`Cause`]; where memory is
 /// wanting the cause is Memory, at 0.
 pub fn list_fields(alloc: Global, descriptor: &[u8]) -> Result<ListedFields, LayoutFault>
@@ -67,22 +90,9 @@ pub fn list_fields(alloc: Global, descriptor: &[u8]) -> Result<ListedFields, Lay
             at: MAX_DESCRIPTOR,
         });
     }
-    let parser = match parse_items(alloc, descriptor) {
-        Ok(parser) => parser,
-        Err(f) => return Err(f),
-    };
-    let at = descriptor.len();
-    if parser.collections.open.len() != 0 {
-        return Err(LayoutFault {
-            cause: Cause::Unclosed,
-            at,
-        });
+    let parser = parse_items(alloc, descriptor)?;
+    match check_end(&parser, descriptor) {
+        Ok(()) => Ok(listed_by(parser)),
+        Err(f) => Err(f),
     }
-    if parser.mixes_ids() {
-        return Err(LayoutFault {
-            cause: Cause::MixedReportId,
-            at,
-        });
-    }
-    Ok(listed_by(parser))
 }

@@ -13,7 +13,7 @@ use hid_pieces::{listed_places, place_of, read_items};
 use std::alloc::{AllocError, Global};
 
 /// What is asked for.
-#[derive(Clone, Copy, Debug, PartialEq, Eq)]
+#[derive(Clone, Copy, Debug)]
 pub enum Form {
     /// An HTML page.
     Page,

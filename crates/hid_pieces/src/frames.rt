@@ -12,7 +12,7 @@ use hid_layout::{Layout, MainItem};
 use std::alloc::{AllocError, Global};
 
 /// A collection of which a report has items.
-#[derive(Clone, Copy, Debug, PartialEq, Eq)]
+#[derive(Clone, Copy, Debug)]
 pub struct Frame {
     /// How many collections there are from the outermost one to it.
     pub level: usize,

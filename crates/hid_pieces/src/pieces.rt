@@ -9,7 +9,7 @@ use hid_layout::{Layout, MainItem, Shape};
 use std::alloc::{AllocError, Global};
 
 /// What some bits of a report are.
-#[derive(Clone, Copy, Debug, PartialEq, Eq)]
+#[derive(Clone, Copy, Debug)]
 pub enum Part {
     /// The Report ID.
     ReportId,
@@ -20,7 +20,7 @@ pub enum Part {
 }
 
 /// Bits of a report that lie behind one another.
-#[derive(Clone, Copy, Debug, PartialEq, Eq)]
+#[derive(Clone, Copy, Debug)]
 pub struct Stretch {
     pub part: Part,
     /// Where it begins, in bits of the report with its ID.
@@ -29,7 +29,7 @@ pub struct Stretch {
 }
 
 /// What of a stretch lies in one byte.
-#[derive(Clone, Copy, Debug, PartialEq, Eq)]
+#[derive(Clone, Copy, Debug)]
 pub struct Piece {
     pub part: Part,
     /// The byte of the report, its ID among them.

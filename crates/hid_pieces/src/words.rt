@@ -1,6 +1,6 @@
 //! What is said of fields, collections and reports, in words.
 
-ghost use Rattle.std.specs.Prelude.{◌≡◌, ◌++◌, ◌*◌, ◌<◌, ◌≤◌, length, Some, OnOk, string_bytes};
+ghost use Rattle.std.specs.Prelude.{◌≡◌, ◌++◌, ◌*◌, ◌<◌, ◌≤◌, [], if◌then◌else◌, length, Some, OnOk, string_bytes};
 ghost use Rattle.std.specs.List.{flat_map};
 ghost use Rattle.hid_descriptor.specs.declared.limits.TheConstants.{MAX_ENTRIES, MAX_REPORT_BYTES};
 ghost use Rattle.hid_pieces.specs.Words.{flag_words, bit_7_words, flags_text, is_input, is_input_item, kind_name, report_name, count_text, collection_name, purpose_text, collection_text, entry_text, choice_from, choice_text, field_usage, usage_words, name_in, part_name, share_text, piece_name, range_text, details_in, part_details, part_flags, bit_text, place_text};
@@ -304,19 +304,22 @@ pub fn print_piece_name(text: &mut String, layout: &Layout, piece: &Piece) -> Re
     print_share(text, piece)
 }
 
+/// Adds words where they hold.
+fn print_where(text: &mut String, holds: bool, words: &str) -> Result<(), AllocError>
+    ensures { OnOk result (string_bytes text.new
+        ≡ string_bytes text.old ++ (if holds then words.now else [])) }
+{
+    if holds { text.push_str(words) } else { Ok(()) }
+}
+
 /// Adds a range, and what sets its numbers apart: `-127..127 relative`.
 fn print_range(text: &mut String, item: &MainItem) -> Result<(), AllocError>
     ensures { OnOk result (string_bytes text.new ≡ string_bytes text.old ++ range_text item.now) }
 {
     let MainItem { min, max, .. } = *item;
     write!(text, "{min}..{max}")?;
-    if item.flags.is_relative() {
-        text.push_str(" relative")?;
-    }
-    if item.flags.has_null_state() {
-        text.push_str(" null")?;
-    }
-    Ok(())
+    print_where(text, item.flags.is_relative(), " relative")?;
+    print_where(text, item.flags.has_null_state(), " null")
 }
 
 /// Adds what is said of an item's fields.

@@ -24,7 +24,7 @@ pub const FEATURE: u8 = 2;
 
 /// A data element of a report.
 #[repr(C)]
-#[derive(Clone, Copy, Debug, PartialEq, Eq)]
+#[derive(Clone, Copy, Debug)]
 pub struct HidElement {
     /// Logical Minimum.
     pub min: i64,

@@ -26,7 +26,7 @@ pub const DROPPED: u32 = 5;
 
 /// An event of a report.
 #[repr(C)]
-#[derive(Clone, Copy, Debug, PartialEq, Eq)]
+#[derive(Clone, Copy, Debug)]
 pub struct HidEvent {
     /// The value, the motion, 1 of a press, else 0.
     pub value: i64,

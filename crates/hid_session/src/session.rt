@@ -1,8 +1,10 @@
 //! A device whose reports are read: its descriptor once, then one report at a time.
 
-ghost use Rattle.std.specs.Prelude.{◌≡◌, ◌≤◌, IfOk, IfErr, vec_capacity};
+ghost use Rattle.std.specs.Prelude.{◌≡◌, ◌≤◌, IfOk, IfErr, IfSome, vec_capacity};
 ghost use Rattle.hid_descriptor.specs.Faults.{Explains};
 ghost use Rattle.hid_layout.specs.Controls.{items_of, max_events};
+ghost use Rattle.hid_layout.specs.Reports.{IsLayout};
+ghost use Rattle.hid_cells.specs.Cells.{FitsView, blank};
 ghost use Rattle.hid_cells.specs.Snapshots.{is_pressed, cell_at};
 ghost use Rattle.hid_cells.specs.Views.{value_in};
 ghost use Rattle.hid_session.specs.Sessions.{IsFirst, Feeds};
@@ -15,7 +17,7 @@ use std::alloc::Global;
 use std::marker::Model;
 
 /// Why a report is not read, in the order in which causes are looked for.
-#[derive(Clone, Copy, Debug, PartialEq, Eq)]
+#[derive(Clone, Copy, Debug)]
 pub enum FeedFault {
     /// The table has fewer places than a report can tell events.
     NoRoom,
@@ -57,6 +59,19 @@ fn want() -> LayoutFault
     }
 }
 
+/// A blank view of a layout, and room for the events of a report.
+fn blank(alloc: Global, layout: &Layout) -> Option<(View, Vec<Event>)>
+    ensures layout { IsLayout layout.now }
+    ensures view { IfSome result (λ made. (made.0 ≡ blank (items_of layout.now))
+        × FitsView (items_of layout.now) made.0) }
+    ensures room { IfSome result (λ made. max_events (items_of layout.now) ≤ vec_capacity made.1) }
+{
+    let _ = layout.items();
+    let view = View::initial(alloc, layout).ok()?;
+    let events = Vec::with_capacity(alloc, layout.max_events()).ok()?;
+    Some((view, events))
+}
+
 impl Session {
     /// Reads a report descriptor. Nothing is held, and values are those of a blank snapshot.
     pub fn open(alloc: Global, descriptor: &[u8]) -> Result<Session, LayoutFault>
@@ -65,18 +80,14 @@ impl Session {
         ensures err { IfErr result (λ f. Explains descriptor.now f.cause f.at) }
     {
         let layout = Layout::parse(alloc, descriptor)?;
-        let _ = layout.items();
-        let Ok(view) = View::initial(alloc, &layout) else {
-            return Err(want());
-        };
-        let Ok(events) = Vec::with_capacity(alloc, layout.max_events()) else {
-            return Err(want());
-        };
-        Ok(Session {
-            layout,
-            view,
-            events,
-        })
+        match blank(alloc, &layout) {
+            Some((view, events)) => Ok(Session {
+                layout,
+                view,
+                events,
+            }),
+            None => Err(want()),
+        }
     }
 
     /// How many events a report tells at most.

@@ -8,7 +8,7 @@ use hid_layout::{Collection, Layout, Usage};
 
 /// A report that has at least one bit.
 #[repr(C)]
-#[derive(Clone, Copy, Debug, PartialEq, Eq)]
+#[derive(Clone, Copy, Debug)]
 pub struct HidReport {
     /// Its bytes, with a Report ID.
     pub bytes: u64,
@@ -24,7 +24,7 @@ pub struct HidReport {
 
 /// A collection that is open round an item.
 #[repr(C)]
-#[derive(Clone, Copy, Debug, PartialEq, Eq)]
+#[derive(Clone, Copy, Debug)]
 pub struct HidCollection {
     /// 0 Physical, 1 Application, 2 Logical, 3 Report, 4 Named Array, 5 Usage Switch, 6 Usage Modifier; other numbers
     /// as they stand.
@@ -39,7 +39,7 @@ pub struct HidCollection {
 
 /// A usage.
 #[repr(C)]
-#[derive(Clone, Copy, Debug, PartialEq, Eq)]
+#[derive(Clone, Copy, Debug)]
 pub struct HidUsage {
     pub page: u16,
     pub id: u16,
