@@ -5,7 +5,7 @@ use std::alloc::{AllocError, Global};
 use std::fmt;
 
 /// Why a file has no descriptor.
-#[derive(Clone, Copy, Debug, PartialEq, Eq)]
+#[derive(Clone, Copy, Debug)]
 pub enum InputFault {
     /// Not two hex digits for each byte.
     BadHex,
@@ -171,7 +171,7 @@ fn between_braces(text: &[u8]) -> &[u8] {
 }
 
 /// Where a byte of C stands.
-#[derive(Clone, Copy, PartialEq, Eq)]
+#[derive(Clone, Copy)]
 enum Place {
     Code,
     /// Behind `//`.
