@@ -27,7 +27,7 @@ use Rattle.hid_parts.specs.Numbers.{number_at, numbers_in}
 use Rattle.hid_parts.specs.Encoded.{bit_among, bit_sent, packed, packed_bytes, part_bytes}
 use Rattle.std.specs.Prelude.{nat_le, nat_lt, if◌then◌else◌}
 use Rattle.std.proofs.lemmas.Bool.Decides.{nat_tests}
-use Rattle.hid_parts.proofs.NumberLemmas.{numbers_in-length, numbers_in-at}
+use Rattle.hid_parts.proofs.NumberLemmas.{numbers_in-at}
 use Rattle.hid_parts.proofs.EncodingLemmas.{cell_numbers, data_if, no_data_if}
 use Rattle.hid_cells.proofs.ItemLemmas.{items_from-at, items_of-length, got}
 use Rattle.hid_parts.proofs.SendLemmas.{can_send, few_places}

@@ -1,4 +1,4 @@
-use Rattle.std.proofs.Common.{◌≡◌, ℕ, ◌+◌, ◌-◌, ◌*◌, ◌/◌, ◌%◌, ◌^◌, ◌∙◌, ap, bit_and, arith}
+use Rattle.std.proofs.Common.{◌≡◌, ℕ, ◌-◌, ◌*◌, ◌/◌, ◌%◌, ◌^◌, ◌∙◌, ap, bit_and, arith}
 use Rattle.hid_fields.proofs.WordLemmas.{field_read, gathered_part}
 use Rattle.hid_fields.proofs.word_codec.touched_pattern.Goals as goal
 

@@ -1,5 +1,5 @@
 use Rattle.std.proofs.Common.{◌≡◌, ℕ, ◌+◌, ◌-◌, ◌*◌, ◌%◌, ◌^◌, ◌<◌, ◌≤◌, ◌∙◌, List, bit_or, add_comm, sym, ap, arith}
-use Rattle.std.proofs.lemmas.Nat.{or_shifted, pow-add}
+use Rattle.std.proofs.lemmas.Nat.{or_shifted}
 use Rattle.std.proofs.Math.Nat.{mod-eq_of_lt}
 use Rattle.hid_fields.specs.Field.{pattern_of}
 use Rattle.hid_fields.proofs.FieldLemmas.{pattern_of-lt}

@@ -1,4 +1,4 @@
-use Rattle.std.proofs.Common.{◌≡◌, ℕ, ◌+◌, ◌*◌, ◌<◌, ◌≤◌, ◌∙◌, Bool, false, ℤ, List, length, sym, ap, subst, arith, rules}
+use Rattle.std.proofs.Common.{◌≡◌, ℕ, ◌*◌, ◌<◌, ◌∙◌, Bool, false, ℤ, List, length, sym, ap, subst, arith, rules}
 use Rattle.hid_parts.specs.Numbers.{numbers_in, IsWordOf}
 use Rattle.hid_parts.proofs.NumberLemmas.{numbers_in-length, word_is}
 use Rattle.hid_parts.proofs.numbers.FieldRun.word.Goals as goal
