@@ -1,6 +1,6 @@
 //! The picture of a report: a row of eight bits for each byte, bit 7 at the left.
 
-ghost use Rattle.std.specs.Prelude.{◌≡◌, ◌++◌, ◌∷◌, [], ◌<◌, ◌≤◌, ◌^◌, codes, length, slice_get, Some, OnOk, string_bytes};
+ghost use Rattle.std.specs.Prelude.{◌≡◌, ◌++◌, ◌<◌, ◌≤◌, ◌^◌, length, slice_get, Some, OnOk, string_bytes};
 ghost use Rattle.hid_picture.specs.Escape.{escaped};
 ghost use Rattle.hid_pieces.specs.Frames.{deepest};
 ghost use Rattle.hid_pieces.specs.Words.{piece_name};
@@ -501,16 +501,6 @@ fn print_description(
     text.push_str(", a row each, bit 7 at the left; each cell is a field.</desc>")
 }
 
-/// Adds how a picture is drawn.
-fn print_style(text: &mut String, style: &str) -> Result<(), AllocError>
-    ensures { OnOk result (string_bytes text.new
-        ≡ string_bytes text.old ++ codes "<style>" ++ style.now ++ codes "</style>" ++ 10 ∷ []) }
-{
-    text.push_str("<style>")?;
-    text.push_str(style)?;
-    text.push_str("</style>\n")
-}
-
 /// Adds what a picture begins with.
 #[tactic(auto, unfolding(crate::specs::Svg::picture_head))]
 fn print_head(
@@ -526,7 +516,9 @@ fn print_head(
 {
     print_opening(text, name_left(depth) + RIGHT, row_top(depth, rows, bytes))?;
     print_description(text, numbered, u64::from(bytes), report)?;
-    print_style(text, STYLE)
+    text.push_str("<style>")?;
+    text.push_str(STYLE)?;
+    text.push_str("</style>\n")
 }
 
 /// The frame at a place.
