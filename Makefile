@@ -19,12 +19,12 @@ MAJOR := $(firstword $(subst ., ,$(VERSION)))
 run: $(HIDRUN)
 	$(HIDRUN) < examples/layouts/mouse.script
 
-# Proves, tests and builds everything from nothing, looks whether all that documents cite is there, and runs each
-# example on the program that it built, and those of the C library where there is a C compiler.
+# Looks whether all that documents cite is there and each wrong body finds its text, proves, tests and builds everything
+# from nothing, and runs each example on the program that it built, and those of the C library where there is a C compiler.
 test:
+	$(MAKE) --no-print-directory documents
 	rm -rf bin/build/rooms
 	rt ci
-	$(MAKE) --no-print-directory documents
 	$(MAKE) --no-print-directory hidrun hidplay hidmap examples memory
 	if tools/archive hidstack; then $(MAKE) --no-print-directory library-test; fi
 

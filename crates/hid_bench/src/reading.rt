@@ -5,30 +5,27 @@ ghost use Rattle.std.specs.Prelude.{◌<◌};
 use crate::fault::BenchFault;
 use hid_fields::WordCodec;
 use hid_layout::{Cause, Layout};
-use hid_usages::{Event, View};
+use hid_usages::{Event, Reader, View};
 use std::alloc::Global;
 use std::marker::Model;
 
-/// A device's layout, what a host has read of it, and room for the events of a report.
+/// A device's layout with what a host has read of it, and room for the events of a report.
 #[derive(Drop)]
 pub struct Reading {
-    layout: Layout,
-    view: View,
+    reader: Reader,
     events: Vec<Event>,
 }
 
 impl Model for Reading {
     ghost use Rattle.std.specs.Prelude.{◌≤◌, vec_capacity};
     ghost use Rattle.hid_layout.specs.Controls.{items_of, max_events};
-    ghost use Rattle.hid_usages.specs.Cells.{FitsView};
     ghost use Rattle.hid_bench.specs.Reading.{Seen};
 
     ghost Value = { Seen };
 
-    ghost view = { λ r. record { layout = r.layout; view = r.view } };
+    ghost view = { λ r. record { layout = r.reader.layout; view = r.reader.view } };
 
-    ghost invariant = { λ r. FitsView (items_of r.layout) r.view
-        × (max_events (items_of r.layout) ≤ vec_capacity r.events) };
+    ghost invariant = { λ r. max_events (items_of r.reader.layout) ≤ vec_capacity r.events };
 }
 
 impl Reading {
@@ -41,11 +38,8 @@ impl Reading {
             return Err(BenchFault::Memory);
         };
         let events = Vec::with_capacity(alloc, layout.max_events())?;
-        Ok(Reading {
-            layout,
-            view,
-            events,
-        })
+        let reader = Reader::new(layout, view);
+        Ok(Reading { reader, events })
     }
 
     /// Reads an Input report, and says how many events it tells.
@@ -54,8 +48,8 @@ impl Reading {
     {
         self.events.clear();
         match self
-            .view
-            .take_report::<WordCodec>(&self.layout, report, &mut self.events)
+            .reader
+            .take_report::<WordCodec>(report, &mut self.events)
         {
             Ok(()) => Ok(self.events.len()),
             Err(_) => Err(BenchFault::Report),

@@ -5,6 +5,7 @@ pub mod FillLemmas
 pub mod ItemLemmas
 pub mod BlankLemmas
 pub mod PartLemmas
+pub mod ControlsLemmas
 pub mod PlanLemmas
 pub mod ShownLemmas
 pub mod SkipLemmas

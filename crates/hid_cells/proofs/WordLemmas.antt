@@ -18,6 +18,8 @@ use Rattle.std.proofs.lemmas.List.Sums.{sum_by-cons, sum_by-take-drop, count_by-
 use Rattle.std.proofs.lemmas.Simd.{mask_l-lt, bit_mask_l, ones-mask_l}
 use Rattle.std.proofs.lemmas.Nat.Bits.{same_from_bits_below, bit_at-lt, bit_at-zero, bit_at-suc, bit_at_lowest, bit_at_and, bit_at_xor, bit_at_not, bit_at_above, bit_at-trailing_zeros}
 use Rattle.std.proofs.Math.Pow.{pow_mono}
+use Rattle.std.proofs.Math.Nat.{pow-suc}
+use Rattle.std.proofs.lemmas.Bool.Decides.{nat_tests}
 use Rattle.std.proofs.lemmas.Bool.{cases_lt, cases_eq}
 use Rattle.hid_cells.proofs.FillLemmas.{set_length}
 use Rattle.hid_cells.specs.Words.{words_in, words_of, bits_in, places_in, AreWords, is_on, is_alone, is_unlike, is_bit, are_alone, IsFirst, FindsFirst}
@@ -470,3 +472,42 @@ pub found_unlike : (ws : List ℕ) (n : ℕ) (ps : List Bool) (index v w from : 
     → FindsFirst (λ b. bit_at (bit_xor v w) b == 1) from 64 r → FindsFirst (is_unlike ps index w) from 64 r
 found_unlike ws n ps index v w from r are e is found =
     found_below (λ b. bit_at (bit_xor v w) b == 1) (is_unlike ps index w) from 64 r (λ b low. unlike_at ws n ps index v w b are e is low) found
+
+mask_bits : (n w : ℕ) → w < 2 ^ n → mask_l (bits_in n w) ≡ w
+unfolding bits_in
+mask_bits zero w h = omega arith
+mask_bits (suc n) w h =
+    let rest = mask_bits n (w / 2) (omega (arith, h, pow-suc 2 n)) in
+    by_lowest (w % 2 == 1) refl rest
+  where
+    by_lowest : (b : Bool) → (w % 2 == 1) ≡ b → mask_l (bits_in n (w / 2)) ≡ w / 2 → (cond b 1 0 + 2 * mask_l (bits_in n (w / 2))) ≡ w
+    by_lowest true e rest = let one : w % 2 ≡ 1 = grind (arith, nat_tests) in omega (arith, rest, one)
+    by_lowest false e rest = let none : w % 2 ≡ 0 = grind (arith, nat_tests) in omega (arith, rest, none)
+
+-- up to 64 places are the bits of their one word
+pub one_word : (ws : List ℕ) (n : ℕ) (ps : List Bool) (w : ℕ) → AreWords ws n → places_in ws n ≡ ps → length ps ≤ 64 → 0 < length ws → w < 2 ^ length ps
+    → (places_in (slice_set ws 0 w) n ≡ bits_in (length ps) w) × AreWords (slice_set ws 0 w) n
+unfolding words_in
+one_word ws n ps w are is few some fits =
+    let was = told ws n ps are is in
+    let one : div_ceil n 64 ≡ 1 = omega (arith, was.1, was.2, few, some, enough n) in
+    let all : take 64 (bits_in (length ps) w) ≡ bits_in (length ps) w = take_all 64 (bits_in (length ps) w) (omega (arith, bits_in-length (length ps) w)) in
+    kept (slice_set ws 0 w) n (bits_in (length ps) w)
+    (single ws w (was.2 ∙ one) ∙ ap (λ (v : ℕ). v ∷ []) (sym (ap mask_l all ∙ mask_bits (length ps) w fits)) ∙ ap (λ (k : ℕ). words_in k (bits_in (length ps) w)) (sym (ap (λ (m : ℕ). div_ceil m 64) (bits_in-length (length ps) w ∙ sym was.1) ∙ one)))
+    (was.1 ∙ sym (bits_in-length (length ps) w)) are.small
+  where
+    single : (xs : List ℕ) (v : ℕ) → length xs ≡ 1 → slice_set xs 0 v ≡ v ∷ []
+    single [] v h = absurd (omega arith)
+    single (x ∷ []) v h = refl
+    single (x ∷ y ∷ xs) v h = absurd (omega arith)
+
+-- no word holds no places
+pub no_word : (ws : List ℕ) (n : ℕ) (ps : List Bool) (w : ℕ) → AreWords ws n → places_in ws n ≡ ps → length ws ≡ 0 → ps ≡ bits_in (length ps) w
+unfolding bits_in
+no_word ws n ps w are is none =
+    let was = told ws n ps are is in
+    of_length ps (omega (arith, was.1, was.2, none, enough n))
+  where
+    of_length : (qs : List Bool) → length qs ≡ 0 → qs ≡ bits_in (length qs) w
+    of_length [] h = refl
+    of_length (q ∷ qs) h = absurd (omega arith)

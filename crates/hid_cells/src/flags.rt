@@ -4,7 +4,7 @@ ghost use Rattle.std.specs.Prelude.{◌≡◌, ◌≢◌, ◌+◌, ◌++◌, ◌
 ghost use Rattle.std.specs.Int.{bit_at};
 ghost use Rattle.hid_cells.specs.Cells.{pressed_count};
 ghost use Rattle.hid_cells.specs.Parts.{same_flags};
-ghost use Rattle.hid_cells.specs.Words.{words_of, is_on, is_alone, is_unlike, is_bit, are_alone, FindsFirst};
+ghost use Rattle.hid_cells.specs.Words.{bits_in, words_of, is_on, is_alone, is_unlike, is_bit, are_alone, FindsFirst};
 
 use std::alloc::{AllocError, Global};
 use std::marker::Model;
@@ -67,6 +67,17 @@ impl Flags {
     {
         let word = with_bit(self.words[index / 64], index % 64, pressed);
         self.words[index / 64] = word;
+    }
+
+    /// Makes these, up to 64, the lowest bits of a word that has no others.
+    pub fn set_word(&mut self, word: u64)
+        requires few { length self.old ≤ 64 }
+        requires fits { word < 2 ^ length self.old }
+        ensures { self.new ≡ bits_in (length self.old) word }
+    {
+        if !self.words.is_empty() {
+            self.words[0] = word;
+        }
     }
 
     /// None is pressed.

@@ -1,19 +1,21 @@
 //! What a report shows of what is kept, and when its controls call for it.
 
 ghost use Rattle.std.specs.Prelude.{◌≡◌, ◌<◌, IsTrue, true, length, slice_get, Some};
-ghost use Rattle.hid_layout.specs.Controls.{items_of};
+ghost use Rattle.hid_layout.specs.Controls.{form_at, head_of, items_of};
 ghost use Rattle.hid_layout.specs.Reports.{IsLayout};
 ghost use Rattle.hid_cells.specs.Cells.{FitsSnapshot, FitsShown};
 ghost use Rattle.hid_cells.specs.Parts.{item_at, IsInput, is_of, shown_cell, rolled_cell, shown, by_item, minus_motion, taken, has_motion, is_changed, has_zero, has_zeros, HasRoomOf, AreMotions, still, without_motion, part_shown, taken_of, calls_for, is_shown};
 
 use crate::cell::Cell;
 use crate::flags::Flags;
-use crate::items::{is_of, item_count, plan_of};
+use crate::items::{is_of, item_at as main_item_at, item_count, plan_of};
 use crate::reset::reset_motions;
-use hid_layout::{ControlKind, Controls, Layout};
+use hid_layout::{ControlKind, Controls, Layout, Shape};
 use std::mem;
 
-fn copy_flags(from: &Flags, to: &mut Cell)
+/// The pressed places of an array that rolled over.
+#[inline(never)] // it is rare, and moves the cell
+fn copy_to_rolled(from: &Flags, to: &mut Cell)
     requires { HasRoomOf (Cell.Pressed from.now) to.old }
     ensures { to.new ≡ Cell.Pressed from.now }
 {
@@ -23,6 +25,18 @@ fn copy_flags(from: &Flags, to: &mut Cell)
             *to = Cell::Pressed(flags);
         }
         Cell::Vacant | Cell::Holding(_) | Cell::Moved(_) => {}
+    }
+}
+
+fn copy_flags(from: &Flags, to: &mut Cell)
+    requires { HasRoomOf (Cell.Pressed from.now) to.old }
+    ensures { to.new ≡ Cell.Pressed from.now }
+{
+    match to {
+        Cell::Pressed(flags) => flags.copy_from(from),
+        Cell::Vacant | Cell::Holding(_) | Cell::Moved(_) | Cell::RolledOver(_) => {
+            copy_to_rolled(from, to);
+        }
     }
 }
 
@@ -177,6 +191,22 @@ fn stop(part: &mut Cell)
     }
 }
 
+/// The controls of an item, where what is shown of a cell depends on them: motions by their limits, and keys by their number.
+fn controls_for(layout: &Layout, i: usize, cell: &Cell) -> Controls
+    requires { i < length layout.now.items }
+    ensures { shown_cell result cell.now
+        ≡ shown_cell (head_of (form_at (items_of layout.now) i)) cell.now }
+{
+    match cell {
+        Cell::Moved(_) => layout.controls(i),
+        Cell::Pressed(_) => match main_item_at(layout, i).shape {
+            Shape::Array => layout.controls(i),
+            Shape::Variable | Shape::Padding => Controls::None,
+        },
+        Cell::Vacant | Cell::Holding(_) | Cell::RolledOver(_) => Controls::None,
+    }
+}
+
 /// Makes the part of an item what a report shows of it, or the still part of that, where the item stands in it.
 fn show_item(layout: &Layout, i: usize, report: usize, cell: &Cell, part: &mut Cell, still: bool)
     requires listed { i < length layout.now.items }
@@ -187,7 +217,7 @@ fn show_item(layout: &Layout, i: usize, report: usize, cell: &Cell, part: &mut C
 {
     if is_of(layout, i, report) {
         copy_cell(cell, part);
-        show_cell(part, &layout.controls(i));
+        show_cell(part, &controls_for(layout, i, cell));
         if still {
             stop(part);
         }
@@ -252,7 +282,8 @@ fn calls_for(layout: &Layout, i: usize, report: usize, cell: &Cell, part: &Cell)
     requires input { IsInput layout.now report }
     ensures { result ≡ calls_for report (item_at (items_of layout.now) i) cell.now part.now }
 {
-    is_of(layout, i, report) && (has_motion(cell) || !is_shown(cell, &layout.controls(i), part))
+    is_of(layout, i, report)
+        && (has_motion(cell) || !is_shown(cell, &controls_for(layout, i, cell), part))
 }
 
 /// Takes the motion that the part of a report carries out of these cells.

@@ -8,7 +8,7 @@ use Rattle.hid_items.specs.Spelling.{prefix_of, data_of, unsigned_of}
 use Rattle.hid_descriptor.specs.declared.globals.SavedGlobals.{SavedGlobals}
 use Rattle.hid_descriptor.specs.declared.locals.Locals.{Locals}
 use Rattle.hid_descriptor.specs.declared.parser.Parser.{Parser}
-use Rattle.hid_descriptor.specs.Items.{Spelled, is, is_main, is_field, COLLECTION, END_COLLECTION, PUSH, POP, USAGE, USAGE_MINIMUM, USAGE_MAXIMUM, USAGE_PAGE, LOGICAL_MINIMUM, LOGICAL_MAXIMUM, REPORT_SIZE, REPORT_COUNT, REPORT_ID}
+use Rattle.hid_descriptor.specs.Items.{Spelled, is, is_main, is_field, names_usage, INPUT, OUTPUT, FEATURE, DELIMITER, COLLECTION, END_COLLECTION, PUSH, POP, USAGE_PAGE, LOGICAL_MINIMUM, LOGICAL_MAXIMUM, REPORT_SIZE, REPORT_COUNT, REPORT_ID}
 use Rattle.hid_descriptor.specs.Globals.{in_force, open_pushes}
 use Rattle.hid_descriptor.specs.Path.{path}
 use Rattle.hid_descriptor.specs.Fields.{fields, add_field}
@@ -43,8 +43,8 @@ fields_same before item old new h e k = subst (AreKept (fields (item ∷ before)
 pub push_accepted : (before : List Spelled) (item : Spelled) → prefix_of item ≡ PUSH → length (open_pushes before) < 8 → fault_of before item ≡ None
 push_accepted before item h lt = grind (arith, common_steps, nat_tests)
 
-pub locals_kept : (before : List Spelled) (item : Spelled) (kept : Locals) → is_main item ≡ false → prefix_of item ≢ USAGE → prefix_of item ≢ USAGE_MINIMUM → prefix_of item ≢ USAGE_MAXIMUM → AreLocals before kept → AreLocals (item ∷ before) kept
-locals_kept before item kept m a b c k = locals_added before item kept kept m k (record { entries_after = grind (arith, common_steps, nat_tests); minima_after = grind (arith, common_steps, nat_tests); maxima_after = grind (arith, common_steps, nat_tests) })
+pub locals_kept : (before : List Spelled) (item : Spelled) (kept : Locals) → is_main item ≡ false → names_usage item ≡ false → AreLocals before kept → AreLocals (item ∷ before) kept
+locals_kept before item kept m u k = locals_added before item kept kept m k (record { entries_after = grind (arith, common_steps, nat_tests); minima_after = grind (arith, common_steps, nat_tests); maxima_after = grind (arith, common_steps, nat_tests) })
 
 abbrev is_main_prefix : ℕ → Bool
 is_main_prefix p = list_any (nat_eq p) (0x80 ∷ 0x90 ∷ 0xB0 ∷ 0xA0 ∷ 0xC0 ∷ [])
@@ -81,10 +81,10 @@ numbered_kept : (before : List Spelled) (item : Spelled) → prefix_of item ≢ 
 numbered_kept before item h = grind (arith, common_steps, nat_tests)
 
 -- an item that is no main item, no local and no Report ID leaves all but the globals
-pub stands_global : (before : List Spelled) (item : Spelled) (old new : Parser) → is_main item ≡ false → prefix_of item ≢ USAGE → prefix_of item ≢ USAGE_MINIMUM → prefix_of item ≢ USAGE_MAXIMUM → prefix_of item ≢ REPORT_ID → StandsAt before old → AreGlobals (item ∷ before) new.globals → new.locals ≡ old.locals → new.collections ≡ old.collections → new.fields ≡ old.fields → new.numbered ≡ old.numbered → StandsAt (item ∷ before) new
-stands_global before item old new m a b c d s g e1 e2 e3 e4 = record {
+pub stands_global : (before : List Spelled) (item : Spelled) (old new : Parser) → is_main item ≡ false → names_usage item ≡ false → prefix_of item ≢ REPORT_ID → StandsAt before old → AreGlobals (item ∷ before) new.globals → new.locals ≡ old.locals → new.collections ≡ old.collections → new.fields ≡ old.fields → new.numbered ≡ old.numbered → StandsAt (item ∷ before) new
+stands_global before item old new m u d s g e1 e2 e3 e4 = record {
   globals_there = g;
-  locals_there = subst (AreLocals (item ∷ before)) (sym e1) (locals_kept before item old.locals m a b c s.locals_there);
+  locals_there = subst (AreLocals (item ∷ before)) (sym e1) (locals_kept before item old.locals m u s.locals_there);
   path_there = ap (λ x. x.open.items) e2 ∙ s.path_there ∙ sym (path_unmoved before item m);
   fields_there = fields_same before item old.fields new.fields (main_no_field item m) e3 s.fields_there;
   numbered_there = e4 ∙ s.numbered_there ∙ sym (numbered_kept before item d);
@@ -97,7 +97,7 @@ pub stands_pushed : (before : List Spelled) (item : Spelled) (old : Parser) (g :
 stands_pushed before item old g h lt s a =
     let n : length (open_pushes before) < 8 = omega (arith, depth_kept before old.globals s.globals_there) in (
       push_accepted before item h n,
-      stands_global before item old (record old { globals = g }) (grind (arith, common_steps, nat_tests)) (λ e. absurd (omega arith)) (λ e. absurd (omega arith)) (λ e. absurd (omega arith)) (λ e. absurd (omega arith)) s a refl refl refl refl,
+      stands_global before item old (record old { globals = g }) (grind (arith, common_steps, nat_tests)) (grind (arith, common_steps, nat_tests)) (λ e. absurd (omega arith)) s a refl refl refl refl,
     )
 
 pop_accepted : (before : List Spelled) (item : Spelled) → prefix_of item ≡ POP → 0 < length (open_pushes before) → fault_of before item ≡ None
@@ -106,14 +106,14 @@ pop_accepted before item h lt = grind (arith, common_steps, nat_tests)
 pub stands_popped : (before : List Spelled) (item : Spelled) (old : Parser) (g : SavedGlobals) → prefix_of item ≡ POP → 0 < length (open_pushes before) → StandsAt before old → AreGlobals (item ∷ before) g → (fault_of before item ≡ None) × StandsAt (item ∷ before) (record old { globals = g })
 stands_popped before item old g h lt s a = (
   pop_accepted before item h lt,
-  stands_global before item old (record old { globals = g }) (grind (arith, common_steps, nat_tests)) (λ e. absurd (omega arith)) (λ e. absurd (omega arith)) (λ e. absurd (omega arith)) (λ e. absurd (omega arith)) s a refl refl refl refl,
+  stands_global before item old (record old { globals = g }) (grind (arith, common_steps, nat_tests)) (grind (arith, common_steps, nat_tests)) (λ e. absurd (omega arith)) s a refl refl refl refl,
 )
 
 -- an item that does nothing
 pub stands_idle : (before : List Spelled) (item : Spelled) (old : Parser) → prefix_of item ≡ 0xFC → StandsAt before old → (fault_of before item ≡ None) × StandsAt (item ∷ before) old
 stands_idle before item old h s = (
   grind (arith, common_steps, nat_tests),
-  stands_global before item old old (grind (arith, common_steps, nat_tests)) (λ e. absurd (omega arith)) (λ e. absurd (omega arith)) (λ e. absurd (omega arith)) (λ e. absurd (omega arith)) s
+  stands_global before item old old (grind (arith, common_steps, nat_tests)) (grind (arith, common_steps, nat_tests)) (λ e. absurd (omega arith)) s
       (globals_set before item old.globals old.globals (λ e. absurd (omega arith)) (λ e. absurd (omega arith)) s.globals_there
       (s.globals_there.in_force_now ∙ sym (globals_at_kept before item (λ e. absurd (omega arith)) (λ e. absurd (omega arith)) (λ e. absurd (omega arith)) (λ e. absurd (omega arith)) (λ e. absurd (omega arith)) (λ e. absurd (omega arith)) (λ e. absurd (omega arith)) (λ e. absurd (omega arith)))) refl)
       refl refl refl refl,
@@ -138,6 +138,31 @@ stands_other before item old new o s l g sv e2 e3 e4 = (
   },
 )
 
+usage_is_not : (item : Spelled) (prefix : ℕ) → list_any (nat_eq prefix) (0x08 ∷ 0x18 ∷ 0x28 ∷ []) ≡ false → names_usage item ≡ true → prefix_of item ≢ prefix
+usage_is_not item prefix f u e = grind (arith, common_steps, nat_tests)
+
+usage_is_other : (item : Spelled) → names_usage item ≡ true → IsOther (prefix_of item)
+usage_is_other item u = record {
+  no_input = usage_is_not item INPUT refl u;
+  no_output = usage_is_not item OUTPUT refl u;
+  no_feature = usage_is_not item FEATURE refl u;
+  no_collection = usage_is_not item COLLECTION refl u;
+  no_end = usage_is_not item END_COLLECTION refl u;
+  no_push = usage_is_not item PUSH refl u;
+  no_pop = usage_is_not item POP refl u;
+  no_id = usage_is_not item REPORT_ID refl u;
+  no_delimiter = usage_is_not item DELIMITER refl u;
+}
+
+pub usage_no_main : (item : Spelled) → names_usage item ≡ true → is_main item ≡ false
+usage_no_main item u = other_no_main item (usage_is_other item u)
+
+-- a Usage, a Usage Minimum or a Usage Maximum leaves all but the locals
+pub stands_usage : (before : List Spelled) (item : Spelled) (old new : Parser) → names_usage item ≡ true → StandsAt before old → AreLocals (item ∷ before) new.locals → new.globals ≡ old.globals → new.collections ≡ old.collections → new.fields ≡ old.fields → new.numbered ≡ old.numbered → (fault_of before item ≡ None) × StandsAt (item ∷ before) new
+stands_usage before item old new u s l e1 e2 e3 e4 =
+    let kept : globals_at (item ∷ before) ≡ globals_at before = globals_at_kept before item (usage_is_not item PUSH refl u) (usage_is_not item POP refl u) (usage_is_not item USAGE_PAGE refl u) (usage_is_not item LOGICAL_MINIMUM refl u) (usage_is_not item LOGICAL_MAXIMUM refl u) (usage_is_not item REPORT_SIZE refl u) (usage_is_not item REPORT_COUNT refl u) (usage_is_not item REPORT_ID refl u) in
+    stands_other before item old new (usage_is_other item u) s l (ap (λ g. g.now) e1 ∙ s.globals_there.in_force_now ∙ sym kept) (ap (λ g. g.saved.items) e1) e2 e3 e4
+
 -- a Report ID that isn't refused
 id_accepted : (before : List Spelled) (item : Spelled) → prefix_of item ≡ REPORT_ID → 0 < unsigned_of (data_of item) → unsigned_of (data_of item) ≤ 255 → fault_of before item ≡ None
 id_accepted before item h a b = grind (arith, common_steps, nat_tests)
@@ -148,7 +173,7 @@ stands_id before item old new h a b s g sv e1 e2 e3 e4 =
       id_accepted before item h a b,
       record {
         globals_there = globals_set before item old.globals new.globals (λ e. absurd (omega arith)) (λ e. absurd (omega arith)) s.globals_there g sv;
-        locals_there = subst (AreLocals (item ∷ before)) (sym e1) (locals_kept before item old.locals m (λ e. absurd (omega arith)) (λ e. absurd (omega arith)) (λ e. absurd (omega arith)) s.locals_there);
+        locals_there = subst (AreLocals (item ∷ before)) (sym e1) (locals_kept before item old.locals m (grind (arith, common_steps, nat_tests)) s.locals_there);
         path_there = ap (λ x. x.open.items) e2 ∙ s.path_there ∙ sym (path_unmoved before item m);
         fields_there = fields_same before item old.fields new.fields (main_no_field item m) e3 s.fields_there;
         numbered_there = e4 ∙ rw h refl;

@@ -9,15 +9,18 @@ use Rattle.std.proofs.lemmas.List.Sums.{sum_by-append}
 use Rattle.std.proofs.lemmas.List.Folds.{list_any-append}
 use Rattle.hid_descriptor.specs.declared.field.KeptField.{KeptField}
 use Rattle.hid_descriptor.specs.declared.kept.KeptFields.{KeptFields}
-use Rattle.hid_descriptor.specs.Fields.{Field, is_padding}
+use Rattle.hid_descriptor.specs.Fields.{Field, is_padding, bits_of, report_bits}
 use Rattle.hid_descriptor.specs.Faults.{upward, report_ids, element_count, are_too_many}
-use Rattle.hid_descriptor.specs.Totals.{with_id, with_bits}
+use Rattle.hid_descriptor.specs.Totals.{with_id, with_bits, bits_in}
 use Rattle.hid_descriptor.specs.Heads.{head_of, whole_field, ArePlaced}
 use Rattle.hid_descriptor.specs.Usages.{Entry}
 use Rattle.hid_descriptor.specs.declared.collection.Collection.{Collection}
 use Rattle.hid_descriptor.specs.Kept.{AreKept}
 use Rattle.hid_descriptor.specs.ItemLists.{Listed, none_listed, listed_more}
-use Rattle.hid_descriptor.proofs.ReportsLemmas.{with_bits-reports_of, reports_of-nil}
+use Rattle.hid_descriptor.proofs.ReportsLemmas.{with_bits-reports_of, bits_in-reports_of, reports_of-nil}
+use Rattle.hid_descriptor.proofs.Shares.{share, bits-cons}
+use Rattle.hid_descriptor.specs.declared.report.ReportKind.{ReportKind}
+use Rattle.hid_descriptor.specs.Kinds.{same_kind}
 
 some_is : (a b : KeptField) → Some a ≡ Some b → a ≡ b
 some_is a b e = ap (λ o. unwrap_or o a) e
@@ -85,6 +88,33 @@ ids_length id ids = by_case (not (nat_eq id 0) && not (list_any (λ k. nat_eq k 
     by_case : (b : Bool) → length (cond b (ids ++ id ∷ []) ids) ≡ length ids + cond b 1 0
     by_case true = length-append ids (id ∷ [])
     by_case false = omega arith
+
+-- a report with bits has a field with its ID
+id_of_bits : (kind : ReportKind) (id : ℕ) (fs : List Field) → 0 < report_bits kind id fs → list_any (λ (field : Field). nat_eq field.id id) fs ≡ true
+id_of_bits kind id [] h = absurd (omega (arith, h))
+id_of_bits kind id (f ∷ fs) h = by_case (nat_eq f.id id) refl (λ some. id_of_bits kind id fs some)
+  where
+    none : (b : Bool) → cond (b && false) (bits_of f) 0 ≡ 0
+    none true = refl
+    none false = refl
+
+    by_case : (b : Bool) → nat_eq f.id id ≡ b → (0 < report_bits kind id fs → list_any (λ (field : Field). nat_eq field.id id) fs ≡ true) → (b || list_any (λ (field : Field). nat_eq field.id id) fs) ≡ true
+    by_case true e more = refl
+    by_case false e more =
+        let other : share kind id f ≡ 0 = ap (λ b. cond (same_kind f.kind kind && b) (bits_of f) 0) e ∙ none (same_kind f.kind kind) in
+        more (omega (arith, h, bits-cons kind id f fs, other))
+
+-- the ID of a report with bits is there, unless it is 0
+pub id_there : (fs : List Field) (kind : ReportKind) (id : ℕ) (old : KeptFields) → AreKept fs old → id < 256 → 0 < bits_in kind id old.reports.list.items → old.ids.list.items ≡ with_id id old.ids.list.items
+id_there fs kind id old k small some =
+    by_case (nat_eq id 0) (list_any (λ (field : Field). nat_eq field.id id) fs) (id_of_bits kind id fs (omega (arith, some, ap (bits_in kind id) k.reports ∙ bits_in-reports_of kind id fs small)))
+    (list_any (λ x. nat_eq x id) old.ids.list.items) (k.ids id)
+  where
+    by_case : (z b : Bool) → b ≡ true → (c : Bool) → c ≡ (not z && b) → old.ids.list.items ≡ cond (not z && not c) (old.ids.list.items ++ id ∷ []) old.ids.list.items
+    by_case true b h c e = refl
+    by_case false b h true e = refl
+    by_case false true h false e = absurd (cc)
+    by_case false false h false e = absurd (cc)
 
 placed_more : (heads : List KeptField) (f : KeptField) → ArePlaced heads → f.offset + f.size * f.count ≤ 2048 → ArePlaced (heads ++ f ∷ [])
 placed_more [] f w h zero g e = let same : f ≡ g = some_is f g e in subst (λ (x : KeptField). x.offset + x.size * x.count ≤ 2048) same h

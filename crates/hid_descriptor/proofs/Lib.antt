@@ -14,6 +14,7 @@ pub mod Places
 pub mod FlagLemmas
 pub mod ListsLemmas
 pub mod TotalsLemmas
+pub mod OrderLemmas
 pub mod KeptLemmas
 pub mod Shares
 pub mod FieldFacts

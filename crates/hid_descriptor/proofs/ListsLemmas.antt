@@ -8,11 +8,11 @@ use Rattle.std.proofs.Math.Seq.{drop-append_seam, take-length}
 use Rattle.hid_descriptor.specs.declared.span.Span.{Span}
 use Rattle.hid_descriptor.specs.Lists.{lists_at, AreWithin}
 
-range_kept : {T : Type 0} (values more : List T) (a b : ℕ) → a ≤ b → b ≤ length values → slice_range (values ++ more) a b ≡ slice_range values a b
+pub range_kept : {T : Type 0} (values more : List T) (a b : ℕ) → a ≤ b → b ≤ length values → slice_range (values ++ more) a b ≡ slice_range values a b
 range_kept values more a b le within =
     ap (take (b - a)) (drop-append-le a values more (omega arith)) ∙ take-append-le (b - a) (drop a values) more (omega (arith, length-drop a values))
 
-range_added : {T : Type 0} (values more : List T) (a b : ℕ) → a ≡ length values → b ≡ length values + length more → slice_range (values ++ more) a b ≡ more
+pub range_added : {T : Type 0} (values more : List T) (a b : ℕ) → a ≡ length values → b ≡ length values + length more → slice_range (values ++ more) a b ≡ more
 range_added values more a b start end =
     let n : b - a ≡ length more = omega arith in
     rw start (ap (take (b - length values)) (drop-append_seam values more) ∙ ap (λ k. take k more) (omega arith) ∙ take-length more)
@@ -54,3 +54,18 @@ within_at values more (x ∷ spans) s w start end (suc i) span e = within_at val
 
 pub within_more : {T : Type 0} (values more : List T) (spans : List Span) (s : Span) → AreWithin values spans → s.start ≡ length values → s.end ≡ length values + length more → AreWithin (values ++ more) (spans ++ s ∷ [])
 within_more values more spans s w start end = λ i span e. within_at values more spans s w start end i span e
+
+-- the last of a list, or an earlier one
+pub data Placed {A : Type 0} (xs : List A) (x : A) (j : ℕ) (y : A) : Type 0 where
+  earlier : slice_get xs j ≡ Some y → Placed xs x j y
+  last : j ≡ length xs → x ≡ y → Placed xs x j y
+
+placed_next : {A : Type 0} (z : A) (xs : List A) (x : A) (j : ℕ) (y : A) → Placed xs x j y → Placed (z ∷ xs) x (suc j) y
+placed_next z xs x j y (earlier e) = earlier e
+placed_next z xs x j y (last n e) = last (ap suc n) e
+
+pub placed : {A : Type 0} (xs : List A) (x : A) (j : ℕ) (y : A) → slice_get (xs ++ x ∷ []) j ≡ Some y → Placed xs x j y
+placed [] x zero y e = last refl (ap (λ o. unwrap_or o x) e)
+placed [] x (suc j) y e = absurd (cc)
+placed (z ∷ xs) x zero y e = earlier e
+placed (z ∷ xs) x (suc j) y e = placed_next z xs x j y (placed xs x j y e)

@@ -79,7 +79,7 @@ locals_added before item old new h is_old adds =
       all_minima = kept_more (is USAGE_MINIMUM) (locals before) item _ _ is_old.all_minima adds.minima_after ∙ ap (λ ls. map named (minima ls)) (sym more);
       all_maxima = kept_more (is USAGE_MAXIMUM) (locals before) item _ _ is_old.all_maxima adds.maxima_after ∙ ap (λ ls. map named (maxima ls)) (sym more);
       all_entries = λ page.
-          ap (map (entry_on_page page)) (adds.entries_after ∙ ap (λ lows. old.entries.items ++ entry_completed (prefix_of item) (named item) lows old.maxima.items) is_old.all_minima ∙ ap (λ highs. old.entries.items ++ entry_completed (prefix_of item) (named item) (map named (minima (locals before))) highs) is_old.all_maxima)
+          ap (map (entry_on_page page)) (adds.entries_after ∙ ap (λ lows. old.entries.items ++ entry_completed (prefix_of item) (named item) lows old.maxima) is_old.all_minima ∙ ap (λ highs. old.entries.items ++ entry_completed (prefix_of item) (named item) (map named (minima (locals before))) highs) is_old.all_maxima)
           ∙ map-append (entry_on_page page) old.entries.items _
           ∙ ap (λ t. t ++ map (entry_on_page page) (entry_completed (prefix_of item) (named item) (map named (minima (locals before))) (map named (maxima (locals before))))) (is_old.all_entries page)
           ∙ ap (λ t. entries_behind page [] (locals before) ++ t) (completed page (locals before) item)

@@ -45,10 +45,10 @@ field_there before item p head es s kind k small e d =
     let offset : head.offset ≡ report_bits head.kind head.id (fields before) = d.offset ∙ ap (λ x. bits_in x p.globals.now.id p.fields.reports.list.items) (sym d.same_kind) ∙ ap (λ n. bits_in head.kind n p.fields.reports.list.items) (sym d.id) ∙ offset_there before p head s small in
     cc
 
-pub paired_there : (before : List Spelled) (old : Parser) → StandsAt before old → nat_eq (length old.locals.minima.items) (length old.locals.maxima.items) ≡ are_paired before
+pub paired_there : (before : List Spelled) (old : Parser) → StandsAt before old → nat_eq (length old.locals.minima) (length old.locals.maxima) ≡ are_paired before
 paired_there before old s =
-    let a : length old.locals.minima.items ≡ length (minima (locals before)) = ap length s.locals_there.all_minima ∙ length-map (minima (locals before)) named in
-    let b : length old.locals.maxima.items ≡ length (maxima (locals before)) = ap length s.locals_there.all_maxima ∙ length-map (maxima (locals before)) named in
+    let a : length old.locals.minima ≡ length (minima (locals before)) = ap length s.locals_there.all_minima ∙ length-map (minima (locals before)) named in
+    let b : length old.locals.maxima ≡ length (maxima (locals before)) = ap length s.locals_there.all_maxima ∙ length-map (maxima (locals before)) named in
     cc
 
 -- the fault of a field item by what stands at it

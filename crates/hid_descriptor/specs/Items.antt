@@ -83,6 +83,10 @@ DELIMITER = 0xA8
 abbrev pub is_field : Spelled → Bool
 is_field item = is INPUT item || (is OUTPUT item || is FEATURE item)
 
+-- a Usage, Usage Minimum or Usage Maximum item, which names a usage
+abbrev pub names_usage : Spelled → Bool
+names_usage item = is USAGE item || (is USAGE_MINIMUM item || is USAGE_MAXIMUM item)
+
 -- any of the five main items, at which locals end
 abbrev pub is_main : Spelled → Bool
 is_main item = is_field item || (is COLLECTION item || is END_COLLECTION item)

@@ -1,5 +1,5 @@
 -- The fields that a report descriptor lists, as they are handed on (HID 1.11, 6.2.2).
-use Rattle.std.specs.Prelude.{◌≡◌, ◌≤◌, List, length, map}
+use Rattle.std.specs.Prelude.{◌≡◌, ◌≤◌, true, List, length, map}
 use Rattle.std.specs.List.{list_any}
 use Rattle.hid_descriptor.specs.declared.limits.TheConstants.{MAX_ITEMS}
 use Rattle.hid_descriptor.specs.declared.listing.ListedFields.{ListedFields}
@@ -7,11 +7,13 @@ use Rattle.hid_descriptor.specs.Items.{Spelled, is, REPORT_ID}
 use Rattle.hid_descriptor.specs.Fields.{fields}
 use Rattle.hid_descriptor.specs.Heads.{head_of}
 use Rattle.hid_descriptor.specs.Reporting.{reports_of}
+use Rattle.hid_descriptor.specs.Totals.{are_in_order}
 
 -- these are the listed fields of these items (the last one first), with their reports
 pub record ListsFields (before : List Spelled) (listed : ListedFields) : Type 0 where
   pub heads : listed.fields.items ≡ map head_of (fields before)
   pub reports : listed.reports.items ≡ reports_of (fields before)
+  pub ordered : are_in_order listed.reports.items ≡ true
   pub entries : listed.lists.entries ≡ map (λ field. field.entries) (fields before)
   pub paths : listed.lists.paths ≡ map (λ field. field.path) (fields before)
   pub numbered : listed.numbered ≡ list_any (is REPORT_ID) before

@@ -25,8 +25,8 @@ entry_on_page page e = (on_page page (e.0), on_page page (e.1))
 
 -- the locals behind these items, for whatever page will be in force
 pub record AreLocals (before : List Spelled) (kept : Locals) : Type 0 where
-  pub all_minima : kept.minima.items ≡ map named (minima (locals before))
-  pub all_maxima : kept.maxima.items ≡ map named (maxima (locals before))
+  pub all_minima : kept.minima ≡ map named (minima (locals before))
+  pub all_maxima : kept.maxima ≡ map named (maxima (locals before))
   pub all_entries : (page : ℕ) → map (entry_on_page page) kept.entries.items ≡ entries_behind page [] (locals before)
 
 -- the entry that a local item makes whole, behind these minima and maxima
@@ -40,6 +40,6 @@ entry_completed prefix usage lows highs =
 -- one more local item is kept
 pub record AddsLocal (prefix : ℕ) (usage : NamedUsage) (old new : Locals) : Type 0 where
   pub entries_after : new.entries.items
-      ≡ old.entries.items ++ entry_completed prefix usage old.minima.items old.maxima.items
-  pub minima_after : new.minima.items ≡ old.minima.items ++ (if prefix == USAGE_MINIMUM then usage ∷ [] else [])
-  pub maxima_after : new.maxima.items ≡ old.maxima.items ++ (if prefix == USAGE_MAXIMUM then usage ∷ [] else [])
+      ≡ old.entries.items ++ entry_completed prefix usage old.minima old.maxima
+  pub minima_after : new.minima ≡ old.minima ++ (if prefix == USAGE_MINIMUM then usage ∷ [] else [])
+  pub maxima_after : new.maxima ≡ old.maxima ++ (if prefix == USAGE_MAXIMUM then usage ∷ [] else [])

@@ -1,6 +1,6 @@
 -- What the parser keeps of the reports and their IDs (HID 1.11, 5.6).
-use Rattle.std.specs.Prelude.{ℕ, ◌+◌, Bool, false, not, Option, Some, None, List, [], ◌∷◌, ◌++◌, ◌==◌, nat_lt, ◌&&◌, ◌||◌, if◌then◌else◌}
-use Rattle.std.specs.List.{list_any}
+use Rattle.std.specs.Prelude.{◌≡◌, ℕ, ◌+◌, ◌≤◌, Bool, true, false, not, Option, Some, None, List, [], ◌∷◌, ◌++◌, ◌==◌, nat_lt, ◌&&◌, ◌||◌, if◌then◌else◌, length, slice_get}
+use Rattle.std.specs.List.{list_any, list_all}
 use Rattle.hid_descriptor.specs.declared.report.Report.{Report}
 use Rattle.hid_descriptor.specs.declared.report.ReportKind.{ReportKind}
 use Rattle.hid_descriptor.specs.Kinds.{same_kind, rank}
@@ -40,6 +40,22 @@ place_for kind id (r ∷ rs) = if comes_before kind id r then place_for kind id 
 abbrev pub place_of : ReportKind → ℕ → List Report → ℕ
 place_of kind id [] = 0
 place_of kind id (r ∷ rs) = if is_report kind id r then 0 else place_of kind id rs + 1
+
+-- reports by kind and then by ID, no two of them alike: each stands before all behind it
+abbrev pub are_in_order : List Report → Bool
+are_in_order [] = true
+are_in_order (r ∷ rs) = list_all (λ later. comes_before later.kind later.id r) rs && are_in_order rs
+
+-- at this place is the report of a kind with an ID
+pub record IsFound (kind : ReportKind) (id : ℕ) (reports : List Report) (i : ℕ) : Type 0 where
+  pub its_place : i ≡ place_for kind id reports
+  pub there : has_report kind id (slice_get reports i) ≡ true
+
+-- there is no report of a kind with an ID, and this would be its place
+pub record IsAbsent (kind : ReportKind) (id : ℕ) (reports : List Report) (i : ℕ) : Type 0 where
+  pub its_place : i ≡ place_for kind id reports
+  pub within : i ≤ length reports
+  pub none : list_any (is_report kind id) reports ≡ false
 
 -- the IDs, once one more is there
 abbrev pub with_id : ℕ → List ℕ → List ℕ

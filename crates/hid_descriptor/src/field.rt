@@ -79,7 +79,7 @@ impl KeptField {
     fn test_values(&self, locals: &Locals, page: u16) -> Result<(), Cause>
         ensures { Says result (first_met
             (value_tests (whole_field self.now [] [])
-            (length locals.now.minima.items == length locals.now.maxima.items)
+            (length locals.now.minima == length locals.now.maxima)
             (map (entry_on_page page) locals.now.entries.items))) }
     {
         if !locals.are_paired() {
@@ -102,10 +102,11 @@ impl KeptField {
     }
 
     /// Refuses wrong usages, a wrong size and a wrong range, unless the item is Constant or has no fields.
+    #[inline(always)] // a call costs more than its few tests
     pub(crate) fn check_values(&self, locals: &Locals, page: u16) -> Result<(), Cause>
         ensures { Says result (first_met
             (checked_values (whole_field self.now [] [])
-            (length locals.now.minima.items == length locals.now.maxima.items)
+            (length locals.now.minima == length locals.now.maxima)
             (map (entry_on_page page) locals.now.entries.items))) }
     {
         if self.flags.is_constant() || self.count == 0 {

@@ -1,9 +1,11 @@
 //! The usages and the collections of the listed items, kept one behind the other in a few pieces of memory.
 
 ghost use Rattle.std.specs.Prelude.{◌≡◌, ◌<◌, ◌≤◌, ◌++◌, length, map, slice_get, slice_range, IfOk, OnOk, OnErr, Some};
+ghost use Rattle.std.specs.Bool.{OnTrue};
 ghost use Rattle.hid_descriptor.specs.Usages.{starts_of};
 ghost use Rattle.hid_descriptor.specs.Locals.{entry_on_page};
-ghost use Rattle.hid_descriptor.specs.ItemLists.{entry_spans, path_spans};
+ghost use Rattle.hid_descriptor.specs.Faults.{upward};
+ghost use Rattle.hid_descriptor.specs.ItemLists.{AreSingle, AddsStarts};
 
 use crate::collection::Collection;
 use crate::limits::MAX_ENTRIES;
@@ -20,18 +22,33 @@ const FIRST_COLLECTIONS: usize = 16;
 
 const FIRST_ITEMS: usize = 8;
 
+/// The collections that are put into a path one by one.
+const FEW_COLLECTIONS: usize = 4;
+
+/// The first numbers, as many as an item has ranges at most. An item's ranges begin at them where each but the last has
+/// one usage, as most items' do.
+#[rattlefmt::skip]
+const FIRST_NUMBERS: [u32; MAX_ENTRIES] = [
+    0, 1, 2, 3, 4, 5, 6, 7, 8, 9, 10, 11, 12, 13, 14, 15,
+    16, 17, 18, 19, 20, 21, 22, 23, 24, 25, 26, 27, 28, 29, 30, 31,
+    32, 33, 34, 35, 36, 37, 38, 39, 40, 41, 42, 43, 44, 45, 46, 47,
+    48, 49, 50, 51, 52, 53, 54, 55, 56, 57, 58, 59, 60, 61, 62, 63,
+];
+
 /// The places of an item's lists.
 #[derive(Clone, Copy, Debug)]
 struct ItemSpans {
     entries: Span,
     path: Span,
+    /// Where the starts of its ranges stand; none where they are the first numbers.
+    starts: Option<usize>,
 }
 
 /// For each listed item its usages, as ranges, and the collections round it.
 #[derive(Debug, Drop)]
 pub struct ItemLists {
     entries: Vec<(Usage, Usage)>,
-    /// For each range how many usages of its item stand before it.
+    /// For each range of some items how many usages of its item stand before it.
     starts: Vec<u32>,
     paths: Vec<Collection>,
     spans: Vec<ItemSpans>,
@@ -55,7 +72,7 @@ impl ItemLists {
     {
         Ok(ItemLists {
             entries: Vec::with_capacity(alloc, FIRST_ENTRIES)?,
-            starts: Vec::with_capacity(alloc, FIRST_ENTRIES)?,
+            starts: Vec::new(alloc),
             paths: Vec::with_capacity(alloc, FIRST_COLLECTIONS)?,
             spans: Vec::with_capacity(alloc, FIRST_ITEMS)?,
         })
@@ -66,7 +83,7 @@ impl ItemLists {
         requires { item < length self.now.entries }
         ensures { slice_get self.now.entries item ≡ Some result.now }
     {
-        part(&self.entries, entry_span(&self.spans, item))
+        part(&self.entries, spans_of(&self.spans, item).entries)
     }
 
     /// For each of these ranges how many usages stand before it.
@@ -74,7 +91,18 @@ impl ItemLists {
         requires { item < length self.now.entries }
         ensures { slice_get (map starts_of self.now.entries) item ≡ Some result.now }
     {
-        part(&self.starts, entry_span(&self.spans, item))
+        let spans = spans_of(&self.spans, item);
+        let count = spans.entries.end - spans.entries.start;
+        match spans.starts {
+            Some(start) => part(
+                &self.starts,
+                Span {
+                    start,
+                    end: start + count,
+                },
+            ),
+            None => first_numbers(count),
+        }
     }
 
     /// The collections that are open round an item, the outermost first (HID 1.11, 6.2.2.6).
@@ -82,7 +110,16 @@ impl ItemLists {
         requires { item < length self.now.paths }
         ensures { slice_get self.now.paths item ≡ Some result.now }
     {
-        part(&self.paths, path_span(&self.spans, item))
+        part(&self.paths, spans_of(&self.spans, item).path)
+    }
+
+    /// Makes room for the lists of so many more items, with two ranges each.
+    pub(crate) fn reserve(&mut self, items: usize) -> Result<(), AllocError>
+        ensures { self.new ≡ self.old }
+    {
+        self.spans.reserve(items)?;
+        self.entries.reserve(items.saturating_mul(2))?;
+        Ok(())
     }
 
     /// Adds the lists of one more item, at which this page is in force.
@@ -98,9 +135,10 @@ impl ItemLists {
     {
         self.spans.reserve(1)?;
         let path_start = self.paths.len();
-        self.paths.extend_from_slice(path)?;
+        add_path(path, &mut self.paths)?;
+        let starts = add_starts(entries, page, &mut self.starts)?;
         let start = self.entries.len();
-        add_ranges(entries, page, &mut self.entries, &mut self.starts)?;
+        add_ranges(entries, page, &mut self.entries)?;
         let spans = ItemSpans {
             entries: Span {
                 start,
@@ -110,24 +148,27 @@ impl ItemLists {
                 start: path_start,
                 end: self.paths.len(),
             },
+            starts,
         };
         self.spans.push_reserved(spans);
         Ok(())
     }
 }
 
-fn entry_span(spans: &[ItemSpans], item: usize) -> Span
+/// The places of an item's lists.
+fn spans_of(spans: &[ItemSpans], item: usize) -> ItemSpans
     requires { item < length spans.now }
-    ensures { slice_get (entry_spans spans.now) item ≡ Some result }
+    ensures { slice_get spans.now item ≡ Some result }
 {
-    spans[item].entries
+    spans[item]
 }
 
-fn path_span(spans: &[ItemSpans], item: usize) -> Span
-    requires { item < length spans.now }
-    ensures { slice_get (path_spans spans.now) item ≡ Some result }
+/// So many of the first numbers.
+fn first_numbers<'a>(count: usize) -> &'a [u32]
+    requires { count ≤ MAX_ENTRIES }
+    ensures { result.now ≡ upward 0 count }
 {
-    spans[item].path
+    &FIRST_NUMBERS[..count]
 }
 
 /// The list at a place among the values.
@@ -139,29 +180,71 @@ fn part<T>(values: &[T], span: Span) -> &[T]
     &values[span.start..span.end]
 }
 
-/// Adds ranges on a page, and how many usages stand before each of them.
+/// Adds collections. A few of them cost less one by one than as a copied piece of memory.
+fn add_path(path: &[Collection], paths: &mut Vec<Collection>) -> Result<(), AllocError>
+    ensures more { OnOk result (paths.new.items ≡ paths.old.items ++ path.now) }
+    ensures kept { OnErr result (paths.new.items ≡ paths.old.items) }
+{
+    if path.len() > FEW_COLLECTIONS {
+        return paths.extend_from_slice(path);
+    }
+    paths.reserve(path.len())?;
+    for collection in path {
+        paths.push_reserved(*collection);
+    }
+    Ok(())
+}
+
+/// Adds ranges on a page.
 fn add_ranges(
     named: &[(NamedUsage, NamedUsage)],
     page: u16,
     entries: &mut Vec<(Usage, Usage)>,
-    starts: &mut Vec<u32>,
 ) -> Result<(), AllocError>
-    requires { length named.now ≤ MAX_ENTRIES }
-    ensures entries { OnOk result (entries.new.items
+    ensures more { OnOk result (entries.new.items
         ≡ entries.old.items ++ map (entry_on_page page) named.now) }
-    ensures starts { OnOk result (starts.new.items
-        ≡ starts.old.items ++ starts_of (map (entry_on_page page) named.now)) }
-    ensures entries_kept { OnErr result (entries.new.items ≡ entries.old.items) }
-    ensures starts_kept { OnErr result (starts.new.items ≡ starts.old.items) }
+    ensures kept { OnErr result (entries.new.items ≡ entries.old.items) }
 {
     entries.reserve(named.len())?;
+    for entry in named {
+        entries.push_reserved(entry_on_page(entry, page));
+    }
+    Ok(())
+}
+
+/// Whether each range but the last has one usage.
+fn are_single(named: &[(NamedUsage, NamedUsage)]) -> bool
+    ensures { OnTrue result (AreSingle named.now) }
+{
+    for i in 1..named.len() {
+        let entry = &named[i - 1];
+        if entry.0.id != entry.1.id {
+            return false;
+        }
+    }
+    true
+}
+
+/// Adds how many usages stand before each range, unless these are the first numbers, and says where.
+fn add_starts(
+    named: &[(NamedUsage, NamedUsage)],
+    page: u16,
+    starts: &mut Vec<u32>,
+) -> Result<Option<usize>, AllocError>
+    requires { length named.now ≤ MAX_ENTRIES }
+    ensures added { IfOk result (λ at. AddsStarts (map (entry_on_page page) named.now)
+        at starts.old.items starts.new.items) }
+    ensures kept { OnErr result (starts.new.items ≡ starts.old.items) }
+{
+    if are_single(named) {
+        return Ok(None);
+    }
+    let at = starts.len();
     starts.reserve(named.len())?;
     let mut before = 0;
     for entry in named {
-        let range = entry_on_page(entry, page);
-        entries.push_reserved(range);
         starts.push_reserved(before as u32);
-        before += entry_count(&range);
+        before += entry_count(&entry_on_page(entry, page));
     }
-    Ok(())
+    Ok(Some(at))
 }

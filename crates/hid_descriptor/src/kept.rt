@@ -19,6 +19,9 @@ use std::alloc::{AllocError, Global};
 /// The items for which room is made at first.
 const FIRST_ITEMS: usize = 8;
 
+/// The bytes that an Input, Output or Feature item takes in a descriptor that has many, with its usages.
+const BYTES_OF_ITEM: usize = 8;
+
 /// The listed fields, in order.
 #[derive(Drop)]
 pub(crate) struct KeptFields {
@@ -47,6 +50,16 @@ impl KeptFields {
             elements: 0,
             ids: ReportIds::new(alloc),
         })
+    }
+
+    /// Makes room for as many fields as a descriptor of so many bytes has where it has many.
+    #[inline(never)]
+    pub(crate) fn reserve(&mut self, length: usize) -> Result<(), AllocError>
+        ensures { (fs : List Field) → AreKept fs self.old → AreKept fs self.new }
+    {
+        self.list.reserve(length / BYTES_OF_ITEM)?;
+        self.lists.reserve(length / BYTES_OF_ITEM)?;
+        Ok(())
     }
 
     /// Whether some fields have no report ID.
@@ -87,7 +100,10 @@ impl KeptFields {
         self.lists.push(entries, page, path)?;
         self.reports
             .add(field.kind, field.id, field.size * field.count)?;
-        self.ids.add(field.id)?;
+        // The ID of a report that had bits is there already.
+        if field.offset == 0 {
+            self.ids.add(field.id)?;
+        }
         Ok(())
     }
 

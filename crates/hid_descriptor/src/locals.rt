@@ -9,16 +9,16 @@ ghost use Rattle.hid_descriptor.specs.Usages.{to_list};
 ghost use Rattle.hid_descriptor.specs.Locals.{entry_on_page};
 
 use crate::prefix;
+use crate::range_ends::RangeEnds;
 use crate::usage::Usage;
 use hid_items::Item;
-use smallvec::SmallVec;
 use std::alloc::{AllocError, Global};
 
 /// The entries for which room is made at first.
 const FIRST_ENTRIES: usize = 8;
 
 /// A usage as an item names it: with a page of its own, or to be put on the Usage Page in force.
-#[derive(Clone, Copy, Default)]
+#[derive(Clone, Copy)]
 pub(crate) struct NamedUsage {
     pub(crate) page: Option<u16>,
     pub(crate) id: u16,
@@ -61,19 +61,13 @@ pub(crate) fn entry_on_page(entry: &(NamedUsage, NamedUsage), page: u16) -> (Usa
     (entry.0.on_page(page), entry.1.on_page(page))
 }
 
-fn usage_at(usages: &[NamedUsage], n: usize) -> Option<NamedUsage>
-    ensures { result ≡ slice_get usages.now n }
-{
-    usages.get(n).copied()
-}
-
 /// The local items that count, since the last main item.
 #[derive(Drop)]
 pub(crate) struct Locals {
     /// The ranges from a first to a last usage.
     pub(crate) entries: Vec<(NamedUsage, NamedUsage)>,
-    pub(crate) minima: SmallVec<NamedUsage, 1>,
-    pub(crate) maxima: SmallVec<NamedUsage, 1>,
+    pub(crate) minima: RangeEnds,
+    pub(crate) maxima: RangeEnds,
 }
 
 impl Locals {
@@ -84,27 +78,27 @@ impl Locals {
     {
         Ok(Locals {
             entries: Vec::with_capacity(alloc, FIRST_ENTRIES)?,
-            minima: SmallVec::new(alloc),
-            maxima: SmallVec::new(alloc),
+            minima: RangeEnds::new(alloc),
+            maxima: RangeEnds::new(alloc),
         })
     }
 
     /// Whether each Usage Minimum has its Usage Maximum.
     pub(crate) fn are_paired(&self) -> bool
-        ensures { result ≡ (length self.now.minima.items == length self.now.maxima.items) }
+        ensures { result ≡ (length self.now.minima == length self.now.maxima) }
     {
         self.minima.len() == self.maxima.len()
     }
 
     fn add_minimum(&mut self, low: NamedUsage) -> Result<(), AllocError>
-        ensures minima { OnOk result (self.new.minima.items ≡ self.old.minima.items ++ low ∷ []) }
-        ensures maxima { self.new.maxima.items ≡ self.old.maxima.items }
+        ensures minima { OnOk result (self.new.minima ≡ self.old.minima ++ low ∷ []) }
+        ensures maxima { self.new.maxima ≡ self.old.maxima }
         ensures entries { OnOk result (self.new.entries.items
             ≡ self.old.entries.items
             ++ to_list (option_map (λ high. (low, high))
-            (slice_get self.old.maxima.items (length self.old.minima.items)))) }
+            (slice_get self.old.maxima (length self.old.minima)))) }
     {
-        if let Some(high) = usage_at(self.maxima.as_slice(), self.minima.len()) {
+        if let Some(high) = self.maxima.get(self.minima.len()) {
             self.entries.push((low, high))?;
         }
         self.minima.push(low)?;
@@ -112,14 +106,14 @@ impl Locals {
     }
 
     fn add_maximum(&mut self, high: NamedUsage) -> Result<(), AllocError>
-        ensures maxima { OnOk result (self.new.maxima.items ≡ self.old.maxima.items ++ high ∷ []) }
-        ensures minima { self.new.minima.items ≡ self.old.minima.items }
+        ensures maxima { OnOk result (self.new.maxima ≡ self.old.maxima ++ high ∷ []) }
+        ensures minima { self.new.minima ≡ self.old.minima }
         ensures entries { OnOk result (self.new.entries.items
             ≡ self.old.entries.items
             ++ to_list (option_map (λ low. (low, high))
-            (slice_get self.old.minima.items (length self.old.maxima.items)))) }
+            (slice_get self.old.minima (length self.old.maxima)))) }
     {
-        if let Some(low) = usage_at(self.minima.as_slice(), self.maxima.len()) {
+        if let Some(low) = self.minima.get(self.maxima.len()) {
             self.entries.push((low, high))?;
         }
         self.maxima.push(high)?;

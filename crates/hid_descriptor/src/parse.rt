@@ -38,6 +38,9 @@ fn take_items(parser: &mut Parser, descriptor: &[u8]) -> Result<(), LayoutFault>
         × Reaches descriptor.now (length descriptor.now) before × StandsAt before parser.new) }
     ensures err { IfErr result (λ f. Explains descriptor.now f.cause f.at) }
 {
+    if parser.make_room(descriptor.len()).is_err() {
+        return Err(fault(Cause::Memory, 0));
+    }
     for next in Items::new(descriptor) {
         match next {
             Ok(item) => {

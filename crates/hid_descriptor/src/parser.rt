@@ -1,9 +1,9 @@
 //! One item at a time: what is in force, what is open, and the fields so far.
 
-ghost use Rattle.std.specs.Prelude.{◌≡◌, ℕ, List, [], true, map, IfOk};
+ghost use Rattle.std.specs.Prelude.{◌≡◌, ℕ, List, [], true, false, map, IfOk};
 ghost use Rattle.hid_items.specs.Spelling.{prefix_of, IsSpelling};
 ghost use Rattle.hid_items.specs.Reading.{IsShort, kind_of as spelled_kind};
-ghost use Rattle.hid_descriptor.specs.Items.{Spelled, is_field, COLLECTION, END_COLLECTION, PUSH, POP, REPORT_ID};
+ghost use Rattle.hid_descriptor.specs.Items.{Spelled, is_field, names_usage, COLLECTION, END_COLLECTION, PUSH, POP, REPORT_ID};
 ghost use Rattle.hid_descriptor.specs.Fields.{kind_of};
 ghost use Rattle.hid_descriptor.specs.Locals.{entry_on_page};
 
@@ -19,6 +19,9 @@ use crate::prefix;
 use crate::report::ReportKind;
 use hid_items::{Item, ItemKind};
 use std::alloc::{AllocError, Global};
+
+/// A descriptor of more bytes has room made for its fields at once.
+const SHORT_DESCRIPTOR: usize = 256;
 
 /// What the items so far leave in force, open and listed.
 #[derive(Drop)]
@@ -117,15 +120,27 @@ impl Parser {
         }
     }
 
-    /// Takes a global or local item, or a reserved one, which does nothing.
-    fn take_other(&mut self, prefix: u8, item: &Item) -> Result<(), Cause>
+    /// Takes a Usage, a Usage Minimum or a Usage Maximum.
+    fn take_usage(&mut self, prefix: u8, item: &Item) -> Result<(), Cause>
         requires short { IsShort item.now }
         requires prefix { prefix ≡ prefix_of item.now.bytes.now }
-        requires other { IsOther prefix }
+        requires usage { names_usage item.now.bytes.now ≡ true }
         ensures { (before : List Spelled) → StandsAt before self.old
             → Took before item.now.bytes.now result self.new }
     {
         self.locals.take(prefix, item)?;
+        Ok(())
+    }
+
+    /// Takes a global item that is no Push, Pop or Report ID, or an item that does nothing.
+    fn take_other(&mut self, prefix: u8, item: &Item) -> Result<(), Cause>
+        requires short { IsShort item.now }
+        requires prefix { prefix ≡ prefix_of item.now.bytes.now }
+        requires other { IsOther prefix }
+        requires no_usage { names_usage item.now.bytes.now ≡ false }
+        ensures { (before : List Spelled) → StandsAt before self.old
+            → Took before item.now.bytes.now result self.new }
+    {
         self.globals.now.set(prefix, item);
         Ok(())
     }
@@ -154,6 +169,7 @@ impl Parser {
     }
 
     /// Takes an Input, Output or Feature item.
+    #[inline(always)] // so that an item has no place in memory
     fn take_field(&mut self, kind: ReportKind, item: &Item) -> Result<(), Cause>
         requires { IsShort item.now }
         ensures { (before : List Spelled) → is_field item.now.bytes.now ≡ true
@@ -221,6 +237,9 @@ impl Parser {
             prefix::POP => self.take_pop(),
             prefix::REPORT_ID => self.take_report_id(item),
             prefix::DELIMITER => Err(Cause::Delimiter),
+            prefix::USAGE | prefix::USAGE_MINIMUM | prefix::USAGE_MAXIMUM => {
+                self.take_usage(prefix, item)
+            }
             _ => self.take_other(prefix, item),
         }
     }
@@ -230,6 +249,16 @@ impl Parser {
         ensures { (before : List Spelled) → StandsAt before self.now → result ≡ is_mixed before }
     {
         self.numbered && self.fields.lack_id()
+    }
+
+    /// Makes room for the fields of a descriptor of so many bytes, where it is long.
+    pub(crate) fn make_room(&mut self, length: usize) -> Result<(), AllocError>
+        ensures { (before : List Spelled) → StandsAt before self.old → StandsAt before self.new }
+    {
+        if length > SHORT_DESCRIPTOR {
+            self.fields.reserve(length)?;
+        }
+        Ok(())
     }
 
     /// Takes the next item.

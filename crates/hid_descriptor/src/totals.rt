@@ -1,7 +1,7 @@
 //! The bits of each report so far, and the report IDs so far.
 
-ghost use Rattle.std.specs.Prelude.{◌≡◌, ◌<◌, ◌≤◌, ◌+◌, ◌^◌, [], length, slice_get, IfOk, OnOk};
-ghost use Rattle.hid_descriptor.specs.Totals.{bits_in, with_bits, with_id, comes_before, is_report, has_report, place_for};
+ghost use Rattle.std.specs.Prelude.{◌≡◌, ◌<◌, ◌≤◌, ◌+◌, ◌^◌, [], length, slice_get, true, IfOk, IfErr, OnOk};
+ghost use Rattle.hid_descriptor.specs.Totals.{bits_in, with_bits, with_id, comes_before, is_report, has_report, place_for, are_in_order, IsFound, IsAbsent};
 
 use crate::report::{Report, ReportKind};
 use std::alloc::{AllocError, Global};
@@ -22,6 +22,80 @@ impl Report {
     }
 }
 
+/// Up to so many reports a walk is quicker than halving.
+const FEW_REPORTS: usize = 4;
+
+/// Where the first report stands that doesn't come before the one of that kind with that ID, found by a walk.
+fn place_by_walk(reports: &[Report], kind: ReportKind, id: u8) -> usize
+    ensures within { result ≤ length reports.now }
+    ensures first { result ≡ place_for kind id reports.now }
+{
+    for (i, report) in reports.iter().enumerate() {
+        if !report.comes_before(kind, id) {
+            return i;
+        }
+    }
+    reports.len()
+}
+
+/// The same place among reports by kind and then by ID, found by halving.
+fn place_by_halving(reports: &[Report], kind: ReportKind, id: u8) -> usize
+    requires { are_in_order reports.now ≡ true }
+    ensures within { result ≤ length reports.now }
+    ensures first { result ≡ place_for kind id reports.now }
+{
+    let mut low = 0;
+    let mut high = reports.len();
+    while low < high {
+        let middle = low + (high - low) / 2;
+        if reports[middle].comes_before(kind, id) {
+            low = middle + 1;
+        } else {
+            high = middle;
+        }
+    }
+    low
+}
+
+/// The same place, found by a walk where the reports are few, and by halving where they are more.
+fn place(reports: &[Report], kind: ReportKind, id: u8) -> usize
+    requires { are_in_order reports.now ≡ true }
+    ensures within { result ≤ length reports.now }
+    ensures first { result ≡ place_for kind id reports.now }
+{
+    if reports.len() <= FEW_REPORTS {
+        place_by_walk(reports, kind, id)
+    } else {
+        place_by_halving(reports, kind, id)
+    }
+}
+
+/// Whether the report at a place is there and is the one of that kind with that ID.
+fn is_at(reports: &[Report], i: usize, kind: ReportKind, id: u8) -> bool
+    ensures { result ≡ has_report kind id (slice_get reports.now i) }
+{
+    match reports.get(i) {
+        Some(report) => report.is_of(kind, id),
+        None => false,
+    }
+}
+
+/// The place of the report of a kind with an ID among reports by kind and then by ID, or the place where it would
+/// stand.
+#[inline(always)] // so that no Result is made and taken apart
+pub fn find_report(reports: &[Report], kind: ReportKind, id: u8) -> Result<usize, usize>
+    requires { are_in_order reports.now ≡ true }
+    ensures found { IfOk result (IsFound kind id reports.now) }
+    ensures absent { IfErr result (IsAbsent kind id reports.now) }
+{
+    let i = place(reports, kind, id);
+    if is_at(reports, i, kind, id) {
+        Ok(i)
+    } else {
+        Err(i)
+    }
+}
+
 /// The reports for which room is made at first.
 const FIRST_REPORTS: usize = 4;
 
@@ -29,6 +103,7 @@ const FIRST_REPORTS: usize = 4;
 #[derive(Drop)]
 pub(crate) struct ReportTotals {
     pub(crate) list: Vec<Report>,
+    ghost ordered: { are_in_order list.items ≡ true },
 }
 
 impl ReportTotals {
@@ -44,34 +119,9 @@ impl ReportTotals {
     pub(crate) fn bits(&self, kind: ReportKind, id: u8) -> u32
         ensures { result ≡ bits_in kind id self.now.list.items }
     {
-        for report in &self.list {
-            if report.is_of(kind, id) {
-                return report.bits;
-            }
-        }
-        0
-    }
-
-    /// Where the first report stands that doesn't come before the one of that kind with that ID.
-    fn place(&self, kind: ReportKind, id: u8) -> usize
-        ensures within { result ≤ length self.now.list.items }
-        ensures first { result ≡ place_for kind id self.now.list.items }
-    {
-        for (i, report) in self.list.iter().enumerate() {
-            if !report.comes_before(kind, id) {
-                return i;
-            }
-        }
-        self.list.len()
-    }
-
-    /// Whether the report at a place is there and is the one of that kind with that ID.
-    fn is_at(&self, i: usize, kind: ReportKind, id: u8) -> bool
-        ensures { result ≡ has_report kind id (slice_get self.now.list.items i) }
-    {
-        match self.list.get(i) {
-            Some(report) => report.is_of(kind, id),
-            None => false,
+        match find_report(&self.list, kind, id) {
+            Ok(i) => self.list[i].bits,
+            Err(_) => 0,
         }
     }
 
@@ -80,11 +130,9 @@ impl ReportTotals {
         requires { bits_in kind id self.old.list.items + bits < 2 ^ 32 }
         ensures { OnOk result (self.new.list.items ≡ with_bits kind id bits self.old.list.items) }
     {
-        let i = self.place(kind, id);
-        if self.is_at(i, kind, id) {
-            self.list[i].bits += bits;
-        } else {
-            self.list.insert(i, Report { kind, id, bits })?;
+        match find_report(&self.list, kind, id) {
+            Ok(i) => self.list[i].bits += bits,
+            Err(i) => self.list.insert(i, Report { kind, id, bits })?,
         }
         Ok(())
     }

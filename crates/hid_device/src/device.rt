@@ -4,6 +4,7 @@ ghost use Rattle.std.specs.Prelude.{◌≡◌, IfSome};
 ghost use Rattle.std.specs.Option.{option_copied};
 ghost use Rattle.hid_layout.specs.Controls.{items_of};
 ghost use Rattle.hid_cells.specs.Snapshots.{Changes};
+ghost use Rattle.usb_packet.specs.Lent.{owned, IsShort};
 ghost use Rattle.usb_packet.specs.Spelling.{Fits};
 ghost use Rattle.hid_device.specs.Core.{IsSound, armed_of, opening_of, piece_at, poll_answer, round_of};
 ghost use Rattle.hid_device.specs.Device.{is_poll, device_after, device_answer, configured_device, halted_device, controlled, core_of, changed_device, effect_of, framed_device, passed, polled_device, reset_device};
@@ -20,7 +21,7 @@ use std::alloc::Global;
 use std::marker::Model;
 use std::mem;
 use usb_control::DevControl;
-use usb_packet::{Packet, TokenKind};
+use usb_packet::{LentPacket, Packet, TokenKind};
 use usb_transact::DevPipe;
 
 /// The number of a device's interrupt-IN endpoint (our choice).
@@ -181,6 +182,40 @@ impl Device {
         }
     }
 
+    /// Whether a packet that arrives is a poll.
+    pub fn is_polled_by(&self, packet: LentPacket) -> bool
+        ensures { result ≡ is_poll self.now (owned packet.entry) }
+    {
+        match packet {
+            LentPacket::Token {
+                kind: TokenKind::In,
+                addr,
+                endp,
+            } => self.is_polled(addr, endp),
+            _ => false,
+        }
+    }
+
+    /// A poll has arrived: a round is opened where none is open and some report is due. What [`Device::on_packet`] makes of it
+    /// but for its answer.
+    pub fn hear_poll(&mut self)
+        ensures device { self.new ≡ polled_device self.old (opening_of (core_of self.old)) }
+    {
+        self.pass();
+        self.control.requests_mut().open_if_due();
+        self.waits = self.control.requests().open_round().is_some();
+    }
+
+    /// The answer to a poll that was heard, with its payload where it stands.
+    pub fn poll_answer(&self) -> LentPacket<'_>
+        ensures answer { owned result ≡ poll_answer (core_of self.now) }
+        ensures fits { Fits (owned result) }
+        ensures short { IsShort result }
+        ensures sound { IsSound (core_of self.now) }
+    {
+        self.control.requests().poll_answer()
+    }
+
     /// The layout of its reports.
     pub fn layout(&self) -> &Layout
         ensures layout { result.now ≡ (core_of self.now).layout }
@@ -259,7 +294,7 @@ impl Device {
     fn pass(&mut self)
         ensures { self.new ≡ passed self.old (core_of self.old) self.old.waits }
     {
-        let _ = self.control.on_packet(&Packet::Nak);
+        self.control.pass();
     }
 
     /// The answer to a poll, once a round was opened for it.
@@ -269,9 +304,7 @@ impl Device {
         ensures fits { Fits result }
         ensures sound { IsSound (core_of self.new) }
     {
-        self.pass();
-        self.control.requests_mut().open_if_due();
-        self.waits = self.control.requests().open_round().is_some();
-        self.control.requests().poll_answer()
+        self.hear_poll();
+        self.poll_answer().owned()
     }
 }

@@ -7,6 +7,7 @@ ghost use Rattle.hid_cells.specs.Cells.{FitsSnapshot};
 ghost use Rattle.hid_parts.specs.Encoding.{AreBytes};
 ghost use Rattle.hid_cells.specs.Parts.{is_changed};
 ghost use Rattle.hid_cells.specs.Snapshots.{Changes};
+ghost use Rattle.usb_packet.specs.Lent.{owned, IsShort};
 ghost use Rattle.usb_packet.specs.Spelling.{Fits};
 ghost use Rattle.hid_device.specs.Standing.{is_due, due_where};
 ghost use Rattle.hid_device.specs.Core.{IsSound, armed_of, opened_core, opening_of, closed_core, configured_core, halted_core, cleared_core, piece_at, poll_answer, reset_core, changed_core, framed_core, next_of, round_of};
@@ -33,7 +34,7 @@ use hid_requests::{
 use std::alloc::Global;
 use std::marker::Model;
 use usb_control::{Requests, Setup};
-use usb_packet::Packet;
+use usb_packet::LentPacket;
 use usb_transact::DevPipe;
 
 /// The inside of a device, which answers the requests of its endpoint 0. A contract sees it as a `CoreState`.
@@ -363,12 +364,13 @@ impl Core {
 
     /// The answer to a poll: STALL while the endpoint is halted, else what is armed under the toggle, else NAK (USB 2.0,
     /// 8.4.6.1).
-    pub(crate) fn poll_answer(&self) -> Packet
-        ensures answer { result ≡ poll_answer self.now }
-        ensures fits { Fits result }
+    pub(crate) fn poll_answer(&self) -> LentPacket<'_>
+        ensures answer { owned result ≡ poll_answer self.now }
+        ensures fits { Fits (owned result) }
+        ensures short { IsShort result }
         ensures sound { IsSound self.now }
     {
-        self.pipe.answer()
+        self.pipe.lent_answer()
     }
 
     /// An acknowledgement has arrived: the piece is closed (USB 2.0, 8.6.2). The next one is armed, and behind the last one

@@ -14,6 +14,13 @@
 //! ```
 //! Fates and refusals are those of docs/SCRIPT.md.
 
+ghost use Rattle.std.specs.Prelude.{IfOk, List};
+ghost use Rattle.hid_descriptor.specs.Items.{Spelled};
+ghost use Rattle.hid_descriptor.specs.Faults.{Accepts};
+ghost use Rattle.hid_layout.specs.Layout.{layout_of};
+ghost use Rattle.hid_layout.specs.Controls.{items_of};
+ghost use Rattle.hid_usages.specs.Cells.{FitsShown};
+
 mod foreign;
 
 use crate::ends::{Ends, ready};
@@ -221,16 +228,24 @@ fn tell_held(host: &HostDevice, control: Option<ControlId>, told: &mut Told) {
 /// A host that took a packet and was reset behind it, what it took it for, how many events it gave, and those of the reset.
 type Reset = (HostDevice, Took, usize, Vec<Event>);
 
+/// What a device of this descriptor shows before anything has changed.
+fn blank_of(alloc: Global, descriptor: &[u8]) -> Result<Shown, StackFault>
+    ensures { IfOk result (λ shown. (before : List Spelled) × Accepts descriptor.now before
+        × FitsShown (items_of (layout_of before)) shown) }
+{
+    match Layout::parse(alloc, descriptor) {
+        Ok(layout) => Ok(Shown::blank(alloc, &layout)?),
+        Err(_) => Err(StackFault::Memory),
+    }
+}
+
 /// A new host that was reset once it had taken this packet, with no round open at its device then.
 fn reset_behind(
     alloc: Global,
     descriptor: &[u8],
     packet: Option<&Packet>,
 ) -> Result<Reset, StackFault> {
-    let Ok(layout) = Layout::parse(alloc, descriptor) else {
-        return Err(StackFault::Memory);
-    };
-    let fixed = Shown::blank(alloc, &layout)?;
+    let fixed = blank_of(alloc, descriptor)?;
     let mut host = HostDevice::ready(alloc, 1, descriptor)?;
     let Ok(mut out) = Vec::with_capacity(alloc, host.max_events()) else {
         return Err(StackFault::Memory);

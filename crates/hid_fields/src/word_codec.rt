@@ -1,7 +1,7 @@
-//! The codec by words: the bytes that a field touches, five at most, are taken as one word; to read one, eight bytes are
-//! taken at once where there are as many.
-ghost use Rattle.std.specs.Prelude.{◌≡◌, ◌+◌, ◌*◌, ◌^◌, ◌<◌, ◌≤◌, length};
-ghost use Rattle.hid_fields.specs.Field.{pattern_of};
+//! The codec by words: the bytes that a field touches, five at most, are taken as one word; to read one of several bytes,
+//! eight are taken at once where there are as many.
+ghost use Rattle.std.specs.Prelude.{◌≡◌, ◌+◌, ◌*◌, ◌%◌, ◌^◌, ◌<◌, ◌≤◌, ℕ, length};
+ghost use Rattle.hid_fields.specs.Field.{bit_of, pattern_of, IsOutside};
 ghost use Rattle.hid_fields.specs.Word.{spliced};
 
 use crate::codec::{FieldCodec, MAX_WIDTH};
@@ -50,6 +50,18 @@ fn gather_eight(bytes: &[u8]) -> u64
         [a, b, c, d, e, f, g, h] => u64::from_le_bytes([a, b, c, d, e, f, g, h]),
         _ => 0,
     }
+}
+
+/// The pattern of a field that lies in one byte.
+#[inline(always)]
+fn byte_pattern(bytes: &[u8], at: usize, width: u32) -> u32
+    requires some { 0 < width }
+    requires one { at % 8 + width ≤ 8 }
+    requires inside { at + width ≤ 8 * length bytes.now }
+    ensures { result ≡ pattern_of bytes.now at width }
+{
+    let byte = u64::from(bytes[at / 8]);
+    (byte >> (at % 8) & ((1u64 << width) - 1)) as u32
 }
 
 /// The pattern of a field, of the bytes that it touches.
@@ -108,21 +120,40 @@ fn splice(word: u64, shift: usize, width: u32, pattern: u32) -> u64
     (high << width | u64::from(pattern)) << shift | low
 }
 
+/// Makes this the pattern of a field, in the word of the bytes that it touches.
+fn put_spliced(bytes: &mut [u8], at: usize, width: u32, pattern: u32)
+    requires some { 0 < width }
+    requires width { width ≤ MAX_WIDTH }
+    requires inside { at + width ≤ 8 * length bytes.old }
+    requires fits { pattern < 2 ^ width }
+    ensures field { pattern_of bytes.new at width ≡ pattern }
+    ensures others { (n : ℕ) → IsOutside at width n → bit_of bytes.new n ≡ bit_of bytes.old n }
+{
+    let (first, shift) = (at / 8, at % 8);
+    let field = &mut bytes[first..first + touched(shift, width)];
+    let word = splice(gather(field), shift, width, pattern);
+    scatter(field, word);
+}
+
 impl FieldCodec for WordCodec {
     #[tactic(auto, using(crate::proofs::FieldLemmas::pattern_fits))]
     #[inline(always)]
     fn get(bytes: &[u8], at: usize, width: u32) -> u32 {
-        if bytes.len() < WORD_BYTES {
+        if at % 8 + width as usize <= 8 {
+            byte_pattern(bytes, at, width)
+        } else if bytes.len() < WORD_BYTES {
             touched_pattern(bytes, at, width)
         } else {
             word_pattern(bytes, at, width)
         }
     }
 
+    #[inline(always)]
     fn put(bytes: &mut [u8], at: usize, width: u32, pattern: u32) {
-        let (first, shift) = (at / 8, at % 8);
-        let field = &mut bytes[first..first + touched(shift, width)];
-        let word = splice(gather(field), shift, width, pattern);
-        scatter(field, word);
+        if width == 8 && at % 8 == 0 {
+            bytes[at / 8] = pattern as u8; // a whole byte
+        } else {
+            put_spliced(bytes, at, width, pattern);
+        }
     }
 }

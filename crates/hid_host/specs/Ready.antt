@@ -7,8 +7,7 @@ use Rattle.hid_cells.specs.declared.cell.Cell.{Cell}
 use Rattle.hid_cells.specs.declared.event.Event.{Event}
 use Rattle.hid_cells.specs.declared.fault.ReportFault.{ReportFault}
 use Rattle.hid_descriptor.specs.declared.limits.TheConstants.{MAX_REPORT_BYTES}
-use Rattle.hid_layout.specs.Reports.{IsLayout}
-use Rattle.hid_usages.specs.Cells.{FitsView, blank}
+use Rattle.hid_usages.specs.Cells.{blank}
 use Rattle.hid_usages.specs.Reading.{bytes_awaited, report_named}
 use Rattle.hid_usages.specs.Taking.{read_view, read_events}
 use Rattle.usb_transact.specs.declared.host.Took.{Took}
@@ -25,11 +24,6 @@ pub record Known : Type 0 where
   pub pipe : HostPipeState
   pub view : List Cell
   pub collected : List ℕ
-
--- a view of the controls of a layout
-pub record IsViewed (layout : Contents) (view : List Cell) : Type 0 where
-  pub laid : IsLayout layout
-  pub fits : FitsView (items_of layout) view
 
 -- full packets, and fewer bytes than the longest report has
 pub record ArePackets (bytes : List ℕ) : Type 0 where

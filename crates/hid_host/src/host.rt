@@ -1,8 +1,9 @@
 //! The host of one device: the requests that it makes, and its polls.
-ghost use Rattle.std.specs.Prelude.{◌≡◌, ◌⊎◌, false, ◌≤◌, ◌<◌, ◌+◌, ◌++◌, length, IfOk, IfErr, vec_len, vec_capacity};
-ghost use Rattle.std.specs.Option.{option_copied};
+ghost use Rattle.std.specs.Prelude.{◌≡◌, ◌⊎◌, false, ◌≤◌, ◌<◌, ◌+◌, ◌++◌, length, IfSome, IfOk, IfErr, vec_len, vec_capacity};
+ghost use Rattle.std.specs.Option.{option_copied, option_map};
 ghost use Rattle.hid_layout.specs.Controls.{items_of, max_events};
 ghost use Rattle.hid_layout.specs.Layout.{Contents};
+ghost use Rattle.usb_packet.specs.Lent.{owned, IsShort};
 ghost use Rattle.usb_packet.specs.Spelling.{Fits};
 ghost use Rattle.usb_transact.specs.Taken.{taken};
 ghost use Rattle.hid_device.specs.Laying.{Lays};
@@ -22,7 +23,7 @@ use hid_usages::{Event, Shown, View};
 use std::alloc::Global;
 use std::marker::Model;
 use usb_control::{ControlFault, DevControl, HostTransfer, Outcome, Progress, Requests};
-use usb_packet::{MAX_ADDRESS, Packet};
+use usb_packet::{LentPacket, MAX_ADDRESS, Packet};
 use usb_transact::{Fate, HostPipe, Took};
 
 /// The interrupt-IN endpoint of a virtual device.
@@ -179,6 +180,38 @@ impl HostDevice {
             ≡ out.old.items
             ++ events_behind host (taken host.pipe.expects (option_copied packet.entry))) }
 
+        ensures few { IfReady self.old.phase (λ host. length out.new.items
+            ≤ length out.old.items + max_events (items_of host.layout)) }
+        ensures room { vec_capacity out.new ≡ vec_capacity out.old }
+        ensures is_ready { IsReady self.new.phase }
+    {
+        match packet {
+            Some(packet) => self.reply_lent(Some(packet.lent()), out),
+            None => self.reply_lent(None, out),
+        }
+    }
+
+    /// The same of a packet whose payload stands elsewhere.
+    ///
+    /// # Errors
+    /// As of [`HostDevice::reply`].
+    pub fn reply_lent(
+        &mut self,
+        packet: Option<LentPacket>,
+        out: &mut Vec<Event>,
+    ) -> Result<Took, StackFault>
+        requires short { IfSome packet IsShort }
+        requires ready { IsReady self.old.phase }
+        requires room { IfReady self.old.phase (λ host. vec_len out.old
+            + max_events (items_of host.layout) ≤ vec_capacity out.old) }
+        ensures told { IfReady self.old.phase (λ host. result
+            ≡ told_of host (taken host.pipe.expects (option_map owned packet.entry))) }
+        ensures after { IfReady self.old.phase (λ host. self.new
+            ≡ ready_after self.old host
+            (taken host.pipe.expects (option_map owned packet.entry))) }
+        ensures events { IfReady self.old.phase (λ host. out.new.items
+            ≡ out.old.items
+            ++ events_behind host (taken host.pipe.expects (option_map owned packet.entry))) }
         ensures few { IfReady self.old.phase (λ host. length out.new.items
             ≤ length out.old.items + max_events (items_of host.layout)) }
         ensures room { vec_capacity out.new ≡ vec_capacity out.old }

@@ -1,13 +1,14 @@
-//! What a ready host keeps: the layout of the reports, the pipe that it polls, its view of the controls, and what came of a
-//! report that isn't whole yet.
+//! What a ready host keeps: the layout of the reports with its view of the controls, the pipe that it polls, and what came of
+//! a report that isn't whole yet.
 ghost use Rattle.std.specs.Prelude.{◌≡◌, ◌≤◌, ◌<◌, ◌+◌, ◌++◌, false, not, length, unwrap_or, vec_len, vec_capacity, IfSome};
-ghost use Rattle.std.specs.Option.{option_copied};
+ghost use Rattle.std.specs.Option.{option_map};
 ghost use Rattle.hid_descriptor.specs.declared.limits.TheConstants.{MAX_REPORT_BYTES};
 ghost use Rattle.hid_layout.specs.Controls.{items_of, max_events};
 ghost use Rattle.hid_layout.specs.Reports.{IsLayout};
 ghost use Rattle.hid_usages.specs.Cells.{FitsView, blank};
 ghost use Rattle.hid_usages.specs.Parts.{IsInput};
 ghost use Rattle.hid_usages.specs.Reading.{report_named};
+ghost use Rattle.usb_packet.specs.Lent.{owned, IsShort};
 ghost use Rattle.usb_packet.specs.Spelling.{Fits};
 ghost use Rattle.usb_transact.specs.Taken.{taken};
 ghost use Rattle.usb_transact.specs.Host.{token_to};
@@ -20,34 +21,33 @@ use arrayvec::ArrayVec;
 use hid_cells::pieces_of;
 use hid_fields::WordCodec;
 use hid_layout::Layout;
-use hid_usages::{Event, ReportFault, Shown, View, bytes_awaited, changes_and_drops};
+use hid_usages::{Event, Reader, ReportFault, Shown, View, bytes_awaited, changes_and_drops};
 use std::marker::Model;
-use usb_packet::{MAX_ADDRESS, MAX_ENDPOINT, MAX_PAYLOAD, Packet};
+use usb_packet::{LentPacket, MAX_ADDRESS, MAX_ENDPOINT, MAX_PAYLOAD, Packet};
 use usb_transact::{HostPipe, Took};
 
 /// What a ready host keeps. A contract sees it as `layout`, `pipe`, `view` and `collected`.
 #[derive(Drop)]
 pub struct ReadyHost {
-    layout: Layout,
+    reader: Reader,
     pipe: HostPipe,
-    view: View,
     /// What came of a report that isn't whole yet: full packets.
     collected: ArrayVec<u8, 256>,
 }
 
 impl Model for ReadyHost {
-    ghost use Rattle.hid_host.specs.Ready.{ArePackets, IsViewed, Known};
+    ghost use Rattle.hid_host.specs.Ready.{ArePackets, Known};
 
     ghost Value = { Known };
 
     ghost view = { λ h. record {
-      layout = h.layout;
+      layout = h.reader.layout;
       pipe = h.pipe;
-      view = h.view;
+      view = h.reader.view;
       collected = h.collected.items;
     } };
 
-    ghost invariant = { λ h. IsViewed h.layout h.view × ArePackets h.collected.items };
+    ghost invariant = { λ h. ArePackets h.collected.items };
 }
 
 /// Whether a report ends with these bytes, of which so many came last: it is as long as it should be, or the last packet isn't
@@ -60,22 +60,18 @@ fn is_whole(layout: &Layout, bytes: &[u8], last: usize) -> bool
 }
 
 /// Reads a report that has ended. One that is refused leaves the view.
-fn read_report(
-    layout: &Layout,
-    bytes: &[u8],
-    view: &mut View,
-    out: &mut Vec<Event>,
-) -> Result<(), ReportFault>
-    requires fits { FitsView (items_of layout.now) view.old }
-    requires room { vec_len out.old + max_events (items_of layout.now) ≤ vec_capacity out.old }
-    ensures told { result ≡ read_or_fault (report_named layout.now bytes.now) }
-    ensures view { view.new ≡ view_read layout.now bytes.now view.old }
-    ensures events { out.new.items ≡ out.old.items ++ events_read layout.now bytes.now view.old }
-    ensures fits { FitsView (items_of layout.now) view.new }
-    ensures few { length out.new.items ≤ length out.old.items + max_events (items_of layout.now) }
+fn read_report(reader: &mut Reader, bytes: &[u8], out: &mut Vec<Event>) -> Result<(), ReportFault>
+    requires room { vec_len out.old + max_events (items_of reader.old.layout) ≤ vec_capacity out.old }
+    ensures told { result ≡ read_or_fault (report_named reader.old.layout bytes.now) }
+    ensures layout { reader.new.layout ≡ reader.old.layout }
+    ensures view { reader.new.view ≡ view_read reader.old.layout bytes.now reader.old.view }
+    ensures events { out.new.items
+        ≡ out.old.items ++ events_read reader.old.layout bytes.now reader.old.view }
+    ensures few { length out.new.items
+        ≤ length out.old.items + max_events (items_of reader.old.layout) }
     ensures room { vec_capacity out.new ≡ vec_capacity out.old }
 {
-    view.take_report::<WordCodec>(layout, bytes, out)
+    reader.take_report::<WordCodec>(bytes, out)
 }
 
 impl ReadyHost {
@@ -88,9 +84,8 @@ impl ReadyHost {
         ensures { result ≡ known_at_start addr endpoint layout }
     {
         ReadyHost {
-            layout,
+            reader: Reader::new(layout, view),
             pipe: HostPipe::new(addr, endpoint),
-            view,
             collected: ArrayVec::new(),
         }
     }
@@ -125,7 +120,7 @@ impl ReadyHost {
     pub(crate) fn max_events(&self) -> usize
         ensures { result ≡ max_events (items_of self.now.layout) }
     {
-        self.layout.max_events()
+        self.reader.layout().max_events()
     }
 
     /// The pipe that is polled.
@@ -139,29 +134,30 @@ impl ReadyHost {
     pub(crate) fn view(&self) -> &View
         ensures { result.now ≡ self.now.view }
     {
-        &self.view
+        self.reader.view()
     }
 
     /// Takes what came after a token, if something did. There is reserved room for `max_events` more.
     pub(crate) fn reply(
         &mut self,
-        packet: Option<&Packet>,
+        packet: Option<LentPacket>,
         out: &mut Vec<Event>,
     ) -> Result<Took, StackFault>
+        requires short { IfSome packet IsShort }
         requires room { vec_len out.old + max_events (items_of self.old.layout)
             ≤ vec_capacity out.old }
         ensures told { result
-            ≡ told_of self.old (taken self.old.pipe.expects (option_copied packet.entry)) }
+            ≡ told_of self.old (taken self.old.pipe.expects (option_map owned packet.entry)) }
         ensures after { self.new
-            ≡ known_behind self.old (taken self.old.pipe.expects (option_copied packet.entry)) }
+            ≡ known_behind self.old (taken self.old.pipe.expects (option_map owned packet.entry)) }
         ensures events { out.new.items
             ≡ out.old.items
-            ++ events_behind self.old (taken self.old.pipe.expects (option_copied packet.entry)) }
+            ++ events_behind self.old (taken self.old.pipe.expects (option_map owned packet.entry)) }
         ensures few { length out.new.items
             ≤ length out.old.items + max_events (items_of self.old.layout) }
         ensures room { vec_capacity out.new ≡ vec_capacity out.old }
     {
-        let took = self.pipe.take(packet);
+        let took = self.pipe.take_lent(packet);
         if let Took::Fresh(payload) = &took {
             match self.read(payload.as_slice(), out) {
                 Ok(()) => {}
@@ -187,14 +183,14 @@ impl ReadyHost {
             ≤ length out.old.items + max_events (items_of self.old.layout) }
         ensures room { vec_capacity out.new ≡ vec_capacity out.old }
     {
-        if self.collected.is_empty() && is_whole(&self.layout, payload, payload.len()) {
-            return read_report(&self.layout, payload, &mut self.view, out);
+        if self.collected.is_empty() && is_whole(self.reader.layout(), payload, payload.len()) {
+            return read_report(&mut self.reader, payload, out);
         }
         self.collected.try_extend_from_slice(payload).unwrap();
-        if !is_whole(&self.layout, &self.collected, payload.len()) {
+        if !is_whole(self.reader.layout(), &self.collected, payload.len()) {
             return Ok(());
         }
-        let told = read_report(&self.layout, &self.collected, &mut self.view, out);
+        let told = read_report(&mut self.reader, &self.collected, out);
         self.collected.clear();
         told
     }
@@ -204,7 +200,7 @@ impl ReadyHost {
         requires { IsInput self.now.layout report }
         ensures { result ≡ not (is_last_piece (items_of self.now.layout) report (unwrap_or piece 0)) }
     {
-        piece.unwrap_or(0) < pieces_of(&self.layout, report) - 1
+        piece.unwrap_or(0) < pieces_of(self.reader.layout(), report) - 1
     }
 
     /// The report of the round that is open at the device, where its data haven't all come: those of this piece go out under
@@ -244,11 +240,10 @@ impl ReadyHost {
             ≤ length out.old.items + max_events (items_of self.old.layout) }
         ensures room { vec_capacity out.new ≡ vec_capacity out.old }
     {
+        let (layout, view) = (self.reader.layout(), self.reader.view());
         match self.awaited(round, piece) {
-            Some(report) => self
-                .view
-                .changes_back_and_drops(&self.layout, report, fixed, out),
-            None => self.view.changes_back(&self.layout, out),
+            Some(report) => view.changes_back_and_drops(layout, report, fixed, out),
+            None => view.changes_back(layout, out),
         }
     }
 
@@ -270,8 +265,8 @@ impl ReadyHost {
         ensures room { vec_capacity out.new ≡ vec_capacity out.old }
     {
         if let Some(report) = self.awaited(round, piece) {
-            let cells = self.view.cells();
-            changes_and_drops(&self.layout, cells, cells, report, fixed, out);
+            let cells = self.reader.view().cells();
+            changes_and_drops(self.reader.layout(), cells, cells, report, fixed, out);
         }
     }
 }

@@ -8,3 +8,4 @@ pub mod IndexLemmas
 pub mod FormLemmas
 pub mod FindLemmas
 pub mod LaidLemmas
+pub mod PlanLemmas

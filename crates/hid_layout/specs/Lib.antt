@@ -6,3 +6,4 @@ pub mod Stretches
 pub mod Index
 pub mod Finding
 pub mod ControlKinds
+pub mod Plans

@@ -1,6 +1,6 @@
 //! The controls that a layout gives.
 
-ghost use Rattle.std.specs.Prelude.{◌≡◌, false, ◌<◌, ◌≤◌, ◌*◌, ◌^◌, length, slice_get};
+ghost use Rattle.std.specs.Prelude.{◌≡◌, false, ◌<◌, ◌≤◌, ◌*◌, ◌^◌, length, slice_get, Some};
 ghost use Rattle.hid_descriptor.specs.Usages.{usage_list};
 ghost use Rattle.hid_layout.specs.Controls.{least_of, greatest_of, has_outside, element_kind, is_key};
 
@@ -97,13 +97,19 @@ impl MainItem {
     ghost use Rattle.hid_layout.specs.Sent.{AreCodes};
     ghost use Rattle.hid_descriptor.specs.Usages.{starts_of};
 
-    /// The controls of an item of an Input report, without their usages.
-    pub(crate) fn controls(&self, entries: &[(Usage, Usage)], codes: &Codes) -> Controls
+    /// The controls of an item of an Input report, without their usages. An array's codes are those at a place.
+    pub(crate) fn controls(
+        &self,
+        entries: &[(Usage, Usage)],
+        codes: &[Codes],
+        place: usize,
+    ) -> Controls
         requires elements { is_padding self.now.shape ≡ false → HasElements self.now }
         requires few { length entries.now ≤ MAX_ENTRIES }
         requires some { is_padding self.now.shape ≡ false → 0 < length (usage_list entries.now) }
-        requires codes { is_padding self.now.shape ≡ false
-            → AreCodes self.now (usage_list entries.now) codes.now }
+        requires kept { self.now.shape ≡ Shape.Array → place < length codes.now }
+        requires codes { (kept : Codes) → slice_get codes.now place ≡ Some kept
+            → self.now.shape ≡ Shape.Array → AreCodes self.now (usage_list entries.now) kept }
         ensures { result ≡ head_of (form_of self.now (usage_list entries.now) self.now.shape) }
     {
         match self.shape {
@@ -116,7 +122,7 @@ impl MainItem {
             },
             Shape::Array => Controls::Keys {
                 elements: self.count as usize,
-                rolls_over: codes.rollover.is_some(),
+                rolls_over: codes[place].rollover.is_some(),
                 count: usage_count(entries).min(MAX_KEYS),
             },
         }

@@ -1,6 +1,6 @@
 //! Layouts, and how they are read.
 
-ghost use Rattle.std.specs.Prelude.{◌≡◌, ◌^◌, false, ◌<◌, ◌≤◌, ℕ, List, length, map, slice_get, IfOk, IfErr, Some};
+ghost use Rattle.std.specs.Prelude.{◌≡◌, ◌^◌, true, false, ◌<◌, ◌≤◌, ℕ, List, length, map, slice_get, IfOk, IfErr, Some};
 ghost use Rattle.hid_descriptor.specs.Items.{Spelled};
 ghost use Rattle.hid_descriptor.specs.Listing.{ListsFields};
 ghost use Rattle.hid_layout.specs.Reports.{report_bytes, usage_of, element_of, IsLayout};
@@ -9,18 +9,18 @@ ghost use Rattle.hid_descriptor.specs.Fields.{is_padding};
 ghost use Rattle.hid_layout.specs.Sent.{AreCodes};
 ghost use Rattle.hid_layout.specs.Index.{plan_of};
 ghost use Rattle.hid_descriptor.specs.Faults.{Accepts, Explains};
-ghost use Rattle.hid_descriptor.specs.Totals.{place_of};
+ghost use Rattle.hid_descriptor.specs.Totals.{place_of, are_in_order};
 ghost use Rattle.hid_layout.specs.Layout.{item_of, layout_of};
 
 use crate::control::{Control, ControlId, Controls};
-use crate::index::{all_codes, all_plans};
+use crate::index::all_codes;
 use crate::main_item::{Element, MainItem};
 use crate::plans::Plans;
 use crate::search::{holds, usage_by_starts};
-use crate::sent::Codes;
+use crate::sent::{Codes, NO_CODES, codes_of};
 use hid_descriptor::{
     Cause, Collection, ItemLists, KeptField, LayoutFault, ListedFields, Report, ReportKind, Shape,
-    Usage, list_fields,
+    Usage, find_report, list_fields,
 };
 use std::alloc::{AllocError, Global};
 use std::marker::Model;
@@ -33,6 +33,7 @@ pub struct Layout {
     items: Vec<MainItem>,
     lists: ItemLists,
     plans: Plans,
+    /// Those of the arrays, at their places.
     codes: Vec<Codes>,
 }
 
@@ -152,7 +153,12 @@ impl Layout {
             → slice_get self.now.entries item ≡ Some es → is_padding main.shape ≡ false
             → AreCodes main (usage_list es) result }
     {
-        self.codes[item]
+        let main = &self.items[item];
+        match main.shape {
+            Shape::Padding => NO_CODES,
+            Shape::Variable => codes_of(main, self.lists.entries(item)),
+            Shape::Array => self.codes[item],
+        }
     }
 }
 
@@ -176,7 +182,7 @@ impl Layout {
     {
         let main = &self.items[item];
         if self.is_input(main) {
-            main.controls(self.lists.entries(item), &self.codes[item])
+            main.controls(self.lists.entries(item), &self.codes, item)
         } else {
             Controls::None
         }
@@ -279,14 +285,13 @@ impl Layout {
 
 /// The place of the report of a kind with an ID.
 fn place_of(reports: &[Report], kind: ReportKind, id: u8) -> usize
+    requires { are_in_order reports.now ≡ true }
     ensures { result ≡ place_of kind id reports.now }
 {
-    for (i, report) in reports.iter().enumerate() {
-        if report.is_of(kind, id) {
-            return i;
-        }
+    match find_report(reports, kind, id) {
+        Ok(i) => i,
+        Err(_) => reports.len(),
     }
-    reports.len()
 }
 
 /// The listed items, by their fields.
@@ -295,11 +300,12 @@ fn items_of(
     reports: &[Report],
     fields: &[KeptField],
 ) -> Result<Vec<MainItem>, AllocError>
+    requires { are_in_order reports.now ≡ true }
     ensures { IfOk result (λ items. items.items ≡ map (item_of reports.now) fields.now) }
 {
     let mut items = Vec::with_capacity(alloc, fields.len())?;
     for field in fields {
-        items.push(MainItem {
+        items.push_reserved(MainItem {
             report: place_of(reports, field.kind, field.id),
             offset: field.offset,
             size: field.size,
@@ -308,7 +314,7 @@ fn items_of(
             min: field.min,
             max: field.max,
             shape: field.shape,
-        })?;
+        });
     }
     Ok(items)
 }
@@ -326,7 +332,7 @@ fn lay_out(alloc: Global, listed: ListedFields) -> Result<Layout, AllocError>
         numbered,
         ..
     } = listed;
-    let plans = all_plans(alloc, reports.len(), &items)?;
+    let plans = Plans::of(alloc, reports.len(), &items)?;
     let codes = all_codes(alloc, &items, &lists)?;
     Ok(Layout {
         reports,

@@ -48,4 +48,4 @@ pub use hid_descriptor::{
 };
 pub use layout::Layout;
 pub use main_item::{Element, MainItem};
-pub use sent::Codes;
+pub use sent::{Codes, null_number};

@@ -1,43 +1,53 @@
 //! For each report the places of its items.
 
-ghost use Rattle.std.specs.Prelude.{◌≡◌, ◌≤◌, ◌<◌, ℕ, List, [], ◌∷◌, ◌++◌, length, slice_get, IfOk, OnOk, Some};
+ghost use Rattle.std.specs.Prelude.{◌≡◌, ◌<◌, ◌≤◌, ◌^◌, ℕ, List, [], length, map, slice_get, slice_range, IfOk, Some};
+ghost use Rattle.hid_descriptor.specs.Faults.{upward};
+ghost use Rattle.hid_layout.specs.declared.main_item.MainItem.{MainItem};
 ghost use Rattle.hid_layout.specs.Index.{places_from};
+ghost use Rattle.hid_layout.specs.Plans.{AreIn, count_of, begin_of, end_of, ArePut};
 
 use crate::main_item::MainItem;
-use hid_descriptor::Span;
 use std::alloc::{AllocError, Global};
 use std::marker::Model;
 
-/// For some reports the places of their items, kept one behind the other.
+/// For some reports the places of their items, in one piece of memory.
 #[derive(Debug, Drop)]
 pub(crate) struct Plans {
-    places: Vec<usize>,
-    spans: Vec<Span>,
+    reports: usize,
+    /// Where the places of each report begin among all places, and where those of the last one end; then all places,
+    /// one report behind the other.
+    bounds_and_places: Vec<usize>,
 }
 
 impl Model for Plans {
     ghost use Rattle.std.specs.Prelude.{ℕ, List};
-    ghost use Rattle.hid_descriptor.specs.Lists.{AreWithin, lists_at};
+    ghost use Rattle.hid_layout.specs.Plans.{plans_in, ArePlans};
 
     ghost Value = { List (List ℕ) };
 
-    ghost view = { λ p. lists_at p.places.items p.spans.items };
+    ghost view = { λ p. plans_in p.reports p.bounds_and_places.items };
 
-    ghost invariant = { λ p. AreWithin p.places.items p.spans.items };
+    ghost invariant = { λ p. ArePlans p.reports p.bounds_and_places.items };
 }
 
 impl Plans {
-    /// Of no report, with room for so many reports and items.
-    pub(crate) fn with_room(
-        alloc: Global,
-        reports: usize,
-        items: usize,
-    ) -> Result<Plans, AllocError>
-        ensures { IfOk result (λ plans. plans ≡ []) }
+    /// Of so many reports with these items: the items of each are counted, so that it is known where its places begin.
+    pub(crate) fn of(alloc: Global, reports: usize, items: &[MainItem]) -> Result<Plans, AllocError>
+        requires few { reports < 2 ^ 63 }
+        requires there { AreIn reports items.now }
+        ensures { IfOk result (λ plans. plans
+            ≡ map (λ r. places_from 0 r items.now) (upward 0 reports)) }
     {
-        let places = Vec::with_capacity(alloc, items)?;
-        let spans = Vec::with_capacity(alloc, reports)?;
-        Ok(Plans { places, spans })
+        let mut kept = vec![in alloc; 0; 1 + reports + items.len()]?;
+        let (_, ends_and_places) = kept.split_at_mut(1);
+        let (ends, places) = ends_and_places.split_at_mut(reports);
+        count_items(items, ends);
+        begin_places(ends);
+        put_places(items, ends, places);
+        Ok(Plans {
+            reports,
+            bounds_and_places: kept,
+        })
     }
 
     /// The places of a report's items.
@@ -45,31 +55,57 @@ impl Plans {
         requires { r < length self.now }
         ensures { slice_get self.now r ≡ Some result.now }
     {
-        let span = self.spans[r];
-        &self.places[span.start..span.end]
-    }
-
-    /// Adds the places of the items of a report.
-    pub(crate) fn push(&mut self, r: usize, items: &[MainItem]) -> Result<(), AllocError>
-        ensures { OnOk result (self.new ≡ self.old ++ places_from 0 r items.now ∷ []) }
-    {
-        let start = self.places.len();
-        add_places(r, items, &mut self.places)?;
-        let end = self.places.len();
-        self.spans.push(Span { start, end })?;
-        Ok(())
+        let (bounds, places) = self.bounds_and_places.split_at(self.reports + 1);
+        part(places, bounds[r], bounds[r + 1])
     }
 }
 
-/// Adds the places of a report's items, in order.
-fn add_places(r: usize, items: &[MainItem], places: &mut Vec<usize>) -> Result<(), AllocError>
-    ensures more { OnOk result (places.new.items ≡ places.old.items ++ places_from 0 r items.now) }
-    ensures longer { length places.old.items ≤ length places.new.items }
+/// The places from one to before another one.
+fn part(places: &[usize], start: usize, end: usize) -> &[usize]
+    requires ordered { start ≤ end }
+    requires within { end ≤ length places.now }
+    ensures { result.now ≡ slice_range places.now start end }
+{
+    &places[start..end]
+}
+
+/// Counts the items of each report.
+fn count_items(items: &[MainItem], counts: &mut [usize])
+    requires there { AreIn (length counts.old) items.now }
+    requires none { counts.old ≡ map (count_of []) (upward 0 (length counts.old)) }
+    ensures { counts.new ≡ map (count_of items.now) (upward 0 (length counts.old)) }
+{
+    for item in items {
+        counts[item.report] += 1;
+    }
+}
+
+/// Puts in place of each count where the places of that report begin: behind those of the reports before it.
+fn begin_places(counts: &mut [usize])
+    requires { (items : List MainItem) × (length items < 2 ^ 64)
+        × (counts.old ≡ map (count_of items) (upward 0 (length counts.old))) }
+    ensures { (items : List MainItem) → counts.old ≡ map (count_of items) (upward 0 (length counts.old))
+        → counts.new ≡ map (begin_of items) (upward 0 (length counts.old)) }
+{
+    let mut start = 0;
+    for count in counts.iter_mut() {
+        let end = start + *count;
+        *count = start;
+        start = end;
+    }
+}
+
+/// Puts each place behind those that its report has so far.
+fn put_places(items: &[MainItem], ends: &mut [usize], places: &mut [usize])
+    requires there { AreIn (length ends.old) items.now }
+    requires begun { ends.old ≡ map (begin_of items.now) (upward 0 (length ends.old)) }
+    requires room { length places.old ≡ length items.now }
+    ensures ends { ends.new ≡ map (end_of items.now items.now) (upward 0 (length ends.old)) }
+    ensures places { ArePut (length ends.old) items.now items.now places.new }
 {
     for (i, item) in items.iter().enumerate() {
-        if item.report == r {
-            places.push(i)?;
-        }
+        let end = ends[item.report];
+        places[end] = i;
+        ends[item.report] = end + 1;
     }
-    Ok(())
 }

@@ -31,6 +31,13 @@ pub struct Codes {
     pub rollover: Option<i64>,
 }
 
+/// Those of an item that has none of these numbers.
+pub(crate) const NO_CODES: Codes = Codes {
+    null: None,
+    empty: None,
+    rollover: None,
+};
+
 /// The usages of one entry at their places in the usage list.
 #[derive(Clone, Copy)]
 struct Stretch {
@@ -247,7 +254,7 @@ fn number_of(item: &MainItem, pattern: u32) -> i64
 
 /// The number of an element of a value that is null: of the least pattern out of the range.
 #[tactic(auto, using(crate::proofs::NullLemmas::codes))]
-fn null_number(item: &MainItem) -> Option<i64>
+pub fn null_number(item: &MainItem) -> Option<i64>
     requires { HasElements item.now }
     ensures { result ≡ null_number item.now }
 {
@@ -328,6 +335,7 @@ fn rollover_number(item: &MainItem, entries: &[(Usage, Usage)]) -> Option<i64>
 }
 
 /// The codes of an item with these usages.
+#[inline(never)]
 pub(crate) fn codes_of(item: &MainItem, entries: &[(Usage, Usage)]) -> Codes
     requires elements { HasElements item.now }
     requires few { length entries.now ≤ MAX_ENTRIES }

@@ -24,7 +24,7 @@ behind_blanks (b ∷ text) = ⊎_elim
     (λ (byte : is_blank b ≡ false). rw byte (rw byte refl)) (cases_Bool (is_blank b))
 
 -- the part up to the first blank, and the words behind that
-first_part : (text : List ℕ) → (parts : List Word) × (slice_split is_blank text ≡ take (position_or_len is_blank text) text ∷ parts)
+pub first_part : (text : List ℕ) → (parts : List Word) × (slice_split is_blank text ≡ take (position_or_len is_blank text) text ∷ parts)
     × (filter (λ word. not (nat_eq (length word) 0)) parts ≡ words_of (drop (position_or_len is_blank text) text))
 first_part [] = ([], refl, refl)
 first_part (b ∷ text) = ⊎_elim
@@ -56,7 +56,7 @@ some_part (b ∷ text) some byte = ⊎_elim
     (λ (blank : is_blank b ≡ true). cc)
     (λ (no : is_blank b ≡ false). rw no (omega arith)) (cases_Bool (is_blank b))
 
-some_byte : (word : List ℕ) → 0 < length word → not (nat_eq (length word) 0) ≡ true
+pub some_byte : (word : List ℕ) → 0 < length word → not (nat_eq (length word) 0) ≡ true
 some_byte [] some = absurd (omega arith)
 some_byte (b ∷ word) some = rw (ne_eqb (length (b ∷ word)) 0 (λ e. omega (arith, some, e))) refl
 

@@ -1,11 +1,9 @@
 -- Short lines are lines.
-use Rattle.std.proofs.Common.{◌≡◌, ◌<◌, ◌≤◌, ℕ, true, false, List, [], ◌∷◌, length, Option, Some, None, Result, Ok, Err, refl, sym, ap, ◌∙◌, arith}
+use Rattle.std.proofs.Common.{◌≡◌, false, List, Option, Some, None, Ok, refl, sym, ap, ◌∙◌}
 use Rattle.std.specs.Option.{option_map}
 use Rattle.hid_lines.specs.declared.line.Keyword.{Keyword}
 use Rattle.hid_lines.specs.declared.line.Keyword.TheVariants as keywords
-use Rattle.hid_lines.specs.declared.line.Line.{Line}
 use Rattle.hid_lines.specs.declared.short.ShortLine.{ShortLine}
-use Rattle.hid_lines.specs.declared.fault.LineFault.{LineFault}
 use Rattle.hid_lines.specs.Words.{Word}
 use Rattle.hid_lines.specs.Arguments.{or_syntax, control_said, set_said, move_said, frame_said, poll_said, one_device_said}
 use Rattle.hid_lines.specs.Line.{said_by}

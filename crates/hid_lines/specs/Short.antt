@@ -1,5 +1,5 @@
 -- Lines without hex words that begin no request (our choice: the script language of docs/SCRIPT.md).
-use Rattle.std.specs.Prelude.{ℕ, Bool, true, false, List, Option, None, Some}
+use Rattle.std.specs.Prelude.{Bool, true, false, List, Option, None}
 use Rattle.std.specs.Option.{option_map}
 use Rattle.hid_lines.specs.declared.line.Keyword.{Keyword}
 use Rattle.hid_lines.specs.declared.line.Keyword.TheVariants as keywords

@@ -12,18 +12,25 @@ use super::line::HEX_LIMIT;
 use arrayvec::ArrayVec;
 use std::alloc::{AllocError, Global};
 
+/// Whether a byte is a space or a tab.
+fn is_blank(byte: u8) -> bool
+    ensures { result ≡ is_blank byte }
+{
+    byte == b' ' || byte == b'\t'
+}
+
 /// Where the first blank of a text stands.
 fn blank(text: &[u8]) -> Option<usize>
     ensures { result ≡ position is_blank text.now }
 {
-    text.iter().position(|byte| *byte == b' ' || *byte == b'\t')
+    text.iter().position(|byte| is_blank(*byte))
 }
 
 /// Where the first byte of a text stands that is no blank.
 pub fn no_blank(text: &[u8]) -> Option<usize>
     ensures { result ≡ position is_no_blank text.now }
 {
-    text.iter().position(|byte| *byte != b' ' && *byte != b'\t')
+    text.iter().position(|byte| !is_blank(*byte))
 }
 
 /// The first word of a text and what stands behind it, where the text has a word. No memory is taken.
@@ -86,29 +93,6 @@ fn hex_pair(high: u8, low: u8) -> Option<u8>
     Some(high * 16 + low)
 }
 
-/// Adds the bytes that a hex word spells.
-fn read_hex_word(word: &[u8], bytes: &mut ArrayVec<u8, HEX_LIMIT>) -> Result<(), LineFault>
-    requires { 2 * array_vec_len bytes.old + length word.now ≤ 1024 }
-    ensures pairs { is_ok result ≡ is_ok (decode_of word.now) }
-    ensures bytes { OnOk result (bytes.new.items
-        ≡ bytes.old.items ++ result_unwrap_or (decode_of word.now) []) }
-    ensures count { OnOk result (array_vec_len bytes.new
-        ≡ array_vec_len bytes.old + length word.now / 2) }
-    ensures err { IfErr result (λ cause. cause ≡ LineFault.BadHex) }
-{
-    let mut rest = word;
-    while let [high, low, more @ ..] = rest {
-        let byte = hex_pair(*high, *low).ok_or(LineFault::BadHex)?;
-        bytes.push(byte);
-        rest = more;
-    }
-    if rest.is_empty() {
-        Ok(())
-    } else {
-        Err(LineFault::BadHex)
-    }
-}
-
 /// How many bytes hex words spell, one for two digits, whatever the digits are.
 pub fn count_bytes(text: &[u8]) -> usize
     ensures { result ≡ byte_count (words_of text.now) }
@@ -122,7 +106,7 @@ pub fn count_bytes(text: &[u8]) -> usize
     count
 }
 
-/// The bytes that the hex words of a text spell, joined.
+/// The bytes that the hex words of a text spell, joined. No blank is a digit, so each pair of digits is read where it stands.
 pub fn read_hex(text: &[u8]) -> Result<ArrayVec<u8, HEX_LIMIT>, LineFault>
     requires { length text.now ≤ 1024 }
     ensures bytes { GivesHex result (hex_of (words_of text.now)) }
@@ -130,8 +114,18 @@ pub fn read_hex(text: &[u8]) -> Result<ArrayVec<u8, HEX_LIMIT>, LineFault>
 {
     let mut bytes = ArrayVec::new();
     let mut rest = text;
-    while let Some((word, more)) = first_word(rest) {
-        read_hex_word(word, &mut bytes)?;
+    while let [high, behind @ ..] = rest {
+        if is_blank(*high) {
+            rest = behind;
+            continue;
+        }
+        let [low, more @ ..] = behind else {
+            return Err(LineFault::BadHex);
+        };
+        match hex_pair(*high, *low) {
+            Some(byte) => bytes.push(byte),
+            None => return Err(LineFault::BadHex),
+        }
         rest = more;
     }
     Ok(bytes)

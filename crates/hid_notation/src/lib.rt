@@ -3,13 +3,17 @@
 //!   HexText(0x0A)                   0A
 //!   print_bytes(&[0x05, 0x01])       05 01
 //!   UsageText(page 1, ID 30)        01:30
-//!   RangeText(09:01, 09:03)         09:01-09:03
+//!   print_usages(09:01, 09:03)      09:01-09:03
 //! ```
 //! What is written is the stated text, byte for byte: `specs/Text.antt` and `specs/Causes.antt`.
 #![tactic(auto)]
 
 mod causes;
+mod printing;
 mod text;
 
 pub use causes::layout_words;
-pub use text::{HexText, RangeText, UsageOrDash, UsageText, print_bytes};
+pub use printing::{
+    print_bytes, print_number, print_signed, print_usage, print_usage_or_dash, print_usages,
+};
+pub use text::{HexText, UsageText};

@@ -1,9 +1,12 @@
 -- Runs of fields.
 use Rattle.std.proofs.Common.{◌≡◌, ℕ, zero, suc, ◌+◌, ◌*◌, ◌<◌, ◌≤◌, ◌-◌, min, Bool, false, ℤ, pos, List, [], ◌∷◌, ◌++◌, length, length-append, get_or, take, Some, refl, sym, ap, ◌∙◌, add-one, inl, inr, arith}
 use Rattle.std.specs.List.{slice_get}
+use Rattle.std.specs.List.{between}
 use Rattle.std.proofs.lemmas.Bool.{cases_lt}
+use Rattle.hid_fields.proofs.PartLemmas.{pattern_of-between}
 use Rattle.std.proofs.lemmas.Grind.{common_steps}
 use Rattle.hid_fields.specs.Field.{bit_of, pattern_of, IsOutside}
+use Rattle.hid_fields.specs.Value.{value_of}
 use Rattle.std.proofs.lemmas.Nat.Bits.{bit_at_above}
 use Rattle.hid_fields.proofs.FieldLemmas.{pattern_of-lt}
 use Rattle.hid_fields.proofs.WordLemmas.{bit_at-pattern_of}
@@ -87,3 +90,12 @@ others_written xs ys zs at w n m last before (inl below) = last m (inl (omega ar
 others_written xs ys zs at w n m last before (inr above) =
     let e : w * (n + 1) ≡ w * n + w = omega arith in
     last m (inr (omega arith)) ∙ before m (inr (omega arith))
+
+-- fields of a byte each are those of their part of the bytes
+pub part_numbers : (bytes : List ℕ) (first last : ℕ) (signed : Bool) (n : ℕ) → n ≤ last - first → numbers_in bytes (8 * first) 8 signed n ≡ numbers_in (between first last bytes) 0 8 signed n
+part_numbers bytes first last signed zero within = refl
+part_numbers bytes first last signed (suc n) within =
+    let place : 8 * first + 8 * n ≡ 8 * first + (0 + 8 * n) = omega arith in
+    let pattern = ap (λ (b : ℕ). pattern_of bytes b 8) place ∙ sym (pattern_of-between bytes first last (0 + 8 * n) 8 (omega arith)) in
+    ap (λ (vs : List ℤ). vs ++ number_at bytes (8 * first + 8 * n) 8 signed ∷ []) (part_numbers bytes first last signed n (omega arith))
+    ∙ ap (λ (p : ℕ). numbers_in (between first last bytes) 0 8 signed n ++ value_of p 8 signed ∷ []) pattern

@@ -63,7 +63,7 @@ zero_fits w true some = (omega (arith, ints, pow_pos (w - 1)), omega (arith, int
 zero_fits w false some = (omega (arith, ints), omega (arith, ints, pow_pos w))
 
 -- the number of a pattern can be carried
-pattern_fits : (p w : ℕ) (signed : Bool) → 0 < w → p < 2 ^ w → FitsField (value_of p w signed) w signed
+pub pattern_fits : (p w : ℕ) (signed : Bool) → 0 < w → p < 2 ^ w → FitsField (value_of p w signed) w signed
 pattern_fits p w false some h = (omega (arith, ints), omega (arith, ints))
 pattern_fits p w true some h = elim (cases_lt p (2 ^ (w - 1))) [
   | inl low ↦ rw (value_of-low p w true low) (omega (arith, ints), omega (arith, ints))

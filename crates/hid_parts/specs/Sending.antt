@@ -1,6 +1,7 @@
 -- The numbers of the elements by which a report shows what is kept of an item
 -- (HID 1.11, 5.10, 6.2.2.5 and appendix C).
-use Rattle.std.specs.Prelude.{ℕ, ◌+◌, ◌-◌, Bool, true, false, List, [], ◌∷◌, ◌++◌, map, replicate, unwrap_or, Option, ℤ, pos, ◌+ℤ◌}
+use Rattle.std.specs.Prelude.{◌≡◌, ◌<◌, ◌≤◌, ℕ, ◌+◌, ◌-◌, Bool, true, false, List, [], ◌∷◌, ◌++◌, map, length, replicate, unwrap_or, Option, ℤ, pos, ◌+ℤ◌}
+use Rattle.std.specs.Simd.Lanes.{mask_l}
 use Rattle.hid_layout.specs.declared.main_item.MainItem.{MainItem}
 use Rattle.hid_descriptor.specs.declared.usage.Usage.{Usage}
 use Rattle.hid_layout.specs.Controls.{Form, Elements, Keys}
@@ -17,6 +18,14 @@ or_zero number = unwrap_or number (pos 0)
 abbrev pub switch_number : Bool → ℤ
 switch_number true = pos 1
 switch_number false = pos 0
+
+-- some switches, up to 32, are sent by these numbers, and the bits of the pattern are their states, the first one lowest
+pub record IsPatternOf (numbers : List ℤ) (pattern : ℕ) : Type 0 where
+  pub places : List Bool
+  pub numbers_are : numbers ≡ map switch_number places
+  pub some : 0 < length places
+  pub few : length places ≤ 32
+  pub is : pattern ≡ mask_l places
 
 -- pressed keys by rising place
 abbrev pub placed_from : ℤ → ℕ → List Bool → List ℤ

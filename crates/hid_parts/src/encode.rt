@@ -22,7 +22,7 @@ use crate::shown::Shown;
 use arrayvec::ArrayVec;
 use hid_cells::{Cell, item_at, plan_of};
 use hid_fields::FieldCodec;
-use hid_layout::{Codes, Layout, MainItem, Shape, Usage};
+use hid_layout::{Codes, Layout, MainItem, Shape, Usage, null_number};
 
 fn push_zeros(bytes: &mut ArrayVec<u8, 256>, count: usize)
     requires { array_vec_len bytes.old + count ≤ 256 }
@@ -180,18 +180,12 @@ fn send_item<'a>(layout: &Layout, i: usize, item: &MainItem, cell: &'a Cell) -> 
     let entries = layout.entries(i);
     match item.shape {
         Shape::Padding => Sending::none(),
-        Shape::Variable => send_elements(item, entries, &layout.codes(i), cell),
+        Shape::Variable => send_elements(item, entries, cell),
         Shape::Array => send_array(item, entries, &layout.codes(i), cell),
     }
 }
 
-fn send_elements<'a>(
-    item: &MainItem,
-    entries: &[(Usage, Usage)],
-    codes: &Codes,
-    cell: &'a Cell,
-) -> Sending<'a>
-    requires codes { AreCodes item.now (usage_list entries.now) codes.now }
+fn send_elements<'a>(item: &MainItem, entries: &[(Usage, Usage)], cell: &'a Cell) -> Sending<'a>
     requires elements { HasElements item.now }
     requires can { CanSend item.now
         (sent item.now (usage_list entries.now)
@@ -202,7 +196,7 @@ fn send_elements<'a>(
 {
     match cell {
         Cell::Pressed(flags) => Sending::switches(flags),
-        Cell::Holding(values) => Sending::values(values, codes.null.unwrap_or(0)),
+        Cell::Holding(values) => Sending::values(values, null_number(item).unwrap_or(0)),
         Cell::Moved(motions) => Sending::motions(motions),
         Cell::Vacant | Cell::RolledOver(_) => Sending::none(),
     }

@@ -2,7 +2,7 @@
 ghost use Rattle.std.specs.Prelude.{◌≡◌, ◌<◌, ◌≤◌, ◌+◌, ◌*◌, ℕ, Bool, length, slice_get, Some, IfSome, All};
 ghost use Rattle.hid_fields.specs.Field.{bit_of, pattern_of, IsOutside};
 ghost use Rattle.hid_fields.specs.Value.{FitsEitherSign, FitsField};
-ghost use Rattle.hid_parts.specs.Numbers.{IsRun, IsWordOf, number_at, numbers_in};
+ghost use Rattle.hid_parts.specs.Numbers.{IsRun, IsWordOf, byte_numbers, number_at, numbers_in};
 
 use crate::send::Sending;
 use hid_fields::{FieldCodec, to_pattern, to_value};
@@ -56,6 +56,15 @@ impl<'a> FieldRun<'a> {
         }
     }
 
+    /// Bytes, each of them a field, with sign or without.
+    #[inline(always)]
+    pub fn of_bytes(bytes: &'a [u8], is_signed: bool) -> FieldRun<'a>
+        requires { length bytes.now ≤ 512 }
+        ensures { result ≡ byte_numbers is_signed bytes.now }
+    {
+        FieldRun::new(bytes, 0, 8, is_signed, bytes.len())
+    }
+
     /// How many there are.
     #[tactic(auto, using(crate::proofs::NumberLemmas::run_numbers))]
     pub fn len(&self) -> usize
@@ -79,6 +88,20 @@ impl<'a> FieldRun<'a> {
         to_value(pattern, self.width, self.is_signed)
     }
 
+    /// The fields as bytes, where each is a byte, with sign or without as asked.
+    pub fn bytes(&self, is_signed: bool) -> Option<&[u8]>
+        ensures { IfSome result (λ bytes. (self.now ≡ byte_numbers is_signed bytes.now)
+            × (length bytes.now ≤ 512)) }
+    {
+        if self.is_signed != is_signed {
+            None
+        } else if self.width == 8 && self.at % 8 == 0 {
+            Some(part_of(self.bytes, self.at / 8, self.count))
+        } else {
+            None
+        }
+    }
+
     /// Of fields of one bit, up to 64 numbers as a word, the first one lowest; none of other fields.
     #[inline(always)]
     pub fn word<C: FieldCodec>(&self, index: usize) -> Option<u64>
@@ -92,6 +115,16 @@ impl<'a> FieldRun<'a> {
             None
         }
     }
+}
+
+/// So many bytes from one on.
+fn part_of(bytes: &[u8], first: usize, count: usize) -> &[u8]
+    requires { first + count ≤ length bytes.now }
+    ensures numbers { (signed : Bool) → numbers_in bytes.now (8 * first) 8 signed count
+        ≡ byte_numbers signed result.now }
+    ensures count { length result.now ≡ count }
+{
+    &bytes[first..first + count]
 }
 
 /// The pattern of a field of up to 64 bits.
@@ -144,6 +177,12 @@ pub(crate) fn put_all<C: FieldCodec>(
     ensures others { (n : ℕ) → IsOutside at (width * count) n
         → bit_of bytes.new n ≡ bit_of bytes.old n }
 {
+    if width == 1 {
+        if let Some(pattern) = numbers.pattern() {
+            C::put(bytes, at, count as u32, pattern);
+            return;
+        }
+    }
     for k in 0..count {
         put_number::<C>(bytes, at + width as usize * k, width, numbers.next());
     }

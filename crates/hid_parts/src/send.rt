@@ -1,7 +1,7 @@
 //! The numbers by which a report shows what is kept of an item, drawn one after another.
 
-ghost use Rattle.std.specs.Prelude.{◌≡◌, ◌<◌, ◌≤◌, ◌++◌, ◌^◌, ◌≤ℤ◌, neg_ℤ, pos, List, [], ◌∷◌, map, length, replicate, unwrap_or};
-ghost use Rattle.hid_parts.specs.Sending.{switch_number, placed_from};
+ghost use Rattle.std.specs.Prelude.{◌≡◌, ◌<◌, ◌≤◌, ◌++◌, ◌^◌, ◌≤ℤ◌, neg_ℤ, pos, List, [], ◌∷◌, map, length, replicate, unwrap_or, IfSome};
+ghost use Rattle.hid_parts.specs.Sending.{switch_number, placed_from, IsPatternOf};
 ghost use Rattle.hid_parts.specs.Sources.{repeats};
 
 use crate::numbers::MAX_NUMBERS;
@@ -110,6 +110,16 @@ impl<'a> Sending<'a> {
         }
     }
 
+    /// Of up to 32 switches, of which none has been drawn, the pattern of as many bits, the first one lowest.
+    pub(crate) fn pattern(&self) -> Option<u32>
+        ensures { IfSome result (IsPatternOf self.now) }
+    {
+        match self.source {
+            Source::Switches(flags, 0) => first_pattern(flags),
+            _ => None,
+        }
+    }
+
     /// Draws the next number.
     pub(crate) fn next(&mut self) -> i64
         requires { 0 < length self.old }
@@ -144,6 +154,16 @@ impl<'a> Sending<'a> {
             }
         }
     }
+}
+
+/// The pattern of up to 32 switches.
+fn first_pattern(flags: &Flags) -> Option<u32>
+    ensures { IfSome result (IsPatternOf (map switch_number flags.now)) }
+{
+    if flags.len() == 0 || flags.len() > 32 {
+        return None;
+    }
+    Some(flags.words().first().copied().unwrap_or(0) as u32)
 }
 
 fn switch_number(pressed: bool) -> i64

@@ -24,8 +24,8 @@ use Rattle.hid_recording.specs.declared.dump.Content.TheVariants as contents
 use Rattle.hid_recording.specs.Telling.{goes_on, refuses, reads_named, reads_of, known_at, begins_behind, begins_of, gathers, ended, with_device, chunk_in, chunk_of, stream_told, EndTells, SaidTells, Means, TellsUnless, advanced, LineTells, LineBegins}
 use Rattle.hid_recording.specs.Runs.{Ending, Refusal, Want, Cut, Silence, Never, ending_of, EndsAs, FirstTells, FirstBegins, PlayedTo, RunsTo, Stops, line_of, played_of, AppendsRecording}
 use Rattle.hid_recording.specs.Player.{summary_of}
-use Rattle.hid_recording.specs.Place.{Place, Advances, RunsFrom, lines_at}
-use Rattle.hid_recording.proofs.PlaceLemmas.{start, first_begins, broken_run}
+use Rattle.hid_recording.specs.Place.{Place, Advances, RunsFrom, lines_at, AppendsFrom}
+use Rattle.hid_recording.proofs.PlaceLemmas.{first_begins, broken_run}
 
 -- ---- a line that ends the run prints nothing
 
@@ -187,9 +187,9 @@ kept_written (Some x) None c written h k = absurd h
 kept_written (Some x) (Some y) None written h k = absurd k
 kept_written (Some x) (Some y) (Some z) written h k = k ∙ h
 
-pub flushed_run : (options : Options) (a c d e : Option (List ℕ)) (result : Result Summary RecordingFault) → AppendsRecording options a c d result → Keeps d e → AppendsRecording options a c e result
-flushed_run options None c d e result h k = tt
-flushed_run options (Some recording) c d e result h k = (h.0, kept_written c d e h.0 h.1 k, h.2)
+pub flushed_run : (place : Place) (a c d e : Option (List ℕ)) (result : Result Summary RecordingFault) → AppendsFrom place a c d result → Keeps d e → AppendsFrom place a c e result
+flushed_run place None c d e result h k = tt
+flushed_run place (Some recording) c d e result h k = (h.0, kept_written c d e h.0 h.1 k, h.2)
 
 -- the last flush failed
 pub never_flushed : (options : Options) (a c d e : Option (List ℕ)) (result : Result Summary RecordingFault) (fault : RecordingFault) → fault.line ≡ line_of result → fault.cause ≡ causes.Write → fault.played ≡ played_of result
@@ -214,7 +214,7 @@ cut_here place more fault is at played = inl (record {
   whole = refl;
 })
 
-pub cut_run : (options : Options) (a b c d e : Option (List ℕ)) (read written : List ℕ) (now : Place) (fault : RecordingFault) → Consumes a b read → Appends c d written → Advances (start options) read written now
-    → Keeps d e → fault.cause ≡ causes.Write → fault.line ≡ now.lines + 1 → PlayedTo now.session fault → AppendsRecording options a c e (Err fault)
-cut_run options a b c d e read written now fault from grew taken kept is at played =
-    flushed_run options a c d e (Err fault) (broken_run options a b c d d read written [] now (Err fault) from grew taken (Appends-nil d) (λ more. cut_here now more fault is at played)) kept
+pub cut_run : (place : Place) (a b c d e : Option (List ℕ)) (read written : List ℕ) (now : Place) (fault : RecordingFault) → Consumes a b read → Appends c d written → Advances place read written now
+    → Keeps d e → fault.cause ≡ causes.Write → fault.line ≡ now.lines + 1 → PlayedTo now.session fault → AppendsFrom place a c e (Err fault)
+cut_run place a b c d e read written now fault from grew taken kept is at played =
+    flushed_run place a c d e (Err fault) (broken_run place a b c d d read written [] now (Err fault) from grew taken (Appends-nil d) (λ more. cut_here now more fault is at played)) kept

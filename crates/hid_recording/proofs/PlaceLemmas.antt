@@ -17,7 +17,7 @@ use Rattle.hid_recording.specs.Session.{Session, accepted, refused, at_first}
 use Rattle.hid_recording.specs.Telling.{LineTells, LineBegins, TellsUnless}
 use Rattle.hid_recording.specs.Player.{summary_of}
 use Rattle.hid_recording.specs.Runs.{Silence, ending_of, EndsAs, Ends, FirstTells, FirstBegins, AllTell, PlayedTo, RunsTo, AppendsRecording}
-use Rattle.hid_recording.specs.Place.{Place, IsUnbroken, lines_at, Writes, Advances, RunsFrom, Takes, EndsAt}
+use Rattle.hid_recording.specs.Place.{Place, IsUnbroken, lines_at, Writes, Advances, RunsFrom, Takes, EndsAt, AppendsFrom}
 
 -- ---- lines
 
@@ -256,37 +256,37 @@ abbrev pub start : Options → Place
 start options = record { session = at_first options; begun = []; lines = 0 }
 
 -- all that there was has come
-pub whole_run : (options : Options) (a b c d e f : Option (List ℕ)) (read written text none : List ℕ) (now : Place) (result : Result Summary RecordingFault)
-    → Consumes a b read → Appends c d written → Advances (start options) read written now → Consumes b e none → none ≡ [] → IsAtEnd e → Appends d f text → RunsFrom now [] text result
-    → AppendsRecording options a c f result
-whole_run options a b c d e f read written text none now result from grew taken more nothing end last runs =
+pub whole_run : (place : Place) (a b c d e f : Option (List ℕ)) (read written text none : List ℕ) (now : Place) (result : Result Summary RecordingFault)
+    → Consumes a b read → Appends c d written → Advances place read written now → Consumes b e none → none ≡ [] → IsAtEnd e → Appends d f text → RunsFrom now [] text result
+    → AppendsFrom place a c f result
+whole_run place a b c d e f read written text none now result from grew taken more nothing end last runs =
     Consumes-whole a e (read ++ none) _ (Consumes-trans a b e read none from more) end
-    (written ++ text, Appends-trans c d f written text grew last, rw nothing (runs_after (start options) now read [] written text result taken runs))
+    (written ++ text, Appends-trans c d f written text grew last, rw nothing (runs_after place now read [] written text result taken runs))
 
 -- the run broke off
-pub broken_run : (options : Options) (a b c d f : Option (List ℕ)) (read written text : List ℕ) (now : Place) (result : Result Summary RecordingFault)
-    → Consumes a b read → Appends c d written → Advances (start options) read written now → Appends d f text → ((more : List ℕ) → RunsFrom now more text result)
-    → AppendsRecording options a c f result
-broken_run options a b c d f read written text now result from grew taken last stops =
-    known_rest a b read _ from (λ more. (written ++ text, Appends-trans c d f written text grew last, runs_after (start options) now read more written text result taken (stops more)))
+pub broken_run : (place : Place) (a b c d f : Option (List ℕ)) (read written text : List ℕ) (now : Place) (result : Result Summary RecordingFault)
+    → Consumes a b read → Appends c d written → Advances place read written now → Appends d f text → ((more : List ℕ) → RunsFrom now more text result)
+    → AppendsFrom place a c f result
+broken_run place a b c d f read written text now result from grew taken last stops =
+    known_rest a b read _ from (λ more. (written ++ text, Appends-trans c d f written text grew last, runs_after place now read more written text result taken (stops more)))
 
 -- nothing more is written at a fault from outside
-pub outside_run : (options : Options) (a b c d : Option (List ℕ)) (read written : List ℕ) (now : Place) (fault : RecordingFault) → Consumes a b read → Appends c d written → Advances (start options) read written now
-    → ending_of fault.cause ≡ Silence → fault.line ≡ now.lines + 1 → PlayedTo now.session fault → AppendsRecording options a c d (Err fault)
-outside_run options a b c d read written now fault from grew taken is at played =
-    broken_run options a b c d d read written [] now (Err fault) from grew taken (Appends-nil d) (λ more. outside_stops now more fault is at played)
+pub outside_run : (place : Place) (a b c d : Option (List ℕ)) (read written : List ℕ) (now : Place) (fault : RecordingFault) → Consumes a b read → Appends c d written → Advances place read written now
+    → ending_of fault.cause ≡ Silence → fault.line ≡ now.lines + 1 → PlayedTo now.session fault → AppendsFrom place a c d (Err fault)
+outside_run place a b c d read written now fault from grew taken is at played =
+    broken_run place a b c d d read written [] now (Err fault) from grew taken (Appends-nil d) (λ more. outside_stops now more fault is at played)
 
 -- the piece that was read ended the run
-pub piece_stops : (options : Options) (a b e c d f : Option (List ℕ)) (read written text piece : List ℕ) (now : Place) (fault : RecordingFault) (result : Result Summary RecordingFault)
-    → Consumes a b read → Appends c d written → Advances (start options) read written now → Consumes b e piece → Appends d f text
-    → ((more : List ℕ) → RunsFrom now (piece ++ more) text (Err fault)) → IsErrAnd result (λ x. x ≡ fault) → AppendsRecording options a c f result
-piece_stops options a b e c d f read written text piece now fault (Ok u) from grew taken more last stops is = absurd is
-piece_stops options a b e c d f read written text piece now fault (Err x) from grew taken more last stops is =
+pub piece_stops : (place : Place) (a b e c d f : Option (List ℕ)) (read written text piece : List ℕ) (now : Place) (fault : RecordingFault) (result : Result Summary RecordingFault)
+    → Consumes a b read → Appends c d written → Advances place read written now → Consumes b e piece → Appends d f text
+    → ((more : List ℕ) → RunsFrom now (piece ++ more) text (Err fault)) → IsErrAnd result (λ x. x ≡ fault) → AppendsFrom place a c f result
+piece_stops place a b e c d f read written text piece now fault (Ok u) from grew taken more last stops is = absurd is
+piece_stops place a b e c d f read written text piece now fault (Err x) from grew taken more last stops is =
     known_rest a e (read ++ piece) _ (Consumes-trans a b e read piece from more) (λ after. (
       written ++ text,
       Appends-trans c d f written text grew last,
-      rw is (subst (λ all. RunsFrom (start options) all (written ++ text) (Err fault)) (sym (append_assoc read piece after))
-          (runs_after (start options) now read (piece ++ after) written text (Err fault) taken (stops after))),
+      rw is (subst (λ all. RunsFrom place all (written ++ text) (Err fault)) (sym (append_assoc read piece after))
+          (runs_after place now read (piece ++ after) written text (Err fault) taken (stops after))),
     ))
 
 -- ---- a run that doesn't begin

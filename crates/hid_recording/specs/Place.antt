@@ -1,5 +1,5 @@
 -- A recording of which some bytes have come: for proofs (our choice).
-use Rattle.std.specs.Prelude.{◌≡◌, ◌⊎◌, ◌==◌, ℕ, ◌+◌, false, true, List, [], ◌++◌, length, All, Option, None, is_some, Result, Ok, Err}
+use Rattle.std.specs.Prelude.{◌≡◌, ◌⊎◌, ◌==◌, ℕ, ◌+◌, false, true, List, [], ◌++◌, length, All, IfSome, Option, None, is_some, Result, Ok, Err}
 use Rattle.std.specs.Str.Lines.{lines}
 use Rattle.std.specs.Io.KnownBytes.{Appends}
 use Rattle.hid_recording.specs.declared.fault.Cause.{Cause}
@@ -92,3 +92,9 @@ EndsAt session lines' (Err fault) =
 -- known bytes grew by what was written to the end of a recording that ended here
 abbrev pub AppendsRun : Option (List ℕ) → Option (List ℕ) → Place → Result Summary RecordingFault → Type 0
 AppendsRun old new place result = (written : List ℕ) × Appends old new written × RunsFrom place [] written result
+
+-- the same of a run of the reader's bytes, where both tell their bytes
+abbrev pub AppendsFrom : Place → Option (List ℕ) → Option (List ℕ) → Option (List ℕ)
+    → Result Summary RecordingFault → Type 0
+AppendsFrom place reader old new result =
+    IfSome reader (λ more. (written : List ℕ) × Appends old new written × RunsFrom place more written result)

@@ -2,6 +2,8 @@
 
 ghost use Rattle.std.specs.Prelude.{◌≡◌, ◌≤◌, ◌*◌, IfOk};
 ghost use Rattle.hid_recording.specs.Runs.{AppendsRecording, line_of, played_of};
+ghost use Rattle.hid_recording.specs.Place.{AppendsFrom};
+ghost use Rattle.hid_recording.specs.Recording.{place_of};
 
 use super::fault::{Cause, Options, RecordingFault, Summary};
 use super::player::Player;
@@ -88,17 +90,31 @@ fn play_lines<R: Read, W: Write, H: Watch>(
         (W.contents writer.new) result }
     ensures count { IfOk result (λ summary. summary.lines ≤ 4096 * 1000000000000) }
 {
-    let player = match Player::new(alloc, options) {
-        Ok(player) => player,
-        Err(cause) => {
-            return Err(RecordingFault {
-                line: 1,
-                cause,
-                played: Summary::none(),
-            });
+    match Player::new(alloc, options) {
+        Ok(player) => {
+            let mut recording = Recording::new(player);
+            play_pieces(&mut recording, reader, writer, watch)
         }
-    };
-    let mut recording = Recording::new(player);
+        Err(cause) => Err(RecordingFault {
+            line: 1,
+            cause,
+            played: Summary::none(),
+        }),
+    }
+}
+
+/// Plays what the reader gives.
+fn play_pieces<R: Read, W: Write, H: Watch>(
+    recording: &mut Recording,
+    reader: &mut R,
+    writer: &mut W,
+    watch: &mut H,
+) -> Result<Summary, RecordingFault>
+    requires { recording.old.lines ≡ 0 }
+    ensures ran { AppendsFrom (place_of recording.old) (R.remaining reader.old) (W.contents writer.old)
+        (W.contents writer.new) result }
+    ensures count { IfOk result (λ summary. summary.lines ≤ 4096 * 1000000000000) }
+{
     let mut piece = [0u8; PIECE];
     let mut bytes: u64 = 0;
     for _ in 0..READS {

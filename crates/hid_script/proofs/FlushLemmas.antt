@@ -30,8 +30,8 @@ use Rattle.hid_script.specs.Session.{Session, Outcome, accepted, refused, at_fir
 use Rattle.hid_script.specs.Steps.{TellsLayout, TellsDevice, TellsStep, TellsFound, TellsChange, valued, read_report, change_of}
 use Rattle.hid_script.specs.Telling.{Once, times, Means, LineTells, LineBegins, Begins, BeginsMeant}
 use Rattle.hid_script.specs.Runs.{Ending, Refusal, Want, Cut, Silence, ending_of, EndsAs, FirstTells, FirstBegins, RunsTo, Stops, line_of, AppendsScript}
-use Rattle.hid_script.specs.Place.{Place, Advances, RunsFrom, lines_at}
-use Rattle.hid_script.proofs.PlaceLemmas.{start, first_begins, broken_run}
+use Rattle.hid_script.specs.Place.{Place, Advances, RunsFrom, lines_at, AppendsFrom}
+use Rattle.hid_script.proofs.PlaceLemmas.{first_begins, broken_run}
 
 -- ---- what is refused prints nothing
 
@@ -171,9 +171,9 @@ kept_written (Some x) None c written h k = absurd h
 kept_written (Some x) (Some y) None written h k = absurd k
 kept_written (Some x) (Some y) (Some z) written h k = k ∙ h
 
-pub flushed_run : (options : Options) (a c d e : Option (List ℕ)) (result : Result Summary ScriptFault) → AppendsScript options a c d result → Keeps d e → AppendsScript options a c e result
-flushed_run options None c d e result h k = tt
-flushed_run options (Some script) c d e result h k = (h.0, kept_written c d e h.0 h.1 k, h.2)
+pub flushed_run : (place : Place) (a c d e : Option (List ℕ)) (result : Result Summary ScriptFault) → AppendsFrom place a c d result → Keeps d e → AppendsFrom place a c e result
+flushed_run place None c d e result h k = tt
+flushed_run place (Some script) c d e result h k = (h.0, kept_written c d e h.0 h.1 k, h.2)
 
 -- the last flush failed
 pub never_flushed : (options : Options) (a c d e : Option (List ℕ)) (result : Result Summary ScriptFault) (fault : ScriptFault) → fault.line ≡ line_of result → fault.cause ≡ causes.Write
@@ -197,7 +197,7 @@ cut_here place more fault is at = record {
   whole = refl;
 }
 
-pub cut_run : (options : Options) (a b c d e : Option (List ℕ)) (read written : List ℕ) (now : Place) (fault : ScriptFault) → Consumes a b read → Appends c d written → Advances (start options) read written now
-    → Keeps d e → fault.cause ≡ causes.Write → fault.line ≡ now.lines + 1 → AppendsScript options a c e (Err fault)
-cut_run options a b c d e read written now fault from grew taken kept is at =
-    flushed_run options a c d e (Err fault) (broken_run options a b c d d read written [] now (Err fault) from grew taken (Appends-nil d) (λ more. cut_here now more fault is at)) kept
+pub cut_run : (place : Place) (a b c d e : Option (List ℕ)) (read written : List ℕ) (now : Place) (fault : ScriptFault) → Consumes a b read → Appends c d written → Advances place read written now
+    → Keeps d e → fault.cause ≡ causes.Write → fault.line ≡ now.lines + 1 → AppendsFrom place a c e (Err fault)
+cut_run place a b c d e read written now fault from grew taken kept is at =
+    flushed_run place a c d e (Err fault) (broken_run place a b c d d read written [] now (Err fault) from grew taken (Appends-nil d) (λ more. cut_here now more fault is at)) kept

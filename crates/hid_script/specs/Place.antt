@@ -1,5 +1,5 @@
 -- A script of which some bytes have come: for proofs (our choice).
-use Rattle.std.specs.Prelude.{◌≡◌, ◌⊎◌, ◌==◌, ℕ, ◌+◌, false, List, [], ◌++◌, length, All, Option, Result, Ok, Err}
+use Rattle.std.specs.Prelude.{◌≡◌, ◌⊎◌, ◌==◌, ℕ, ◌+◌, false, List, [], ◌++◌, length, All, IfSome, Option, Result, Ok, Err}
 use Rattle.std.specs.Str.Lines.{lines}
 use Rattle.std.specs.Io.KnownBytes.{Appends}
 use Rattle.hid_script.specs.declared.fault.Cause.{Cause}
@@ -81,3 +81,9 @@ AppendsTaken before after old bytes result new =
 -- known bytes grew by what was written to the end of a script that ended here
 abbrev pub AppendsRun : Option (List ℕ) → Option (List ℕ) → Place → Result Summary ScriptFault → Type 0
 AppendsRun old new place result = (written : List ℕ) × Appends old new written × RunsFrom place [] written result
+
+-- the same of a run of the reader's bytes, where both tell their bytes
+abbrev pub AppendsFrom : Place → Option (List ℕ) → Option (List ℕ) → Option (List ℕ)
+    → Result Summary ScriptFault → Type 0
+AppendsFrom place reader old new result =
+    IfSome reader (λ more. (written : List ℕ) × Appends old new written × RunsFrom place more written result)

@@ -2,6 +2,8 @@
 
 ghost use Rattle.std.specs.Prelude.{◌≡◌, ◌≤◌, ◌*◌, IfOk};
 ghost use Rattle.hid_script.specs.Runs.{AppendsScript, line_of};
+ghost use Rattle.hid_script.specs.Place.{AppendsFrom};
+ghost use Rattle.hid_script.specs.Script.{place_of};
 
 use super::fault::{Cause, Options, ScriptFault, Summary};
 use super::interpreter::Interpreter;
@@ -63,11 +65,26 @@ fn run_lines<R: Read, W: Write>(
         (W.contents writer.new) result }
     ensures count { IfOk result (λ summary. summary.lines ≤ 4096 * 1000000) }
 {
-    let interpreter = match Interpreter::new(alloc, options) {
-        Ok(interpreter) => interpreter,
-        Err(cause) => return Err(ScriptFault { line: 1, cause }),
-    };
-    let mut script = Script::new(interpreter);
+    match Interpreter::new(alloc, options) {
+        Ok(interpreter) => {
+            let mut script = Script::new(interpreter);
+            run_pieces(&mut script, reader, writer)
+        }
+        Err(cause) => Err(ScriptFault { line: 1, cause }),
+    }
+}
+
+/// Runs what the reader gives.
+fn run_pieces<R: Read, W: Write>(
+    script: &mut Script,
+    reader: &mut R,
+    writer: &mut W,
+) -> Result<Summary, ScriptFault>
+    requires { script.old.lines ≡ 0 }
+    ensures ran { AppendsFrom (place_of script.old) (R.remaining reader.old) (W.contents writer.old)
+        (W.contents writer.new) result }
+    ensures count { IfOk result (λ summary. summary.lines ≤ 4096 * 1000000) }
+{
     let mut piece = [0u8; PIECE];
     for _ in 0..READS {
         if writer.flush().is_err() {

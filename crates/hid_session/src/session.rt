@@ -12,7 +12,7 @@ ghost use Rattle.hid_session.specs.Sessions.{IsFirst, Feeds};
 use crate::event::{HidEvent, put_events};
 use hid_fields::WordCodec;
 use hid_layout::{Cause, ControlId, Layout, LayoutFault};
-use hid_usages::{Event, ReportFault, View};
+use hid_usages::{Event, Reader, ReportFault, View};
 use std::alloc::Global;
 use std::marker::Model;
 
@@ -28,8 +28,7 @@ pub enum FeedFault {
 /// A device's layout, and what a host has read of it.
 #[derive(Drop)]
 pub struct Session {
-    layout: Layout,
-    view: View,
+    reader: Reader,
     /// Room for the events of a report.
     events: Vec<Event>,
 }
@@ -37,16 +36,13 @@ pub struct Session {
 impl Model for Session {
     ghost use Rattle.std.specs.Prelude.{◌≤◌, vec_capacity};
     ghost use Rattle.hid_layout.specs.Controls.{items_of, max_events};
-    ghost use Rattle.hid_layout.specs.Reports.{IsLayout};
-    ghost use Rattle.hid_usages.specs.Cells.{FitsView};
     ghost use Rattle.hid_session.specs.States.{State};
 
     ghost Value = { State };
 
-    ghost view = { λ s. record { layout = s.layout; view = s.view } };
+    ghost view = { λ s. record { layout = s.reader.layout; view = s.reader.view } };
 
-    ghost invariant = { λ s. IsLayout s.layout × FitsView (items_of s.layout) s.view
-        × (max_events (items_of s.layout) ≤ vec_capacity s.events) };
+    ghost invariant = { λ s. max_events (items_of s.reader.layout) ≤ vec_capacity s.events };
 }
 
 /// Want of memory, where a descriptor is read.
@@ -82,8 +78,7 @@ impl Session {
         let layout = Layout::parse(alloc, descriptor)?;
         match blank(alloc, &layout) {
             Some((view, events)) => Ok(Session {
-                layout,
-                view,
+                reader: Reader::new(layout, view),
                 events,
             }),
             None => Err(want()),
@@ -94,20 +89,20 @@ impl Session {
     pub fn room(&self) -> usize
         ensures { result ≡ max_events (items_of self.now.layout) }
     {
-        self.layout.max_events()
+        self.reader.layout().max_events()
     }
 
     /// Reads a report, and writes its events over the first places of the table. No memory is taken.
     pub fn feed(&mut self, report: &[u8], out: &mut [HidEvent]) -> Result<usize, FeedFault>
         ensures { Feeds self.old report.now out.old result self.new out.new }
     {
-        if out.len() < self.layout.max_events() {
+        if out.len() < self.reader.layout().max_events() {
             return Err(FeedFault::NoRoom);
         }
         self.events.clear();
         match self
-            .view
-            .take_report::<WordCodec>(&self.layout, report, &mut self.events)
+            .reader
+            .take_report::<WordCodec>(report, &mut self.events)
         {
             Ok(()) => {
                 put_events(&self.events, out);
@@ -121,20 +116,20 @@ impl Session {
     pub fn layout(&self) -> &Layout
         ensures { result.now ≡ self.now.layout }
     {
-        &self.layout
+        self.reader.layout()
     }
 
     /// Whether a switch or a key is held; false for another control, and where there is none.
     pub fn held(&self, control: ControlId) -> bool
         ensures { result ≡ is_pressed (cell_at self.now.view control.item) control.index }
     {
-        self.view.held(control)
+        self.reader.view().held(control)
     }
 
     /// The value of an absolute control; none where it is null, for another control, and where there is none.
     pub fn value(&self, control: ControlId) -> Option<i64>
         ensures { result ≡ value_in (cell_at self.now.view control.item) control.index }
     {
-        self.view.value(control)
+        self.reader.view().value(control)
     }
 }

@@ -2,6 +2,7 @@ pub mod MemberLemmas
 pub mod Isolation
 pub mod PieceLemmas
 pub mod PollLemmas
+pub mod OverLemmas
 pub mod StepLemmas
 pub mod SlotLemmas
 pub mod TransferLemmas

@@ -6,7 +6,7 @@ use Rattle.hid_cells.specs.declared.event.Event.{Event}
 use Rattle.hid_usages.specs.Encoding.{AreBytes}
 use Rattle.usb_packet.specs.declared.packet.Packet.{Packet}
 use Rattle.usb_packet.specs.declared.packet.Packet.TheVariants as packets
-use Rattle.usb_packet.specs.Spelling.{spelling}
+use Rattle.usb_packet.specs.Spelling.{Spells, spelling}
 use Rattle.usb_transact.specs.declared.bus.Phase.TheVariants.{Token, Reply, Acknowledgement}
 use Rattle.usb_transact.specs.declared.host.Took.{Took}
 use Rattle.usb_transact.specs.declared.host.Took.TheVariants.{Fresh, Again}
@@ -38,6 +38,24 @@ Hears device None answer after = (answer ≡ None) × (after ≡ device)
 Hears device (Some packet) answer after =
     (answer ≡ device_answer device packet) × (after ≡ device_after device packet)
     × IfSome answer (λ _. IsSound (core_of after))
+
+-- an answer, where there is one, stands in the bytes
+abbrev pub IsAnswer : Option Packet → Bool → List ℕ → Type 0
+IsAnswer None answers bytes = answers ≡ false
+IsAnswer (Some packet) answers bytes = (answers ≡ true) × Spells packet bytes
+
+-- the device hears a packet, where one came, and its answer, where it gives one, stands in the bytes
+pub record Responds (device : DeviceState) (came : Option Packet) (answers : Bool) (bytes : List ℕ) (after : DeviceState) : Type 0 where
+  pub answer : Option Packet
+  pub heard : Hears device came answer after
+  pub of_bytes : IfSome answer HasBytes
+  pub written : IsAnswer answer answers bytes
+
+-- a token is sent, and the device hears what arrives of it
+pub record Asks (arrivals : Arrivals) (token : Packet) (device : DeviceState) (answers : Bool) (bytes : List ℕ) (after : DeviceState) : Type 0 where
+  pub came : Option Packet
+  pub carried : Carries arrivals Token token came
+  pub responds : Responds device came answers bytes after
 
 -- an ACK is sent, and the device hears what arrives of it
 pub record HearsAck (arrivals : Arrivals) (device after : DeviceState) : Type 0 where

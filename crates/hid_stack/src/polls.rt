@@ -1,16 +1,19 @@
 //! One poll: the host's token, the device's answer, and ACK for data, each packet as its bytes (USB 2.0, 8.5.4).
-ghost use Rattle.hid_device.specs.Device.{core_of};
-ghost use Rattle.std.specs.Prelude.{◌≡◌, ◌≤◌, ◌+◌, false, length, IfSome, vec_len, vec_capacity};
-ghost use Rattle.std.specs.Option.{option_copied};
+ghost use Rattle.hid_device.specs.Device.{core_of, is_poll};
+ghost use Rattle.std.specs.Prelude.{◌≡◌, ◌≤◌, ◌+◌, true, false, [], Some, None, if◌then◌else◌, length, IfSome, vec_len, vec_capacity};
+ghost use Rattle.std.specs.Option.{option_map};
 ghost use Rattle.hid_layout.specs.Controls.{items_of, max_events};
 ghost use Rattle.hid_usages.specs.Encoding.{AreBytes};
+ghost use Rattle.usb_packet.specs.Lent.{owned, IsShort};
 ghost use Rattle.usb_packet.specs.Spelling.{Fits};
+ghost use Rattle.usb_transact.specs.Bus.{arrived};
+ghost use Rattle.usb_transact.specs.declared.bus.Phase.TheVariants.{Reply};
 ghost use Rattle.hid_lives.specs.Rounds.{Polls};
 ghost use Rattle.hid_host.specs.Phase.{IfReady};
 ghost use Rattle.hid_stack.specs.Slot.{IsPair, joint, station_of};
 ghost use Rattle.hid_host.specs.Knowing.{Knows};
 ghost use Rattle.hid_stack.specs.Members.{Scheduled, member_after};
-ghost use Rattle.hid_stack.specs.Polls.{Hears, HasBytes, Acknowledges, GoesByPackets, spelled};
+ghost use Rattle.hid_stack.specs.Polls.{Hears, HearsAck, HasBytes, Acknowledges, GoesByPackets, Asks, Responds};
 ghost use Rattle.hid_lives.specs.Stations.{events_at};
 ghost use Rattle.hid_stack.specs.Tells.{TellsPoll};
 
@@ -20,8 +23,8 @@ use hid_device::Device;
 use hid_host::laws::hosts_know_their_devices;
 use hid_host::{HostDevice, StackFault};
 use hid_usages::Event;
-use usb_packet::{Packet, encode};
-use usb_transact::{Bus, Fate, Phase, Took, carried, replied};
+use usb_packet::{LentPacket, Packet, spell, spell_lent};
+use usb_transact::{Bus, Fate, Phase, Took, read_arrived};
 
 // The numbers of a byte string are bytes.
 fn are_bytes(bytes: &[u8])
@@ -31,27 +34,100 @@ fn are_bytes(bytes: &[u8])
 }
 
 // Lets the device hear a packet, where one came, and gives its answer.
-fn hear(device: &mut Device, packet: Option<&Packet>) -> Option<Packet>
-    ensures hears { Hears device.old (option_copied packet.entry) result device.new }
+fn hear_packet(device: &mut Device, packet: Option<LentPacket>) -> Option<Packet>
+    requires { IfSome packet IsShort }
+    ensures hears { Hears device.old (option_map owned packet.entry) result device.new }
     ensures fits { IfSome result Fits }
     ensures bytes { IfSome result HasBytes }
 {
-    let answer = device.on_packet(packet?);
+    let packet = packet?.owned();
+    let answer = device.on_packet(&packet);
     if let Some(Packet::Data { payload, .. }) = &answer {
         are_bytes(payload.as_slice());
     }
     answer
 }
 
-// The bytes of an answer, where there is one.
-fn spelled(answer: Option<&Packet>) -> Option<ArrayVec<u8, 65>>
-    requires { IfSome (option_copied answer) Fits }
-    ensures { result ≡ spelled (option_copied answer.entry) }
+// The payload of a packet is bytes.
+fn has_bytes(packet: LentPacket)
+    ensures { HasBytes (owned packet.entry) }
 {
-    match answer {
-        Some(answer) => Some(encode(answer)),
-        None => None,
+    if let LentPacket::Data { payload, .. } = packet {
+        are_bytes(payload);
     }
+}
+
+// Lets the device hear a poll, and writes the bytes of its answer.
+fn answer_poll(device: &mut Device, packet: LentPacket, bytes: &mut ArrayVec<u8, 65>)
+    requires polls { is_poll device.old (owned packet) ≡ true }
+    requires empty { bytes.old.items ≡ [] }
+    ensures { Responds device.old (Some (owned packet.entry)) true bytes.new.items device.new }
+{
+    device.hear_poll();
+    let answer = device.poll_answer();
+    has_bytes(answer);
+    spell_lent(answer, bytes);
+}
+
+// Lets the device hear any packet, where one came, and writes the bytes of its answer, where it gives one.
+#[inline(never)] // it makes room for packets that polls don't need
+fn answer_packet(
+    device: &mut Device,
+    packet: Option<LentPacket>,
+    bytes: &mut ArrayVec<u8, 65>,
+) -> bool
+    requires short { IfSome packet IsShort }
+    requires empty { bytes.old.items ≡ [] }
+    ensures { Responds device.old (option_map owned packet.entry) result bytes.new.items device.new }
+{
+    match hear_packet(device, packet) {
+        Some(answer) => {
+            spell(&answer, bytes);
+            true
+        }
+        None => false,
+    }
+}
+
+// The same, by whether it is a poll.
+fn respond(device: &mut Device, packet: Option<LentPacket>, bytes: &mut ArrayVec<u8, 65>) -> bool
+    requires short { IfSome packet IsShort }
+    requires empty { bytes.old.items ≡ [] }
+    ensures { Responds device.old (option_map owned packet.entry) result bytes.new.items device.new }
+{
+    if let Some(token) = packet {
+        if device.is_polled_by(token) {
+            answer_poll(device, token, bytes);
+            return true;
+        }
+    }
+    answer_packet(device, packet, bytes)
+}
+
+// Sends a token, lets the device hear what arrives of it, and writes the bytes of its answer, where it gives one.
+fn send_token<B: Bus>(
+    bus: &B,
+    token: &Packet,
+    device: &mut Device,
+    bytes: &mut ArrayVec<u8, 65>,
+) -> bool
+    requires fits { Fits token.now }
+    requires empty { bytes.old.items ≡ [] }
+    ensures { Asks (B.arrives bus.now) token.now device.old result bytes.new.items device.new }
+{
+    let mut sent = ArrayVec::new();
+    spell(token, &mut sent);
+    let has_come = bus.hand_on(Phase::Token, &mut sent);
+    let came = read_arrived(has_come, &sent);
+    respond(device, came, bytes)
+}
+
+// Hands the bytes of an answer on, where there is one.
+fn hand_on_answer<B: Bus>(bus: &B, answers: bool, bytes: &mut ArrayVec<u8, 65>) -> bool
+    ensures { arrived result bytes.new.items
+        ≡ (if answers then B.arrives bus.now Reply bytes.old.items else None) }
+{
+    answers && bus.hand_on(Phase::Reply, bytes)
 }
 
 // Sends ACK for data, fresh or not, and lets the device hear what arrives of it.
@@ -59,12 +135,19 @@ fn acknowledge<B: Bus>(bus: &B, took: &Took, device: &mut Device)
     ensures { Acknowledges (B.arrives bus.now) took.now device.old device.new }
 {
     match took {
-        Took::Fresh(_) | Took::Again => {
-            let came = carried(bus, Phase::Acknowledgement, &Packet::Ack);
-            hear(device, came.as_ref());
-        }
+        Took::Fresh(_) | Took::Again => send_ack(bus, device),
         Took::Nak | Took::Stall | Took::Silent => {}
     }
+}
+
+// Sends ACK, and lets the device hear what arrives of it.
+fn send_ack<B: Bus>(bus: &B, device: &mut Device)
+    ensures { HearsAck (B.arrives bus.now) device.old device.new }
+{
+    let mut bytes = ArrayVec::new();
+    spell_lent(LentPacket::Ack, &mut bytes);
+    let has_arrived = bus.hand_on(Phase::Acknowledgement, &mut bytes);
+    let _ = hear_packet(device, read_arrived(has_arrived, &bytes));
 }
 
 /// One poll over any bus: the host's IN token, the device's answer, and ACK for data, fresh or not. Each packet goes as
@@ -91,13 +174,15 @@ pub fn poll<B: Bus>(
     ensures capacity { vec_capacity out.new ≡ vec_capacity out.old }
 {
     let token = host.token()?;
-    let came = carried(bus, Phase::Token, &token);
-    let answer = hear(device, came.as_ref());
-    let reply = replied(bus, Phase::Reply, answer.as_ref());
-    let took = host.reply(reply.as_ref(), out)?;
+    let mut reply = ArrayVec::new();
+    let answers = send_token(bus, &token, device, &mut reply);
+    let mut back = ArrayVec::new();
+    back.try_extend_from_slice(&reply).unwrap();
+    let is_back = hand_on_answer(bus, answers, &mut back);
+    let took = host.reply_lent(read_arrived(is_back, &back), out)?;
     acknowledge(bus, &took, device);
     Ok(Told::Polled {
-        reply: spelled(answer.as_ref()),
+        reply: if answers { Some(reply) } else { None },
         took,
     })
 }

@@ -1,13 +1,13 @@
 //! A layout, as it is printed.
 
-ghost use Rattle.std.specs.Prelude.{◌≡◌, ◌++◌, ◌<◌, length, Some, OnOk, slice_get, string_bytes};
+ghost use Rattle.std.specs.Prelude.{◌≡◌, ◌++◌, ◌∷◌, ◌<◌, length, OnOk, slice_get, string_bytes, codes};
+ghost use Rattle.std.specs.Fmt.{decimal};
 ghost use Rattle.hid_descriptor.specs.Flags.{has_flag, RELATIVE};
 ghost use Rattle.hid_text.specs.LayoutText.{kind_word, report_name, collection_text, shape_word, range_words, entries_text, details_text, path_text, item_head, item_line, report_line, report_at, item_at, layout_lines, layout_text};
 
 use hid_layout::{Collection, Layout, MainItem, Report, ReportKind, Shape, Usage};
-use hid_notation::{RangeText, UsageOrDash};
+use hid_notation::{print_number, print_signed, print_usage_or_dash, print_usages};
 use std::alloc::AllocError;
-use std::fmt;
 
 fn kind_word(kind: ReportKind) -> &'static str
     ensures { result.now ≡ kind_word kind }
@@ -19,32 +19,24 @@ fn kind_word(kind: ReportKind) -> &'static str
     }
 }
 
-/// Kind and ID of a report: `input 0`.
-#[derive(Clone, Copy)]
-struct ReportName(Report);
-
-impl fmt::Display for ReportName {
-    ghost output = { λ shown. Some (report_name shown.0) };
-
-    fn fmt<W: fmt::Write>(&self, f: &mut fmt::Formatter<W>) -> fmt::Result {
-        let kind = kind_word(self.0.kind);
-        let id = self.0.id;
-        write!(f, "{kind} {id}")
-    }
+/// Adds kind and ID of a report: `input 0`.
+fn print_name(text: &mut String, report: &Report) -> Result<(), AllocError>
+    ensures { OnOk result (string_bytes text.new
+        ≡ string_bytes text.old ++ report_name report.now) }
+{
+    text.push_str(kind_word(report.kind))?;
+    text.push(' ')?;
+    print_number(text, u64::from(report.id))
 }
 
-/// A collection, as its kind and its first usage: `1/01:06`.
-#[derive(Clone, Copy)]
-struct CollectionText(Collection);
-
-impl fmt::Display for CollectionText {
-    ghost output = { λ shown. Some (collection_text shown.0) };
-
-    fn fmt<W: fmt::Write>(&self, f: &mut fmt::Formatter<W>) -> fmt::Result {
-        let Collection { kind, usage } = self.0;
-        let usage = UsageOrDash(usage);
-        write!(f, "{kind}/{usage}")
-    }
+/// Adds a collection, as its kind and its first usage: `1/01:06`.
+fn print_collection(text: &mut String, collection: &Collection) -> Result<(), AllocError>
+    ensures { OnOk result (string_bytes text.new
+        ≡ string_bytes text.old ++ collection_text collection.now) }
+{
+    print_number(text, u64::from(collection.kind))?;
+    text.push('/')?;
+    print_usage_or_dash(text, collection.usage)
 }
 
 fn shape_word(item: &MainItem) -> &'static str
@@ -67,11 +59,13 @@ fn shape_word(item: &MainItem) -> &'static str
 fn print_range(text: &mut String, item: &MainItem) -> Result<(), AllocError>
     ensures { OnOk result (string_bytes text.new ≡ string_bytes text.old ++ range_words item.now) }
 {
-    let MainItem { min, max, .. } = *item;
     if item.flags.has_null_state() {
         text.push_str(" null")?;
     }
-    write!(text, " {min}..{max}")
+    text.push(' ')?;
+    print_signed(text, item.min)?;
+    text.push_str("..")?;
+    print_signed(text, item.max)
 }
 
 /// Adds each usage entry behind a space.
@@ -80,8 +74,8 @@ fn print_entries(text: &mut String, entries: &[(Usage, Usage)]) -> Result<(), Al
         ≡ string_bytes text.old ++ entries_text entries.now) }
 {
     for entry in entries {
-        let range = RangeText(*entry);
-        write!(text, " {range}")?;
+        text.push(' ')?;
+        print_usages(text, *entry)?;
     }
     Ok(())
 }
@@ -113,10 +107,44 @@ fn print_path(text: &mut String, path: &[Collection]) -> Result<(), AllocError>
     }
     text.push_str(" in")?;
     for collection in path {
-        let collection = CollectionText(*collection);
-        write!(text, " {collection}")?;
+        text.push(' ')?;
+        print_collection(text, collection)?;
     }
     Ok(())
+}
+
+/// Adds an item's number, and its report's name: `item 2 input 0`.
+fn print_names(text: &mut String, i: usize, report: &Report) -> Result<(), AllocError>
+    ensures { OnOk result (string_bytes text.new
+        ≡ string_bytes text.old ++ codes "item " ++ decimal i ++ 32 ∷ report_name report.now) }
+{
+    text.push_str("item ")?;
+    print_number(text, i as u64)?;
+    text.push(' ')?;
+    print_name(text, report)
+}
+
+/// Adds where the fields of an item begin, their size and their number: ` at 8 8x2`.
+fn print_place(text: &mut String, item: &MainItem) -> Result<(), AllocError>
+    ensures { OnOk result (string_bytes text.new
+        ≡ string_bytes text.old ++ codes " at " ++ decimal item.now.offset
+        ++ 32 ∷ decimal item.now.size ++ 120 ∷ decimal item.now.count) }
+{
+    text.push_str(" at ")?;
+    print_number(text, u64::from(item.offset))?;
+    text.push(' ')?;
+    print_number(text, u64::from(item.size))?;
+    text.push('x')?;
+    print_number(text, u64::from(item.count))
+}
+
+/// Adds the shape of an item behind a space.
+fn print_shape(text: &mut String, item: &MainItem) -> Result<(), AllocError>
+    ensures { OnOk result (string_bytes text.new ≡ string_bytes text.old
+        ++ 32 ∷ shape_word item.now.shape (has_flag RELATIVE item.now.flags.0)) }
+{
+    text.push(' ')?;
+    text.push_str(shape_word(item))
 }
 
 /// Adds what the line of an item begins with.
@@ -130,15 +158,9 @@ fn print_head(
     ensures { OnOk result (string_bytes text.new
         ≡ string_bytes text.old ++ item_head i report.now item.now) }
 {
-    let name = ReportName(*report);
-    let MainItem {
-        offset,
-        size,
-        count,
-        ..
-    } = *item;
-    let shape = shape_word(item);
-    write!(text, "item {i} {name} at {offset} {size}x{count} {shape}")
+    print_names(text, i, report)?;
+    print_place(text, item)?;
+    print_shape(text, item)
 }
 
 /// Adds the line of an item.
@@ -156,7 +178,7 @@ fn print_item(
     print_head(text, i, report, item)?;
     print_details(text, item, entries)?;
     print_path(text, path)?;
-    text.push_str("\n")
+    text.push('\n')
 }
 
 /// Adds the line of the item i.
@@ -175,8 +197,11 @@ fn print_report(text: &mut String, report: &Report, size: usize) -> Result<(), A
     ensures { OnOk result (string_bytes text.new
         ≡ string_bytes text.old ++ report_line report.now size) }
 {
-    let name = ReportName(*report);
-    writeln!(text, "report {name} bytes {size}")
+    text.push_str("report ")?;
+    print_name(text, report)?;
+    text.push_str(" bytes ")?;
+    print_number(text, size as u64)?;
+    text.push('\n')
 }
 
 /// Adds the line of the report r.

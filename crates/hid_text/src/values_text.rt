@@ -1,6 +1,7 @@
 //! The values of a report, as they are printed.
 
-ghost use Rattle.std.specs.Prelude.{◌≡◌, ◌++◌, ◌<◌, ◌≤◌, length, IfSome, OnOk, slice_get, string_bytes};
+ghost use Rattle.std.specs.Prelude.{◌≡◌, ◌++◌, ◌∷◌, ◌<◌, ◌≤◌, length, IfSome, OnOk, slice_get, string_bytes, codes};
+ghost use Rattle.std.specs.Fmt.{decimal};
 ghost use Rattle.hid_descriptor.specs.Usages.{usage_list};
 ghost use Rattle.hid_layout.specs.Reports.{report_bytes};
 ghost use Rattle.hid_notation.specs.Text.{joined_below};
@@ -9,7 +10,7 @@ ghost use Rattle.hid_text.specs.ValuesText.{usage_of_element, usage_shown, value
 
 use hid_fields::WordCodec;
 use hid_layout::{Layout, MainItem, Shape, Usage, usage_at, usage_count};
-use hid_notation::UsageOrDash;
+use hid_notation::{print_number, print_signed, print_usage_or_dash};
 use hid_usages::element_value;
 use std::alloc::AllocError;
 
@@ -45,6 +46,17 @@ fn usage_shown(item: &MainItem, entries: &[(Usage, Usage)], j: usize, number: i6
     }
 }
 
+/// Adds what the line of a value begins with: `value 2.0`.
+fn print_place(text: &mut String, i: usize, j: usize) -> Result<(), AllocError>
+    ensures { OnOk result (string_bytes text.new
+        ≡ string_bytes text.old ++ codes "value " ++ decimal i ++ 46 ∷ decimal j) }
+{
+    text.push_str("value ")?;
+    print_number(text, i as u64)?;
+    text.push('.')?;
+    print_number(text, j as u64)
+}
+
 /// Adds the line of a value.
 #[tactic(auto, unfolding(crate::specs::ValuesText::value_line))]
 fn print_value(
@@ -57,8 +69,12 @@ fn print_value(
     ensures { OnOk result (string_bytes text.new
         ≡ string_bytes text.old ++ value_line i j number usage) }
 {
-    let usage = UsageOrDash(usage);
-    writeln!(text, "value {i}.{j} {number} {usage}")
+    print_place(text, i, j)?;
+    text.push(' ')?;
+    print_signed(text, number)?;
+    text.push(' ')?;
+    print_usage_or_dash(text, usage)?;
+    text.push('\n')
 }
 
 /// Adds the line of the element j of the item i, where it is a data element.

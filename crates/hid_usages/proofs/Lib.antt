@@ -1,3 +1,4 @@
 pub mod Vectors
 pub mod BootDescriptors
 pub mod BootLemmas
+pub mod ReaderLemmas

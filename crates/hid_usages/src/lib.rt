@@ -12,6 +12,7 @@
 //! The rule to know: a call with a layout is given the one with which its other values were made, which the conditions
 //! `FitsSnapshot`, `FitsShown` and `FitsView` say; `blank` and `initial` make them, and every call keeps them.
 //! Pressed and held keys are kept as words of 64 bits: `key_words` of a [`Snapshot`] and of a [`View`].
+//! A [`Reader`] owns a layout with its view, and doesn't read a report again that told nothing.
 //! No call takes memory but `Snapshot::blank`, `Shown::blank` and `View::initial`; events go into reserved room.
 //! The bytes of a part are the only ones that show it: `shows` and `only` on [`encode_report`]. Any bytes give one view
 //! and one list of events: `taken` on [`View::take_report`]. The reports of the boot keyboard and mouse tell the same
@@ -19,6 +20,7 @@
 #![tactic(auto)]
 
 pub mod boot;
+mod reader;
 
 pub use hid_cells::{
     Cell, Change, ChangeFault, Event, Flags, MemoryFault, Motions, ReportFault, Values,
@@ -28,3 +30,4 @@ pub use hid_parts::{Shown, Snapshot, encode_report};
 pub use hid_views::{
     View, bytes_awaited, changes, changes_and_drops, element_value, input_report, laws,
 };
+pub use reader::Reader;

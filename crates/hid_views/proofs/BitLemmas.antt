@@ -1,8 +1,12 @@
 -- Switches of one bit each: the numbers that their bits are.
-use Rattle.std.proofs.Common.{◌≡◌, ℕ, zero, suc, ◌+◌, ◌*◌, ◌<◌, ◌≤◌, ◌==◌, ◌&&◌, nat_le, not, Bool, true, false, cond, List, [], ◌∷◌, ◌++◌, length, map, Option, Some, None, ℤ, pos, append-nil, refl, sym, ap, ◌∙◌, subst, arith}
+use Rattle.std.proofs.Common.{◌≡◌, ℕ, zero, suc, ◌+◌, ◌*◌, ◌^◌, ◌<◌, ◌≤◌, inl, inr, unwrap_or, ◌==◌, ◌&&◌, nat_le, not, Bool, true, false, cond, List, [], ◌∷◌, ◌++◌, length, map, Option, Some, ℤ, pos, append-nil, refl, sym, ap, ◌∙◌, subst, arith}
 use Rattle.std.specs.List.{slice_get, zip}
 use Rattle.std.specs.Ordering.{int_eq}
-use Rattle.std.proofs.lemmas.Nat.Bits.{bit_at-lt}
+use Rattle.std.specs.Int.{bit_at}
+use Rattle.std.specs.Bool.{beq}
+use Rattle.std.proofs.lemmas.Bool.{cases_lt}
+use Rattle.hid_layout.specs.declared.control.ControlId.{ControlId}
+use Rattle.std.proofs.lemmas.Nat.Bits.{bit_at-lt, bit_at_above}
 use Rattle.std.proofs.lemmas.List.{ext_get_or}
 use Rattle.std.proofs.lemmas.Bool.Decides.{nat_tests, Decides-int_eq}
 use Rattle.std.proofs.lemmas.Option.{get_or_from_slice_get, slice_get_within}
@@ -11,15 +15,16 @@ use Rattle.hid_fields.proofs.WordLemmas.{bit_at-pattern_of}
 use Rattle.hid_parts.specs.Numbers.{number_at, numbers_in}
 use Rattle.hid_parts.proofs.NumberLemmas.{numbers_in-length, one_bit}
 use Rattle.hid_parts.proofs.NumberLemmas.{numbers_in-at}
-use Rattle.hid_cells.specs.Words.{words_of, bits_in}
-use Rattle.hid_cells.proofs.WordLemmas.{bits_in-at, bits_in-length, word_keeps}
+use Rattle.hid_cells.specs.Words.{bits_in, is_on, is_unlike, IsFirst}
+use Rattle.hid_cells.proofs.WordLemmas.{bits_in-at, bits_in-length}
 use Rattle.hid_cells.proofs.FillLemmas.{map_zip_at, length_map_zip}
 use Rattle.hid_cells.proofs.ItemLemmas.{got}
 use Rattle.hid_descriptor.specs.declared.usage.Usage.{Usage}
 use Rattle.hid_cells.specs.declared.event.Event.{Event}
-use Rattle.hid_cells.specs.Events.{at, each, switch_event, switch_events, usages_of, usages_at, element_events, change_events}
+use Rattle.hid_cells.specs.declared.event.Event.TheVariants as event
+use Rattle.hid_cells.specs.Events.{at, switch_event, usages_of, usages_at, element_events, change_events}
 use Rattle.hid_views.specs.Reading.{read_switch, read_cell, motion_cell, item_numbers}
-use Rattle.hid_views.specs.Bits.{is_variable, are_bits, read_bits, is_first_word}
+use Rattle.hid_views.specs.Bits.{is_variable, are_bits, read_bits}
 use Rattle.hid_layout.specs.ControlKinds.{is_switch}
 use Rattle.hid_cells.specs.Views.{motions_told}
 use Rattle.hid_views.specs.Taking.{list_at, IsFormOf, read_by_numbers, told_by_numbers}
@@ -41,7 +46,8 @@ use Rattle.hid_cells.specs.declared.cell.Cell.{Cell}
 use Rattle.hid_cells.specs.declared.cell.Cell.TheVariants.{Vacant, Pressed, Holding, Moved, RolledOver}
 use Rattle.hid_cells.specs.Cells.{HasRoom}
 use Rattle.hid_cells.proofs.CodeLemmas.{both_true}
-use Rattle.hid_views.proofs.EventLemmas.{no_switch}
+use Rattle.hid_views.proofs.EventLemmas.{TellsBy, length_zip, zip_parts}
+use Rattle.hid_views.proofs.RoomLemmas.{off_past}
 
 pub switch_of : (before : Bool) (x : ℕ) → x < 2 → (x == 1) ≡ read_switch before (pos x)
 switch_of before zero h = refl
@@ -63,25 +69,55 @@ bits_read bytes first n bs long =
     let bit : slice_get (bits_in n (pattern_of bytes first n)) j ≡ Some (bit_of bytes (first + j) == 1) = bits_in-at n (pattern_of bytes first n) j low ∙ ap (λ (k : ℕ). Some (k == 1)) (bit_at-pattern_of bytes first n j low) in
     get_or_from_slice_get _ j (bit_of bytes (first + j) == 1) false read ∙ sym (get_or_from_slice_get _ j (bit_of bytes (first + j) == 1) false bit))
 
-same_from : (i j : ℕ) (us : List Usage) (bs : List Bool) → each (λ k u p. switch_event (at i k) u p.0 p.1) j us (zip bs bs) ≡ []
-same_from i j [] bs = refl
-same_from i j (u ∷ us) [] = refl
-same_from i j (u ∷ us) (b ∷ bs) = ap (λ (t : List Event). t ++ each (λ k v p. switch_event (at i k) v p.0 p.1) (j + 1) us (zip bs bs)) (no_switch (at i j) u b b refl) ∙ same_from i (j + 1) us bs
+-- what a switch tells that is pressed now, or isn't any more
+abbrev pub turned : ControlId → Usage → Bool → Event
+turned c u true = event.Down c u
+turned c u false = event.Up c u
 
--- switches that stay tell nothing
-pub same_switches : (i : ℕ) (us : List Usage) (bs : List Bool) → switch_events i us bs bs ≡ []
-same_switches i us bs = same_from i 0 us bs
+pub turns : (c : ControlId) (u : Usage) (b : Bool) → turned c u b ∷ [] ≡ switch_event c u (not b) b
+turns c u true = refl
+turns c u false = refl
 
--- What is held is the bits of its first word.
-pub first_word : (bs : List Bool) (pattern : ℕ) → length bs ≤ 64 → is_first_word bs pattern ≡ true → bits_in (length bs) pattern ≡ bs
-first_word bs pattern few h = by_word (slice_get (words_of bs) 0) refl h
-  where
-    same : (word : ℕ) → (word == pattern) ≡ true → word ≡ pattern
-    same word e = grind (arith, nat_tests)
+-- a switch that isn't as its bit tells how it turns, and another one nothing
+no_turn : (c : ControlId) (u : Usage) (p q : Bool) → not (beq p q) ≡ false → switch_event c u p q ≡ []
+no_turn c u true true h = refl
+no_turn c u false false h = refl
+no_turn c u true false h = absurd (cc)
+no_turn c u false true h = absurd (cc)
 
-    by_word : (o : Option ℕ) → slice_get (words_of bs) 0 ≡ o → (elim o as (λ _. Bool) [ None ↦ false | Some word ↦ word == pattern ]) ≡ true → bits_in (length bs) pattern ≡ bs
-    by_word None e k = absurd (cc)
-    by_word (Some word) e k = word_keeps bs pattern few (e ∙ ap (λ (n : ℕ). Some n) (same word k))
+one_turn : (c : ControlId) (u : Usage) (p q : Bool) → not (beq p q) ≡ true → switch_event c u p q ≡ turned c u q ∷ []
+one_turn c u true true h = absurd (cc)
+one_turn c u false false h = absurd (cc)
+one_turn c u true false h = refl
+one_turn c u false true h = refl
+
+-- a pair of what is held and its bit
+pair_is : (bs : List Bool) (w j : ℕ) (p : Bool × Bool) → slice_get (zip bs (bits_in (length bs) w)) j ≡ Some p
+    → ((bit_at w j == 1) ≡ p.1) × (is_unlike bs 0 w j ≡ not (beq p.0 p.1))
+pair_is bs w j p here =
+    let q = zip_parts bs (bits_in (length bs) w) j p here in
+    let within : j < length bs = omega (arith, slice_get_within (zip bs (bits_in (length bs) w)) j p here, length_zip bs (bits_in (length bs) w) (omega (arith, bits_in-length (length bs) w))) in
+    let bit : (bit_at w j == 1) ≡ p.1 = sym (ap (λ (o : Option Bool). unwrap_or o false) (bits_in-at (length bs) w j within)) ∙ q.1 in
+    let place : 64 * 0 + j ≡ j = omega arith in
+    (bit, ap (λ (k : ℕ). not (beq (is_on bs k) (bit_at w j == 1))) place ∙ ap (λ (b : Bool). not (beq b (bit_at w j == 1))) q.0 ∙ ap (λ (b : Bool). not (beq p.0 b)) bit)
+
+pub turns_by : (i : ℕ) (bs : List Bool) (w : ℕ) → TellsBy (λ j u p. switch_event (at i j) u p.0 p.1) (is_unlike bs 0 w) bs (bits_in (length bs) w) (λ j u. turned (at i j) u (bit_at w j == 1))
+turns_by i bs w = record {
+  none = λ j u p h e. no_turn (at i j) u p.0 p.1 (sym (pair_is bs w j p h).1 ∙ e);
+  one = λ j u p h e. one_turn (at i j) u p.0 p.1 (sym (pair_is bs w j p h).1 ∙ e) ∙ ap (λ (b : Bool). turned (at i j) u b ∷ []) (sym (pair_is bs w j p h).0);
+}
+
+-- the first bit of a word that isn't as it is held is that of a switch
+pub unlike_first : (bs : List Bool) (w word n from j : ℕ) → word ≡ w → length bs ≡ n → w < 2 ^ length bs → IsFirst (is_unlike bs 0 word) from 64 j → IsFirst (is_unlike bs 0 w) from n j
+unlike_first bs w word n from j is long fits first = elim (cases_lt j n) [
+  | inl within ↦ subst (λ (v : ℕ). IsFirst (is_unlike bs 0 v) from n j) is (record { low = first.low; high = within; before = first.before; hit = first.hit })
+  | inr past ↦
+      let off : is_on bs (64 * 0 + j) ≡ false = off_past bs (64 * 0 + j) (omega arith) in
+      let none : bit_at w j ≡ 0 = bit_at_above w (length bs) j fits (omega arith) in
+      let no : is_unlike bs 0 w j ≡ false = ap (λ (o : Bool). not (beq o (bit_at w j == 1))) off ∙ ap (λ (n : ℕ). not (beq false (n == 1))) none in
+      let hit : is_unlike bs 0 w j ≡ true = ap (λ (v : ℕ). is_unlike bs 0 v j) (sym is) ∙ first.hit in
+      absurd (cc)
+]
 
 -- the pattern of an item's switches
 abbrev pub pattern_in : Contents → List ℕ → MainItem → ℕ
@@ -105,7 +141,7 @@ switch_least false true null h = refl
 switch_least false false true h = absurd (cc)
 switch_least false false false h = absurd (cc)
 
-same_number : (a b : ℕ) → (a == b) ≡ true → a ≡ b
+pub same_number : (a b : ℕ) → (a == b) ≡ true → a ≡ b
 same_number a b h = grind (arith, nat_tests)
 
 low_number : (a b : ℕ) → nat_le a b ≡ true → a ≤ b

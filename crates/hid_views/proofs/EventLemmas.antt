@@ -117,13 +117,13 @@ each_quiet f us cs from (suc n) within within' quiet =
     ∙ each_quiet f us cs (from + 1) n (omega arith) (omega arith) (λ j v d a b. quiet j v d (omega arith) (omega arith))
     ∙ ap (λ (k : ℕ). each f k (drop k us) (drop k cs)) e
 
-length_zip : {A B : Type 0} (xs : List A) (ys : List B) → length xs ≤ length ys → length (zip xs ys) ≡ length xs
+pub length_zip : {A B : Type 0} (xs : List A) (ys : List B) → length xs ≤ length ys → length (zip xs ys) ≡ length xs
 length_zip [] ys h = refl
 length_zip (x ∷ xs) [] h = absurd (omega arith)
 length_zip (x ∷ xs) (y ∷ ys) h = ap suc (length_zip xs ys (omega arith))
 
 -- the two flags at an index are those of the pair there
-zip_parts : (bs xs : List Bool) (j : ℕ) (p : Bool × Bool) → slice_get (zip bs xs) j ≡ Some p → (is_on bs j ≡ p.0) × (is_on xs j ≡ p.1)
+pub zip_parts : (bs xs : List Bool) (j : ℕ) (p : Bool × Bool) → slice_get (zip bs xs) j ≡ Some p → (is_on bs j ≡ p.0) × (is_on xs j ≡ p.1)
 zip_parts [] xs j p h = absurd (cc)
 zip_parts (b ∷ bs) [] j p h = absurd (cc)
 zip_parts (b ∷ bs) (x ∷ xs) zero p h = let e : (b, x) ≡ p = cc in (ap (λ (q : Bool × Bool). q.0) e, ap (λ (q : Bool × Bool). q.1) e)

@@ -16,3 +16,4 @@ pub mod ElementLemmas
 pub mod DropLemmas
 pub mod RoomLemmas
 pub mod BackLemmas
+pub mod BoundLemmas

@@ -1,5 +1,5 @@
 -- Switches of one bit each, side by side: all of them are the pattern of one field (our choice).
-use Rattle.std.specs.Prelude.{ℕ, ◌==◌, ◌&&◌, nat_le, Bool, true, false, List, length, slice_get, Some, None}
+use Rattle.std.specs.Prelude.{ℕ, ◌==◌, ◌&&◌, nat_le, Bool, true, false, length}
 use Rattle.hid_layout.specs.ControlKinds.{is_switch}
 use Rattle.hid_layout.specs.declared.main_item.MainItem.{MainItem}
 use Rattle.hid_descriptor.specs.declared.shape.Shape.{Shape}
@@ -7,7 +7,7 @@ use Rattle.hid_descriptor.specs.declared.shape.Shape.TheVariants.{Padding, Varia
 use Rattle.hid_layout.specs.Controls.{element_kind}
 use Rattle.hid_cells.specs.declared.cell.Cell.{Cell}
 use Rattle.hid_cells.specs.declared.cell.Cell.TheVariants.{Vacant, Pressed, Holding, Moved, RolledOver}
-use Rattle.hid_cells.specs.Words.{words_of, bits_in}
+use Rattle.hid_cells.specs.Words.{bits_in}
 
 -- an item of this shape has an element for each control
 abbrev pub is_variable : Shape → Bool
@@ -26,7 +26,3 @@ read_bits pattern Vacant = Vacant
 read_bits pattern (Holding vs) = Holding vs
 read_bits pattern (Moved ms) = Moved ms
 read_bits pattern (RolledOver bs) = RolledOver bs
-
--- the pattern is the first word of what is held
-abbrev pub is_first_word : List Bool → ℕ → Bool
-is_first_word bs pattern = elim (slice_get (words_of bs) 0) [ None ↦ false | Some word ↦ word == pattern ]

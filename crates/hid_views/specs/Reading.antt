@@ -5,7 +5,7 @@ use Rattle.std.specs.Ordering.{int_eq}
 use Rattle.std.specs.List.{list_any, zip}
 use Rattle.std.specs.Option.{option_and_then}
 use Rattle.hid_descriptor.specs.declared.limits.TheConstants.{MAX_REPORT_BYTES}
-use Rattle.hid_fields.specs.Value.{is_negative}
+use Rattle.hid_fields.specs.Value.{is_negative, FitsField}
 use Rattle.hid_layout.specs.declared.main_item.MainItem.{MainItem}
 use Rattle.hid_layout.specs.declared.main_item.Element.{Element}
 use Rattle.hid_descriptor.specs.declared.report.Report.{Report}
@@ -19,7 +19,7 @@ use Rattle.hid_cells.specs.declared.fault.ReportFault.TheVariants.{Short, Unknow
 use Rattle.hid_descriptor.specs.declared.usage.Usage.{Usage}
 use Rattle.hid_layout.specs.declared.control.ControlKind.{ControlKind}
 use Rattle.hid_layout.specs.declared.control.ControlKind.TheVariants.{Switch, Value, NullValue, Relative}
-use Rattle.hid_layout.specs.Controls.{Form, NoControls, Elements, Keys, Key, least_of, greatest_of}
+use Rattle.hid_layout.specs.Controls.{Form, NoControls, Elements, Keys, Key}
 use Rattle.hid_descriptor.specs.Usages.{is_rollover}
 pub use Rattle.hid_layout.specs.Controls.{array_keys}
 pub use Rattle.hid_cells.specs.Cells.{is_in, has_null}
@@ -64,9 +64,9 @@ abbrev pub named_from : MainItem → List ℤ → ℕ → List Key → List Bool
 named_from item vs i [] = []
 named_from item vs i (key ∷ keys) = (key.is_switch && names_key item vs i) ∷ named_from item vs (i + 1) keys
 
--- the least and the greatest number that an element can carry
-abbrev pub AreBounds : MainItem → ℤ → ℤ → Type 0
-AreBounds item least greatest = (least ≡ least_of item) × (greatest ≡ greatest_of item)
+-- some pattern of an item's fields stands for the number
+abbrev pub FitsFields : MainItem → ℤ → Type 0
+FitsFields item v = FitsField v item.size (is_negative item.min)
 
 -- what is kept of a variable item in a view once these numbers of its elements are read
 abbrev pub read_elements : ControlKind → ℤ → ℤ → Cell → List ℤ → Cell

@@ -23,6 +23,10 @@ list_at layout i = elim (slice_get layout.entries i) [ None ↦ [] | Some es ↦
 abbrev pub IsFormOf : Contents → ℕ → MainItem → Type 0
 IsFormOf layout i m = form_at (items_of layout) i ≡ form_of m (list_at layout i) m.shape
 
+-- an item that is listed at a place is in report r
+abbrev pub IsInReport : Contents → ℕ → ℕ → Type 0
+IsInReport layout r i = (m : MainItem) → slice_get layout.items i ≡ Some m → m.report ≡ r
+
 -- what is kept of a listed item once these numbers of its elements are read
 abbrev pub read_by_numbers : Contents → ℕ → MainItem → Cell → List ℤ → Cell
 read_by_numbers layout i m cell vs = read_cell m (list_at layout i) (form_at (items_of layout) i) cell vs

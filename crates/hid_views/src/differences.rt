@@ -1,6 +1,6 @@
 //! What changed from one view to another, in events.
 
-ghost use Rattle.std.specs.Prelude.{◌≡◌, ◌<◌, ◌≤◌, ◌++◌, ℕ, false, length, slice_get, map, Some};
+ghost use Rattle.std.specs.Prelude.{◌≡◌, ◌<◌, ◌≤◌, ◌++◌, ℕ, false, length, slice_get, map, Some, IfSome};
 ghost use Rattle.hid_descriptor.specs.declared.usage.Usage.{Usage as UsageValue};
 ghost use Rattle.hid_descriptor.specs.Usages.{usage_list};
 ghost use Rattle.hid_layout.specs.Reports.{usage_of};
@@ -14,6 +14,7 @@ ghost use Rattle.hid_views.specs.Reading.{read_motion};
 
 use crate::bounds::Bounds;
 use hid_cells::{Cell, Event, Flags, Values, cell_at, item_at, item_count};
+use hid_descriptor::entry_count;
 use hid_fields::FieldCodec;
 use hid_layout::{
     ControlId, Controls, Layout, MainItem, Shape, Usage, usage_at as usage_in, usage_count,
@@ -47,6 +48,7 @@ fn listed_usage(layout: &Layout, item: usize, place: usize) -> Option<Usage>
 }
 
 /// The usage of an element behind the last usage.
+#[inline(never)]
 fn usage_past(layout: &Layout, item: usize, index: usize) -> Usage
     requires { index < length (usages_at layout.now item) }
     ensures { slice_get (usages_at layout.now item) index ≡ Some result }
@@ -58,8 +60,27 @@ fn usage_past(layout: &Layout, item: usize, index: usize) -> Usage
     }
 }
 
-/// The usage of an element, or of a place of an array's usage list.
-pub(crate) fn usage_at(layout: &Layout, item: usize, index: usize) -> Usage
+/// The usage at a place of the first range; none where it has fewer.
+fn first_usage(entries: &[(Usage, Usage)], place: usize) -> Option<Usage>
+    ensures { IfSome result (λ usage. slice_get (usage_list entries.now) place ≡ Some usage) }
+{
+    if entries.is_empty() {
+        return None;
+    }
+    let (first, _) = entries[0];
+    if place < entry_count(&entries[0]) {
+        Some(Usage {
+            page: first.page,
+            id: first.id + place as u16,
+        })
+    } else {
+        None
+    }
+}
+
+/// The usage of an element, or of a place of an array's usage list, behind the first range.
+#[inline(never)]
+fn usage_behind(layout: &Layout, item: usize, index: usize) -> Usage
     requires { index < length (usages_at layout.now item) }
     ensures { slice_get (usages_at layout.now item) index ≡ Some result }
 {
@@ -67,6 +88,19 @@ pub(crate) fn usage_at(layout: &Layout, item: usize, index: usize) -> Usage
     match listed_usage(layout, item, index) {
         Some(usage) => usage,
         None => usage_past(layout, item, index),
+    }
+}
+
+/// The usage of an element, or of a place of an array's usage list.
+#[inline(never)]
+pub(crate) fn usage_at(layout: &Layout, item: usize, index: usize) -> Usage
+    requires { index < length (usages_at layout.now item) }
+    ensures { slice_get (usages_at layout.now item) index ≡ Some result }
+{
+    let _ = item_count(layout);
+    match first_usage(layout.entries(item), index) {
+        Some(usage) => usage,
+        None => usage_behind(layout, item, index),
     }
 }
 
@@ -292,8 +326,31 @@ fn motion<C: FieldCodec>(bounds: &Bounds, numbers: &FieldRun<'_>, index: usize) 
     }
 }
 
-/// The motions that these numbers carry, by rising index.
+/// The motions that these numbers carry, by rising index. Those of a byte each, with sign, are read by a loop of their own.
 pub(crate) fn motions<C: FieldCodec>(
+    layout: &Layout,
+    item: usize,
+    bounds: &Bounds,
+    numbers: &FieldRun<'_>,
+    out: &mut Vec<Event>,
+)
+    requires numbers { length numbers.now ≡ length (usages_at layout.now item) }
+    requires room { HasSpace out.old (motion_events item (usages_at layout.now item)
+        (map (read_motion bounds.now.least bounds.now.greatest) numbers.now)) }
+    ensures { Appends out.old (motion_events item (usages_at layout.now item)
+        (map (read_motion bounds.now.least bounds.now.greatest) numbers.now)) out.new }
+{
+    match numbers.bytes(true) {
+        Some(bytes) => {
+            each_motion::<C>(layout, item, bounds, &FieldRun::of_bytes(bytes, true), out);
+        }
+        None => each_motion::<C>(layout, item, bounds, numbers, out),
+    }
+}
+
+/// The same, one by one.
+#[inline(always)]
+fn each_motion<C: FieldCodec>(
     layout: &Layout,
     item: usize,
     bounds: &Bounds,

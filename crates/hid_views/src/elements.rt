@@ -1,13 +1,14 @@
 //! The elements of a variable item, as the numbers of a report leave them, one by one, and what they tell.
 
-ghost use Rattle.std.specs.Prelude.{◌≡◌, ◌+◌, ◌*◌, ◌^◌, ◌<◌, ◌≤◌, min, Bool, Option, List, ℤ, map, length, slice_get, slice_set, Some, IfSome};
+ghost use Rattle.std.specs.Prelude.{◌≡◌, ◌+◌, ◌*◌, ◌^◌, ◌<◌, ◌≤◌, min, Bool, false, Option, List, ℤ, map, length, slice_get, slice_set, Some, IfSome};
+ghost use Rattle.std.specs.Bool.{OnTrue};
 ghost use Rattle.std.specs.List.{zip};
 ghost use Rattle.hid_descriptor.specs.declared.usage.Usage.{Usage as UsageValue};
 ghost use Rattle.hid_cells.specs.Events.{at, usages_at, switch_event, switch_events, value_event, value_events};
 ghost use Rattle.hid_views.specs.Appending.{HasSpace, Appends};
 ghost use Rattle.hid_views.specs.Reading.{read_switch, read_value};
 ghost use Rattle.hid_views.specs.Keeping.{FindsKept};
-ghost use Rattle.hid_parts.specs.Numbers.{IsWordOf};
+ghost use Rattle.hid_parts.specs.Numbers.{IsWordOf, byte_numbers};
 
 use crate::bounds::Bounds;
 use crate::differences::{tell_switch, tell_value};
@@ -179,7 +180,20 @@ pub(crate) struct Carriable {
     pub(crate) bounds: Bounds,
 }
 
+/// Whether a value is as an element's number leaves it. Where it is the number, its range is looked at only for a null.
+fn is_kept(before: Option<i64>, carriable: &Carriable, number: &i64) -> bool
+    ensures { OnTrue result (read_value carriable.now.has_null carriable.now.bounds.least
+        carriable.now.bounds.greatest before number.now ≡ before) }
+{
+    if !carriable.has_null && before == Some(*number) {
+        true
+    } else {
+        read_value(before, carriable.has_null, &carriable.bounds, number) == before
+    }
+}
+
 /// The first value from one on that its number changes.
+#[inline(always)]
 fn next_value<C: FieldCodec>(
     held: &Values,
     carriable: &Carriable,
@@ -191,11 +205,10 @@ fn next_value<C: FieldCodec>(
         carriable.now.bounds.greatest p.0 p.1) held.now numbers.now from (length held.now) result }
     ensures behind { IfSome result (λ place. place + 1 < 2 ^ 64) }
 {
-    let Carriable { has_null, bounds } = *carriable;
+    let carriable = *carriable;
     for index in from..held.len() {
         let number = numbers.number::<C>(index);
-        let before = held.get(index);
-        if read_value(before, has_null, &bounds, &number) != before {
+        if !is_kept(held.get(index), &carriable, &number) {
             return Some(index);
         }
     }
@@ -234,8 +247,71 @@ fn take_value(
     held.set(index, after);
 }
 
-/// Values, as these numbers leave them, and what they tell.
+/// Values, as these numbers leave them, and what they tell. Those of a byte each are read by a loop of their own.
 pub(crate) fn take_values<C: FieldCodec>(
+    layout: &Layout,
+    item: usize,
+    carriable: &Carriable,
+    numbers: &FieldRun<'_>,
+    held: &mut Values,
+    out: &mut Vec<Event>,
+)
+    requires numbers { length numbers.now ≡ length (usages_at layout.now item) }
+    requires held { length held.old ≡ length (usages_at layout.now item) }
+    requires room { HasSpace out.old (value_events item (usages_at layout.now item) held.old
+        (map (λ p. read_value carriable.now.has_null carriable.now.bounds.least
+        carriable.now.bounds.greatest p.0 p.1) (zip held.old numbers.now))) }
+    ensures held { held.new ≡ map (λ p. read_value carriable.now.has_null
+        carriable.now.bounds.least carriable.now.bounds.greatest p.0 p.1)
+        (zip held.old numbers.now) }
+    ensures len { length held.new ≡ length held.old }
+    ensures told { Appends out.old (value_events item (usages_at layout.now item) held.old
+        (map (λ p. read_value carriable.now.has_null carriable.now.bounds.least
+        carriable.now.bounds.greatest p.0 p.1) (zip held.old numbers.now))) out.new }
+{
+    match numbers.bytes(false) {
+        Some(bytes) => take_bytes::<C>(layout, item, *carriable, bytes, held, out),
+        None => take_each_value::<C>(layout, item, carriable, numbers, held, out),
+    }
+}
+
+/// The same, of the numbers that are bytes.
+#[inline(never)]
+fn take_bytes<C: FieldCodec>(
+    layout: &Layout,
+    item: usize,
+    carriable: Carriable,
+    bytes: &[u8],
+    held: &mut Values,
+    out: &mut Vec<Event>,
+)
+    requires few { length bytes.now ≤ 512 }
+    requires numbers { length (byte_numbers false bytes.now) ≡ length (usages_at layout.now item) }
+    requires held { length held.old ≡ length (usages_at layout.now item) }
+    requires room { HasSpace out.old (value_events item (usages_at layout.now item) held.old
+        (map (λ p. read_value carriable.has_null carriable.bounds.least
+        carriable.bounds.greatest p.0 p.1) (zip held.old (byte_numbers false bytes.now)))) }
+    ensures held { held.new ≡ map (λ p. read_value carriable.has_null
+        carriable.bounds.least carriable.bounds.greatest p.0 p.1)
+        (zip held.old (byte_numbers false bytes.now)) }
+    ensures len { length held.new ≡ length held.old }
+    ensures told { Appends out.old (value_events item (usages_at layout.now item) held.old
+        (map (λ p. read_value carriable.has_null carriable.bounds.least
+        carriable.bounds.greatest p.0 p.1) (zip held.old (byte_numbers false bytes.now)))) out.new }
+{
+    take_each_value::<C>(
+        layout,
+        item,
+        &carriable,
+        &FieldRun::of_bytes(bytes, false),
+        held,
+        out,
+    );
+}
+
+/// The same, one by one.
+#[inline(always)]
+fn take_each_value<C: FieldCodec>(
     layout: &Layout,
     item: usize,
     carriable: &Carriable,

@@ -1,14 +1,13 @@
 //! The keys of an array that its elements name.
 
-ghost use Rattle.std.specs.Prelude.{◌≡◌, ◌<◌, ℕ, false, length, replicate, take, slice_get, Some, ◌≢◌, ◌≤◌, ◌*◌, ◌+ℤ◌, pos, ◌++◌, [], ◌∷◌, ℤ, List, MatchOption, IfSome, not, true, ◌&&◌, int_le};
+ghost use Rattle.std.specs.Prelude.{All, ◌≡◌, ◌<◌, ℕ, false, length, replicate, take, slice_get, Some, ◌≢◌, ◌≤◌, ◌*◌, ◌+ℤ◌, pos, ◌++◌, [], ◌∷◌, ℤ, List, MatchOption, IfSome, not, true, ◌&&◌, int_le};
 ghost use Rattle.std.specs.List.{list_any};
 ghost use Rattle.hid_descriptor.specs.Usages.{usage_list, is_rollover};
 ghost use Rattle.hid_layout.specs.Controls.{is_key};
 ghost use Rattle.hid_cells.specs.Words.{is_on};
-ghost use Rattle.hid_views.specs.Reading.{array_keys, AreBounds, named_from, names_rollover};
+ghost use Rattle.hid_views.specs.Reading.{array_keys, FitsFields, named_from, names_rollover};
 ghost use Rattle.hid_views.specs.Keeping.{NamesNoneAnew};
 
-use crate::bounds::Bounds;
 use hid_cells::Flags;
 use hid_fields::FieldCodec;
 use hid_layout::{MAX_KEYS, MainItem, Usage, usage_at, usage_count};
@@ -34,26 +33,24 @@ fn place_of(item: &MainItem, number: &i64, count: usize) -> Option<usize>
 }
 
 /// Whether an element of this number can press the key with this usage at its place.
-fn is_pressable(item: &MainItem, range: &Bounds, number: &i64, place: usize, usage: &Usage) -> bool
-    requires range { AreBounds item.now range.now.least range.now.greatest }
+fn is_pressable(item: &MainItem, number: &i64, place: usize, usage: &Usage) -> bool
+    requires fits { FitsFields item.now number.now }
     requires number { number.now ≡ item.now.min +ℤ pos place }
     ensures { result ≡ is_key item.now place usage.now }
 {
-    let is_encodable = range.least <= *number && *number <= range.greatest;
-    is_encodable && (place < MAX_KEYS && (usage.id != 0 && !usage.tells_error()))
+    *number <= item.max && (place < MAX_KEYS && (usage.id != 0 && !usage.tells_error()))
 }
 
-/// An array's item, with its ranges of usages and the numbers that its elements can carry.
+/// An array's item, with its ranges of usages.
 #[derive(Clone, Copy)]
 pub(crate) struct KeyArray<'a> {
     pub(crate) item: &'a MainItem,
     pub(crate) entries: &'a [(Usage, Usage)],
-    pub(crate) range: Bounds,
 }
 
 /// Adds the key with this usage at the place that an element of this number names.
 fn press(array: &KeyArray<'_>, number: &i64, place: usize, usage: &Usage, after: &mut Flags)
-    requires range { AreBounds array.now.item.now array.now.range.least array.now.range.greatest }
+    requires fits { FitsFields array.now.item.now number.now }
     requires number { number.now ≡ array.now.item.now.min +ℤ pos place }
     requires usage { slice_get (usage_list array.now.entries.now) place ≡ Some usage.now }
     requires after { length (array_keys array.now.item.now (usage_list array.now.entries.now))
@@ -70,7 +67,7 @@ fn press(array: &KeyArray<'_>, number: &i64, place: usize, usage: &Usage, after:
         → is_on after.new i ≡ is_on after.old i }
     ensures len { length after.new ≡ length after.old }
 {
-    if is_pressable(array.item, &array.range, number, place, usage) {
+    if is_pressable(array.item, number, place, usage) {
         after.set(place, true);
     }
 }
@@ -86,7 +83,7 @@ fn tells_rollover(item: &MainItem, number: &i64, usage: &Usage) -> bool
 fn add_key(array: &KeyArray<'_>, count: usize, number: &i64, after: &mut Flags) -> bool
     requires count { count ≡ length (usage_list array.now.entries.now) }
     requires few { count ≤ 64 * 65536 }
-    requires range { AreBounds array.now.item.now array.now.range.least array.now.range.greatest }
+    requires fits { FitsFields array.now.item.now number.now }
     requires after { length (array_keys array.now.item.now (usage_list array.now.entries.now))
         ≤ length after.old }
     ensures rolls { result
@@ -129,7 +126,7 @@ fn add_next_key(
 ) -> bool
     requires count { count ≡ length (usage_list array.now.entries.now) }
     requires few { count ≤ 64 * 65536 }
-    requires range { AreBounds array.now.item.now array.now.range.least array.now.range.greatest }
+    requires fits { FitsFields array.now.item.now number.now }
     requires after { length (array_keys array.now.item.now (usage_list array.now.entries.now))
         ≤ length after.old }
     requires before { IfSome before (λ v. names_rollover array.now.item.now
@@ -157,14 +154,45 @@ fn add_next_key(
     }
 }
 
-/// Sets the keys that these numbers name, of which none is set before; false where one names ErrorRollOver.
+/// Sets the keys that these numbers name, of which none is set before; false where one names ErrorRollOver. Numbers of a byte
+/// each are read by a loop of their own.
 pub(crate) fn read_keys<C: FieldCodec>(
     array: &KeyArray<'_>,
     numbers: &FieldRun<'_>,
     after: &mut Flags,
 ) -> bool
     requires entries { length array.now.entries.now ≤ 64 }
-    requires range { AreBounds array.now.item.now array.now.range.least array.now.range.greatest }
+    requires fits { All (FitsFields array.now.item.now) numbers.now }
+    requires after { length (array_keys array.now.item.now (usage_list array.now.entries.now))
+        ≤ length after.old }
+    requires none { after.old ≡ replicate (length after.old) false }
+    ensures rolls { result
+        ≡ not (list_any (names_rollover array.now.item.now (usage_list array.now.entries.now))
+        numbers.now) }
+    ensures keys { result ≡ true
+        → take (length (array_keys array.now.item.now (usage_list array.now.entries.now))) after.new
+        ≡ named_from array.now.item.now numbers.now 0
+        (array_keys array.now.item.now (usage_list array.now.entries.now)) }
+    ensures behind { (i : ℕ)
+        → length (array_keys array.now.item.now (usage_list array.now.entries.now)) ≤ i
+        → is_on after.new i ≡ false }
+    ensures len { length after.new ≡ length after.old }
+{
+    match numbers.bytes(false) {
+        Some(bytes) => read_each_key::<C>(array, &FieldRun::of_bytes(bytes, false), after),
+        None => read_each_key::<C>(array, numbers, after),
+    }
+}
+
+/// The same, one by one.
+#[inline(always)]
+fn read_each_key<C: FieldCodec>(
+    array: &KeyArray<'_>,
+    numbers: &FieldRun<'_>,
+    after: &mut Flags,
+) -> bool
+    requires entries { length array.now.entries.now ≤ 64 }
+    requires fits { All (FitsFields array.now.item.now) numbers.now }
     requires after { length (array_keys array.now.item.now (usage_list array.now.entries.now))
         ≤ length after.old }
     requires none { after.old ≡ replicate (length after.old) false }

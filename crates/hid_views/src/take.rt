@@ -1,33 +1,33 @@
 //! What a report of any bytes makes of a view, and the events of it.
 
-ghost use Rattle.std.specs.Prelude.{All, pos, ◌≡◌, ◌<◌, ◌≤◌, ◌++◌, ℕ, false, length, replicate, slice_get, Some, take};
+ghost use Rattle.std.specs.Prelude.{All, pos, ◌≡◌, ◌<◌, ◌≤◌, ◌^◌, ◌++◌, ℕ, false, length, replicate, slice_get, Some, take};
 ghost use Rattle.hid_layout.specs.Controls.{items_of, form_at, head_of};
 ghost use Rattle.hid_layout.specs.Index.{plan_of};
 ghost use Rattle.hid_descriptor.specs.Usages.{usage_list};
 ghost use Rattle.hid_descriptor.specs.Fields.{is_padding};
-ghost use Rattle.hid_layout.specs.Reports.{HasElements, IsLayout, report_bytes};
+ghost use Rattle.hid_layout.specs.Reports.{IsLayout, report_bytes};
 ghost use Rattle.hid_views.specs.Appending.{HasSpace, Appends};
-ghost use Rattle.hid_views.specs.Taking.{IsFormOf, usages_in, keys_in, form_in, read_in, told_in, read_carried, motion_carried, read_by_report, told_by_report, read_view, read_events, flag_places, NamesNone};
+ghost use Rattle.hid_views.specs.Taking.{IsFormOf, IsInReport, usages_in, keys_in, form_in, read_in, told_in, read_carried, motion_carried, read_by_report, told_by_report, read_view, read_events, flag_places, NamesNone};
 ghost use Rattle.hid_cells.specs.Parts.{IsInput};
 ghost use Rattle.hid_cells.specs.Words.{is_on};
 ghost use Rattle.hid_layout.specs.declared.control.Controls.TheVariants as head;
 ghost use Rattle.hid_cells.specs.Cells.{HasRoom, FitsView};
 ghost use Rattle.hid_cells.specs.Events.{element_events, key_events, ups, downs, usages_at, HasPlaces};
 ghost use Rattle.hid_cells.specs.Views.{motions_of};
-ghost use Rattle.hid_views.specs.Reading.{AreBounds, array_keys, keys_at, read_keys, item_numbers};
+ghost use Rattle.hid_views.specs.Reading.{FitsFields, array_keys, keys_at, read_keys, item_numbers};
 ghost use Rattle.hid_views.specs.Bits.{read_bits};
 ghost use Rattle.hid_parts.specs.Encoding.{IsData};
 ghost use Rattle.hid_layout.specs.declared.control.ControlKind.TheVariants as ControlKind;
 
 use crate::bits::{are_bits, take_bits};
-use crate::bounds::{Bounds, bounds_of};
+use crate::bounds::Bounds;
 use crate::differences::{flag_changes, motions};
 use crate::elements::{Carriable, take_switches, take_values};
 use crate::read::{KeyArray, read_keys};
 use hid_cells::{Cell, Event, Flags, item_at};
 use hid_fields::FieldCodec;
-use hid_layout::{ControlKind, Controls, Layout, MainItem, Shape, Usage};
-use hid_parts::{FieldRun, first_bit, is_data};
+use hid_layout::{ControlKind, Layout, MainItem, Shape, Usage};
+use hid_parts::{FieldRun, first_bit};
 
 /// The bytes of an Input report, with its layout and its number there.
 #[derive(Clone, Copy)]
@@ -45,7 +45,7 @@ struct Listed<'a> {
     item: &'a MainItem,
 }
 
-/// The numbers of a variable item's elements, with the kind of the elements and the range that they can carry.
+/// The numbers of a variable item's elements, with the kind of the elements and the bounds that they are read by.
 #[derive(Clone, Copy)]
 struct Carried<'a> {
     kind: ControlKind,
@@ -85,7 +85,7 @@ pub(crate) fn take_items<C: FieldCodec>(
     }
 }
 
-/// What is kept of a listed item once the bytes of a report are read, and what they tell.
+/// What is kept of an item of a report once its bytes are read, and what they tell.
 fn take_item<C: FieldCodec>(
     received: &Received<'_>,
     place: usize,
@@ -95,6 +95,7 @@ fn take_item<C: FieldCodec>(
 )
     requires listed { place < length received.now.layout.now.items }
     requires input { IsInput received.now.layout.now received.now.report }
+    requires in_report { IsInReport received.now.layout.now received.now.report place }
     requires whole { report_bytes received.now.layout.now received.now.report
         ≤ length received.now.bytes.now }
     requires held { HasRoom (head_of (form_at (items_of received.now.layout.now) place)) cell.old }
@@ -111,13 +112,16 @@ fn take_item<C: FieldCodec>(
 {
     let layout = received.layout;
     let item = item_at(layout, place);
-    if is_data(item, received.report) {
-        let listed = Listed {
-            layout,
-            place,
-            item,
-        };
-        take_fields::<C>(&listed, received.bytes, cell, named, out);
+    match item.shape {
+        Shape::Padding => {}
+        Shape::Variable | Shape::Array => {
+            let listed = Listed {
+                layout,
+                place,
+                item,
+            };
+            take_fields::<C>(&listed, received.bytes, cell, named, out);
+        }
     }
 }
 
@@ -163,6 +167,7 @@ fn take_pattern(listed: &Listed<'_>, pattern: u32, cell: &mut Cell, out: &mut Ve
     requires held { HasRoom (head.Elements ControlKind.Switch (pos 0) (pos 1)
         (length (usages_in listed.now))) cell.old }
     requires few { length (usages_in listed.now) ≤ 32 }
+    requires fits { pattern < 2 ^ length (usages_in listed.now) }
     requires room { HasSpace out.old (element_events listed.now.place
         (usages_in listed.now) cell.old (read_bits pattern cell.old)) }
     ensures cell { cell.new ≡ read_bits pattern cell.old }
@@ -175,7 +180,8 @@ fn take_pattern(listed: &Listed<'_>, pattern: u32, cell: &mut Cell, out: &mut Ve
     }
 }
 
-/// What is kept of an item, as these numbers of its elements leave it, and what they tell.
+/// What is kept of an item, as these numbers of its elements leave it, and what they tell. They are held against the logical
+/// range: of the numbers that fit the fields, it has those that an element can carry.
 fn take_numbers<C: FieldCodec>(
     listed: &Listed<'_>,
     numbers: &FieldRun<'_>,
@@ -189,6 +195,7 @@ fn take_numbers<C: FieldCodec>(
     requires input { IsFormOf listed.now.layout.now listed.now.place listed.now.item.now }
     requires data { is_padding listed.now.item.now.shape ≡ false }
     requires numbers { length numbers.now ≡ listed.now.item.now.count }
+    requires fits { All (FitsFields listed.now.item.now) numbers.now }
     requires held { HasRoom (head_of (form_in listed.now)) cell.old }
     requires places { flag_places cell.old ≤ length named.old }
     requires none { named.old ≡ replicate (length named.old) false }
@@ -198,45 +205,23 @@ fn take_numbers<C: FieldCodec>(
     ensures named { named.new ≡ named.old }
     ensures told { Appends out.old (told_in listed.now cell.old cell.new numbers.now) out.new }
 {
-    match controls_of(listed) {
-        Controls::None => {}
-        Controls::Elements {
-            kind,
-            least,
-            greatest,
-            ..
-        } => {
+    match listed.item.shape {
+        Shape::Padding => {}
+        Shape::Variable => {
             let carried = Carried {
-                kind,
-                bounds: Bounds { least, greatest },
+                kind: listed.item.element_kind(),
+                bounds: Bounds {
+                    least: listed.item.min,
+                    greatest: listed.item.max,
+                },
                 numbers,
             };
             take_elements::<C>(listed, &carried, cell, out);
         }
-        Controls::Keys { .. } => {
+        Shape::Array => {
             let entries = listed.layout.entries(listed.place);
             take_array::<C>(listed, entries, numbers, cell, named, out);
         }
-    }
-}
-
-/// The controls of an item, by its shape.
-fn controls_of(listed: &Listed<'_>) -> Controls
-    requires layout { IsLayout listed.now.layout.now }
-    requires listed { slice_get listed.now.layout.now.items listed.now.place
-        ≡ Some listed.now.item.now }
-    requires input { IsFormOf listed.now.layout.now listed.now.place listed.now.item.now }
-    ensures { result ≡ head_of (form_in listed.now) }
-{
-    let item = listed.item;
-    match item.shape {
-        Shape::Variable => Controls::Elements {
-            kind: item.element_kind(),
-            least: item.least(),
-            greatest: item.greatest(),
-            count: item.count as usize,
-        },
-        Shape::Array | Shape::Padding => listed.layout.controls(listed.place),
     }
 }
 
@@ -291,7 +276,7 @@ fn take_array<C: FieldCodec>(
     named: &mut Flags,
     out: &mut Vec<Event>,
 )
-    requires elements { HasElements listed.now.item.now }
+    requires fits { All (FitsFields listed.now.item.now) numbers.now }
     requires entries { length entries.now ≤ 64 }
     requires keys { keys_in listed.now ≡ array_keys listed.now.item.now (usage_list entries.now) }
     requires usages { length (usages_in listed.now) ≡ length (keys_in listed.now) }
@@ -324,7 +309,7 @@ fn take_flags<C: FieldCodec>(
     named: &mut Flags,
     out: &mut Vec<Event>,
 )
-    requires elements { HasElements listed.now.item.now }
+    requires fits { All (FitsFields listed.now.item.now) numbers.now }
     requires entries { length entries.now ≤ 64 }
     requires keys { keys_in listed.now ≡ array_keys listed.now.item.now (usage_list entries.now) }
     requires usages { length (usages_in listed.now) ≡ length (keys_in listed.now) }
@@ -344,7 +329,6 @@ fn take_flags<C: FieldCodec>(
     let array = KeyArray {
         item: listed.item,
         entries,
-        range: bounds_of(listed.item),
     };
     let Listed { layout, place, .. } = *listed;
     let count = held.len();
@@ -363,7 +347,7 @@ fn take_named<C: FieldCodec>(
     out: &mut Vec<Event>,
 )
     requires entries { length array.now.entries.now ≤ 64 }
-    requires range { AreBounds array.now.item.now array.now.range.least array.now.range.greatest }
+    requires fits { All (FitsFields array.now.item.now) numbers.now }
     requires keys { keys_at layout.now place
         ≡ array_keys array.now.item.now (usage_list array.now.entries.now) }
     requires usages { length (usages_at layout.now place) ≡ length (keys_at layout.now place) }

@@ -336,6 +336,13 @@ impl<R: Requests> DevControl<R> {
         }
     }
 
+    /// A packet passes that isn't for this endpoint: what was heard before it counts no more.
+    pub fn pass(&mut self)
+        ensures { self.new ≡ record self.old { heard = Heard.Nothing } }
+    {
+        self.heard = Heard::Nothing;
+    }
+
     /// Hears any packet, and gives the answer to it, if it has one (USB 2.0, 8.5.3).
     ///
     /// | heard | answer |

@@ -2,18 +2,15 @@
 ghost use Rattle.std.specs.Prelude.{◌≡◌, ◌∷◌, Ok, IfOk, IfErr};
 ghost use Rattle.usb_packet.specs.Spelling.{Spells, IsHandshake, token_pid, data_pid, pid_of};
 ghost use Rattle.usb_packet.specs.Fault.{IsFault, Reads};
+ghost use Rattle.usb_packet.specs.Lent.{owned, owned_or_fault};
 
 use crate::fault::PacketFault;
-use crate::packet::{Packet, TokenKind};
+use crate::packet::{LentPacket, MAX_PAYLOAD, Packet, TokenKind};
 use crate::pid;
-use arrayvec::ArrayVec;
-
-// What reads one sort of packet makes no room for another.
 
 // A token with this kind, from what follows its PID.
-#[inline(never)]
-fn token(kind: TokenKind, body: &[u8]) -> Result<Packet, PacketFault>
-    ensures { Reads result (token_pid kind ∷ body.now) }
+fn token(kind: TokenKind, body: &[u8]) -> Result<LentPacket<'_>, PacketFault>
+    ensures { Reads (owned_or_fault result) (token_pid kind ∷ body.now) }
 {
     let [low, high] = body else {
         return Err(PacketFault::BadLength);
@@ -22,7 +19,7 @@ fn token(kind: TokenKind, body: &[u8]) -> Result<Packet, PacketFault>
     if fields >> 11 != 0 {
         return Err(PacketFault::BadReserved);
     }
-    Ok(Packet::Token {
+    Ok(LentPacket::Token {
         kind,
         addr: (fields & 0x7f) as u8,
         endp: (fields >> 7) as u8,
@@ -30,20 +27,20 @@ fn token(kind: TokenKind, body: &[u8]) -> Result<Packet, PacketFault>
 }
 
 // A data packet with this toggle, from what follows its PID.
-#[inline(never)]
-fn data(one: bool, body: &[u8]) -> Result<Packet, PacketFault>
-    ensures { Reads result (data_pid one ∷ body.now) }
+fn data(one: bool, body: &[u8]) -> Result<LentPacket<'_>, PacketFault>
+    ensures { Reads (owned_or_fault result) (data_pid one ∷ body.now) }
 {
-    match ArrayVec::try_from(body) {
-        Ok(payload) => Ok(Packet::Data { one, payload }),
-        Err(_) => Err(PacketFault::BadLength),
+    if body.len() <= MAX_PAYLOAD {
+        Ok(LentPacket::Data { one, payload: body })
+    } else {
+        Err(PacketFault::BadLength)
     }
 }
 
 // This handshake, from what follows its PID.
-fn handshake(packet: Packet, body: &[u8]) -> Result<Packet, PacketFault>
-    requires handshake { IsHandshake packet }
-    ensures { Reads result (pid_of packet ∷ body.now) }
+fn handshake<'a>(packet: LentPacket<'a>, body: &[u8]) -> Result<LentPacket<'a>, PacketFault>
+    requires handshake { IsHandshake (owned packet) }
+    ensures { Reads (owned_or_fault result) (pid_of (owned packet.entry) ∷ body.now) }
 {
     if body.is_empty() {
         Ok(packet)
@@ -52,25 +49,33 @@ fn handshake(packet: Packet, body: &[u8]) -> Result<Packet, PacketFault>
     }
 }
 
-#[inline(never)]
-fn ack(body: &[u8]) -> Result<Packet, PacketFault>
-    ensures { Reads result (pid_of Packet.Ack ∷ body.now) }
+/// The packet that the bytes spell, with its payload where it stands: as [`decode`] gives it.
+///
+/// # Errors
+/// Where they spell none, the first [`PacketFault`] that stands, in the order of its variants.
+#[inline(always)]
+pub fn read(bytes: &[u8]) -> Result<LentPacket<'_>, PacketFault>
+    ensures found { IfOk (owned_or_fault result) (λ packet. Spells packet bytes.now) }
+    ensures complete { (packet : Packet) → Spells packet bytes.now → owned_or_fault result ≡ Ok packet }
+    ensures fault { IfErr (owned_or_fault result) (λ fault. IsFault fault bytes.now) }
 {
-    handshake(Packet::Ack, body)
-}
-
-#[inline(never)]
-fn nak(body: &[u8]) -> Result<Packet, PacketFault>
-    ensures { Reads result (pid_of Packet.Nak ∷ body.now) }
-{
-    handshake(Packet::Nak, body)
-}
-
-#[inline(never)]
-fn stall(body: &[u8]) -> Result<Packet, PacketFault>
-    ensures { Reads result (pid_of Packet.Stall ∷ body.now) }
-{
-    handshake(Packet::Stall, body)
+    let [first, body @ ..] = bytes else {
+        return Err(PacketFault::Empty);
+    };
+    if first >> 4 != 0x0f - (first & 0x0f) {
+        return Err(PacketFault::BadCheck);
+    }
+    match *first {
+        pid::OUT => token(TokenKind::Out, body),
+        pid::IN => token(TokenKind::In, body),
+        pid::SETUP => token(TokenKind::Setup, body),
+        pid::DATA0 => data(false, body),
+        pid::DATA1 => data(true, body),
+        pid::ACK => handshake(LentPacket::Ack, body),
+        pid::NAK => handshake(LentPacket::Nak, body),
+        pid::STALL => handshake(LentPacket::Stall, body),
+        _ => Err(PacketFault::UnknownPid),
+    }
 }
 
 /// The packet that the bytes spell (USB 2.0, 8.3 and 8.4), for all bytes of any number.
@@ -85,21 +90,8 @@ pub fn decode(bytes: &[u8]) -> Result<Packet, PacketFault>
     // On all other bytes, the first fault.
     ensures fault { IfErr result (λ fault. IsFault fault bytes.now) }
 {
-    let [first, body @ ..] = bytes else {
-        return Err(PacketFault::Empty);
-    };
-    if first >> 4 != 0x0f - (first & 0x0f) {
-        return Err(PacketFault::BadCheck);
-    }
-    match *first {
-        pid::OUT => token(TokenKind::Out, body),
-        pid::IN => token(TokenKind::In, body),
-        pid::SETUP => token(TokenKind::Setup, body),
-        pid::DATA0 => data(false, body),
-        pid::DATA1 => data(true, body),
-        pid::ACK => ack(body),
-        pid::NAK => nak(body),
-        pid::STALL => stall(body),
-        _ => Err(PacketFault::UnknownPid),
+    match read(bytes) {
+        Ok(packet) => Ok(packet.owned()),
+        Err(fault) => Err(fault),
     }
 }

@@ -1,8 +1,9 @@
 //! From a packet to its bytes (USB 2.0, 8.3 and 8.4).
 ghost use Rattle.std.specs.Prelude.{◌≡◌, []};
+ghost use Rattle.usb_packet.specs.Lent.{owned, IsShort};
 ghost use Rattle.usb_packet.specs.Spelling.{Fits, Spells, token_pid, data_pid};
 
-use crate::packet::{Packet, TokenKind};
+use crate::packet::{LentPacket, Packet, TokenKind};
 use crate::pid;
 use arrayvec::ArrayVec;
 
@@ -40,20 +41,30 @@ pub fn spell(packet: &Packet, bytes: &mut ArrayVec<u8, 65>)
     requires empty { bytes.old.items ≡ [] }
     ensures spelled { Spells packet.now bytes.new.items }
 {
+    spell_lent(packet.lent(), bytes);
+}
+
+/// The same of a packet whose payload stands elsewhere.
+pub fn spell_lent(packet: LentPacket, bytes: &mut ArrayVec<u8, 65>)
+    requires fits { Fits (owned packet) }
+    requires short { IsShort packet }
+    requires empty { bytes.old.items ≡ [] }
+    ensures spelled { Spells (owned packet.entry) bytes.new.items }
+{
     match packet {
-        Packet::Token { kind, addr, endp } => {
-            let fields = u16::from(*endp) << 7 | u16::from(*addr);
+        LentPacket::Token { kind, addr, endp } => {
+            let fields = u16::from(endp) << 7 | u16::from(addr);
             let [low, high] = fields.to_le_bytes();
-            bytes.push(pid_of_token(*kind));
+            bytes.push(pid_of_token(kind));
             bytes.push(low);
             bytes.push(high);
         }
-        Packet::Data { one, payload } => {
-            bytes.push(pid_of_data(*one));
+        LentPacket::Data { one, payload } => {
+            bytes.push(pid_of_data(one));
             bytes.try_extend_from_slice(payload).unwrap();
         }
-        Packet::Ack => bytes.push(pid::ACK),
-        Packet::Nak => bytes.push(pid::NAK),
-        Packet::Stall => bytes.push(pid::STALL),
+        LentPacket::Ack => bytes.push(pid::ACK),
+        LentPacket::Nak => bytes.push(pid::NAK),
+        LentPacket::Stall => bytes.push(pid::STALL),
     }
 }

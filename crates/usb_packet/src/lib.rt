@@ -23,7 +23,7 @@ mod fault;
 mod packet;
 mod pid;
 
-pub use decoding::decode;
-pub use encoding::{encode, spell};
+pub use decoding::{decode, read};
+pub use encoding::{encode, spell, spell_lent};
 pub use fault::PacketFault;
-pub use packet::{MAX_ADDRESS, MAX_ENDPOINT, MAX_PAYLOAD, Packet, TokenKind, fits};
+pub use packet::{LentPacket, MAX_ADDRESS, MAX_ENDPOINT, MAX_PAYLOAD, Packet, TokenKind, fits};

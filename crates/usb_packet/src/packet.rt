@@ -1,5 +1,6 @@
 //! What a packet is (USB 2.0, 8.4).
-ghost use Rattle.std.specs.Prelude.{◌↔◌, IsTrue};
+ghost use Rattle.std.specs.Prelude.{◌≡◌, ◌↔◌, IsTrue};
+ghost use Rattle.usb_packet.specs.Lent.{owned, IsShort};
 ghost use Rattle.usb_packet.specs.Spelling.{Fits};
 
 use arrayvec::ArrayVec;
@@ -49,6 +50,76 @@ pub enum Packet {
     Nak,
     /// From the device: the endpoint is halted, or the request is refused (8.4.5).
     Stall,
+}
+
+/// A packet whose payload stands elsewhere, so that it is handed on in a few bytes: [`LentPacket::owned`] is the packet.
+#[derive(Clone, Copy)]
+pub enum LentPacket<'a> {
+    /// From the host: begins a transaction with one endpoint of one device (8.4.1).
+    Token {
+        /// What the token announces.
+        kind: TokenKind,
+        /// The device, 0 to [`MAX_ADDRESS`].
+        addr: u8,
+        /// Its endpoint, 0 to [`MAX_ENDPOINT`].
+        endp: u8,
+    },
+    /// From either end: DATA1 where `one`, else DATA0 (8.4.4).
+    Data {
+        /// The data toggle.
+        one: bool,
+        /// 0 to [`MAX_PAYLOAD`] bytes.
+        payload: &'a [u8],
+    },
+    /// The data arrived (8.4.5).
+    Ack,
+    /// From the device: there is nothing to send, or no room (8.4.5).
+    Nak,
+    /// From the device: the endpoint is halted, or the request is refused (8.4.5).
+    Stall,
+}
+
+impl Packet {
+    /// The packet, with its payload where it stands.
+    #[inline(always)]
+    pub fn lent(&self) -> LentPacket<'_>
+        ensures packet { owned result ≡ self.now }
+        ensures short { IsShort result }
+    {
+        match self {
+            Packet::Token { kind, addr, endp } => LentPacket::Token {
+                kind: *kind,
+                addr: *addr,
+                endp: *endp,
+            },
+            Packet::Data { one, payload } => LentPacket::Data {
+                one: *one,
+                payload: payload.as_slice(),
+            },
+            Packet::Ack => LentPacket::Ack,
+            Packet::Nak => LentPacket::Nak,
+            Packet::Stall => LentPacket::Stall,
+        }
+    }
+}
+
+impl<'a> LentPacket<'a> {
+    /// The packet, with a payload of its own.
+    pub fn owned(self) -> Packet
+        requires { IsShort self }
+        ensures { result ≡ owned self.entry }
+    {
+        match self {
+            LentPacket::Token { kind, addr, endp } => Packet::Token { kind, addr, endp },
+            LentPacket::Data { one, payload } => Packet::Data {
+                one,
+                payload: ArrayVec::try_from(payload).unwrap(),
+            },
+            LentPacket::Ack => Packet::Ack,
+            LentPacket::Nak => Packet::Nak,
+            LentPacket::Stall => Packet::Stall,
+        }
+    }
 }
 
 /// Whether the packet has a spelling: the address of a token is at most [`MAX_ADDRESS`] and its endpoint at most

@@ -1,11 +1,12 @@
 //! What carries packets between the two ends: a packet goes as its bytes, and is read from the bytes that arrive.
 ghost use Rattle.std.specs.Prelude.{IfSome};
-ghost use Rattle.std.specs.Option.{option_copied};
+ghost use Rattle.std.specs.Option.{option_copied, option_map};
+ghost use Rattle.usb_packet.specs.Lent.{owned, IsShort};
 ghost use Rattle.usb_packet.specs.Spelling.{Fits};
-ghost use Rattle.usb_transact.specs.Bus.{Carries, Replies};
+ghost use Rattle.usb_transact.specs.Bus.{arrived, Carries, IsRead, Replies};
 
 use arrayvec::ArrayVec;
-use usb_packet::{Packet, decode, spell};
+use usb_packet::{LentPacket, Packet, decode, read, spell};
 
 /// The phases of a transaction, by the packet that is sent in each (USB 2.0, 8.5). An interrupt-IN transaction has the
 /// token, the reply and the acknowledgement (8.5.4), a SETUP or OUT transaction the token, the host's data and the
@@ -37,6 +38,14 @@ pub trait Bus {
     /// Whether something arrives of these bytes. What does stands in their place.
     fn hand_on(&self, phase: Phase, bytes: &mut ArrayVec<u8, 65>) -> bool
         ensures { arrived result bytes.new.items ≡ arrives self.now phase bytes.old.items };
+}
+
+/// What an end reads of bytes, where they arrived.
+pub fn read_arrived(has_arrived: bool, bytes: &[u8]) -> Option<LentPacket<'_>>
+    ensures read { IsRead (arrived has_arrived bytes.now) (option_map owned result) }
+    ensures short { IfSome result IsShort }
+{
+    if has_arrived { read(bytes).ok() } else { None }
 }
 
 /// What the other end reads of a packet that is sent.

@@ -1,12 +1,13 @@
 //! The device's end of the pipe (USB 2.0, 8.5.4, 8.6 and 9.4.5).
 ghost use Rattle.std.specs.Prelude.{◌≡◌, ◌≤◌, false, Some, IsNone, length};
 ghost use Rattle.std.specs.Option.{option_copied};
+ghost use Rattle.usb_packet.specs.Lent.{owned, IsShort};
 ghost use Rattle.usb_packet.specs.Spelling.{Fits};
 ghost use Rattle.usb_transact.specs.Device.{device_at_start, answer_of, closed, halted_pipe};
 
 use arrayvec::ArrayVec;
 use std::marker::Model;
-use usb_packet::{MAX_PAYLOAD, Packet};
+use usb_packet::{LentPacket, MAX_PAYLOAD, Packet};
 
 /// The device's end: its toggle, the data that it sends until they are acknowledged, and whether the endpoint is halted. A
 /// contract sees it as `toggle`, `armed` and `halted`.
@@ -106,15 +107,24 @@ impl DevPipe {
         ensures answer { result ≡ answer_of self.now }
         ensures fits { Fits result }
     {
+        self.lent_answer().owned()
+    }
+
+    /// The same, with its payload where it stands.
+    pub fn lent_answer(&self) -> LentPacket<'_>
+        ensures answer { owned result ≡ answer_of self.now }
+        ensures fits { Fits (owned result) }
+        ensures short { IsShort result }
+    {
         if self.halted {
-            return Packet::Stall;
+            return LentPacket::Stall;
         }
         match &self.armed {
-            Some(bytes) => Packet::Data {
+            Some(bytes) => LentPacket::Data {
                 one: self.toggle,
-                payload: ArrayVec::try_from(bytes.as_slice()).unwrap(),
+                payload: bytes.as_slice(),
             },
-            None => Packet::Nak,
+            None => LentPacket::Nak,
         }
     }
 

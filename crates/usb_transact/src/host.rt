@@ -1,13 +1,14 @@
 //! The host's end of the pipe (USB 2.0, 8.5.4 and 8.6).
-ghost use Rattle.std.specs.Prelude.{◌≡◌, ◌≤◌, false};
-ghost use Rattle.std.specs.Option.{option_copied};
+ghost use Rattle.std.specs.Prelude.{◌≡◌, ◌≤◌, false, IfSome};
+ghost use Rattle.std.specs.Option.{option_copied, option_map};
+ghost use Rattle.usb_packet.specs.Lent.{owned, IsShort};
 ghost use Rattle.usb_packet.specs.Spelling.{Fits};
 ghost use Rattle.usb_transact.specs.Host.{host_at_start, token_to};
 ghost use Rattle.usb_transact.specs.Taken.{taken, host_after};
 
 use arrayvec::ArrayVec;
 use std::marker::Model;
-use usb_packet::{MAX_ADDRESS, MAX_ENDPOINT, Packet, TokenKind};
+use usb_packet::{LentPacket, MAX_ADDRESS, MAX_ENDPOINT, Packet, TokenKind};
 
 /// What the host made of a transaction. It acknowledges exactly `Fresh` and `Again`.
 #[derive(Debug, Drop, PartialEq, Eq)]
@@ -93,15 +94,27 @@ impl HostPipe {
         ensures pipe { self.new ≡ host_after result self.old }
     {
         match packet {
-            Some(Packet::Data { one, payload }) => {
-                if *one != self.expects {
+            Some(packet) => self.take_lent(Some(packet.lent())),
+            None => Took::Silent,
+        }
+    }
+
+    /// The same of a packet whose payload stands elsewhere.
+    pub fn take_lent(&mut self, packet: Option<LentPacket>) -> Took
+        requires { IfSome packet IsShort }
+        ensures took { result ≡ taken self.old.expects (option_map owned packet.entry) }
+        ensures pipe { self.new ≡ host_after result self.old }
+    {
+        match packet {
+            Some(LentPacket::Data { one, payload }) => {
+                if one != self.expects {
                     return Took::Again;
                 }
                 self.expects = !self.expects;
-                Took::Fresh(ArrayVec::try_from(payload.as_slice()).unwrap())
+                Took::Fresh(ArrayVec::try_from(payload).unwrap())
             }
-            Some(Packet::Nak) => Took::Nak,
-            Some(Packet::Stall) => Took::Stall,
+            Some(LentPacket::Nak) => Took::Nak,
+            Some(LentPacket::Stall) => Took::Stall,
             _ => Took::Silent,
         }
     }

@@ -23,7 +23,7 @@ mod device;
 mod host;
 mod transaction;
 
-pub use bus::{Bus, Phase, carried, replied};
+pub use bus::{Bus, Phase, carried, read_arrived, replied};
 pub use device::DevPipe;
 pub use host::{HostPipe, Took};
 pub use transaction::{Fate, exchange};

@@ -5,6 +5,7 @@ pub returns : goal.returns
 returns c before s = record {
   heads = s.fields_there.heads;
   reports = s.fields_there.reports;
+  ordered = c.args.parser.fields.reports.ordered;
   entries = s.fields_there.entries;
   paths = s.fields_there.paths;
   numbered = s.numbered_there;

@@ -1,7 +1,16 @@
-use Rattle.std.proofs.Common.{◌∙◌, subst, Some}
+use Rattle.std.proofs.Common.{[], ◌∙◌, subst, Some, rules}
 use Rattle.hid_items.specs.Reading.{GivesNext}
 use Rattle.hid_descriptor.proofs.Taking.{explains_same, next_taken, item_explains, cut_explains, all_taken}
 use Rattle.hid_descriptor.proofs.parse.take_items.Goals as goal
+
+pub loop-next-init : goal.loop-next-init
+loop-next-init c = ([], record {
+  joined = search;
+  place = search;
+  spelled = search rules;
+  accepted = search;
+  stands = c.make_room.ensures [] c.requires.fresh;
+})
 
 pub loop-next-preserved : goal.loop-next-preserved
 loop-next-preserved c =
@@ -15,7 +24,7 @@ returns-in-Err-take-clause-err c =
     let steps = subst (λ r. GivesNext c.loop-next.next-iterator (Some r) c.next.new.self) c.in-Ok.is c.in-Some.ensures.steps in
     let taken = c.loop-next.invariant.1 in
     let took = c.in-Err-take.ensures c.loop-next.invariant.0 taken.stands in
-    explains_same _ _ _ _ _ c.fault.ensures.cause c.fault.ensures.at (item_explains _ _ _ _ _ _ _ _ c.requires.short taken steps took)
+    explains_same _ _ _ _ _ c.fault-in-Err-take.ensures.cause c.fault-in-Err-take.ensures.at (item_explains _ _ _ _ _ _ _ _ c.requires.short taken steps took)
 
 pub returns-in-Err-clause-err : goal.returns-in-Err-clause-err
 returns-in-Err-clause-err c =

@@ -1,20 +1,24 @@
-use Rattle.std.proofs.Common.{◌≡◌, length, take, arith, sym, subst, ap, ◌∙◌}
+use Rattle.std.proofs.Common.{◌≡◌, [], ◌∷◌, length, length-append, arith, sym, subst, ap, ◌∙◌}
 use Rattle.std.specs.List.{slice_get}
-use Rattle.std.proofs.lemmas.List.{length-take-le}
 use Rattle.std.proofs.lemmas.Option.{slice_get-get_or}
-use Rattle.hid_layout.specs.Index.{AreAllCodes}
-use Rattle.hid_layout.proofs.IndexLemmas.{take_next, codes_more}
+use Rattle.hid_layout.specs.Index.{FitArrays}
+use Rattle.hid_layout.proofs.IndexLemmas.{codes_more}
 use Rattle.hid_layout.proofs.index.all_codes.Goals as goal
 
-pub item_codes-requires-clause-elements : goal.item_codes-requires-clause-elements
-item_codes-requires-clause-elements c = c.requires.elements c.loop-i.i _ (slice_get-get_or c.args.items.now c.loop-i.i _ c.loop-i-test.true)
+pub array_codes-requires-clause-elements : goal.array_codes-requires-clause-elements
+array_codes-requires-clause-elements c = c.requires.elements c.loop-i.i _ (slice_get-get_or c.args.items.now c.loop-i.i _ (omega (arith, c.loop-i-test.true, c.behind_arrays-count.ensures)))
 
-pub item_codes-requires-clause-few : goal.item_codes-requires-clause-few
-item_codes-requires-clause-few c = c.requires.few c.loop-i.i c.entries.result.now c.entries.ensures
+pub array_codes-requires-clause-few : goal.array_codes-requires-clause-few
+array_codes-requires-clause-few c = c.requires.few c.loop-i.i c.entries.result.now c.entries.ensures
 
 pub loop-i-preserved : goal.loop-i-preserved
-loop-i-preserved c =
-    let n : length (take c.loop-i.i c.args.items.now) ≡ c.loop-i.i = length-take-le c.loop-i.i c.args.items.now (omega arith) in
-    subst (λ l. AreAllCodes l c.args.lists.now.entries c.push.new.self.items) (sym (take_next c.args.items.now c.loop-i.i _ (slice_get-get_or c.args.items.now c.loop-i.i _ c.loop-i-test.true)))
-    (subst (AreAllCodes _ c.args.lists.now.entries) (sym c.in_ok-push.ensures.items)
-    (codes_more (take c.loop-i.i c.args.items.now) _ c.args.lists.now.entries c.entries.result.now c.loop-i.codes.items c.item_codes.result c.loop-i.invariant (ap (slice_get c.args.lists.now.entries) n ∙ c.entries.ensures) c.item_codes.ensures))
+loop-i-preserved c = record {
+  one_each = omega (arith, ap length c.push_reserved.ensures.items, length-append c.loop-i.codes.items (c.array_codes.result ∷ []), c.loop-i.invariant.one_each);
+  arrays =
+      let here : slice_get c.args.items.now (length c.loop-i.codes.items) ≡ _ =
+      ap (slice_get c.args.items.now) c.loop-i.invariant.one_each ∙ slice_get-get_or c.args.items.now c.loop-i.i _ (omega (arith, c.loop-i-test.true, c.behind_arrays-count.ensures)) in
+      subst (FitArrays c.args.items.now c.args.lists.now.entries) (sym c.push_reserved.ensures.items)
+      (codes_more c.args.items.now _ c.args.lists.now.entries c.entries.result.now c.loop-i.codes.items c.array_codes.result c.loop-i.invariant.arrays here
+      (ap (slice_get c.args.lists.now.entries) c.loop-i.invariant.one_each ∙ c.entries.ensures) c.array_codes.ensures);
+  room = omega (arith, c.push_reserved.ensures.capacity, c.loop-i.invariant.room);
+}

@@ -1,7 +1,12 @@
-use Rattle.std.proofs.Common.{take}
-use Rattle.hid_layout.specs.Index.{AreAllCodes}
+use Rattle.std.proofs.Common.{◌≡◌, ◌+◌, ◌≤◌, length}
+use Rattle.std.specs.Vec.{vec_len, vec_capacity}
+use Rattle.hid_layout.specs.Index.{FitArrays}
 use Rattle.hid_layout.proofs.index.all_codes.Given as goal
 
--- the items so far have their codes
+-- the items so far have a place each, and the arrays among them their codes; there is room for the others
 abbrev pub invariant-loop-i : goal.invariant-loop-i
-invariant-loop-i l = AreAllCodes (take l.i l.items) l.lists.entries l.codes.items
+invariant-loop-i l = record {
+  one_each : length l.codes.items ≡ l.i;
+  arrays : FitArrays l.items l.lists.entries l.codes.items;
+  room : l.count ≤ vec_capacity l.codes;
+}

@@ -5,10 +5,16 @@ use Rattle.hid_descriptor.specs.Heads.{head_of}
 use Rattle.hid_layout.specs.Layout.{item_of}
 use Rattle.hid_descriptor.specs.Faults.{upward}
 use Rattle.hid_descriptor.specs.Fields.{fields}
-use Rattle.hid_layout.specs.Index.{places_from, AreAllCodes}
+use Rattle.hid_layout.specs.Index.{places_from, AreArrayCodes}
 use Rattle.hid_layout.specs.Reports.{IsLayout}
 use Rattle.hid_layout.proofs.LaidLemmas.{laid}
 use Rattle.hid_layout.proofs.layout.lay_out.Goals as goal
+
+pub of-requires-clause-there : goal.of-requires-clause-there
+of-requires-clause-there c i item at =
+    let items = c.in_ok-items.ensures ∙ ap (λ r. map (item_of r) c.deref-2.result.now) c.deref.ensures.value ∙ ap (map (item_of c.args.listed.reports.items)) c.deref-2.ensures.value in
+    let all = laid c.requires.0 c.args.listed c.in_ok-items.items.items c.requires.1 items in
+    omega (arith, (subst IsLayout (sym all) c.requires.2).report_there i item (ap (λ l. slice_get l i) (sym c.deref-3.ensures.value) ∙ at), c.len.ensures)
 
 pub all_codes-requires-clause-elements : goal.all_codes-requires-clause-elements
 all_codes-requires-clause-elements c i item at =
@@ -36,7 +42,7 @@ invariant_of-result c =
       subst IsLayout (sym all) c.requires.2,
       record {
         plans_there = c.in_ok-plans.ensures ∙ ap (λ l. map (λ r. places_from 0 r l) (upward 0 c.len.result)) c.deref-3.ensures.value ∙ ap (λ m. map (λ r. places_from 0 r c.in_ok-items.items.items) (upward 0 m)) reports;
-        codes_there = subst (λ l. AreAllCodes l c.args.listed.lists.entries c.in_ok-codes.codes.items) c.deref-4.ensures.value c.in_ok-codes.ensures;
+        codes_there = subst (λ l. AreArrayCodes l c.args.listed.lists.entries c.in_ok-codes.codes.items) c.deref-4.ensures.value c.in_ok-codes.ensures;
       },
       omega (arith, n, ap length k.heads, length-map (fields c.requires.0) head_of, k.few),
     )

@@ -1,20 +1,25 @@
-use Rattle.std.proofs.Common.{arith, sym}
-use Rattle.hid_lines.specs.Words.{words_of}
-use Rattle.hid_lines.proofs.WordLemmas.{hex_more, hex_whole, hex_ends, count_more}
+use Rattle.std.proofs.Common.{sym, refl, ◌∙◌, arith}
+use Rattle.hid_lines.proofs.WordLemmas.{one_first, ends_odd, ends_bad, goes_on, ends_whole}
 use Rattle.hid_lines.proofs.words.read_hex.Goals as goal
 
-pub returns-in_err-read_hex_word-clause-bytes : goal.returns-in_err-read_hex_word-clause-bytes
-returns-in_err-read_hex_word-clause-bytes c =
-    hex_ends _ c.loop-word.bytes.items (words_of c.loop-word.rest.now) (words_of c.in-Some.more.now) c.in-Some.word.now c.in_err-read_hex_word.field-0.0 _ c.loop-word.invariant.0 c.in-Some.ensures.words
-    (sym c.in_err-read_hex_word.ensures.pairs) c.in_err-read_hex_word.ensures.err c.from_residual.ensures.1
-
-pub loop-word-preserved : goal.loop-word-preserved
-loop-word-preserved c = (
-  hex_more _ c.loop-word.bytes.items c.read_hex_word.new.bytes.items (words_of c.loop-word.rest.now) (words_of c.in-Some.more.now) c.in-Some.word.now c.loop-word.invariant.0 c.in-Some.ensures.words
-      (sym c.in_ok-read_hex_word.ensures.pairs) c.in_ok-read_hex_word.ensures.bytes,
-  count_more _ _ _ (words_of c.loop-word.rest.now) (words_of c.in-Some.more.now) c.in-Some.word.now c.loop-word.invariant.1 c.in-Some.ensures.words c.in_ok-read_hex_word.ensures.count,
-  omega (arith, c.loop-word.invariant.2, c.in-Some.ensures.room, c.in_ok-read_hex_word.ensures.count),
+pub returns-in_default-behind-clause-bytes : goal.returns-in_default-behind-clause-bytes
+returns-in_default-behind-clause-bytes c = (
+  refl,
+  ends_odd _ c.loop-rest.bytes.items c.loop-rest.rest.now _ _ c.loop-rest.invariant.0 (one_first c.loop-rest.rest.now (omega (arith, c.in-len1-up.len_at_least))) (omega (arith, c.in_default-behind.len_below))
+      (sym c.if-is_blank.ensures),
 )
 
+pub returns-in-None-clause-bytes : goal.returns-in-None-clause-bytes
+returns-in-None-clause-bytes c = (
+  refl,
+  ends_bad _ c.loop-rest.bytes.items c.loop-rest.rest.now _ _ _ _ c.loop-rest.invariant.0 (one_first c.loop-rest.rest.now (omega (arith, c.in-len1-up.len_at_least))) (one_first _ (omega (arith, c.in-len1-up-behind.len_at_least)))
+      (sym c.if-is_blank.ensures) (sym c.hex_pair.ensures ∙ c.in-None.is),
+)
+
+pub loop-rest-preserved : goal.loop-rest-preserved
+loop-rest-preserved c =
+    goes_on _ _ c.loop-rest.bytes.items _ c.loop-rest.rest.now _ _ _ _ c.in-Some.byte c.loop-rest.invariant.0 c.loop-rest.invariant.1 c.loop-rest.invariant.2 (one_first c.loop-rest.rest.now (omega (arith, c.in-len1-up.len_at_least)))
+    (one_first _ (omega (arith, c.in-len1-up-behind.len_at_least))) (sym c.if-is_blank.ensures) (sym c.hex_pair.ensures ∙ c.in-Some.is) c.push.ensures.items
+
 pub returns-clause-bytes : goal.returns-clause-bytes
-returns-clause-bytes c = hex_whole _ c.loop-word.bytes.items (words_of c.loop-word.rest.now) c.loop-word.invariant.0 c.in_default.ensures.words
+returns-clause-bytes c = ends_whole _ c.loop-rest.bytes.items c.loop-rest.rest.now c.loop-rest.invariant.0 (omega (arith, c.in_default.len_below))

@@ -6,13 +6,6 @@ use Rattle.hid_parts.proofs.encode.send_item.Goals as goal
 pub codes-requires : goal.codes-requires
 codes-requires c = slice_get_within c.args.layout.now.items c.args.i c.args.item.now c.requires.listed
 
-pub send_elements-requires-clause-codes : goal.send_elements-requires-clause-codes
-send_elements-requires-clause-codes c =
-    c.codes.ensures c.args.item.now c.entries-entries.result.now c.requires.listed c.entries-entries.ensures (ap is_padding c.in-Variable.is)
-
-pub codes-requires-in-Array : goal.codes-requires-in-Array
-codes-requires-in-Array c = slice_get_within c.args.layout.now.items c.args.i c.args.item.now c.requires.listed
-
 pub send_array-requires-clause-codes : goal.send_array-requires-clause-codes
 send_array-requires-clause-codes c =
-    c.codes-in-Array.ensures c.args.item.now c.entries-entries.result.now c.requires.listed c.entries-entries.ensures (ap is_padding c.in-Array.is)
+    c.codes.ensures c.args.item.now c.entries-entries.result.now c.requires.listed c.entries-entries.ensures (ap is_padding c.in-Array.is)

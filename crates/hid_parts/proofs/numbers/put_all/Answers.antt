@@ -4,7 +4,19 @@ use Rattle.hid_fields.specs.Value.{FitsField, FitsEitherSign}
 use Rattle.hid_parts.specs.Numbers.{number_at}
 use Rattle.hid_parts.proofs.DrawLemmas.{drawn_at}
 use Rattle.hid_parts.proofs.NumberLemmas.{written, others_written}
+use Rattle.std.proofs.lemmas.Simd.{mask_l-lt}
+use Rattle.hid_parts.proofs.SwitchLemmas.{pattern_count, pattern_sent}
 use Rattle.hid_parts.proofs.numbers.put_all.Goals as goal
+
+pub put-requires-clause-fits : goal.put-requires-clause-fits
+put-requires-clause-fits g c =
+    let it = c.in-Some.ensures in
+    let many : c.args.count ≡ length it.places = sym c.requires.one_each ∙ pattern_count c.args.numbers c.in-Some.pattern it in
+    rw (it.is, many) (mask_l-lt it.places)
+
+pub returns-in-Some-clause-numbers : goal.returns-in-Some-clause-numbers
+returns-in-Some-clause-numbers g c = λ signed fits.
+    pattern_sent c.put.new.bytes c.args.numbers c.args.at c.args.width c.args.count c.in-Some.pattern signed (omega arith) c.in-Some.ensures c.requires.one_each c.put.ensures.field fits
 
 pub put_number-requires-clause-fits : goal.put_number-requires-clause-fits
 put_number-requires-clause-fits g c =

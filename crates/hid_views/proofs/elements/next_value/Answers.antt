@@ -2,7 +2,7 @@ use Rattle.std.proofs.Common.{◌≡◌, ◌∙◌, Option, ℤ, to_z, of_z, w64
 use Rattle.std.specs.List.{slice_get}
 use Rattle.std.proofs.lemmas.Int.{to_z-of_z}
 use Rattle.hid_views.specs.Reading.{read_value}
-use Rattle.hid_views.proofs.ElementLemmas.{kept_next, same_option}
+use Rattle.hid_views.proofs.ElementLemmas.{kept_next}
 use Rattle.hid_views.proofs.elements.next_value.Goals as goal
 
 pub loop-index-preserved : goal.loop-index-preserved
@@ -10,5 +10,4 @@ loop-index-preserved g c =
     let v = to_z w64 (of_z w64 c.number-number.result) in
     let is : v ≡ c.number-number.result = search (rules, to_z-of_z) in
     let number : slice_get c.args.numbers.now c.loop-index.index ≡ Some v = c.number-number.ensures ∙ ap (λ (n : ℤ). Some n) (sym is) in
-    let stays : read_value c.args.carriable.now.has_null c.args.carriable.now.bounds.least c.args.carriable.now.bounds.greatest c.get-before.result v ≡ c.get-before.result = sym c.read_value.ensures ∙ same_option c.read_value.result c.get-before.result (sym c.ne.ensures ∙ c.if-ne.false) in
-    kept_next (λ (p : Option ℤ × ℤ). read_value c.args.carriable.now.has_null c.args.carriable.now.bounds.least c.args.carriable.now.bounds.greatest p.0 p.1) c.args.held.now c.args.numbers.now c.args.from c.loop-index.index c.get-before.result v c.loop-index.invariant c.get-before.ensures number stays
+    kept_next (λ (p : Option ℤ × ℤ). read_value c.args.carriable.now.has_null c.args.carriable.now.bounds.least c.args.carriable.now.bounds.greatest p.0 p.1) c.args.held.now c.args.numbers.now c.args.from c.loop-index.index c.get.result v c.loop-index.invariant c.get.ensures number c.if-not-is_kept.ensures

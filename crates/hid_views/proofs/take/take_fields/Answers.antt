@@ -1,11 +1,12 @@
-use Rattle.std.proofs.Common.{◌≡◌, ◌*◌, ◌∙◌, ℕ, true, List, ap, subst, length, arith, rules}
+use Rattle.std.proofs.Common.{◌≡◌, ◌*◌, ◌^◌, ◌<◌, ◌∙◌, ℕ, true, List, All, ap, sym, subst, length, arith, rules}
 use Rattle.hid_cells.specs.declared.cell.Cell.{Cell}
 use Rattle.hid_cells.specs.declared.event.Event.{Event}
 use Rattle.hid_views.specs.Appending.{Appends}
 use Rattle.hid_cells.specs.Events.{usages_at, element_events}
-use Rattle.hid_views.specs.Reading.{item_numbers}
+use Rattle.hid_views.specs.Reading.{FitsFields, item_numbers}
 use Rattle.hid_views.specs.Taking.{read_by_numbers}
 use Rattle.hid_views.specs.Bits.{are_bits, read_bits}
+use Rattle.hid_views.proofs.BoundLemmas.{numbers_fit}
 use Rattle.hid_views.proofs.BitLemmas.{pattern_in, has_bits, reads_as_bits}
 use Rattle.hid_parts.proofs.EncodingLemmas.{place_inside}
 use Rattle.hid_parts.proofs.NumberLemmas.{numbers_in-length}
@@ -28,6 +29,13 @@ new-numbers-requires g c =
 pub take_numbers-requires-clause-numbers : goal.take_numbers-requires-clause-numbers
 take_numbers-requires-clause-numbers g c =
     ap length c.new-numbers.ensures ∙ numbers_in-length c.args.bytes.now _ c.args.listed.now.item.now.size _ c.args.listed.now.item.now.count
+
+pub take_numbers-requires-clause-fits : goal.take_numbers-requires-clause-fits
+take_numbers-requires-clause-fits g c =
+    let item = c.args.listed.now.item.now in
+    let elements = c.requires.layout.elements c.args.listed.now.place item c.requires.data.listed c.requires.data.no_padding in
+    let numbers : c.new-numbers.result ≡ item_numbers c.args.listed.now.layout.now c.args.bytes.now item = search rules in
+    subst (All (FitsFields item)) (sym numbers) (numbers_fit c.args.bytes.now _ item.size _ item.count elements.some_bits)
 
 pub get-requires-clause-some : goal.get-requires-clause-some
 get-requires-clause-some g c = (c.requires.layout.elements c.args.listed.now.place c.args.listed.now.item.now c.requires.data.listed c.requires.data.no_padding).some
@@ -57,6 +65,12 @@ take_pattern-requires-clause-few g c =
     let bits = has_bits c.args.listed.now.item.now on in
     let reads = reads_as_bits c.args.listed.now.layout.now c.args.bytes.now c.args.listed.now.place c.args.listed.now.item.now c.args.cell.now c.requires.layout c.requires.data.listed c.requires.input bits c.requires.held in
     omega (arith, reads.places, bits.few)
+
+pub take_pattern-requires-clause-fits : goal.take_pattern-requires-clause-fits
+take_pattern-requires-clause-fits g c =
+    let on : are_bits c.args.listed.now.item.now ≡ true = search rules in
+    let reads = reads_as_bits c.args.listed.now.layout.now c.args.bytes.now c.args.listed.now.place c.args.listed.now.item.now c.args.cell.now c.requires.layout c.requires.data.listed c.requires.input (has_bits c.args.listed.now.item.now on) c.requires.held in
+    subst (λ (n : ℕ). c.get.result < 2 ^ n) (sym reads.places) c.get.ensures.fits
 
 pub take_pattern-requires-clause-room : goal.take_pattern-requires-clause-room
 take_pattern-requires-clause-room g c =

@@ -1,4 +1,4 @@
-use Rattle.std.proofs.Common.{◌≡◌, ◌<◌, ◌∙◌, Bool, false, List, get_or, length, replicate, ap, sym, subst, arith, vec_len, vec_capacity}
+use Rattle.std.proofs.Common.{◌≡◌, ◌<◌, ◌∙◌, Bool, false, Some, List, get_or, length, replicate, ap, sym, subst, arith, vec_len, vec_capacity}
 use Rattle.hid_layout.specs.Controls.{items_of}
 use Rattle.hid_cells.specs.Cells.{InView}
 use Rattle.hid_views.specs.Taking.{read_view}
@@ -7,6 +7,8 @@ use Rattle.hid_cells.proofs.FillLemmas.{filled}
 use Rattle.hid_cells.proofs.PlanLemmas.{along_next, along_step, along_end}
 use Rattle.hid_views.proofs.TakeLemmas.{read_start, read_next, told_from-next, read_from-length, taking_skips, all_told}
 use Rattle.hid_views.proofs.ViewLemmas.{room_at}
+use Rattle.hid_views.proofs.BitLemmas.{same_number}
+use Rattle.hid_layout.specs.declared.main_item.MainItem.{MainItem}
 use Rattle.hid_views.proofs.take.take_items.Goals as goal
 
 pub take_item-requires-clause-held : goal.take_item-requires-clause-held
@@ -17,6 +19,14 @@ take_item-requires-clause-held g c =
     let within : (get_or c.args.places.now c.loop-place.place-index 0) < length c.args.cells.now = omega (arith, here, c.requires.fits.one_each, c.requires.all) in
     let there = read_start c.args.received.now.layout.now c.args.received.now.report c.args.received.now.bytes.now c.args.cells.now c.loop-place.cells (get_or c.args.places.now c.loop-place.place-index 0) c.index-cells-i.result next.holds.cells within c.loop-place.auto.cells in
     room_at InView (items_of c.args.received.now.layout.now) c.args.cells.now (get_or c.args.places.now c.loop-place.place-index 0) _ c.requires.fits (omega (arith, here, c.requires.all)) there
+
+pub take_item-requires-clause-in_report : goal.take_item-requires-clause-in_report
+take_item-requires-clause-in_report g c = λ m listed.
+    let skips = taking_skips c.args.received.now.layout.now c.args.received.now.report c.args.received.now.bytes.now c.args.cells.now c.loop-place.cells c.args.out.now.items c.loop-place.out.items (vec_len c.loop-place.out) (vec_capacity c.loop-place.out) (c.requires.fits.one_each ∙ c.requires.all) c.loop-place.auto.cells in
+    let next = along_next c.args.received.now.layout.now c.args.received.now.report c.loop-place.place-index c.args.places.now _ skips c.requires.plan (omega arith) c.loop-place.invariant.along in
+    let same : Some next.item ≡ Some m = sym next.listed ∙ listed in
+    let is : next.item ≡ m = cc in
+    ap (λ (item : MainItem). item.report) (sym is) ∙ same_number next.item.report c.args.received.now.report next.in_report
 
 pub take_item-requires-clause-places : goal.take_item-requires-clause-places
 take_item-requires-clause-places g c =

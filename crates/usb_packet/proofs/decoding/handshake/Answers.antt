@@ -1,7 +1,8 @@
 use Rattle.std.proofs.Common.{refl, arith}
+use Rattle.usb_packet.specs.Lent.{owned}
 use Rattle.usb_packet.proofs.PidLemmas.{handshake_len}
 use Rattle.usb_packet.proofs.decoding.handshake.Goals as goal
 
 pub returns-else-is_empty : goal.returns-else-is_empty
 returns-else-is_empty c =
-    ((c.args.packet, refl), λ h. grind (arith, handshake_len c.args.packet _ c.requires.handshake h))
+    ((owned c.args.packet, refl), λ h. grind (arith, handshake_len (owned c.args.packet) _ c.requires.handshake h))

@@ -1,9 +1,15 @@
 use Rattle.std.proofs.Common.{arith, ap, ◌+◌, map}
 use Rattle.hid_descriptor.specs.Locals.{entry_on_page}
-use Rattle.hid_descriptor.proofs.KeptLemmas.{kept_more}
+use Rattle.hid_descriptor.proofs.KeptLemmas.{kept_more, id_there}
 use Rattle.hid_descriptor.proofs.kept.KeptFields.add.Goals as goal
 
-pub returns : goal.returns
-returns c fs k =
+pub returns-in_ok-add-2 : goal.returns-in_ok-add-2
+returns-in_ok-add-2 c fs k =
     kept_more fs c.args.field.now (map (entry_on_page c.args.page) c.args.entries.now) c.args.path.now c.args.self.now _ k c.requires.some (omega arith) c.requires.short
     c.in_ok-push.ensures.items c.in_ok-push-2.ensures c.in_ok-add.ensures (ap (λ n. c.args.self.now.elements + n) c.elements.ensures) c.in_ok-add-2.ensures
+
+pub returns-else-field-eq0 : goal.returns-else-field-eq0
+returns-else-field-eq0 c fs k =
+    kept_more fs c.args.field.now (map (entry_on_page c.args.page) c.args.entries.now) c.args.path.now c.args.self.now _ k c.requires.some (omega arith) c.requires.short
+    c.in_ok-push.ensures.items c.in_ok-push-2.ensures c.in_ok-add.ensures (ap (λ n. c.args.self.now.elements + n) c.elements.ensures)
+    (id_there fs c.args.field.now.kind c.args.field.now.id c.args.self.now k (omega arith) (omega (arith, c.requires.place, c.if-field-eq0.false)))

@@ -11,7 +11,7 @@ pub returns-in-Err : goal.returns-in-Err
 returns-in-Err c before i k s =
     let page : ℕ = c.args.self.now.globals.now.page in
     let es : List Entry = map (entry_on_page page) c.args.self.now.locals.entries.items in
-    let paired : Bool = nat_eq (length c.args.self.now.locals.minima.items) (length c.args.self.now.locals.maxima.items) in
+    let paired : Bool = nat_eq (length c.args.self.now.locals.minima) (length c.args.self.now.locals.maxima) in
     let e : es ≡ entries before = usages_there before _ s in
     field_refused before c.args.item.now.bytes.now _ es paired c.in-Err.cause _ i
     (field_there before c.args.item.now.bytes.now c.args.self.now c.described-field.result es s c.args.kind k (omega arith) e (c.described-field.ensures page)) e (paired_there before _ s) c.in-Err.ensures
@@ -20,7 +20,7 @@ pub returns-in-Err-list_field : goal.returns-in-Err-list_field
 returns-in-Err-list_field c before i k s =
     let page : ℕ = c.args.self.now.globals.now.page in
     let es : List Entry = map (entry_on_page page) c.args.self.now.locals.entries.items in
-    let paired : Bool = nat_eq (length c.args.self.now.locals.minima.items) (length c.args.self.now.locals.maxima.items) in
+    let paired : Bool = nat_eq (length c.args.self.now.locals.minima) (length c.args.self.now.locals.maxima) in
     let e : es ≡ entries before = usages_there before _ s in
     field_limited before c.args.item.now.bytes.now _ es paired c.in-Err-list_field.cause c.list_field.new.self.fields _ i
     (field_there before c.args.item.now.bytes.now c.args.self.now c.described-field.result es s c.args.kind k (omega arith) e (c.described-field.ensures page)) e (paired_there before _ s) c.in-Ok.ensures
@@ -30,7 +30,7 @@ pub returns : goal.returns
 returns c before i k s =
     let page : ℕ = c.args.self.now.globals.now.page in
     let es : List Entry = map (entry_on_page page) c.args.self.now.locals.entries.items in
-    let paired : Bool = nat_eq (length c.args.self.now.locals.minima.items) (length c.args.self.now.locals.maxima.items) in
+    let paired : Bool = nat_eq (length c.args.self.now.locals.minima) (length c.args.self.now.locals.maxima) in
     let e : es ≡ entries before = usages_there before _ s in
     let o = c.in-Ok-list_field.ensures.others in
     field_taken before c.args.item.now.bytes.now _ es paired c.args.self.now _ i s

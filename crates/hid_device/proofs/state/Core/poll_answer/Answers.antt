@@ -6,7 +6,7 @@ use Rattle.hid_device.proofs.state.Core.poll_answer.Goals as goal
 
 pub returns-clause-answer : goal.returns-clause-answer
 returns-clause-answer c =
-    c.answer.ensures.answer
+    c.lent_answer.ensures.answer
     ∙ ap (λ (armed : Option (List ℕ)). answer_with c.self.inside.pipe.halted c.self.inside.pipe.toggle armed) c.self.invariant.armed
     ∙ ap (λ (core : CoreState). poll_answer core) c.self.view_is
 

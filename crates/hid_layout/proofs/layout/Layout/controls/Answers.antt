@@ -16,11 +16,15 @@ controls-requires-clause-some c p =
     let at : slice_get c.self.inside.items.items c.args.item ≡ Some c.index-main.result.now = slice_get_read c.self.inside.items.items (length c.self.inside.items.items) c.args.item c.index-main.result.now refl (omega (arith, c.requires, ap (λ (l : Contents). length l.items) c.self.view_is)) c.index-main.ensures in
     c.self.invariant.1.some_usage c.args.item c.index-main.result.now c.entries.result.now at c.entries.ensures p
 
-pub controls-requires-clause-codes : goal.controls-requires-clause-codes
-controls-requires-clause-codes c p =
+pub controls-requires-clause-kept : goal.controls-requires-clause-kept
+controls-requires-clause-kept c array =
     let at : slice_get c.self.inside.items.items c.args.item ≡ Some c.index-main.result.now = slice_get_read c.self.inside.items.items (length c.self.inside.items.items) c.args.item c.index-main.result.now refl (omega (arith, c.requires, ap (λ (l : Contents). length l.items) c.self.view_is)) c.index-main.ensures in
-    c.self.invariant.2.codes_there.at_each c.args.item c.index-main.result.now c.entries.result.now c.index.result.now at c.entries.ensures
-    (slice_get_read c.self.inside.codes.items (length c.self.inside.codes.items) c.args.item c.index.result.now refl (omega (arith, c.requires, c.self.invariant.2.codes_there.one_each, ap (λ (l : Contents). length l.items) c.self.view_is)) c.index.ensures) p
+    omega (arith, c.self.invariant.2.codes_there.there c.args.item c.index-main.result.now at array, ap length c.deref.ensures.value)
+
+pub controls-requires-clause-codes : goal.controls-requires-clause-codes
+controls-requires-clause-codes c kept there array =
+    let at : slice_get c.self.inside.items.items c.args.item ≡ Some c.index-main.result.now = slice_get_read c.self.inside.items.items (length c.self.inside.items.items) c.args.item c.index-main.result.now refl (omega (arith, c.requires, ap (λ (l : Contents). length l.items) c.self.view_is)) c.index-main.ensures in
+    c.self.invariant.2.codes_there.theirs c.args.item c.index-main.result.now c.entries.result.now kept at c.entries.ensures (ap (λ l. slice_get l c.args.item) (sym c.deref.ensures.value) ∙ there) array
 
 pub returns-then-is_input : goal.returns-then-is_input
 returns-then-is_input c =

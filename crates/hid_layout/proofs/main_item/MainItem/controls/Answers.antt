@@ -2,6 +2,7 @@ use Rattle.std.proofs.Common.{◌≡◌, min, length, sym, ap, ◌∙◌, arith,
 use mir.Val.{to_z, of_z}
 use Rattle.std.specs.Prelude.{is_some}
 use Rattle.std.proofs.lemmas.Int.{to_z-of_z}
+use Rattle.std.proofs.lemmas.Option.{slice_get-get_or}
 use Rattle.hid_layout.specs.declared.control.Controls.TheVariants.{Elements, Keys}
 use Rattle.hid_descriptor.specs.Fields.{is_padding}
 use Rattle.hid_descriptor.specs.Usages.{usage_list}
@@ -24,7 +25,7 @@ pub returns-in-Array : goal.returns-in-Array
 returns-in-Array c =
     let item = c.args.self.now in
     let us = usage_list c.args.entries.now in
-    let rolls : c.is_some.result ≡ has_place (rollover_from item 0 us) = c.is_some.ensures ∙ ap is_some (c.requires.codes (ap is_padding c.in-Array.is)).for_rollover ∙ rolls_over item us in
+    let rolls : c.is_some.result ≡ has_place (rollover_from item 0 us) = c.is_some.ensures ∙ ap is_some (c.requires.codes _ (slice_get-get_or c.args.codes.now c.args.place _ (c.requires.kept c.in-Array.is)) c.in-Array.is).for_rollover ∙ rolls_over item us in
     let count : c.min.result ≡ length (array_keys item us) = c.min.ensures ∙ ap (λ n. min n 65536) c.usage_count.ensures.value ∙ sym (keys-length item us) in
     let form : head_of (form_of item us item.shape) ≡ Keys item.count (has_place (rollover_from item 0 us)) (length (array_keys item us)) = ap (λ s. head_of (form_of item us s)) c.in-Array.is in
     cc

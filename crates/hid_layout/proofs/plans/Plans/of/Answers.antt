@@ -1,0 +1,26 @@
+use Rattle.std.proofs.Common.{◌≡◌, [], length, map, take, drop, sym, ap, ◌∙◌, arith}
+use Rattle.hid_descriptor.specs.Faults.{upward}
+use Rattle.hid_layout.specs.Plans.{count_of}
+use Rattle.hid_layout.proofs.PlanLemmas.{first_zero, ends_zero, all_put}
+use Rattle.hid_layout.proofs.plans.Plans.of.Goals as goal
+
+pub count_items-requires-clause-none : goal.count_items-requires-clause-none
+count_items-requires-clause-none c =
+    let zeros = c.in_ok-kept.ensures.items_if_clones_equal (λ y e. e) in
+    let ends = ends_zero c.in_ok-kept.kept.items _ c.args.reports zeros (omega arith) in
+    c.split_at_mut-ends.ensures.front ∙ ap (take c.args.reports) (c.split_at_mut-ends_and_places.ensures.back ∙ ap (drop 1) c.deref_mut.ensures.value) ∙ ends
+    ∙ ap (λ n. map (count_of []) (upward 0 n)) (sym c.split_at_mut-ends.ensures.front_len)
+
+pub invariant_of-result : goal.invariant_of-result
+invariant_of-result c =
+    let zeros = c.in_ok-kept.ensures.items_if_clones_equal (λ y e. e) in
+    let first = c.split_at_mut-ends_and_places.ensures.front ∙ ap (take 1) c.deref_mut.ensures.value ∙ first_zero c.in_ok-kept.kept.items _ zeros (omega arith) in
+    let n : length c.begin_places.new.counts ≡ c.args.reports = omega (arith, c.split_at_mut-ends.ensures.front_len) in
+    (all_put c.in_ok-kept.kept c.args.reports (length c.begin_places.new.counts) c.args.items.now _ c.put_places.new.ends c.put_places.new.places (omega (arith, c.in_ok-kept.ensures.len)) first n c.put_places.ensures.ends c.put_places.ensures.places).0
+
+pub returns : goal.returns
+returns c =
+    let zeros = c.in_ok-kept.ensures.items_if_clones_equal (λ y e. e) in
+    let first = c.split_at_mut-ends_and_places.ensures.front ∙ ap (take 1) c.deref_mut.ensures.value ∙ first_zero c.in_ok-kept.kept.items _ zeros (omega arith) in
+    let n : length c.begin_places.new.counts ≡ c.args.reports = omega (arith, c.split_at_mut-ends.ensures.front_len) in
+    (all_put c.in_ok-kept.kept c.args.reports (length c.begin_places.new.counts) c.args.items.now _ c.put_places.new.ends c.put_places.new.places (omega (arith, c.in_ok-kept.ensures.len)) first n c.put_places.ensures.ends c.put_places.ensures.places).1

@@ -1,0 +1,17 @@
+use Rattle.std.proofs.Common.{length, arith}
+use Rattle.hid_layout.proofs.PlanLemmas.{item_at, item_there, count_small, count_more}
+use Rattle.hid_layout.proofs.plans.count_items.Goals as goal
+
+pub overflow_add-counts : goal.overflow_add-counts
+overflow_add-counts c =
+    let i = c.loop-item.item-index in
+    let items = c.args.items.now in
+    record { fits = omega (arith, count_small items (length c.args.counts.now) i (item_at items i).report c.loop-item.counts c.loop-item.invariant (item_there items (length c.args.counts.now) i c.requires.there (omega (arith, c.loop-item-test.true)))) }
+
+pub bounds-counts-item-in-loop-item : goal.bounds-counts-item-in-loop-item
+bounds-counts-item-in-loop-item c =
+    let i = c.loop-item.item-index in
+    omega (arith, item_there c.args.items.now (length c.args.counts.now) i c.requires.there (omega (arith, c.loop-item-test.true)))
+
+pub loop-item-preserved : goal.loop-item-preserved
+loop-item-preserved c = count_more c.args.items.now (length c.args.counts.now) c.loop-item.item-index c.loop-item.counts c.requires.there (omega (arith, c.loop-item-test.true)) c.loop-item.invariant
