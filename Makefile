@@ -13,16 +13,17 @@ DESTDIR ?=
 VERSION := 0.2.0
 MAJOR := $(firstword $(subst ., ,$(VERSION)))
 
-.PHONY: run test try hidrun hidplay hidmap bench examples library library-test library-check library-cost scale play-cost names install deb deb-test documents memory refusals mutants descriptors compare-linux clean
+.PHONY: run test try hidrun hidplay hidmap bench examples library library-test library-check library-cost scale play-cost names install deb deb-test documents layout memory refusals mutants descriptors compare-linux clean
 
 # Runs the mouse example on the proved program.
 run: $(HIDRUN)
 	$(HIDRUN) < examples/layouts/mouse.script
 
-# Looks whether all that documents cite is there and each wrong body finds its text, proves, tests and builds everything
-# from nothing, and runs each example on the program that it built, and those of the C library where there is a C compiler.
+# Looks whether all that documents cite is there, each wrong body finds its text and each file is in the layout; proves,
+# tests and builds everything from nothing, and runs each example on the program that it built, and those of the C library
+# where there is a C compiler.
 test:
-	$(MAKE) --no-print-directory documents
+	$(MAKE) --no-print-directory documents layout
 	rm -rf bin/build/rooms
 	rt ci
 	$(MAKE) --no-print-directory hidrun hidplay hidmap examples memory
@@ -172,6 +173,11 @@ examples: $(HIDRUN) $(HIDPLAY) $(HIDMAP) $(BENCH)
 documents:
 	tools/check-documents
 	tools/check-documents --self-test
+
+# Looks whether each file of code, definitions and proofs is as `rt fmt` writes it, which the gate says only when it comes to
+# the crate.
+layout:
+	@find crates -name out -prune -o \( -name '*.rt' -o -name '*.antt' \) -print | xargs $(dir $(realpath $(shell command -v rt)))rattle fmt --check
 
 # Compares the proved program with the second reader, on descriptors of the examples with some of their bytes changed.
 descriptors: $(HIDRUN)

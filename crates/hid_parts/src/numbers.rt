@@ -88,6 +88,21 @@ impl<'a> FieldRun<'a> {
         to_value(pattern, self.width, self.is_signed)
     }
 
+    /// The same. It takes less where the compiler sees that the fields are bytes from the first one on, as of
+    /// [`FieldRun::of_bytes`].
+    #[tactic(auto, using(crate::proofs::NumberLemmas::run_numbers))]
+    #[inline(always)]
+    pub fn number_by_byte<C: FieldCodec>(&self, index: usize) -> i64
+        requires { index < length self.now }
+        ensures { slice_get self.now index ≡ Some result }
+    {
+        if self.width == 8 && self.at == 0 {
+            to_value(u32::from(self.bytes[index]), 8, self.is_signed)
+        } else {
+            self.number::<C>(index)
+        }
+    }
+
     /// The fields as bytes, where each is a byte, with sign or without as asked.
     pub fn bytes(&self, is_signed: bool) -> Option<&[u8]>
         ensures { IfSome result (λ bytes. (self.now ≡ byte_numbers is_signed bytes.now)

@@ -207,7 +207,7 @@ fn next_value<C: FieldCodec>(
 {
     let carriable = *carriable;
     for index in from..held.len() {
-        let number = numbers.number::<C>(index);
+        let number = numbers.number_by_byte::<C>(index);
         if !is_kept(held.get(index), &carriable, &number) {
             return Some(index);
         }

@@ -4,13 +4,16 @@ use Rattle.hid_descriptor.proofs.Taking.{explains_same, next_taken, item_explain
 use Rattle.hid_descriptor.proofs.parse.take_items.Goals as goal
 
 pub loop-next-init : goal.loop-next-init
-loop-next-init c = ([], record {
-  joined = search;
-  place = search;
-  spelled = search rules;
-  accepted = search;
-  stands = c.make_room.ensures [] c.requires.fresh;
-})
+loop-next-init c = (
+  [],
+  record {
+    joined = search;
+    place = search;
+    spelled = search rules;
+    accepted = search;
+    stands = c.make_room.ensures [] c.requires.fresh;
+  },
+)
 
 pub loop-next-preserved : goal.loop-next-preserved
 loop-next-preserved c =
