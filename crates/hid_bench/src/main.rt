@@ -1,7 +1,7 @@
 //! Does one piece of the stack's work many times over, so that it can be counted what it takes.
 //! ```text
 //!   hid_bench parse TURNS DESCRIPTOR             reads a report descriptor, and drops its layout
-//!   hid_bench read  TURNS DESCRIPTOR REPORT..    reads each Input report in turn in one view
+//!   hid_bench read  TURNS DESCRIPTOR REPORT..    reads each Input report in turn by one reader
 //!   hid_bench write TURNS DESCRIPTOR USAGE..     writes the report of the first usage, with each pressed, moved or set
 //!   hid_bench step  TURNS DESCRIPTOR USAGE..     moves the controls of the usages, if there are any, and polls the device
 //! ```

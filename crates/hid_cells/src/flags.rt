@@ -69,7 +69,8 @@ impl Flags {
         self.words[index / 64] = word;
     }
 
-    /// Makes these, up to 64, the lowest bits of a word that has no others.
+    /// Presses exactly those whose bits are 1 in the word, the first one lowest. There are at most 64, and the word has no
+    /// bit beyond the last.
     pub fn set_word(&mut self, word: u64)
         requires few { length self.old ≤ 64 }
         requires fits { word < 2 ^ length self.old }

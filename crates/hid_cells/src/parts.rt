@@ -13,7 +13,7 @@ use crate::reset::reset_motions;
 use hid_layout::{ControlKind, Controls, Layout, Shape};
 use std::mem;
 
-/// The pressed places of an array that rolled over.
+/// Puts pressed places in the room of an array that had rolled over.
 #[inline(never)] // it is rare, and moves the cell
 fn copy_to_rolled(from: &Flags, to: &mut Cell)
     requires { HasRoomOf (Cell.Pressed from.now) to.old }

@@ -169,7 +169,7 @@ impl Parser {
     }
 
     /// Takes an Input, Output or Feature item.
-    #[inline(always)] // so that an item has no place in memory
+    #[inline(always)] // so that the item isn't written to memory
     fn take_field(&mut self, kind: ReportKind, item: &Item) -> Result<(), Cause>
         requires { IsShort item.now }
         ensures { (before : List Spelled) → is_field item.now.bytes.now ≡ true

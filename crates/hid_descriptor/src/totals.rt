@@ -80,8 +80,11 @@ fn is_at(reports: &[Report], i: usize, kind: ReportKind, id: u8) -> bool
     }
 }
 
-/// The place of the report of a kind with an ID among reports by kind and then by ID, or the place where it would
-/// stand.
+/// The place of the report of a kind with an ID (HID 1.11, 5.6), among reports that stand by kind and then by ID, no two
+/// of them alike.
+///
+/// # Errors
+/// Where it isn't among them, the place where it would stand.
 #[inline(always)] // so that no Result is made and taken apart
 pub fn find_report(reports: &[Report], kind: ReportKind, id: u8) -> Result<usize, usize>
     requires { are_in_order reports.now ≡ true }

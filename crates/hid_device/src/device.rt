@@ -196,8 +196,8 @@ impl Device {
         }
     }
 
-    /// A poll has arrived: a round is opened where none is open and some report is due. What [`Device::on_packet`] makes of it
-    /// but for its answer.
+    /// A poll has arrived, which [`Device::is_polled_by`] tells: a round is opened where none is open and some report is due.
+    /// What [`Device::on_packet`] makes of it but for its answer, which is [`Device::poll_answer`].
     pub fn hear_poll(&mut self)
         ensures device { self.new ≡ polled_device self.old (opening_of (core_of self.old)) }
     {

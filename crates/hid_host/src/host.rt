@@ -191,7 +191,7 @@ impl HostDevice {
         }
     }
 
-    /// The same of a packet whose payload stands elsewhere.
+    /// Takes a packet whose payload, of at most 64 bytes, stands elsewhere: as [`HostDevice::reply`] does.
     ///
     /// # Errors
     /// As of [`HostDevice::reply`].

@@ -33,7 +33,7 @@ pub struct Layout {
     items: Vec<MainItem>,
     lists: ItemLists,
     plans: Plans,
-    /// Those of the arrays, at their places.
+    /// The codes of arrays, each at its item's place; none at other places, nor behind the last array.
     codes: Vec<Codes>,
 }
 

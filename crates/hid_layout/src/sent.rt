@@ -31,7 +31,7 @@ pub struct Codes {
     pub rollover: Option<i64>,
 }
 
-/// Those of an item that has none of these numbers.
+/// The codes of an item that has none.
 pub(crate) const NO_CODES: Codes = Codes {
     null: None,
     empty: None,
@@ -252,7 +252,8 @@ fn number_of(item: &MainItem, pattern: u32) -> i64
     to_value(pattern, item.size, item.min < 0)
 }
 
-/// The number of an element of a value that is null: of the least pattern out of the range.
+/// The number that tells null, of an item that isn't padding: that of the least pattern out of the logical range; none
+/// where each pattern is in range (HID 1.11, 5.10).
 #[tactic(auto, using(crate::proofs::NullLemmas::codes))]
 pub fn null_number(item: &MainItem) -> Option<i64>
     requires { HasElements item.now }

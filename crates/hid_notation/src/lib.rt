@@ -1,11 +1,14 @@
 //! How numbers, bytes, usages and refusals of descriptors are written.
 //! ```text
 //!   HexText(0x0A)                   0A
+//!   print_number(10)                10
+//!   print_signed(-10)               -10
 //!   print_bytes(&[0x05, 0x01])       05 01
 //!   UsageText(page 1, ID 30)        01:30
 //!   print_usages(09:01, 09:03)      09:01-09:03
 //! ```
-//! What is written is the stated text, byte for byte: `specs/Text.antt` and `specs/Causes.antt`.
+//! What is written is the stated text, byte for byte: `specs/Text.antt` and `specs/Causes.antt`. Where a writer fails, a call
+//! gives its error, and some of the text may be written.
 #![tactic(auto)]
 
 mod causes;

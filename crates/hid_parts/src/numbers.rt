@@ -56,7 +56,7 @@ impl<'a> FieldRun<'a> {
         }
     }
 
-    /// Bytes, each of them a field, with sign or without.
+    /// At most 512 bytes, each of them a field, in two's complement where they have a sign.
     #[inline(always)]
     pub fn of_bytes(bytes: &'a [u8], is_signed: bool) -> FieldRun<'a>
         requires { length bytes.now ≤ 512 }
@@ -88,8 +88,8 @@ impl<'a> FieldRun<'a> {
         to_value(pattern, self.width, self.is_signed)
     }
 
-    /// The same. It takes less where the compiler sees that the fields are bytes from the first one on, as of
-    /// [`FieldRun::of_bytes`].
+    /// The number of the field at an index, as [`FieldRun::number`] gives it. It takes less where the compiler sees that the
+    /// fields are bytes from the first one on, as of [`FieldRun::of_bytes`].
     #[tactic(auto, using(crate::proofs::NumberLemmas::run_numbers))]
     #[inline(always)]
     pub fn number_by_byte<C: FieldCodec>(&self, index: usize) -> i64
@@ -103,7 +103,7 @@ impl<'a> FieldRun<'a> {
         }
     }
 
-    /// The fields as bytes, where each is a byte, with sign or without as asked.
+    /// The fields as bytes, where each is a whole byte and they have a sign exactly if asked for; none of other fields.
     pub fn bytes(&self, is_signed: bool) -> Option<&[u8]>
         ensures { IfSome result (λ bytes. (self.now ≡ byte_numbers is_signed bytes.now)
             × (length bytes.now ≤ 512)) }
@@ -117,7 +117,8 @@ impl<'a> FieldRun<'a> {
         }
     }
 
-    /// Of fields of one bit, up to 64 numbers as a word, the first one lowest; none of other fields.
+    /// Of fields of one bit without sign, the numbers from 64 times the index on, up to 64, as a word: the first one lowest,
+    /// and 0 behind the last. None of other fields.
     #[inline(always)]
     pub fn word<C: FieldCodec>(&self, index: usize) -> Option<u64>
         requires { 64 * index < length self.now }

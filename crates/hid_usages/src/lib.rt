@@ -12,7 +12,8 @@
 //! The rule to know: a call with a layout is given the one with which its other values were made, which the conditions
 //! `FitsSnapshot`, `FitsShown` and `FitsView` say; `blank` and `initial` make them, and every call keeps them.
 //! Pressed and held keys are kept as words of 64 bits: `key_words` of a [`Snapshot`] and of a [`View`].
-//! A [`Reader`] owns a layout with its view, and doesn't read a report again that told nothing.
+//! A [`Reader`] owns a layout with its view, and doesn't read the last report again, where it told nothing and has at
+//! most 64 bytes.
 //! No call takes memory but `Snapshot::blank`, `Shown::blank` and `View::initial`; events go into reserved room.
 //! The bytes of a part are the only ones that show it: `shows` and `only` on [`encode_report`]. Any bytes give one view
 //! and one list of events: `taken` on [`View::take_report`]. The reports of the boot keyboard and mouse tell the same

@@ -17,7 +17,8 @@ use std::marker::Model;
 
 /// The layout of a device's reports, and a host's view of its controls. A contract sees both.
 ///
-/// A report of the same bytes as the one before, which told nothing, isn't read again: it tells nothing either.
+/// A report of the same bytes as the one before, at most 64, which told nothing, isn't read again: it tells nothing
+/// either.
 #[derive(Drop)]
 pub struct Reader {
     layout: Layout,
@@ -43,8 +44,8 @@ fn is_kept(still: &[u8], bytes: &[u8]) -> bool
     !still.is_empty() && still == bytes
 }
 
-/// Keeps the bytes of a report that told nothing. One that told something has no bytes to keep: each is cleared for by
-/// itself, which costs the latter less.
+/// Keeps the bytes of a report that told nothing. Each of the two cases clears by itself: that costs a report that told
+/// something less.
 fn keep(still: &mut ArrayVec<u8, 64>, bytes: &[u8], is_silent: bool)
     ensures { still.new.items ≡ kept_of is_silent bytes.now }
 {
@@ -57,7 +58,7 @@ fn keep(still: &mut ArrayVec<u8, 64>, bytes: &[u8], is_silent: bool)
 }
 
 impl Reader {
-    /// A reader of reports of this layout, with what a host has read of them so far.
+    /// A reader of reports of this layout, with what a host has read of them so far: a view that suits the layout.
     pub fn new(layout: Layout, view: View) -> Reader
         requires { FitsView (items_of layout) view }
         ensures { result ≡ record { layout = layout; view = view } }
@@ -86,8 +87,11 @@ impl Reader {
         &self.view
     }
 
-    /// Takes the bytes of an Input report into the view, as [`View::take_report`] does. There is reserved room for
-    /// `max_events` more; no memory is taken. A refusal leaves the view as it was.
+    /// Takes the bytes of an Input report into the view, as [`View::take_report`] does, and adds its events (HID 1.11, 5.6
+    /// and 8). The caller has reserved room for `max_events` more; no memory is taken.
+    ///
+    /// # Errors
+    /// Those of [`View::take_report`], which leave the view as it was.
     pub fn take_report<C: FieldCodec>(
         &mut self,
         bytes: &[u8],

@@ -173,14 +173,15 @@ fn read_value(before: Option<i64>, has_null: bool, bounds: &Bounds, number: &i64
     }
 }
 
-/// What the elements of a variable item can carry.
+/// How the values of a variable item are read: whether they can be null, and the logical range.
 #[derive(Clone, Copy)]
 pub(crate) struct Carriable {
     pub(crate) has_null: bool,
     pub(crate) bounds: Bounds,
 }
 
-/// Whether a value is as an element's number leaves it. Where it is the number, its range is looked at only for a null.
+/// Whether a value is as an element's number leaves it. One that is the number is held against its range only where it can
+/// be null.
 fn is_kept(before: Option<i64>, carriable: &Carriable, number: &i64) -> bool
     ensures { OnTrue result (read_value carriable.now.has_null carriable.now.bounds.least
         carriable.now.bounds.greatest before number.now ≡ before) }

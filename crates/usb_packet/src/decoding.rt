@@ -49,7 +49,7 @@ fn handshake<'a>(packet: LentPacket<'a>, body: &[u8]) -> Result<LentPacket<'a>, 
     }
 }
 
-/// The packet that the bytes spell, with its payload where it stands: as [`decode`] gives it.
+/// The packet that the bytes spell, with its payload where it stands: as [`decode`] gives it (USB 2.0, 8.3 and 8.4).
 ///
 /// # Errors
 /// Where they spell none, the first [`PacketFault`] that stands, in the order of its variants.

@@ -44,7 +44,7 @@ pub fn spell(packet: &Packet, bytes: &mut ArrayVec<u8, 65>)
     spell_lent(packet.lent(), bytes);
 }
 
-/// The same of a packet whose payload stands elsewhere.
+/// Spells a packet whose payload, of at most 64 bytes, stands elsewhere: as [`spell`] does.
 pub fn spell_lent(packet: LentPacket, bytes: &mut ArrayVec<u8, 65>)
     requires fits { Fits (owned packet) }
     requires short { IsShort packet }

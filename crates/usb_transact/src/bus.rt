@@ -40,7 +40,7 @@ pub trait Bus {
         ensures { arrived result bytes.new.items ≡ arrives self.now phase bytes.old.items };
 }
 
-/// What an end reads of bytes, where they arrived.
+/// What an end reads of bytes, where they arrived; none where they spell no packet.
 pub fn read_arrived(has_arrived: bool, bytes: &[u8]) -> Option<LentPacket<'_>>
     ensures read { IsRead (arrived has_arrived bytes.now) (option_map owned result) }
     ensures short { IfSome result IsShort }

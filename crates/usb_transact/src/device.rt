@@ -110,7 +110,7 @@ impl DevPipe {
         self.lent_answer().owned()
     }
 
-    /// The same, with its payload where it stands.
+    /// The answer, as [`DevPipe::answer`] gives it, with its payload where it stands.
     pub fn lent_answer(&self) -> LentPacket<'_>
         ensures answer { owned result ≡ answer_of self.now }
         ensures fits { Fits (owned result) }

@@ -99,7 +99,7 @@ impl HostPipe {
         }
     }
 
-    /// The same of a packet whose payload stands elsewhere.
+    /// Takes a packet whose payload, of at most 64 bytes, stands elsewhere: as [`HostPipe::take`] does.
     pub fn take_lent(&mut self, packet: Option<LentPacket>) -> Took
         requires { IfSome packet IsShort }
         ensures took { result ≡ taken self.old.expects (option_map owned packet.entry) }

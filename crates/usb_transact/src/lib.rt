@@ -15,7 +15,8 @@
 //!
 //! The promise: one transaction is its row of the table on [`exchange`]: `took`, `host` and `device`, and packet by
 //! packet over the bytes `packets`. By single packets: `took` and `pipe` on [`HostPipe::take`], `answer` on
-//! [`DevPipe::answer`], `closed` on [`DevPipe::acknowledged`]. No call takes memory.
+//! [`DevPipe::answer`], `closed` on [`DevPipe::acknowledged`]; [`HostPipe::take_lent`] and [`DevPipe::lent_answer`] do the
+//! same of packets whose payloads stand elsewhere. No call takes memory.
 #![tactic(auto)]
 
 mod bus;
