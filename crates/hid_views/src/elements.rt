@@ -8,7 +8,7 @@ ghost use Rattle.hid_cells.specs.Events.{at, usages_at, switch_event, switch_eve
 ghost use Rattle.hid_views.specs.Appending.{HasSpace, Appends};
 ghost use Rattle.hid_views.specs.Reading.{read_switch, read_value};
 ghost use Rattle.hid_views.specs.Keeping.{FindsKept};
-ghost use Rattle.hid_parts.specs.Numbers.{IsWordOf, byte_numbers};
+ghost use Rattle.hid_parts.specs.Numbers.{IsWordOf};
 
 use crate::bounds::Bounds;
 use crate::differences::{tell_switch, tell_value};
@@ -271,43 +271,12 @@ pub(crate) fn take_values<C: FieldCodec>(
         carriable.now.bounds.greatest p.0 p.1) (zip held.old numbers.now))) out.new }
 {
     match numbers.bytes(false) {
-        Some(bytes) => take_bytes::<C>(layout, item, *carriable, bytes, held, out),
+        Some(bytes) => {
+            let numbers = FieldRun::of_bytes(bytes, false);
+            take_each_value::<C>(layout, item, carriable, &numbers, held, out)
+        }
         None => take_each_value::<C>(layout, item, carriable, numbers, held, out),
     }
-}
-
-/// The same, of the numbers that are bytes.
-#[inline(never)]
-fn take_bytes<C: FieldCodec>(
-    layout: &Layout,
-    item: usize,
-    carriable: Carriable,
-    bytes: &[u8],
-    held: &mut Values,
-    out: &mut Vec<Event>,
-)
-    requires few { length bytes.now ≤ 512 }
-    requires numbers { length (byte_numbers false bytes.now) ≡ length (usages_at layout.now item) }
-    requires held { length held.old ≡ length (usages_at layout.now item) }
-    requires room { HasSpace out.old (value_events item (usages_at layout.now item) held.old
-        (map (λ p. read_value carriable.has_null carriable.bounds.least
-        carriable.bounds.greatest p.0 p.1) (zip held.old (byte_numbers false bytes.now)))) }
-    ensures held { held.new ≡ map (λ p. read_value carriable.has_null
-        carriable.bounds.least carriable.bounds.greatest p.0 p.1)
-        (zip held.old (byte_numbers false bytes.now)) }
-    ensures len { length held.new ≡ length held.old }
-    ensures told { Appends out.old (value_events item (usages_at layout.now item) held.old
-        (map (λ p. read_value carriable.has_null carriable.bounds.least
-        carriable.bounds.greatest p.0 p.1) (zip held.old (byte_numbers false bytes.now)))) out.new }
-{
-    take_each_value::<C>(
-        layout,
-        item,
-        &carriable,
-        &FieldRun::of_bytes(bytes, false),
-        held,
-        out,
-    );
 }
 
 /// The same, one by one.
