@@ -17,7 +17,7 @@ use Rattle.hid_stack.specs.Headline.{DeliversChanges, KeepsToRounds}
 use Rattle.hid_host.specs.Host.{HostEnd}
 use Rattle.hid_host.specs.declared.phase.HostState.TheVariants as states
 use Rattle.hid_host.specs.Phase.{IfReady, state_of}
-use Rattle.hid_host.specs.declared.phase.Start.TheVariants as starts
+use Rattle.hid_requests.specs.declared.start.Start.TheVariants as starts
 use Rattle.hid_stack.specs.Members.{Member, fresh_member}
 use Rattle.hid_stack.specs.Rig.{HasOnlySchedule, own, from_device}
 use Rattle.hid_stack.specs.Showing.{ShowsPhase, ShowsHost, GivesOf}
