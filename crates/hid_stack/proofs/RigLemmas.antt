@@ -7,7 +7,7 @@ use Rattle.hid_layout.specs.Controls.{items_of}
 use Rattle.hid_layout.specs.Layout.{Contents}
 use Rattle.hid_device.specs.declared.config.Config.{Config}
 use Rattle.hid_lives.specs.Rounds.{Frame}
-use Rattle.hid_stack.specs.declared.step.Step.TheVariants.{Frame as FrameStep}
+use Rattle.hid_steps.specs.declared.step.Step.TheVariants.{Frame as FrameStep}
 use Rattle.hid_host.specs.declared.fault.StackFault.{StackFault}
 use Rattle.usb_transact.specs.declared.transaction.Fate.{Fate}
 use Rattle.usb_control.specs.declared.host.Progress.{Progress}

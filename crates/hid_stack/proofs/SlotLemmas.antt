@@ -39,7 +39,7 @@ use Rattle.hid_host.specs.Conclusions.{IsNoLayout}
 use Rattle.hid_host.specs.Host.{HostEnd, cold_host, ready_host}
 use Rattle.hid_host.specs.declared.phase.HostPhase.{HostPhase}
 use Rattle.hid_host.specs.declared.phase.HostPhase.TheVariants.{Cold, Described, Parsed, Ready}
-use Rattle.hid_stack.specs.declared.step.Delivered.{Delivered}
+use Rattle.hid_steps.specs.declared.step.Delivered.{Delivered}
 use Rattle.hid_stack.specs.Members.{Member, tried_to}
 use Rattle.hid_stack.specs.Rig.{HasRoomToTry, tagged}
 use Rattle.hid_stack.specs.Slot.{joint, round_between, HasGotUnless, IsEvenUnless, IsPair, IsUntouched, StandTogether, TriesOnPair, TriesTransfer}
