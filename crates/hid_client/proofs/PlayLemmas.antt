@@ -10,16 +10,17 @@ use Rattle.hid_device.specs.Inputs.{input_count}
 use Rattle.hid_lives.specs.Rounds.{crossed_rounds, events_of, view_of}
 use Rattle.hid_host.specs.declared.phase.HostPhase.{HostPhase}
 use Rattle.hid_host.specs.declared.phase.HostPhase.TheVariants.{Cold, Described, Parsed, Ready}
-use Rattle.hid_stack.specs.declared.step.Step.{Step}
-use Rattle.hid_stack.specs.declared.step.Delivered.{Delivered}
+use Rattle.hid_steps.specs.declared.step.Step.{Step}
+use Rattle.hid_steps.specs.declared.step.Delivered.{Delivered}
+use Rattle.hid_steps.specs.Delivered.{from_device}
 use Rattle.hid_stack.specs.Attaching.{Suits, IsAttached}
 use Rattle.hid_stack.specs.Headline.{DeliversChanges, KeepsToRounds}
 use Rattle.hid_host.specs.Host.{HostEnd}
 use Rattle.hid_host.specs.declared.phase.HostState.TheVariants as states
 use Rattle.hid_host.specs.Phase.{IfReady, state_of}
-use Rattle.hid_host.specs.declared.phase.Start.TheVariants as starts
+use Rattle.hid_requests.specs.declared.start.Start.TheVariants as starts
 use Rattle.hid_stack.specs.Members.{Member, fresh_member}
-use Rattle.hid_stack.specs.Rig.{HasOnlySchedule, own, from_device}
+use Rattle.hid_stack.specs.Rig.{HasOnlySchedule, own}
 use Rattle.hid_stack.specs.Showing.{ShowsPhase, ShowsHost, GivesOf}
 use Rattle.hid_client.specs.Playing.{IsPlayed}
 

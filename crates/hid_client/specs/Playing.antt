@@ -11,10 +11,11 @@ use Rattle.hid_usages.specs.Snapshots.{is_pressed, cell_at}
 use Rattle.hid_device.specs.declared.config.Config.{Config}
 use Rattle.hid_device.specs.Inputs.{input_count}
 use Rattle.hid_lives.specs.Rounds.{Round, crossed_rounds, events_of, view_of}
-use Rattle.hid_stack.specs.declared.step.Step.{Step}
-use Rattle.hid_stack.specs.declared.step.Delivered.{Delivered}
+use Rattle.hid_steps.specs.declared.step.Step.{Step}
+use Rattle.hid_steps.specs.declared.step.Delivered.{Delivered}
+use Rattle.hid_steps.specs.Delivered.{from_device}
 use Rattle.hid_stack.specs.Attaching.{Suits}
-use Rattle.hid_stack.specs.Rig.{HasOnlySchedule, own, from_device}
+use Rattle.hid_stack.specs.Rig.{HasOnlySchedule, own}
 
 -- The rounds of device 1 that crossed: at first nothing is pressed, nothing has moved, and no idle time
 -- is set.

@@ -4,15 +4,15 @@ use Rattle.hid_descriptor.specs.declared.report.Report.{Report}
 use Rattle.hid_descriptor.specs.declared.report.ReportKind.{ReportKind}
 use Rattle.hid_descriptor.specs.declared.report.ReportKind.TheVariants.{Input, Output, Feature}
 use Rattle.hid_device.specs.declared.device.TheConstants.{ENDPOINT}
-use Rattle.hid_device.specs.declared.config.Boot.TheVariants as boot
 use Rattle.hid_layout.specs.declared.boot.TheConstants.{KEYBOARD, MOUSE}
 use Rattle.hid_device.specs.Config.{is_config}
 use Rattle.hid_device.specs.Inputs.{input_count}
 use Rattle.hid_device.specs.Outputs.{kept, kept_place, number_of}
-use Rattle.hid_device.specs.declared.config.Boot.{Boot}
 use Rattle.hid_device.specs.Deciding.{config_info, configuration_number, endpoint_status, idle_set}
 use Rattle.hid_device.specs.Decisions.{Refuses, Reads, reads_if}
 use Rattle.hid_requests.specs.Descriptors.{configuration_bytes}
+use Rattle.hid_requests.specs.declared.boot.Boot.TheVariants as boot
+use Rattle.hid_requests.specs.declared.boot.Boot.{Boot}
 
 -- the wheel and the button are two Input reports; an Output report behind them is none
 abbrev report : ReportKind → ℕ → Report

@@ -1,17 +1,11 @@
 -- What a device is beside its report descriptor (USB 2.0, 9.6; HID 1.11, 4.2 and appendix B).
-use Rattle.std.specs.Prelude.{ℕ, Bool, true, false, not, ◌&&◌, ◌==◌, nat_le, List}
+use Rattle.std.specs.Prelude.{ℕ, Bool, true, not, ◌&&◌, ◌==◌, nat_le, List}
 use Rattle.std.specs.Cmp.Lexicographic.{pointwise}
 use Rattle.usb_packet.specs.declared.packet.TheConstants.{MAX_ADDRESS}
 use Rattle.hid_layout.specs.declared.boot.TheConstants.{KEYBOARD, MOUSE}
-use Rattle.hid_device.specs.declared.config.Boot.{Boot}
-use Rattle.hid_device.specs.declared.config.Boot.TheVariants as boot
+use Rattle.hid_requests.specs.declared.boot.Boot.{Boot}
+use Rattle.hid_requests.specs.declared.boot.Boot.TheVariants as boot
 use Rattle.hid_device.specs.declared.config.Config.{Config}
-
--- whether a device has the boot protocol (HID 1.11, 4.2)
-abbrev pub is_boot : Boot → Bool
-is_boot boot.No = false
-is_boot boot.Keyboard = true
-is_boot boot.Mouse = true
 
 -- two byte strings are the same
 abbrev pub same_bytes : List ℕ → List ℕ → Bool

@@ -17,30 +17,16 @@ use Rattle.hid_requests.specs.declared.asked.Asked.TheVariants.{Status, Interfac
 use Rattle.hid_requests.specs.Asked.{asked_of}
 use Rattle.hid_requests.specs.Class.{number_of as protocol_number}
 use Rattle.hid_requests.specs.Descriptors.{device_bytes, configuration_bytes, hid_bytes}
-use Rattle.hid_device.specs.declared.config.Boot.{Boot}
-use Rattle.hid_device.specs.declared.config.Boot.TheVariants as boot
+use Rattle.hid_requests.specs.Boot.{is_boot, protocol_of, subclass_of}
 use Rattle.hid_device.specs.declared.config.Config.{Config}
 use Rattle.hid_device.specs.declared.device.TheConstants.{ENDPOINT}
 use Rattle.hid_device.specs.declared.decisions.Pending.{Pending}
 use Rattle.hid_device.specs.declared.decisions.Pending.TheVariants.{Nothing, Configure, Keep, Idle, Halt, Clear}
 use Rattle.hid_device.specs.declared.decisions.Pending.TheVariants as pendings
-use Rattle.hid_device.specs.Config.{is_boot}
 use Rattle.hid_device.specs.Outputs.{kept, kept_bytes, kept_place, number_of}
 use Rattle.hid_device.specs.Standing.{with_idle}
 use Rattle.hid_device.specs.Decisions.{Decided, Refuses, Reads, Writes, is_accepted, reads_if, writes_if}
 use Rattle.hid_device.specs.Core.{CoreState, cleared_core, configured_core, halted_core}
-
--- bInterfaceSubClass: 1 where it has the boot protocol (HID 1.11, 4.2)
-abbrev pub subclass_of : Boot → ℕ
-subclass_of boot.No = 0
-subclass_of boot.Keyboard = 1
-subclass_of boot.Mouse = 1
-
--- bInterfaceProtocol of a boot device (HID 1.11, 4.3)
-abbrev pub protocol_of : Boot → ℕ
-protocol_of boot.No = 0
-protocol_of boot.Keyboard = 1
-protocol_of boot.Mouse = 2
 
 -- what its device descriptor tells
 abbrev pub device_info : Config → DeviceInfo

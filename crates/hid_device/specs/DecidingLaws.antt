@@ -12,10 +12,10 @@ use Rattle.hid_requests.specs.Asked.{IsSorted, asked_of}
 use Rattle.hid_descriptor.specs.declared.report.ReportKind.TheVariants.{Input}
 use Rattle.hid_requests.specs.Class.{number_of as protocol_number}
 use Rattle.hid_requests.proofs.AskedLemmas.{sorted}
+use Rattle.hid_requests.specs.Boot.{is_boot}
 use Rattle.hid_device.specs.declared.decisions.Pending.{Pending}
 use Rattle.hid_device.specs.declared.decisions.Pending.TheVariants.{Nothing, Configure, Keep, Idle, Halt, Clear}
 use Rattle.hid_device.specs.declared.decisions.Pending.TheVariants as pendings
-use Rattle.hid_device.specs.Config.{is_boot}
 use Rattle.hid_device.specs.Core.{CoreState}
 use Rattle.hid_device.specs.Decisions.{Decided, Refuses, Reads, Writes, is_accepted, reads_if, writes_if}
 use Rattle.hid_device.specs.Outputs.{kept_bytes, kept_place, number_of}

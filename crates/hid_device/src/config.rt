@@ -1,57 +1,14 @@
 //! What a device is beside its report descriptor.
 
 ghost use Rattle.std.specs.Prelude.{◌≡◌};
-ghost use Rattle.hid_device.specs.Config.{is_boot, is_config, suits_boot};
-ghost use Rattle.hid_device.specs.Deciding.{config_info, device_info, protocol_of, subclass_of};
+ghost use Rattle.hid_device.specs.Config.{is_config, suits_boot};
+ghost use Rattle.hid_device.specs.Deciding.{config_info, device_info};
 
 use crate::device::ENDPOINT;
 use hid_layout::boot::{KEYBOARD, MOUSE};
+use hid_requests::Boot;
 use usb_control::{ConfigInfo, DeviceInfo};
 use usb_packet::MAX_ADDRESS;
-
-/// Whether the reports of a device are those of the boot protocol (HID 1.11, 4.2 and appendix B).
-#[derive(Clone, Copy, Debug, PartialEq, Eq)]
-pub enum Boot {
-    /// They are its own.
-    No,
-    /// Those of a keyboard: its descriptor is [`KEYBOARD`].
-    Keyboard,
-    /// Those of a mouse: its descriptor is [`MOUSE`].
-    Mouse,
-}
-
-impl Boot {
-    /// Whether it has the boot protocol (HID 1.11, 4.2).
-    pub(crate) fn is_boot(self) -> bool
-        ensures { result ≡ is_boot self }
-    {
-        match self {
-            Boot::No => false,
-            Boot::Keyboard | Boot::Mouse => true,
-        }
-    }
-
-    /// bInterfaceSubClass (HID 1.11, 4.2).
-    fn subclass(self) -> u8
-        ensures { result ≡ subclass_of self }
-    {
-        match self {
-            Boot::No => 0,
-            Boot::Keyboard | Boot::Mouse => 1,
-        }
-    }
-
-    /// bInterfaceProtocol (HID 1.11, 4.3).
-    fn protocol(self) -> u8
-        ensures { result ≡ protocol_of self }
-    {
-        match self {
-            Boot::No => 0,
-            Boot::Keyboard => 1,
-            Boot::Mouse => 2,
-        }
-    }
-}
 
 /// What the standard descriptors tell of a device (USB 2.0, 9.6).
 #[derive(Clone, Copy, Debug, PartialEq, Eq)]

@@ -54,8 +54,9 @@ mod outputs;
 mod room;
 mod state;
 
-pub use config::{Boot, Config};
+pub use config::Config;
 pub use device::{Device, ENDPOINT};
 pub use fault::{DeviceCause, DeviceFault};
 pub use hid_layout::boot::{KEYBOARD, MOUSE};
+pub use hid_requests::Boot;
 pub use state::Core;

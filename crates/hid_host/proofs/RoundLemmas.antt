@@ -27,7 +27,6 @@ use Rattle.hid_descriptor.specs.declared.report.ReportKind.TheVariants.{Input}
 use Rattle.hid_requests.specs.declared.class.Protocol.{Protocol}
 use Rattle.hid_requests.specs.Class.{number_of as protocol_number}
 use Rattle.hid_device.specs.Apart.{carries_out, cuts}
-use Rattle.hid_device.specs.Config.{is_boot}
 use Rattle.hid_device.specs.Outputs.{kept_place, number_of}
 use Rattle.hid_device.specs.Deciding.{core_table, decide, decided_row, endpoint_status, idle_told, keeps, left_by, reads_any, report_now, sets_idle_of}
 use Rattle.hid_device.specs.Decisions.{Decided, Reads, Refuses, Writes, reads_if, writes_if}
@@ -36,6 +35,7 @@ use Rattle.hid_host.specs.declared.phase.HostPhase.{HostPhase}
 use Rattle.hid_host.specs.declared.phase.HostPhase.TheVariants.{Cold, Described, Parsed, Ready}
 use Rattle.hid_host.specs.declared.phase.HostState.TheVariants as states
 use Rattle.hid_requests.specs.Asking.{protocol_of, row_of, sends_of}
+use Rattle.hid_requests.specs.Boot.{is_boot}
 use Rattle.hid_host.specs.Bringing.{answering, brought_about, carried_out, clears, clears_in, configures, cuts_in, cuts_round, is_configure}
 use Rattle.hid_host.specs.Knowing.{Carries, IsBehindSetup, IsDecided, IsDecidedBy}
 use Rattle.hid_host.specs.Phase.{may_begin, state_of}

@@ -31,15 +31,6 @@ pub enum HostState {
     Ready,
 }
 
-/// How a device and its host begin.
-#[derive(Clone, Copy, Debug, PartialEq, Eq)]
-pub enum Start {
-    /// Both ends are freshly configured, and the host has the layout of the device's reports.
-    Ready,
-    /// The device isn't configured, and the host knows nothing of it: it is to read and configure it by transfers.
-    Cold,
-}
-
 /// The state of a host, with what it knows there.
 #[derive(Drop)]
 pub enum HostPhase {

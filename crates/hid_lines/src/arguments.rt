@@ -7,8 +7,7 @@ ghost use Rattle.hid_lines.specs.Arguments.{fate_of, boot_of, start_of, control_
 use super::numbers::{read_amount, read_count, read_device, read_signed, read_usage};
 use super::words::{first_word, look_up};
 use hid_descriptor::Usage;
-use hid_device::Boot;
-use hid_host::Start;
+use hid_requests::{Boot, Start};
 use usb_transact::Fate;
 
 /// START: what the two ends know of each other at first.

@@ -13,9 +13,7 @@ use super::short::read_short_words;
 use super::words::{first_word, look_up, no_blank, read_hex};
 use arrayvec::ArrayVec;
 use hid_descriptor::Usage;
-use hid_device::Boot;
-use hid_host::Start;
-use hid_requests::Request;
+use hid_requests::{Boot, Request, Start};
 use usb_transact::Fate;
 
 /// The most bytes of a line, without its end.

@@ -2,3 +2,4 @@ pub mod Class
 pub mod Asked
 pub mod Asking
 pub mod Descriptors
+pub mod Boot

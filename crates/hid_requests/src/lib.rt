@@ -19,6 +19,9 @@
 //! has a row ([`laws::requests_have_rows`]) and as much data as it says ([`laws::data_are_announced`]), and what a host
 //! reads of a device's configuration is what it was made of ([`laws::configurations_are_read`]). No call takes memory, and
 //! none is refused.
+//!
+//! Both ends, and the lines of a script, speak of the kind of a device ([`Boot`]), and of how it begins with its host
+//! ([`Start`]).
 //! ```text
 //!   let setup = Request::Configure.setup(&Asking { report_length: 63, endpoint: 1 });    // 00 09 01 00 00 00 00 00
 //!   what_is_asked(&setup)                                                                // Some(Asked::SetConfiguration)
@@ -26,13 +29,17 @@
 #![tactic(auto)]
 
 mod asked;
+mod boot;
 mod class;
 mod codes;
 mod descriptors;
 pub mod laws;
 mod request;
+mod start;
 
 pub use asked::{Asked, what_is_asked};
+pub use boot::Boot;
 pub use class::Protocol;
 pub use descriptors::{configuration, device_descriptor, hid_descriptor};
 pub use request::{Asking, Request};
+pub use start::Start;

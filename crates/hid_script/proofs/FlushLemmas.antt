@@ -8,12 +8,12 @@ use Rattle.hid_layout.specs.declared.control.ControlId.{ControlId}
 use Rattle.hid_layout.specs.Layout.{Contents}
 use Rattle.hid_cells.specs.declared.fault.ReportFault.{ReportFault}
 use Rattle.hid_usages.specs.Reading.{report_named}
-use Rattle.hid_device.specs.declared.config.Boot.{Boot}
+use Rattle.hid_requests.specs.declared.boot.Boot.{Boot}
+use Rattle.hid_requests.specs.declared.start.Start.{Start}
 use Rattle.hid_host.specs.declared.fault.StackFault.{StackFault}
-use Rattle.hid_host.specs.declared.phase.Start.{Start}
-use Rattle.hid_stack.specs.declared.step.Step.{Step}
-use Rattle.hid_stack.specs.declared.step.Step.TheVariants.{Change}
-use Rattle.hid_stack.specs.declared.step.Step.TheVariants as step
+use Rattle.hid_steps.specs.declared.step.Step.{Step}
+use Rattle.hid_steps.specs.declared.step.Step.TheVariants.{Change}
+use Rattle.hid_steps.specs.declared.step.Step.TheVariants as step
 use Rattle.hid_script.specs.declared.fault.Cause.{Cause}
 use Rattle.hid_script.specs.declared.fault.Cause.TheVariants as causes
 use Rattle.hid_script.specs.declared.fault.Options.{Options}

@@ -8,19 +8,20 @@ use Rattle.hid_layout.specs.Layout.{Contents, layout_of}
 use Rattle.hid_cells.specs.declared.event.Event.{Event}
 use Rattle.hid_cells.specs.declared.fault.ReportFault.{ReportFault}
 use Rattle.hid_usages.specs.Reading.{report_named}
-use Rattle.hid_device.specs.declared.config.Boot.{Boot}
+use Rattle.hid_requests.specs.declared.boot.Boot.{Boot}
+use Rattle.hid_requests.specs.declared.start.Start.{Start}
+use Rattle.hid_requests.specs.declared.start.Start.TheVariants.{Ready, Cold}
 use Rattle.hid_device.specs.declared.config.Config.{Config}
 use Rattle.hid_host.specs.declared.fault.StackFault.{StackFault}
-use Rattle.hid_host.specs.declared.phase.Start.{Start}
-use Rattle.hid_host.specs.declared.phase.Start.TheVariants.{Ready, Cold}
-use Rattle.hid_stack.specs.declared.step.Step.{Step}
-use Rattle.hid_stack.specs.declared.step.Step.TheVariants.{Change, Frame, Poll, Begin, Control, Halt, Reset}
-use Rattle.hid_stack.specs.declared.step.Delivered.{Delivered}
+use Rattle.hid_steps.specs.declared.step.Step.{Step}
+use Rattle.hid_steps.specs.declared.step.Step.TheVariants.{Change, Frame, Poll, Begin, Control, Halt, Reset}
+use Rattle.hid_steps.specs.declared.step.Delivered.{Delivered}
+use Rattle.hid_steps.specs.Delivered.{from_device}
 use Rattle.hid_stack.specs.declared.rig.TheConstants.{MAX_DEVICES}
 use Rattle.hid_stack.specs.Attaching.{Attaches, member_at_start}
 use Rattle.hid_stack.specs.Headline.{LivesThrough}
 use Rattle.hid_stack.specs.Members.{Member, deeds_in, member_after_all}
-use Rattle.hid_stack.specs.Rig.{bus_after, delivered_at, from_device, member_at, tagged}
+use Rattle.hid_stack.specs.Rig.{bus_after, delivered_at, member_at, tagged}
 use Rattle.hid_stack.specs.Stories.{Act, Attached, Taken, bus_behind, delivered_behind, next_number, own_story}
 use Rattle.hid_stack.proofs.Isolation.{at_place, no_zero}
 use Rattle.hid_stack.proofs.StoryLemmas.{bus_append, delivered_append, its_own, nothing_of, same_many}

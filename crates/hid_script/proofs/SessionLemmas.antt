@@ -16,21 +16,21 @@ use Rattle.hid_descriptor.specs.Faults.{Accepts, Explains}
 use Rattle.hid_cells.specs.declared.fault.ReportFault.{ReportFault}
 use Rattle.hid_cells.specs.declared.fault.ReportFault.TheVariants.{Short}
 use Rattle.hid_usages.specs.Reading.{first_byte, is_input_with, whole_report, report_named}
-use Rattle.hid_device.specs.declared.config.Boot.{Boot}
+use Rattle.hid_requests.specs.declared.boot.Boot.{Boot}
+use Rattle.hid_requests.specs.declared.start.Start.{Start}
+use Rattle.hid_requests.specs.declared.start.Start.TheVariants.{Ready, Cold}
 use Rattle.hid_device.specs.declared.config.Config.{Config}
 use Rattle.hid_host.specs.declared.fault.StackFault.{StackFault}
 use Rattle.hid_host.specs.declared.fault.StackFault.TheVariants as stack
-use Rattle.hid_stack.specs.declared.step.Step.{Step}
-use Rattle.hid_stack.specs.declared.step.Step.TheVariants.{Change}
-use Rattle.hid_stack.specs.declared.step.Told.{Told}
-use Rattle.hid_stack.specs.declared.step.Delivered.{Delivered}
+use Rattle.hid_steps.specs.declared.step.Step.{Step}
+use Rattle.hid_steps.specs.declared.step.Step.TheVariants.{Change}
+use Rattle.hid_steps.specs.declared.step.Told.{Told}
+use Rattle.hid_steps.specs.declared.step.Delivered.{Delivered}
 use Rattle.hid_stack.specs.declared.rig.TheConstants.{MAX_DEVICES}
 use Rattle.hid_stack.specs.Members.{Member}
 use Rattle.hid_stack.specs.Rig.{member_at, refusal, IsRefusal, bus_after, delivered_at}
 use Rattle.hid_stack.specs.Tells.{Tells}
 use Rattle.hid_stack.specs.Attaching.{Attaches, Finds, member_at_start}
-use Rattle.hid_host.specs.declared.phase.Start.{Start}
-use Rattle.hid_host.specs.declared.phase.Start.TheVariants.{Ready, Cold}
 use Rattle.hid_script.specs.declared.fault.Cause.{Cause}
 use Rattle.hid_script.specs.declared.fault.Cause.TheVariants as causes
 use Rattle.hid_script.specs.declared.fault.StepFault.TheVariants as faults

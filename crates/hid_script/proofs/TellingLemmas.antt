@@ -6,15 +6,15 @@ use Rattle.hid_descriptor.specs.declared.usage.Usage.{Usage}
 use Rattle.hid_layout.specs.declared.control.ControlId.{ControlId}
 use Rattle.hid_layout.specs.Layout.{Contents, layout_of}
 use Rattle.hid_descriptor.specs.Laws.{HasOneReading, AcceptsNoRefused, HasOneCause, HasOnePlace}
-use Rattle.hid_device.specs.declared.config.Boot.{Boot}
+use Rattle.hid_requests.specs.declared.boot.Boot.{Boot}
+use Rattle.hid_requests.specs.declared.start.Start.{Start}
 use Rattle.hid_device.specs.declared.config.Config.{Config}
 use Rattle.hid_host.specs.declared.fault.StackFault.{StackFault}
-use Rattle.hid_stack.specs.declared.step.Step.{Step}
-use Rattle.hid_stack.specs.declared.step.Step.TheVariants.{Change}
-use Rattle.hid_stack.specs.declared.step.Step.TheVariants as step
+use Rattle.hid_steps.specs.declared.step.Step.{Step}
+use Rattle.hid_steps.specs.declared.step.Step.TheVariants.{Change}
+use Rattle.hid_steps.specs.declared.step.Step.TheVariants as step
 use Rattle.hid_stack.specs.Members.{Member}
 use Rattle.hid_stack.specs.Attaching.{member_at_start}
-use Rattle.hid_host.specs.declared.phase.Start.{Start}
 use Rattle.hid_script.specs.declared.fault.Cause.{Cause}
 use Rattle.hid_script.specs.declared.wanted.Wanted.{Wanted}
 use Rattle.hid_script.specs.declared.wanted.Wanted.TheVariants as wanted

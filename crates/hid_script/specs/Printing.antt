@@ -4,9 +4,9 @@ use Rattle.std.specs.Prelude.{◌≡◌, ℕ, ◌+◌, List, [], ◌∷◌, ◌+
 use Rattle.hid_descriptor.specs.declared.usage.Usage.{Usage}
 use Rattle.hid_layout.specs.declared.control.ControlId.{ControlId}
 use Rattle.hid_cells.specs.declared.event.Event.{Event}
-use Rattle.hid_device.specs.declared.config.Boot.{Boot}
-use Rattle.hid_host.specs.declared.phase.Start.{Start}
-use Rattle.hid_stack.specs.declared.step.Step.TheVariants as step
+use Rattle.hid_requests.specs.declared.boot.Boot.{Boot}
+use Rattle.hid_requests.specs.declared.start.Start.{Start}
+use Rattle.hid_steps.specs.declared.step.Step.TheVariants as step
 use Rattle.hid_stack.specs.declared.rig.TheConstants.{MAX_DEVICES}
 use Rattle.hid_stack.specs.Attaching.{Attaches, Finds}
 use Rattle.hid_stack.specs.Headline.{LivesThrough}

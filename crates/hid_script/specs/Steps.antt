@@ -10,19 +10,19 @@ use Rattle.hid_cells.specs.declared.fault.ReportFault.{ReportFault}
 use Rattle.hid_cells.specs.declared.change.Change.{Change as OneChange}
 use Rattle.hid_cells.specs.declared.change.Change.TheVariants as changes
 use Rattle.hid_usages.specs.Reading.{report_named}
-use Rattle.hid_device.specs.declared.config.Boot.{Boot}
+use Rattle.hid_requests.specs.declared.boot.Boot.{Boot}
+use Rattle.hid_requests.specs.declared.start.Start.{Start}
 use Rattle.hid_device.specs.declared.config.Config.{Config}
 use Rattle.hid_host.specs.declared.fault.StackFault.{StackFault}
-use Rattle.hid_stack.specs.declared.step.Step.{Step}
-use Rattle.hid_stack.specs.declared.step.Step.TheVariants.{Change, Control}
-use Rattle.hid_stack.specs.declared.step.Told.{Told}
+use Rattle.hid_steps.specs.declared.step.Step.{Step}
+use Rattle.hid_steps.specs.declared.step.Step.TheVariants.{Change, Control}
+use Rattle.hid_steps.specs.declared.step.Told.{Told}
 use Rattle.hid_stack.specs.Members.{Member}
 use Rattle.hid_stack.specs.Rig.{member_at, refusal, bus_after, delivered_at}
 use Rattle.hid_stack.specs.Tells.{Tells}
 use Rattle.hid_stack.specs.declared.rig.TheConstants.{MAX_DEVICES}
 use Rattle.hid_host.specs.declared.fault.StackFault.TheVariants as stack
 use Rattle.hid_stack.specs.Attaching.{Attaches, Finds, member_at_start}
-use Rattle.hid_host.specs.declared.phase.Start.{Start}
 use Rattle.usb_control.specs.declared.host.HostStage.{HostStage}
 use Rattle.usb_control.specs.declared.host.HostStage.TheVariants.{Done}
 use Rattle.hid_host.specs.declared.host.Transfer.{Transfer}

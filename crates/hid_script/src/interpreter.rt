@@ -6,7 +6,7 @@ ghost use Rattle.hid_script.specs.Session.{at_first};
 ghost use Rattle.hid_script.specs.Steps.{TellsLayout, TellsValues, TellsDevice, TellsStep, TellsChange, got_by};
 ghost use Rattle.hid_script.specs.Telling.{Once, times, CarriesOut, Begins, LineTells, LineBegins};
 ghost use Rattle.hid_script.specs.Place.{AppendsTold, AppendsOnce};
-ghost use Rattle.hid_stack.specs.declared.step.Step.TheVariants as Taking;
+ghost use Rattle.hid_steps.specs.declared.step.Step.TheVariants as Taking;
 
 use super::fault::{Cause, Options};
 use super::output::write_text;

@@ -13,17 +13,19 @@ use Rattle.hid_cells.specs.declared.event.Event.{Event}
 use Rattle.hid_cells.proofs.ItemLemmas.{set_here, set_there}
 use Rattle.hid_lives.specs.Rounds.{OwnStep, Changes, Polls}
 use Rattle.hid_lives.specs.Rounds as own_steps
-use Rattle.hid_stack.specs.declared.step.Step.{Step}
-use Rattle.hid_stack.specs.declared.step.Step.TheVariants.{Change, Frame, Poll, Begin, Control, Halt, Reset}
-use Rattle.hid_stack.specs.declared.step.Delivered.{Delivered}
 use Rattle.hid_lives.specs.Following.{FollowsLife, course_from}
 use Rattle.hid_lives.specs.Lives.{course_behind, happenings, told_in}
 use Rattle.hid_lives.specs.Stations.{Station, after_all, events_in}
 use Rattle.hid_host.specs.declared.phase.HostState.{HostState}
 use Rattle.hid_host.specs.declared.phase.HostState.TheVariants.{Ready}
 use Rattle.hid_host.specs.Phase.{may_poll}
+use Rattle.hid_steps.specs.declared.step.Step.{Step}
+use Rattle.hid_steps.specs.declared.step.Step.TheVariants.{Change, Frame, Poll, Begin, Control, Halt, Reset}
+use Rattle.hid_steps.specs.declared.step.Delivered.{Delivered}
+use Rattle.hid_steps.specs.Delivered.{from_device}
+use Rattle.hid_steps.proofs.DeliveredLemmas.{from_append}
 use Rattle.hid_stack.specs.Members.{Member, MemberStep, Scheduled, Begins, Controls, Halts, Resets, deed_at, deeds_in, events_by, member_after, member_after_all}
-use Rattle.hid_stack.specs.Rig.{HasOnlySchedule, member_at, with_member, one_after, bus_after, tagged, one_delivers, delivered_at, bus_after_all, delivered_in, is_scheduled, member_step, member_steps, own_step, own, own_event, from_device, IsIsolated}
+use Rattle.hid_stack.specs.Rig.{HasOnlySchedule, member_at, with_member, one_after, bus_after, tagged, one_delivers, delivered_at, bus_after_all, delivered_in, is_scheduled, member_step, member_steps, own_step, own, IsIsolated}
 use Rattle.hid_stack.specs.Headline.{DeliversChanges, DevicesLive, KeepsToRounds}
 use Rattle.hid_lives.proofs.LifeLemmas.{lives_on}
 use Rattle.hid_lives.proofs.ScheduleLemmas.{delivers_epoch, own_told as own_told_in, stands_by_rounds}
@@ -104,11 +106,6 @@ step_state device members m (Halt d) h = one_state d device members m Halts h
 step_state device members m (Reset d) h = one_state d device members m Resets h
 
 -- what one step delivers of one device
-pub from_append : (device : ℕ) (xs ys : List Delivered) → from_device device (xs ++ ys) ≡ from_device device xs ++ from_device device ys
-from_append device [] ys = refl
-from_append device (x ∷ xs) ys = elim (own_event device x) as (λ (o : Option Event). cons_option o (from_device device (xs ++ ys)) ≡ cons_option o (from_device device xs) ++ from_device device ys)
-    [ None ↦ from_append device xs ys | Some e ↦ ap (λ (es : List Event). e ∷ es) (from_append device xs ys) ]
-
 from_tagged_same : (device : ℕ) (es : List Event) → eqb device device ≡ true → from_device device (map (tagged device) es) ≡ es
 from_tagged_same device [] h = refl
 from_tagged_same device (e ∷ es) h = rw h (ap (λ (es : List Event). e ∷ es) (from_tagged_same device es h))

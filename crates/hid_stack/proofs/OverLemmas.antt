@@ -17,7 +17,7 @@ use Rattle.hid_host.specs.declared.phase.HostPhase.TheVariants.{Cold, Described,
 use Rattle.hid_host.specs.Host.{HostEnd, polls_at, ready_after}
 use Rattle.hid_host.specs.Phase.{IfReady, IsReady}
 use Rattle.hid_host.specs.Ready.{Known, told_of, events_behind}
-use Rattle.hid_stack.specs.declared.step.Told.TheVariants.{Polled}
+use Rattle.hid_steps.specs.declared.step.Told.TheVariants.{Polled}
 use Rattle.hid_stack.specs.Polls.{Acknowledges, Asks, Ends, GoesByPackets, IsAnswer, spelled, told_with}
 
 -- what is read of the bytes that arrive is what is read of the packet

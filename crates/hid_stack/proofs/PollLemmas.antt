@@ -32,8 +32,8 @@ use Rattle.hid_device.specs.Core.{CoreState, IsSound, opened_core_if, opening_of
 use Rattle.hid_device.specs.Device.{DeviceState, passed, polled_device}
 use Rattle.hid_device.proofs.AckLemmas.{sound_at_piece, sound_closed}
 use Rattle.hid_host.specs.declared.fault.StackFault.{StackFault}
-use Rattle.hid_stack.specs.declared.step.Told.{Told}
-use Rattle.hid_stack.specs.declared.step.Told.TheVariants.{Polled}
+use Rattle.hid_steps.specs.declared.step.Told.{Told}
+use Rattle.hid_steps.specs.declared.step.Told.TheVariants.{Polled}
 use Rattle.hid_host.specs.declared.phase.HostPhase.TheVariants.{Ready}
 use Rattle.hid_host.specs.Host.{HostEnd, ready_after}
 use Rattle.hid_host.specs.declared.phase.HostState.TheVariants as states

@@ -7,14 +7,14 @@ use Rattle.hid_layout.specs.Controls.{items_of}
 use Rattle.hid_layout.specs.Layout.{Contents}
 use Rattle.hid_device.specs.declared.config.Config.{Config}
 use Rattle.hid_lives.specs.Rounds.{Frame}
-use Rattle.hid_stack.specs.declared.step.Step.TheVariants.{Frame as FrameStep}
+use Rattle.hid_steps.specs.declared.step.Step.TheVariants.{Frame as FrameStep}
 use Rattle.hid_host.specs.declared.fault.StackFault.{StackFault}
 use Rattle.usb_transact.specs.declared.transaction.Fate.{Fate}
 use Rattle.usb_control.specs.declared.host.Progress.{Progress}
 use Rattle.hid_host.specs.declared.host.Transfer.{Transfer}
 use Rattle.hid_host.specs.Host.{running}
-use Rattle.hid_host.specs.declared.phase.Start.{Start}
-use Rattle.hid_host.specs.declared.phase.Start.TheVariants as starts
+use Rattle.hid_requests.specs.declared.start.Start.{Start}
+use Rattle.hid_requests.specs.declared.start.Start.TheVariants as starts
 use Rattle.hid_stack.specs.Attaching.{member_at_start}
 use Rattle.hid_stack.specs.Members.{Member, MemberStep, Scheduled, Controls, member_after, tried_of}
 use Rattle.hid_stack.specs.Slot.{TriesTransfer}

@@ -6,6 +6,8 @@ use Rattle.usb_transact.specs.declared.transaction.Fate.{Fate}
 use Rattle.usb_control.specs.declared.host.Progress.{Progress}
 use Rattle.hid_requests.specs.declared.request.Request.{Request}
 use Rattle.hid_requests.specs.declared.request.Request.TheVariants as requests
+use Rattle.hid_requests.specs.declared.start.Start.{Start}
+use Rattle.hid_requests.specs.declared.start.Start.TheVariants as starts
 use Rattle.hid_cells.specs.declared.cell.Cell.{Cell}
 use Rattle.hid_cells.specs.declared.event.Event.{Event}
 use Rattle.hid_layout.specs.Controls.{Item, items_of, max_events}
@@ -32,14 +34,12 @@ use Rattle.hid_host.specs.Bringing.{TakesMemory, cuts_round, may_cut}
 use Rattle.hid_host.specs.Knowing.{Knows, LeavesTransfers}
 use Rattle.hid_host.specs.Phase.{may_poll, state_of}
 use Rattle.hid_host.specs.Ready.{Known}
-use Rattle.hid_host.specs.declared.phase.Start.{Start}
-use Rattle.hid_host.specs.declared.phase.Start.TheVariants as starts
 use Rattle.hid_stack.specs.Attaching.{Suits, IsNoPair, member_at_start}
 use Rattle.hid_host.specs.Conclusions.{IsNoLayout}
 use Rattle.hid_host.specs.Host.{HostEnd, cold_host, ready_host}
 use Rattle.hid_host.specs.declared.phase.HostPhase.{HostPhase}
 use Rattle.hid_host.specs.declared.phase.HostPhase.TheVariants.{Cold, Described, Parsed, Ready}
-use Rattle.hid_stack.specs.declared.step.Delivered.{Delivered}
+use Rattle.hid_steps.specs.declared.step.Delivered.{Delivered}
 use Rattle.hid_stack.specs.Members.{Member, tried_to}
 use Rattle.hid_stack.specs.Rig.{HasRoomToTry, tagged}
 use Rattle.hid_stack.specs.Slot.{joint, round_between, HasGotUnless, IsEvenUnless, IsPair, IsUntouched, StandTogether, TriesOnPair, TriesTransfer}

@@ -34,8 +34,8 @@ use Rattle.hid_lives.specs.Rounds.{Polls}
 use Rattle.hid_host.specs.declared.fault.StackFault.{StackFault}
 use Rattle.hid_host.specs.declared.phase.HostPhase.{HostPhase}
 use Rattle.hid_host.specs.declared.phase.HostPhase.TheVariants.{Cold, Described, Parsed, Ready}
-use Rattle.hid_stack.specs.declared.step.Told.{Told}
-use Rattle.hid_stack.specs.declared.step.Told.TheVariants.{Polled}
+use Rattle.hid_steps.specs.declared.step.Told.{Told}
+use Rattle.hid_steps.specs.declared.step.Told.TheVariants.{Polled}
 use Rattle.hid_host.specs.Host.{HostEnd, ready_after}
 use Rattle.hid_host.specs.Phase.{IfReady}
 use Rattle.hid_stack.specs.Slot.{joined, station_of, joint, held_of, HasGotUnless, IsEven, IsEvenUnless, ArePaired, IsPair}

@@ -10,14 +10,16 @@ use Rattle.hid_lives.specs.Rounds.{Polls}
 use Rattle.hid_lives.specs.Stations.{Station}
 use Rattle.hid_lives.proofs.LifeLemmas.{lives_on}
 use Rattle.hid_cells.specs.declared.event.Event.{Event}
-use Rattle.hid_stack.specs.declared.step.Step.{Step}
-use Rattle.hid_stack.specs.declared.step.Step.TheVariants.{Change, Frame, Poll, Begin, Control, Halt, Reset}
-use Rattle.hid_stack.specs.declared.step.Delivered.{Delivered}
+use Rattle.hid_steps.specs.declared.step.Step.{Step}
+use Rattle.hid_steps.specs.declared.step.Step.TheVariants.{Change, Frame, Poll, Begin, Control, Halt, Reset}
+use Rattle.hid_steps.specs.declared.step.Delivered.{Delivered}
+use Rattle.hid_steps.specs.Delivered.{from_device}
+use Rattle.hid_steps.proofs.DeliveredLemmas.{from_append}
 use Rattle.hid_stack.specs.Members.{Member, MemberStep, Scheduled, Controls, Halts, Resets, deed_at, deeds_in, events_by, member_after_all}
-use Rattle.hid_stack.specs.Rig.{bus_after, delivered_at, from_device, member_at, member_step, member_steps, one_delivers, tagged}
+use Rattle.hid_stack.specs.Rig.{bus_after, delivered_at, member_at, member_step, member_steps, one_delivers, tagged}
 use Rattle.hid_stack.specs.Stories.{Act, Attached, IsItsOwn, Taken, bus_behind, delivered_behind, next_number, own_story, steps_of}
 use Rattle.hid_stack.proofs.AttachLemmas.{stands_last, stands_still}
-use Rattle.hid_stack.proofs.Isolation.{after_own, from_append, from_tagged_other, own_states, same_or_not, step_state, told_behind}
+use Rattle.hid_stack.proofs.Isolation.{after_own, from_tagged_other, own_states, same_or_not, step_state, told_behind}
 use Rattle.hid_stack.proofs.MemberLemmas.{stations}
 use Rattle.hid_stack.proofs.RoomLemmas.{bus_layouts, layout_of_member}
 

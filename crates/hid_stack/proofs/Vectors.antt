@@ -5,8 +5,8 @@ use Rattle.usb_transact.specs.declared.transaction.Fate.{Fate}
 use Rattle.usb_transact.specs.declared.transaction.Fate.TheVariants.{Clean, TokenLost, ReplyLost, AckLost}
 use Rattle.hid_usages.specs.Samples.{keyboard}
 use Rattle.hid_lives.specs.Rounds.{OwnStep, Polls}
-use Rattle.hid_stack.specs.declared.step.Told.{Told}
-use Rattle.hid_stack.specs.declared.step.Told.TheVariants.{Polled}
+use Rattle.hid_steps.specs.declared.step.Told.{Told}
+use Rattle.hid_steps.specs.declared.step.Told.TheVariants.{Polled}
 use Rattle.hid_stack.specs.declared.rig.TheConstants.{MAX_DEVICES}
 use Rattle.hid_lives.specs.Rows.{open_at, press, stands_after}
 use Rattle.hid_lives.specs.Stations.{opened}

@@ -6,12 +6,13 @@ use Rattle.hid_cells.specs.declared.event.Event.{Event}
 use Rattle.hid_lives.specs.Following.{FollowsLife, StandsByRounds, course_from}
 use Rattle.hid_lives.specs.Lives.{Deed, course_behind, happenings}
 use Rattle.hid_lives.specs.Rounds.{events_of_epoch}
-use Rattle.hid_stack.specs.declared.step.Step.{Step}
-use Rattle.hid_stack.specs.declared.step.Delivered.{Delivered}
+use Rattle.hid_steps.specs.declared.step.Step.{Step}
+use Rattle.hid_steps.specs.declared.step.Delivered.{Delivered}
+use Rattle.hid_steps.specs.Delivered.{from_device}
 use Rattle.hid_lives.specs.Stations.{Station, fresh}
 use Rattle.hid_host.specs.declared.phase.HostState.TheVariants.{Ready}
 use Rattle.hid_stack.specs.Members.{Member, deeds_in, polls_it}
-use Rattle.hid_stack.specs.Rig.{HasOnlySchedule, member_at, member_steps, own, from_device}
+use Rattle.hid_stack.specs.Rig.{HasOnlySchedule, member_at, member_steps, own}
 
 -- both ends were just configured: the host is ready with its initial view, and no round was opened
 pub record AreFresh (m : Member) (snapshot : List Cell) (idle : List ℕ) : Type 0 where

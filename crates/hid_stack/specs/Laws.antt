@@ -15,10 +15,10 @@ use Rattle.hid_lives.specs.Stations.{events_at}
 use Rattle.hid_device.specs.declared.config.Config.{Config}
 use Rattle.hid_host.specs.declared.fault.StackFault.{StackFault}
 use Rattle.hid_host.specs.declared.fault.StackFault.TheVariants.{Memory}
-use Rattle.hid_stack.specs.declared.step.Step.{Step}
-use Rattle.hid_stack.specs.declared.step.Told.{Told}
+use Rattle.hid_steps.specs.declared.step.Step.{Step}
+use Rattle.hid_steps.specs.declared.step.Told.{Told}
 use Rattle.hid_stack.specs.Members.{Member, Scheduled, member_after}
-use Rattle.hid_host.specs.declared.phase.Start.{Start}
+use Rattle.hid_requests.specs.declared.start.Start.{Start}
 use Rattle.hid_stack.specs.Tells.{Tells, TellsPoll}
 use Rattle.hid_stack.specs.Attaching.{Attaches, Finds}
 

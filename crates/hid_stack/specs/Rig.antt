@@ -20,9 +20,10 @@ use Rattle.hid_host.specs.declared.fault.StackFault.TheVariants as faults
 use Rattle.hid_host.specs.declared.host.Transfer.{Transfer}
 use Rattle.hid_host.specs.Bringing.{TakesMemory as TakesMemoryFor, may_cut}
 use Rattle.hid_host.specs.Host.{running}
-use Rattle.hid_stack.specs.declared.step.Step.{Step}
-use Rattle.hid_stack.specs.declared.step.Step.TheVariants.{Change, Frame, Poll, Begin, Control, Halt, Reset}
-use Rattle.hid_stack.specs.declared.step.Delivered.{Delivered}
+use Rattle.hid_steps.specs.declared.step.Step.{Step}
+use Rattle.hid_steps.specs.declared.step.Step.TheVariants.{Change, Frame, Poll, Begin, Control, Halt, Reset}
+use Rattle.hid_steps.specs.declared.step.Delivered.{Delivered}
+use Rattle.hid_steps.specs.Delivered.{from_device}
 use Rattle.hid_stack.specs.Members.{Member, MemberStep, Scheduled, Begins, Controls, Halts, Resets, begin_refusal_at, deed_at, deeds_in, ends_tried_at, events_by, member_after, member_after_all, polls_it, unconcluded_of}
 
 -- devices are numbered from 1
@@ -265,14 +266,6 @@ HasOnlySchedule device steps = All (λ x. is_scheduled device x ≡ true) steps
 -- no step is of a transfer, and none a halt or a reset
 abbrev pub AreScheduled : List Step → Type 0
 AreScheduled steps = (device : ℕ) → HasOnlySchedule device steps
-
--- what was delivered of a device
-abbrev pub own_event : ℕ → Delivered → Option Event
-own_event device e = if e.dev == device then Some e.event else None
-
--- and all of that, in its order
-abbrev pub from_device : ℕ → List Delivered → List Event
-from_device device out = filter_map (own_event device) out
 
 -- Each device by itself: how it stands and what was delivered of it are a function of its own steps.
 pub record IsIsolated (before after : List Member) (steps : List Step) (old new : List Delivered) : Type 0 where

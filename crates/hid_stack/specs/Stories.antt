@@ -2,11 +2,12 @@
 use Rattle.std.specs.Prelude.{◌≡◌, ℕ, ◌+◌, List, [], ◌∷◌, ◌++◌, length, Some, None}
 use Rattle.hid_layout.specs.Controls.{items_of}
 use Rattle.hid_lives.specs.Lives.{told_in}
-use Rattle.hid_stack.specs.declared.step.Step.{Step}
-use Rattle.hid_stack.specs.declared.step.Delivered.{Delivered}
+use Rattle.hid_steps.specs.declared.step.Step.{Step}
+use Rattle.hid_steps.specs.declared.step.Delivered.{Delivered}
+use Rattle.hid_steps.specs.Delivered.{from_device}
 use Rattle.hid_stack.specs.Headline.{LivesThrough}
 use Rattle.hid_stack.specs.Members.{Member, MemberStep, deeds_in, member_after_all}
-use Rattle.hid_stack.specs.Rig.{bus_after, delivered_at, from_device, member_at, member_steps}
+use Rattle.hid_stack.specs.Rig.{bus_after, delivered_at, member_at, member_steps}
 
 -- A device is attached, or the bus takes a step.
 pub data Act : Type 0 where

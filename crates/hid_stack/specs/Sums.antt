@@ -12,11 +12,12 @@ use Rattle.hid_host.specs.Bringing.{cuts_round}
 use Rattle.hid_host.specs.Host.{running}
 use Rattle.usb_transact.specs.declared.transaction.Fate.{Fate}
 use Rattle.hid_lives.specs.Stations.{Station}
-use Rattle.hid_stack.specs.declared.step.Step.{Step}
-use Rattle.hid_stack.specs.declared.step.Step.TheVariants.{Control}
-use Rattle.hid_stack.specs.declared.step.Delivered.{Delivered}
+use Rattle.hid_steps.specs.declared.step.Step.{Step}
+use Rattle.hid_steps.specs.declared.step.Step.TheVariants.{Control}
+use Rattle.hid_steps.specs.declared.step.Delivered.{Delivered}
+use Rattle.hid_steps.specs.Delivered.{from_device}
 use Rattle.hid_stack.specs.Members.{Member, deeds_in, tried_deed}
-use Rattle.hid_stack.specs.Rig.{member_at, member_steps, from_device, refused_after}
+use Rattle.hid_stack.specs.Rig.{member_at, member_steps, refused_after}
 use Rattle.hid_host.specs.declared.fault.StackFault.{StackFault}
 
 -- every device keeps a motion for each of its relative controls

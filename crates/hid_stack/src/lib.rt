@@ -37,11 +37,10 @@ mod polls;
 mod resets;
 mod rig;
 mod slot;
-mod step;
 
 pub use fault::RunFault;
 pub use hid_host::{DescriptorFault, HostDevice, HostState, StackFault, Start};
 pub use hid_requests::Request;
+pub use hid_steps::{Delivered, Step, Told};
 pub use polls::poll;
 pub use rig::{MAX_DEVICES, Rig};
-pub use step::{Delivered, Step, Told};

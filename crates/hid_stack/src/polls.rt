@@ -17,11 +17,11 @@ ghost use Rattle.hid_stack.specs.Polls.{Hears, HearsAck, HasBytes, Acknowledges,
 ghost use Rattle.hid_lives.specs.Stations.{events_at};
 ghost use Rattle.hid_stack.specs.Tells.{TellsPoll};
 
-use crate::step::Told;
 use arrayvec::ArrayVec;
 use hid_device::Device;
 use hid_host::laws::hosts_know_their_devices;
 use hid_host::{HostDevice, StackFault};
+use hid_steps::Told;
 use hid_usages::Event;
 use usb_packet::{LentPacket, Packet, spell, spell_lent};
 use usb_transact::{Bus, Fate, Phase, Took, read_arrived};

@@ -5,8 +5,8 @@ use Rattle.hid_host.specs.declared.fault.StackFault.TheVariants.{Memory}
 use Rattle.std.proofs.lemmas.Result.{on_ok_weaker}
 use Rattle.hid_lives.specs.Rounds.{Changes, Frame, Polls}
 use Rattle.hid_stack.specs.declared.rig.TheConstants.{MAX_DEVICES}
-use Rattle.hid_stack.specs.declared.step.Step.{Step}
-use Rattle.hid_stack.specs.declared.step.Step.TheVariants.{Change, Poll, Begin, Halt, Reset}
+use Rattle.hid_steps.specs.declared.step.Step.{Step}
+use Rattle.hid_steps.specs.declared.step.Step.TheVariants.{Change, Poll, Begin, Halt, Reset}
 use Rattle.hid_stack.specs.Members.{Member, Scheduled, Begins, Controls, Halts, Resets, member_after}
 use Rattle.hid_stack.specs.Rig.{bus_after, delivered_at, refusal, refused_after, IsRefusal, HasRoomFor, most_events}
 use Rattle.hid_stack.specs.Sums.{ConfiguresBetweenRounds, OnlyHaltsCut}
