@@ -44,14 +44,14 @@ impl fmt::Display for ChangeFault {
     ghost output = { λ fault. Some (change_code fault) };
 
     fn fmt<W: fmt::Write>(&self, f: &mut fmt::Formatter<W>) -> fmt::Result {
-        match self {
-            ChangeFault::NoSuchControl => write!(f, "U1"),
-            ChangeFault::WrongKind => write!(f, "U2"),
-            ChangeFault::OutOfRange => write!(f, "U3"),
-            ChangeFault::NoNull => write!(f, "U4"),
-            ChangeFault::NoDirection => write!(f, "U5"),
-            ChangeFault::MotionFull => write!(f, "U6"),
-            ChangeFault::ArrayFull => write!(f, "U7"),
-        }
+        f.write_str(match self {
+            ChangeFault::NoSuchControl => "U1",
+            ChangeFault::WrongKind => "U2",
+            ChangeFault::OutOfRange => "U3",
+            ChangeFault::NoNull => "U4",
+            ChangeFault::NoDirection => "U5",
+            ChangeFault::MotionFull => "U6",
+            ChangeFault::ArrayFull => "U7",
+        })
     }
 }

@@ -18,10 +18,10 @@ impl fmt::Display for ReportFault {
     ghost output = { λ fault. Some (report_code fault) };
 
     fn fmt<W: fmt::Write>(&self, f: &mut fmt::Formatter<W>) -> fmt::Result {
-        match self {
-            ReportFault::Short => write!(f, "U8"),
-            ReportFault::UnknownReport => write!(f, "U9"),
-        }
+        f.write_str(match self {
+            ReportFault::Short => "U8",
+            ReportFault::UnknownReport => "U9",
+        })
     }
 }
 
@@ -33,6 +33,6 @@ impl fmt::Display for MemoryFault {
     ghost output = { λ _. Some memory_code };
 
     fn fmt<W: fmt::Write>(&self, f: &mut fmt::Formatter<W>) -> fmt::Result {
-        write!(f, "U10")
+        f.write_str("U10")
     }
 }

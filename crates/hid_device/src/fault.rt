@@ -25,17 +25,42 @@ pub enum DeviceCause {
     Memory,
 }
 
+// The code of a layout's cause, as a device tells it.
+fn layout_code(cause: Cause) -> &'static str
+    ensures { result.now ≡ layout_code cause }
+{
+    match cause {
+        Cause::Truncated => "V1",
+        Cause::TooLong => "V2",
+        Cause::PopEmpty => "V3",
+        Cause::PushDepth => "V4",
+        Cause::CollectionDepth => "V5",
+        Cause::EndWithout => "V6",
+        Cause::Unclosed => "V7",
+        Cause::BadReportId => "V8",
+        Cause::MixedReportId => "V9",
+        Cause::BadRange => "V10",
+        Cause::BadSize => "V11",
+        Cause::BadUsageRange => "V12",
+        Cause::UnpairedUsage => "V13",
+        Cause::Delimiter => "V14",
+        Cause::ReportTooLong => "V15",
+        Cause::TooMany => "V16",
+        Cause::Memory => "V17",
+    }
+}
+
 impl fmt::Display for DeviceCause {
     ghost output = { λ cause. Some (code_of cause) };
 
     fn fmt<W: fmt::Write>(&self, f: &mut fmt::Formatter<W>) -> fmt::Result {
-        match self {
-            DeviceCause::BadConfig => write!(f, "V20"),
-            DeviceCause::Layout(cause) => write!(f, "{}", LayoutCode(*cause)),
-            DeviceCause::NoEmptyCode => write!(f, "V18"),
-            DeviceCause::RelativeWithoutZero => write!(f, "V19"),
-            DeviceCause::Memory => write!(f, "V21"),
-        }
+        f.write_str(match self {
+            DeviceCause::BadConfig => "V20",
+            DeviceCause::Layout(cause) => layout_code(*cause),
+            DeviceCause::NoEmptyCode => "V18",
+            DeviceCause::RelativeWithoutZero => "V19",
+            DeviceCause::Memory => "V21",
+        })
     }
 }
 
@@ -54,7 +79,7 @@ impl fmt::Display for DeviceFault {
         let DeviceFault { cause, at } = *self;
         match cause {
             DeviceCause::Layout(found) => match found {
-                Cause::Memory => write!(f, "V17"),
+                Cause::Memory => f.write_str("V17"),
                 _ => write!(f, "{cause} at {at}"),
             },
             _ => write!(f, "{cause}"),
@@ -91,36 +116,6 @@ impl From<AllocError> for DeviceFault {
         DeviceFault {
             cause: DeviceCause::Memory,
             at: 0,
-        }
-    }
-}
-
-/// The code of a layout's cause, as a device tells it.
-#[derive(Clone, Copy)]
-struct LayoutCode(Cause);
-
-impl fmt::Display for LayoutCode {
-    ghost output = { λ code. Some (layout_code code.0) };
-
-    fn fmt<W: fmt::Write>(&self, f: &mut fmt::Formatter<W>) -> fmt::Result {
-        match self.0 {
-            Cause::Truncated => write!(f, "V1"),
-            Cause::TooLong => write!(f, "V2"),
-            Cause::PopEmpty => write!(f, "V3"),
-            Cause::PushDepth => write!(f, "V4"),
-            Cause::CollectionDepth => write!(f, "V5"),
-            Cause::EndWithout => write!(f, "V6"),
-            Cause::Unclosed => write!(f, "V7"),
-            Cause::BadReportId => write!(f, "V8"),
-            Cause::MixedReportId => write!(f, "V9"),
-            Cause::BadRange => write!(f, "V10"),
-            Cause::BadSize => write!(f, "V11"),
-            Cause::BadUsageRange => write!(f, "V12"),
-            Cause::UnpairedUsage => write!(f, "V13"),
-            Cause::Delimiter => write!(f, "V14"),
-            Cause::ReportTooLong => write!(f, "V15"),
-            Cause::TooMany => write!(f, "V16"),
-            Cause::Memory => write!(f, "V17"),
         }
     }
 }

@@ -249,7 +249,14 @@ impl HostDevice {
             HostPhase::Cold | HostPhase::Described(_) | HostPhase::Parsed(..) => {} // it has told nothing
             HostPhase::Ready(host) => host.tell_back(round, piece, fixed, out),
         }
-        self.phase = HostPhase::Cold;
+        self.forget();
+    }
+
+    /// The host forgets its device and its transfer.
+    fn forget(&mut self)
+        ensures { self.new ≡ cold_host self.old.addr }
+    {
+        self.phase.go_on(HostPhase::Cold);
         self.transfer = None;
         self.clearing = false;
     }
@@ -306,7 +313,8 @@ impl HostDevice {
     ghost use Rattle.std.specs.Prelude.{Ok, Err, Some, None, OnOk, OnErr, is_some};
     ghost use Rattle.hid_requests.specs.Asking.{FitsRequest};
     ghost use Rattle.hid_host.specs.declared.fault.StackFault.{StackFault as Refusal};
-    ghost use Rattle.hid_host.specs.Host.{ControlSteps, ShowsLast, begin_refusal, begun, running};
+    ghost use Rattle.hid_host.specs.Host.{ControlSteps, ShowsLast, begin_refusal, begun, running, transfer_of};
+    ghost use Rattle.hid_host.specs.Phase.{asking_at};
 
     /// Whether a transfer runs.
     fn is_busy(&self) -> bool
@@ -331,6 +339,23 @@ impl HostDevice {
         }
     }
 
+    /// A transfer of a request that has yet to make its first try.
+    fn transfer_of(&self, request: &Request) -> Result<Transfer, StackFault>
+        ensures transfer { IfOk result (λ transfer.
+            transfer ≡ transfer_of self.now.addr (asking_at self.now.phase) request.now) }
+        ensures memory { IfErr result (λ e. e ≡ Refusal.Memory) }
+        ensures fits { FitsRequest request.now }
+    {
+        let setup = request.setup(&self.phase.asking());
+        match HostTransfer::begin(self.alloc, self.addr, setup, request.sends()) {
+            Ok(ends) => Ok(Transfer {
+                request: request.copied(),
+                ends,
+            }),
+            Err(_) => Err(StackFault::Memory),
+        }
+    }
+
     /// Begins a transfer of a request. Nothing is sent yet, and a call that is refused changes nothing. It takes the memory
     /// for wLength bytes. From the begin of a `Clear` until one is done the host doesn't poll.
     ///
@@ -352,14 +377,8 @@ impl HostDevice {
         if !self.phase.state().allows(request) {
             return Err(StackFault::NotReady);
         }
-        let setup = request.setup(&self.phase.asking());
-        let Ok(ends) = HostTransfer::begin(self.alloc, self.addr, setup, request.sends()) else {
-            return Err(StackFault::Memory);
-        };
-        self.transfer = Some(Transfer {
-            request: request.copied(),
-            ends,
-        });
+        let transfer = self.transfer_of(request)?;
+        self.transfer = Some(transfer);
         self.clearing = is_clear(request) || self.clearing;
         Ok(())
     }

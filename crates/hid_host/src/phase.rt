@@ -53,6 +53,14 @@ impl HostPhase {
         }
     }
 
+    /// Goes on to another phase, and drops what was known.
+    #[inline(always)]
+    pub(crate) fn go_on(&mut self, next: HostPhase)
+        ensures { self.new ≡ next }
+    {
+        *self = next;
+    }
+
     /// What a request is asked with.
     pub(crate) fn asking(&self) -> Asking
         ensures { result ≡ asking_at self.now }

@@ -158,7 +158,10 @@ impl Slot {
         is_sound(&device);
         match HostDevice::ready(alloc, addr, descriptor) {
             Ok(host) => Slot::of(alloc, device, host),
-            Err(fault) => Err(fault),
+            Err(fault) => {
+                drop(device);
+                Err(fault)
+            }
         }
     }
 
@@ -190,7 +193,11 @@ impl Slot {
                 events,
                 most_events,
             }),
-            Err(_) => Err(StackFault::Memory),
+            Err(_) => {
+                drop(device);
+                drop(host);
+                Err(StackFault::Memory)
+            }
         }
     }
 

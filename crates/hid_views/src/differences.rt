@@ -311,19 +311,25 @@ pub(crate) fn presses(
     }
 }
 
-/// The motion that an element's number is read as: none, 0, where it is out of the range.
-#[tactic(auto, using(hid_cells::proofs::ListLemmas::map_at))]
-fn motion<C: FieldCodec>(bounds: &Bounds, numbers: &FieldRun<'_>, index: usize) -> i64
-    requires { index < length numbers.now }
-    ensures { slice_get (map (read_motion bounds.now.least bounds.now.greatest) numbers.now) index
-        ≡ Some result }
+/// The motion that a number is read as: none, 0, where it is out of the range.
+#[inline(always)]
+fn read_motion(bounds: &Bounds, number: i64) -> i64
+    ensures { result ≡ read_motion bounds.now.least bounds.now.greatest number }
 {
-    let number = numbers.number::<C>(index);
     if bounds.least <= number && number <= bounds.greatest {
         number
     } else {
         0
     }
+}
+
+/// The motion that an element's number is read as.
+fn motion<C: FieldCodec>(bounds: &Bounds, numbers: &FieldRun<'_>, index: usize) -> i64
+    requires { index < length numbers.now }
+    ensures { slice_get (map (read_motion bounds.now.least bounds.now.greatest) numbers.now) index
+        ≡ Some result }
+{
+    read_motion(bounds, numbers.number::<C>(index))
 }
 
 /// The motions that these numbers carry, by rising index. Those of a byte each, with sign, are read by a loop of their own.

@@ -26,14 +26,14 @@ impl fmt::Display for ControlFault {
     ghost output = { λ fault. Some (control_code_of fault) };
 
     fn fmt<W: fmt::Write>(&self, f: &mut fmt::Formatter<W>) -> fmt::Result {
-        match self {
-            ControlFault::Stalled => write!(f, "C1"),
-            ControlFault::BusFault => write!(f, "C2"),
-            ControlFault::Overrun => write!(f, "C3"),
-            ControlFault::NoTransfer => write!(f, "C4"),
-            ControlFault::Busy => write!(f, "C5"),
-            ControlFault::Memory => write!(f, "C6"),
-        }
+        f.write_str(match self {
+            ControlFault::Stalled => "C1",
+            ControlFault::BusFault => "C2",
+            ControlFault::Overrun => "C3",
+            ControlFault::NoTransfer => "C4",
+            ControlFault::Busy => "C5",
+            ControlFault::Memory => "C6",
+        })
     }
 }
 
@@ -60,12 +60,12 @@ impl fmt::Display for InfoFault {
     ghost output = { λ fault. Some (info_code_of fault) };
 
     fn fmt<W: fmt::Write>(&self, f: &mut fmt::Formatter<W>) -> fmt::Result {
-        match self {
-            InfoFault::TooShort => write!(f, "B1"),
-            InfoFault::WrongType => write!(f, "B2"),
-            InfoFault::NoHidInterface => write!(f, "B3"),
-            InfoFault::NoReportDescriptor => write!(f, "B4"),
-            InfoFault::NoEndpoint => write!(f, "B5"),
-        }
+        f.write_str(match self {
+            InfoFault::TooShort => "B1",
+            InfoFault::WrongType => "B2",
+            InfoFault::NoHidInterface => "B3",
+            InfoFault::NoReportDescriptor => "B4",
+            InfoFault::NoEndpoint => "B5",
+        })
     }
 }

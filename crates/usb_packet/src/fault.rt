@@ -24,12 +24,12 @@ impl fmt::Display for PacketFault {
     ghost output = { λ fault. Some (code_of fault) };
 
     fn fmt<W: fmt::Write>(&self, f: &mut fmt::Formatter<W>) -> fmt::Result {
-        match self {
-            PacketFault::Empty => write!(f, "P1"),
-            PacketFault::BadCheck => write!(f, "P2"),
-            PacketFault::UnknownPid => write!(f, "P3"),
-            PacketFault::BadLength => write!(f, "P4"),
-            PacketFault::BadReserved => write!(f, "P5"),
-        }
+        f.write_str(match self {
+            PacketFault::Empty => "P1",
+            PacketFault::BadCheck => "P2",
+            PacketFault::UnknownPid => "P3",
+            PacketFault::BadLength => "P4",
+            PacketFault::BadReserved => "P5",
+        })
     }
 }

@@ -34,3 +34,15 @@ returns-in-Poll g c = rw c.in-Poll.is c.poll.ensures
 pub returns-in-Control : goal.returns-in-Control
 unfolding Once
 returns-in-Control g c = rw c.in-Control.is c.control.ensures
+
+pub returns-in-Frame : goal.returns-in-Frame
+unfolding Once
+returns-in-Frame g c = rw c.in-Frame.is c.frame.ensures
+
+pub returns-in-Reset : goal.returns-in-Reset
+unfolding Once
+returns-in-Reset g c = rw c.in-Reset.is c.reset.ensures
+
+pub returns-in-Halt : goal.returns-in-Halt
+unfolding Once
+returns-in-Halt g c = rw c.in-Halt.is c.halt.ensures

@@ -1,7 +1,8 @@
-use Rattle.std.proofs.Common.{◌≡◌, ◌++◌, ◌+◌, ◌≤◌, ◌∙◌, [], ◌∷◌, Err, map, ap, sym, subst, rules, arith, vec_len, vec_capacity}
+use Rattle.std.proofs.Common.{◌≡◌, ◌++◌, ◌+◌, ◌<◌, ◌≤◌, ◌∙◌, ℕ, List, length, [], ◌∷◌, Err, map, ap, sym, subst, rules, arith, vec_len, vec_capacity}
 use Rattle.std.specs.Prelude.{slice_set, Some, IfOk, IfErr, OnOk, ◌≢◌}
 use Rattle.hid_host.specs.declared.fault.StackFault.{StackFault}
 use Rattle.hid_host.specs.declared.fault.StackFault.TheVariants.{Memory}
+use Rattle.std.proofs.lemmas.List.{length-set}
 use Rattle.std.proofs.lemmas.Result.{on_ok_weaker}
 use Rattle.hid_lives.specs.Rounds.{Changes, Frame, Polls}
 use Rattle.hid_stack.specs.declared.rig.TheConstants.{MAX_DEVICES}
@@ -19,49 +20,49 @@ use Rattle.hid_stack.proofs.rig.Rig.step.Goals.{in-Ok, in-Err, in-Ok-begin, in-E
 
 pub invariant_of-self : goal.invariant_of-self
 invariant_of-self c = (
-  search rules,
-  search rules,
-  stepped_have c.self.inside.slots.items c.in_ok-i-in-Change.i c.index_mut.result.now c.change.new.self c.self.invariant.2 (search rules) c.index_mut.ensures.value
+  subst (λ (n : ℕ). n ≤ MAX_DEVICES) (sym (length-set c.self.inside.slots.items c.in_ok-i-in-Change.i c.change.new.self)) c.self.invariant.0,
+  c.self.invariant.1,
+  stepped_have c.self.inside.slots.items c.in_ok-i-in-Change.i c.index_mut.result.now c.change.new.self c.self.invariant.2 (subst (λ (ms : List Member). c.in_ok-i-in-Change.i < length ms) (sym c.self.view_is) c.in_ok-i-in-Change.ensures.place.1) c.index_mut.ensures.value
       (stepped c.index_mut.result.now c.change.new.self (Scheduled (Changes c.in-Change.change)) c.change.ensures.after),
 )
 
 pub invariant_of-self-in-Poll : goal.invariant_of-self-in-Poll
 invariant_of-self-in-Poll c = (
-  search rules,
-  search rules,
-  stepped_have c.self.inside.slots.items c.in_ok-i-in-Poll.i c.index_mut-in-Poll.result.now c.poll.new.self c.self.invariant.2 (search rules) c.index_mut-in-Poll.ensures.value
+  subst (λ (n : ℕ). n ≤ MAX_DEVICES) (sym (length-set c.self.inside.slots.items c.in_ok-i-in-Poll.i c.poll.new.self)) c.self.invariant.0,
+  c.self.invariant.1,
+  stepped_have c.self.inside.slots.items c.in_ok-i-in-Poll.i c.index_mut-in-Poll.result.now c.poll.new.self c.self.invariant.2 (subst (λ (ms : List Member). c.in_ok-i-in-Poll.i < length ms) (sym c.self.view_is) c.in_ok-i-in-Poll.ensures.place.1) c.index_mut-in-Poll.ensures.value
       (polled c.index_mut-in-Poll.result.now c.poll.new.self (Scheduled (Polls c.in-Poll.fate)) c.poll.result _ c.poll.ensures.after c.poll.ensures.err),
 )
 
 pub invariant_of-self-in-Halt : goal.invariant_of-self-in-Halt
 invariant_of-self-in-Halt c = (
-  search rules,
-  search rules,
-  stepped_have c.self.inside.slots.items c.in_ok-i-in-Halt.i c.index_mut-in-Halt.result.now c.halt.new.self c.self.invariant.2 (search rules) c.index_mut-in-Halt.ensures.value
+  subst (λ (n : ℕ). n ≤ MAX_DEVICES) (sym (length-set c.self.inside.slots.items c.in_ok-i-in-Halt.i c.halt.new.self)) c.self.invariant.0,
+  c.self.invariant.1,
+  stepped_have c.self.inside.slots.items c.in_ok-i-in-Halt.i c.index_mut-in-Halt.result.now c.halt.new.self c.self.invariant.2 (subst (λ (ms : List Member). c.in_ok-i-in-Halt.i < length ms) (sym c.self.view_is) c.in_ok-i-in-Halt.ensures.place.1) c.index_mut-in-Halt.ensures.value
       (polled c.index_mut-in-Halt.result.now c.halt.new.self Halts c.halt.result _ c.halt.ensures.after c.halt.ensures.err),
 )
 
 pub invariant_of-self-in-Reset : goal.invariant_of-self-in-Reset
 invariant_of-self-in-Reset c = (
-  search rules,
-  search rules,
-  stepped_have c.self.inside.slots.items c.in_ok-i-in-Reset.i c.index_mut-in-Reset.result.now c.reset.new.self c.self.invariant.2 (search rules) c.index_mut-in-Reset.ensures.value
+  subst (λ (n : ℕ). n ≤ MAX_DEVICES) (sym (length-set c.self.inside.slots.items c.in_ok-i-in-Reset.i c.reset.new.self)) c.self.invariant.0,
+  c.self.invariant.1,
+  stepped_have c.self.inside.slots.items c.in_ok-i-in-Reset.i c.index_mut-in-Reset.result.now c.reset.new.self c.self.invariant.2 (subst (λ (ms : List Member). c.in_ok-i-in-Reset.i < length ms) (sym c.self.view_is) c.in_ok-i-in-Reset.ensures.place.1) c.index_mut-in-Reset.ensures.value
       (polled c.index_mut-in-Reset.result.now c.reset.new.self Resets c.reset.result _ c.reset.ensures.after c.reset.ensures.err),
 )
 
 pub invariant_of-self-in-Begin : goal.invariant_of-self-in-Begin
 invariant_of-self-in-Begin c = (
-  search rules,
-  search rules,
-  stepped_have c.self.inside.slots.items c.in_ok-i-in-Begin.i c.index_mut-in-Begin.result.now c.begin.new.self c.self.invariant.2 (search rules) c.index_mut-in-Begin.ensures.value
+  subst (λ (n : ℕ). n ≤ MAX_DEVICES) (sym (length-set c.self.inside.slots.items c.in_ok-i-in-Begin.i c.begin.new.self)) c.self.invariant.0,
+  c.self.invariant.1,
+  stepped_have c.self.inside.slots.items c.in_ok-i-in-Begin.i c.index_mut-in-Begin.result.now c.begin.new.self c.self.invariant.2 (subst (λ (ms : List Member). c.in_ok-i-in-Begin.i < length ms) (sym c.self.view_is) c.in_ok-i-in-Begin.ensures.place.1) c.index_mut-in-Begin.ensures.value
       (called c.index_mut-in-Begin.result.now c.begin.new.self (Begins c.in-Begin.request) c.begin.result c.begin.ensures.after c.begin.ensures.err),
 )
 
 pub invariant_of-self-in-Control : goal.invariant_of-self-in-Control
 invariant_of-self-in-Control c = (
-  search rules,
-  search rules,
-  stepped_have c.self.inside.slots.items c.in_ok-i-in-Control.i c.index_mut-in-Control.result.now c.control.new.self c.self.invariant.2 (search rules) c.index_mut-in-Control.ensures.value
+  subst (λ (n : ℕ). n ≤ MAX_DEVICES) (sym (length-set c.self.inside.slots.items c.in_ok-i-in-Control.i c.control.new.self)) c.self.invariant.0,
+  c.self.invariant.1,
+  stepped_have c.self.inside.slots.items c.in_ok-i-in-Control.i c.index_mut-in-Control.result.now c.control.new.self c.self.invariant.2 (subst (λ (ms : List Member). c.in_ok-i-in-Control.i < length ms) (sym c.self.view_is) c.in_ok-i-in-Control.ensures.place.1) c.index_mut-in-Control.ensures.value
       (tried c.in-Control.fate c.index_mut-in-Control.result.now c.control.new.self c.control.result c.control.ensures.tries),
 )
 
