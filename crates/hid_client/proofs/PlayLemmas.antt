@@ -1,5 +1,5 @@
 -- What the calls of a client tell together.
-use Rattle.std.proofs.Common.{◌≡◌, ◌++◌, ◌+◌, ◌∙◌, ℕ, Bool, List, [], Some, refl, replicate, length, sym, ap, subst}
+use Rattle.std.proofs.Common.{◌≡◌, ◌++◌, ◌+◌, ◌∙◌, ◌∷◌, ℕ, Bool, List, [], Ok, Some, refl, replicate, length, sym, ap, subst}
 use Rattle.hid_layout.specs.declared.control.ControlId.{ControlId}
 use Rattle.hid_layout.specs.Controls.{Item, items_of}
 use Rattle.hid_cells.specs.declared.cell.Cell.{Cell}
@@ -13,16 +13,17 @@ use Rattle.hid_host.specs.declared.phase.HostPhase.TheVariants.{Cold, Described,
 use Rattle.hid_steps.specs.declared.step.Step.{Step}
 use Rattle.hid_steps.specs.declared.step.Delivered.{Delivered}
 use Rattle.hid_steps.specs.Delivered.{from_device}
-use Rattle.hid_stack.specs.Attaching.{Suits, IsAttached}
+use Rattle.hid_host.specs.declared.fault.StackFault.{StackFault}
+use Rattle.hid_stack.specs.Attaching.{Attaches, Suits, IsAttached}
 use Rattle.hid_stack.specs.Headline.{DeliversChanges, KeepsToRounds}
 use Rattle.hid_host.specs.Host.{HostEnd}
 use Rattle.hid_host.specs.declared.phase.HostState.TheVariants as states
 use Rattle.hid_host.specs.Phase.{IfReady, state_of}
 use Rattle.hid_requests.specs.declared.start.Start.TheVariants as starts
 use Rattle.hid_stack.specs.Members.{Member, fresh_member}
-use Rattle.hid_stack.specs.Rig.{HasOnlySchedule, own}
+use Rattle.hid_stack.specs.Rig.{HasOnlySchedule, StopsAt, own}
 use Rattle.hid_stack.specs.Showing.{ShowsPhase, ShowsHost, GivesOf}
-use Rattle.hid_client.specs.Playing.{IsPlayed}
+use Rattle.hid_client.specs.Playing.{IsPlayed, IsStopped}
 
 -- what a ready host holds is what its member's view holds
 held_shown : (m : Member) (phase : HostPhase) (control : ControlId) (is_held : Bool) → state_of phase ≡ states.Ready → ShowsPhase m phase
@@ -60,4 +61,20 @@ played config descriptor steps control none members after dev before given host 
           ∙ ap (λ (n : Member). is_pressed (cell_at n.station.view control.item) control.index) same
           ∙ ap (λ (v : List Cell). is_pressed (cell_at v control.item) control.index)
           (stands.2.view ∙ ap (λ (d : ℕ). view_of items (blank items) (crossed_rounds items (blank items) idle (own d steps))) first);
+    }
+
+-- a run that stops on a bus to which one device was attached
+pub stopped : (config : Config) (descriptor : List ℕ) (steps : List Step) (room : ℕ) (none members : List Member) (dev at : ℕ) (fault : StackFault)
+    → none ≡ [] → Attaches room config descriptor starts.Ready none (Ok dev) members → StopsAt members steps at fault → IsStopped config descriptor steps fault
+stopped config descriptor steps room none members dev at fault none_is attaches stops =
+    let first : dev ≡ 1 = attaches.1 ∙ ap (λ (ms : List Member). length ms + 1) none_is in
+    let layout = attaches.2.0 in
+    let alone : members ≡ fresh_member 1 config descriptor layout ∷ [] = attaches.2.2
+    ∙ ap (λ (ms : List Member). ms ++ fresh_member dev config descriptor layout ∷ []) none_is
+    ∙ ap (λ (d : ℕ). fresh_member d config descriptor layout ∷ []) first in
+    record {
+      layout = layout;
+      suits = subst (λ (d : ℕ). Suits d config descriptor layout) first attaches.2.1;
+      at = at;
+      stops = subst (λ (ms : List Member). StopsAt ms steps at fault) alone stops;
     }

@@ -1,6 +1,6 @@
 -- What is known of a device that was attached to an empty bus, behind some steps: its events, and its
 -- host's view (USB 2.0, 8.5.4 and 8.6).
-use Rattle.std.specs.Prelude.{◌≡◌, ℕ, Bool, List, replicate}
+use Rattle.std.specs.Prelude.{◌≡◌, ◌⊎◌, ℕ, Bool, List, [], ◌∷◌, replicate}
 use Rattle.hid_layout.specs.declared.control.ControlId.{ControlId}
 use Rattle.hid_layout.specs.Controls.{items_of}
 use Rattle.hid_layout.specs.Layout.{Contents}
@@ -14,8 +14,11 @@ use Rattle.hid_lives.specs.Rounds.{Round, crossed_rounds, events_of, view_of}
 use Rattle.hid_steps.specs.declared.step.Step.{Step}
 use Rattle.hid_steps.specs.declared.step.Delivered.{Delivered}
 use Rattle.hid_steps.specs.Delivered.{from_device}
-use Rattle.hid_stack.specs.Attaching.{Suits}
-use Rattle.hid_stack.specs.Rig.{HasOnlySchedule, own}
+use Rattle.hid_host.specs.declared.fault.StackFault.{StackFault}
+use Rattle.hid_host.specs.declared.fault.StackFault.TheVariants.{Memory}
+use Rattle.hid_stack.specs.Attaching.{IsNoPair, Suits}
+use Rattle.hid_stack.specs.Members.{fresh_member}
+use Rattle.hid_stack.specs.Rig.{HasOnlySchedule, StopsAt, own}
 
 -- The rounds of device 1 that crossed: at first nothing is pressed, nothing has moved, and no idle time
 -- is set.
@@ -43,3 +46,15 @@ pub record IsPlayed (config : Config) (descriptor : List ℕ) (steps : List Step
   pub events : HasOnlySchedule 1 steps → from_device 1 given ≡ events_played layout steps
   pub held : HasOnlySchedule 1 steps
       → is_held ≡ is_pressed (cell_at (view_played layout steps) control.item) control.index
+
+-- A step is refused on the bus that has this device alone, once those before it are done.
+pub record IsStopped (config : Config) (descriptor : List ℕ) (steps : List Step) (fault : StackFault) : Type 0 where
+  pub layout : Contents
+  pub suits : Suits 1 config descriptor layout
+  pub at : ℕ
+  pub stops : StopsAt (fresh_member 1 config descriptor layout ∷ []) steps at fault
+
+-- Why nothing is told: memory was wanting, there is no such device, or a step is refused.
+abbrev pub IsNotPlayed : Config → List ℕ → List Step → StackFault → Type 0
+IsNotPlayed config descriptor steps fault =
+    (fault ≡ Memory) ⊎ IsNoPair 1 config descriptor fault ⊎ IsStopped config descriptor steps fault

@@ -1,8 +1,8 @@
 //! One device on a bus of its own, and what its host knows of it.
-ghost use Rattle.std.specs.Prelude.{◌≡◌, IfOk};
+ghost use Rattle.std.specs.Prelude.{◌≡◌, IfErr, IfOk};
 ghost use Rattle.hid_usages.specs.Snapshots.{cell_at, is_pressed};
 ghost use Rattle.hid_host.specs.Phase.{IfReady};
-ghost use Rattle.hid_client.specs.Playing.{IsPlayed};
+ghost use Rattle.hid_client.specs.Playing.{IsNotPlayed, IsPlayed};
 
 use hid_device::Config;
 use hid_layout::ControlId;
@@ -19,7 +19,7 @@ pub struct Played {
 /// Attaches a device to a bus of its own, as number 1, runs steps, and looks at a control in the host's view.
 ///
 /// # Errors
-/// Why the device is refused, or the first step that is.
+/// Why the device is refused, or the first step that is; or want of memory.
 pub fn play(
     alloc: Global,
     config: &Config,
@@ -29,6 +29,7 @@ pub fn play(
 ) -> Result<Played, StackFault>
     ensures played { IfOk result (λ played. IsPlayed config.now descriptor.now steps.now control
         played.events.items played.is_held) }
+    ensures refused { IfErr result (λ fault. IsNotPlayed config.now descriptor.now steps.now fault) }
 {
     let mut rig = Rig::new(alloc)?;
     let dev = rig.attach(config, descriptor, Start::Ready)?;

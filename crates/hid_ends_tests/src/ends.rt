@@ -68,7 +68,10 @@ pub fn ends_of(
     descriptor: Vec<u8>,
 ) -> Option<Ends> {
     let device = device_at(alloc, addr, &config_of(boot, 10), &descriptor).ok()?;
-    let host = host_of(alloc, is_ready, &descriptor)?;
+    let Some(host) = host_of(alloc, is_ready, &descriptor) else {
+        drop(device);
+        return None;
+    };
     Some(Ends {
         device,
         host,

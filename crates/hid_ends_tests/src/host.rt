@@ -33,6 +33,7 @@ use hid_layout::{ControlId, Layout, Usage};
 use hid_requests::Request;
 use hid_usages::{Event, Shown};
 use std::alloc::{AllocError, Global};
+use std::mem;
 use usb_control::{DevControl, Outcome, Progress, Requests};
 use usb_packet::{Packet, decode, encode};
 use usb_transact::{Fate, Took};
@@ -234,7 +235,11 @@ fn blank_of(alloc: Global, descriptor: &[u8]) -> Result<Shown, StackFault>
         × FitsShown (items_of (layout_of before)) shown) }
 {
     match Layout::parse(alloc, descriptor) {
-        Ok(layout) => Ok(Shown::blank(alloc, &layout)?),
+        Ok(layout) => {
+            let shown = Shown::blank(alloc, &layout);
+            drop(layout);
+            Ok(shown?)
+        }
         Err(_) => Err(StackFault::Memory),
     }
 }
@@ -246,15 +251,32 @@ fn reset_behind(
     packet: Option<&Packet>,
 ) -> Result<Reset, StackFault> {
     let fixed = blank_of(alloc, descriptor)?;
-    let mut host = HostDevice::ready(alloc, 1, descriptor)?;
+    let mut host = match HostDevice::ready(alloc, 1, descriptor) {
+        Ok(host) => host,
+        Err(fault) => {
+            drop(fixed);
+            return Err(fault);
+        }
+    };
     let Ok(mut out) = Vec::with_capacity(alloc, host.max_events()) else {
+        drop(host);
+        drop(fixed);
         return Err(StackFault::Memory);
     };
-    let took = host.reply(packet, &mut out)?;
+    let took = match host.reply(packet, &mut out) {
+        Ok(took) => took,
+        Err(fault) => {
+            drop(out);
+            drop(host);
+            drop(fixed);
+            return Err(fault);
+        }
+    };
     let given = out.len();
     out.clear();
     one_reading();
     host.reset(None, None, &fixed, &mut out);
+    drop(fixed);
     Ok((host, took, given, out))
 }
 
@@ -262,10 +284,11 @@ fn reset_behind(
 fn tell_reset(alloc: Global, ends: &mut Ends, packet: Option<&Packet>, told: &mut Told) {
     match reset_behind(alloc, &ends.descriptor, packet) {
         Ok((host, took, given, events)) => {
-            ends.host = host;
+            drop(mem::replace(&mut ends.host, host));
             tell_took(&Ok(took), told);
             told.show(format_args!("{given} events, reset"));
             tell_events(&events, told);
+            drop(events);
         }
         Err(fault) => told.show(fault),
     }

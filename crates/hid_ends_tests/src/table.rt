@@ -142,7 +142,10 @@ impl Tally {
             return self.unread(place, place.schedule);
         };
         match begun(self.alloc, text, &heading) {
-            Some(mut ends) => self.play_times(&mut ends, place, rows, heading.times),
+            Some(mut ends) => {
+                self.play_times(&mut ends, place, rows, heading.times);
+                drop(ends);
+            }
             None => self.unread(place, place.schedule),
         }
     }

@@ -1,3 +1,4 @@
 pub mod Status
 pub mod FileLine
 pub mod EndLine
+pub mod Total

@@ -1,5 +1,8 @@
 //! What all files together had.
 
+ghost use Rattle.std.specs.Prelude.{◌≡◌, Some};
+ghost use Rattle.hidplay.specs.Total.{added, counted, total_text};
+
 use super::end_line::refusals_of;
 use hid_recording::{RecordingFault, Summary};
 use std::fmt;
@@ -17,7 +20,9 @@ pub struct Total {
 
 impl Total {
     /// Adds a file that was played to its end, or what was played of another, with what ended it.
-    pub fn add(&mut self, end: &Result<Summary, RecordingFault>) {
+    pub fn add(&mut self, end: &Result<Summary, RecordingFault>)
+        ensures { self.new ≡ added self.old end.now }
+    {
         match end {
             Ok(summary) => {
                 self.files = self.files.saturating_add(1);
@@ -30,7 +35,10 @@ impl Total {
         }
     }
 
-    fn count(&mut self, summary: &Summary) {
+    /// Adds what was played of a file.
+    fn count(&mut self, summary: &Summary)
+        ensures { self.new ≡ counted self.old summary.now }
+    {
         self.descriptors = self.descriptors.saturating_add(summary.descriptors);
         self.reports = self.reports.saturating_add(summary.reports);
         self.events = self.events.saturating_add(summary.events);
@@ -39,6 +47,8 @@ impl Total {
 }
 
 impl fmt::Display for Total {
+    ghost output = { λ total. Some (total_text total) };
+
     fn fmt<W: fmt::Write>(&self, f: &mut fmt::Formatter<W>) -> fmt::Result {
         let Total {
             files,

@@ -140,6 +140,7 @@ fn tell_both_of(host: &mut HostDevice, configuration: &[u8], report: &[u8], told
 fn tell_both(alloc: Global, configuration: &[u8], report: &[u8], told: &mut Told) {
     let mut host = cold(alloc);
     tell_both_of(&mut host, configuration, report, told);
+    drop(host);
 }
 
 fn tell_front(alloc: Global, answers: &Answers, end: Option<usize>, told: &mut Told) {
