@@ -36,17 +36,14 @@ impl From<AllocError> for BenchFault {
 
 impl fmt::Display for BenchFault {
     fn fmt<W: fmt::Write>(&self, f: &mut fmt::Formatter<W>) -> fmt::Result {
-        match self {
+        f.write_str(match self {
             BenchFault::Usage => {
-                write!(
-                    f,
-                    "usage: hid_bench parse|read|write|step TURNS DESCRIPTOR [REPORT..|USAGE..]"
-                )
+                "usage: hid_bench parse|read|write|step TURNS DESCRIPTOR [REPORT..|USAGE..]"
             }
-            BenchFault::Descriptor => write!(f, "the descriptor is refused"),
-            BenchFault::Report => write!(f, "a report is refused"),
-            BenchFault::Control => write!(f, "no control of that usage can be changed"),
-            BenchFault::Memory => write!(f, "memory was wanting"),
-        }
+            BenchFault::Descriptor => "the descriptor is refused",
+            BenchFault::Report => "a report is refused",
+            BenchFault::Control => "no control of that usage can be changed",
+            BenchFault::Memory => "memory was wanting",
+        })
     }
 }

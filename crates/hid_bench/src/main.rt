@@ -40,10 +40,14 @@ fn main(rt: HostRuntime) -> ExitCode {
     let Ok(words) = words else {
         return ExitCode::from(OUTSIDE);
     };
-    let told = match asked_by(alloc, words.as_slice()) {
-        Ok(asked) => done(alloc, &asked),
-        Err(fault) => Err(fault),
-    };
+    match asked_by(alloc, words.as_slice()) {
+        Ok(asked) => tell(&rt, done(alloc, &asked)),
+        Err(fault) => tell(&rt, Err(fault)),
+    }
+}
+
+/// Prints what the work told, or why none was done.
+fn tell(rt: &HostRuntime, told: Result<u64, BenchFault>) -> ExitCode {
     match told {
         Ok(told) => {
             if println!(rt; "{told}").is_ok() {

@@ -35,9 +35,14 @@ impl Reading {
     pub fn open(alloc: Global, descriptor: &[u8]) -> Result<Reading, BenchFault> {
         let layout = parsed(alloc, descriptor)?;
         let Ok(view) = View::initial(alloc, &layout) else {
+            drop(layout);
             return Err(BenchFault::Memory);
         };
-        let events = Vec::with_capacity(alloc, layout.max_events())?;
+        let Ok(events) = Vec::with_capacity(alloc, layout.max_events()) else {
+            drop(view);
+            drop(layout);
+            return Err(BenchFault::Memory);
+        };
         let reader = Reader::new(layout, view);
         Ok(Reading { reader, events })
     }

@@ -1,9 +1,10 @@
 //! A device whose report is written.
 
-ghost use Rattle.std.specs.Prelude.{◌≡◌, ◌<◌, IfOk};
+ghost use Rattle.std.specs.Prelude.{◌≡◌, ◌<◌, true, IfOk};
 ghost use Rattle.hid_layout.specs.Controls.{items_of};
-ghost use Rattle.hid_cells.specs.Parts.{IsInput};
-ghost use Rattle.hid_usages.specs.Cells.{FitsSnapshot};
+ghost use Rattle.hid_cells.specs.Parts.{IsInput, has_zeros};
+ghost use Rattle.hid_cells.specs.Codes.{has_empty_codes};
+ghost use Rattle.hid_usages.specs.Cells.{FitsSnapshot, FitsShown};
 
 use crate::fault::BenchFault;
 use crate::reading::parsed;
@@ -57,6 +58,17 @@ fn touch(layout: &Layout, snapshot: &mut Snapshot, control: ControlId) -> Result
     }
 }
 
+/// The same, of the controls of these usages.
+fn touch_all(layout: &Layout, snapshot: &mut Snapshot, usages: &[Vec<u8>]) -> Result<(), BenchFault>
+    requires { FitsSnapshot (items_of layout.now) snapshot.old }
+    ensures { FitsSnapshot (items_of layout.now) snapshot.new }
+{
+    for usage in usages {
+        touch(layout, snapshot, control_of(layout, usage)?)?;
+    }
+    Ok(())
+}
+
 /// The usage of four bytes: its page, and its ID.
 fn usage_of(bytes: &[u8]) -> Option<Usage> {
     match *bytes {
@@ -85,28 +97,24 @@ impl Writing {
         usages: &[Vec<u8>],
     ) -> Result<Writing, BenchFault> {
         let layout = parsed(alloc, descriptor)?;
-        let [first, ..] = usages else {
-            return Err(BenchFault::Usage);
+        let report = match first_report(&layout, usages) {
+            Ok(report) => report,
+            Err(fault) => {
+                drop(layout);
+                return Err(fault);
+            }
         };
-        let report = report_of(&layout, control_of(&layout, first)?)?;
-        if !(has_empty_codes(&layout) && has_zeros(&layout)) {
-            return Err(BenchFault::Descriptor);
+        match shown_in(alloc, &layout, report, usages) {
+            Ok(shown) => Ok(Writing {
+                layout,
+                report,
+                shown,
+            }),
+            Err(fault) => {
+                drop(layout);
+                Err(fault)
+            }
         }
-        let Ok(mut snapshot) = Snapshot::blank(alloc, &layout) else {
-            return Err(BenchFault::Memory);
-        };
-        for usage in usages {
-            touch(&layout, &mut snapshot, control_of(&layout, usage)?)?;
-        }
-        let Ok(mut shown) = Shown::blank(alloc, &layout) else {
-            return Err(BenchFault::Memory);
-        };
-        snapshot.shown(&layout, report, &mut shown);
-        Ok(Writing {
-            layout,
-            report,
-            shown,
-        })
     }
 
     /// Writes the report, in place of what stands in these bytes.
@@ -131,4 +139,41 @@ fn report_of(layout: &Layout, control: ControlId) -> Result<usize, BenchFault>
         }
         None => Err(BenchFault::Control),
     }
+}
+
+/// The Input report that the control of the first usage stands in, of a layout whose controls can be changed.
+fn first_report(layout: &Layout, usages: &[Vec<u8>]) -> Result<usize, BenchFault>
+    ensures input { IfOk result (λ report. IsInput layout.now report) }
+    ensures codes { IfOk result (λ _. has_empty_codes layout.now ≡ true) }
+    ensures zeros { IfOk result (λ _. has_zeros (items_of layout.now) ≡ true) }
+{
+    let [first, ..] = usages else {
+        return Err(BenchFault::Usage);
+    };
+    let report = report_of(layout, control_of(layout, first)?)?;
+    if !(has_empty_codes(layout) && has_zeros(layout)) {
+        return Err(BenchFault::Descriptor);
+    }
+    Ok(report)
+}
+
+/// What the report shows once the controls of these usages are changed.
+fn shown_in(
+    alloc: Global,
+    layout: &Layout,
+    report: usize,
+    usages: &[Vec<u8>],
+) -> Result<Shown, BenchFault>
+    requires { IsInput layout.now report }
+    ensures { IfOk result (λ shown. FitsShown (items_of layout.now) shown) }
+{
+    let Ok(mut snapshot) = Snapshot::blank(alloc, layout) else {
+        return Err(BenchFault::Memory);
+    };
+    touch_all(layout, &mut snapshot, usages)?;
+    let Ok(mut shown) = Shown::blank(alloc, layout) else {
+        return Err(BenchFault::Memory);
+    };
+    snapshot.shown(layout, report, &mut shown);
+    Ok(shown)
 }

@@ -13,6 +13,7 @@ use super::fault::{Cause, Options, Refusal};
 use super::recorded::{Joined, Recorded};
 use super::words::{DeviceNumber, MAX_DEVICES};
 use std::alloc::{AllocError, Global};
+use std::mem;
 
 /// What is known of each device, and which one the next lines are of.
 #[derive(Drop)]
@@ -57,7 +58,7 @@ impl Devices {
             × (self.new.slots.items ≡ set self.old.slots.items self.old.current recorded) }
     {
         let i = usize::from(self.current);
-        self.slots[i] = recorded;
+        put_in(&mut self.slots[i], recorded);
     }
 
     /// Nothing is known of this device from now on, if it is one.
@@ -67,7 +68,7 @@ impl Devices {
     {
         if let Some(device) = device {
             let i = usize::from(device.number);
-            self.slots[i] = None;
+            put_in(&mut self.slots[i], None);
         }
     }
 
@@ -112,6 +113,13 @@ impl Devices {
         let i = usize::from(self.current);
         play_report(&mut self.slots[i], text, &source, bytes)
     }
+}
+
+/// This is known of the device in a slot from now on.
+fn put_in(slot: &mut Option<Recorded>, recorded: Option<Recorded>)
+    ensures { slot.new ≡ recorded }
+{
+    drop(mem::replace(slot, recorded));
 }
 
 /// A part of a report may have been left out, of the device in a slot.

@@ -22,26 +22,27 @@ impl fmt::Display for Refusal {
     ghost output = { λ refusal. Some (refusal_text refusal) };
 
     fn fmt<W: fmt::Write>(&self, f: &mut fmt::Formatter<W>) -> fmt::Result {
-        match self {
-            Refusal::Syntax => write!(f, "R1: no line of a recording"),
-            Refusal::BadHex => write!(f, "R3: a byte isn't two hex digits"),
-            Refusal::BadCount => write!(f, "R4: the count isn't that of the bytes"),
-            Refusal::BadDevice => write!(f, "R5: the device isn't a number from 0 to 15"),
-            Refusal::BadTime => write!(f, "R6: the time isn't digits and points"),
-            Refusal::NoLayout => write!(f, "R7: the device has no descriptor"),
-            Refusal::Unended => write!(f, "R12: no empty line ends the dump before"),
-            Refusal::DumpTooLong => write!(f, "R13: a dump of over 4096 bytes"),
-            Refusal::TooManyDevices => write!(f, "R14: dumps of over 16 interfaces"),
-            Refusal::PartMissing => write!(f, "R15: a part of the report may be missing"),
+        let text = match self {
+            Refusal::Syntax => "R1: no line of a recording",
+            Refusal::BadHex => "R3: a byte isn't two hex digits",
+            Refusal::BadCount => "R4: the count isn't that of the bytes",
+            Refusal::BadDevice => "R5: the device isn't a number from 0 to 15",
+            Refusal::BadTime => "R6: the time isn't digits and points",
+            Refusal::NoLayout => "R7: the device has no descriptor",
+            Refusal::Unended => "R12: no empty line ends the dump before",
+            Refusal::DumpTooLong => "R13: a dump of over 4096 bytes",
+            Refusal::TooManyDevices => "R14: dumps of over 16 interfaces",
+            Refusal::PartMissing => "R15: a part of the report may be missing",
             Refusal::Layout(fault) => {
                 let words = layout_words(fault.cause);
-                write!(f, "{fault}: {words}")
+                return write!(f, "{fault}: {words}");
             }
             Refusal::Report(fault) => {
                 let words = report_words(*fault);
-                write!(f, "{fault}: {words}")
+                return write!(f, "{fault}: {words}");
             }
-        }
+        };
+        f.write_str(text)
     }
 }
 
@@ -49,14 +50,15 @@ impl fmt::Display for Cause {
     ghost output = { λ cause. Some (cause_text cause) };
 
     fn fmt<W: fmt::Write>(&self, f: &mut fmt::Formatter<W>) -> fmt::Result {
-        match self {
-            Cause::Refused(refusal) => write!(f, "{refusal}"),
-            Cause::LineTooLong => write!(f, "R2: a line of over 16384 bytes"),
-            Cause::Read => write!(f, "R8: the recording can't be read"),
-            Cause::Write => write!(f, "R9: what it tells can't be written"),
-            Cause::Memory => write!(f, "R10: memory was wanting"),
-            Cause::TooManyReads => write!(f, "R11: the end didn't come in 1000000000000 reads"),
-            Cause::Unended => write!(f, "R12: no empty line ends the last dump"),
-        }
+        let text = match self {
+            Cause::Refused(refusal) => return write!(f, "{refusal}"),
+            Cause::LineTooLong => "R2: a line of over 16384 bytes",
+            Cause::Read => "R8: the recording can't be read",
+            Cause::Write => "R9: what it tells can't be written",
+            Cause::Memory => "R10: memory was wanting",
+            Cause::TooManyReads => "R11: the end didn't come in 1000000000000 reads",
+            Cause::Unended => "R12: no empty line ends the last dump",
+        };
+        f.write_str(text)
     }
 }

@@ -246,7 +246,11 @@ impl Player {
     {
         let device = self.devices.current();
         self.text.clear();
-        print_described(&mut self.text, self.options, device, recorded.layout())?;
+        let layout = recorded.layout();
+        if let Err(error) = print_described(&mut self.text, self.options, device, layout) {
+            drop(recorded);
+            return Err(Cause::from(error));
+        }
         self.devices.put(Some(recorded));
         self.descriptors = self.descriptors.saturating_add(1);
         Ok(())

@@ -92,7 +92,10 @@ impl Recorded {
         };
         let view = match View::initial(alloc, &layout) {
             Ok(view) => view,
-            Err(_) => return Err(no_memory()),
+            Err(_) => {
+                drop(layout);
+                return Err(no_memory());
+            }
         };
         match Vec::with_capacity(alloc, layout.max_events()) {
             Ok(events) => Ok(Recorded {
@@ -102,7 +105,11 @@ impl Recorded {
                 collected: Vec::new(alloc),
                 in_doubt: false,
             }),
-            Err(_) => Err(no_memory()),
+            Err(_) => {
+                drop(view);
+                drop(layout);
+                Err(no_memory())
+            }
         }
     }
 

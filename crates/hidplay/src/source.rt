@@ -106,18 +106,30 @@ pub fn play_source<R: Read + Drop, W: Write, H: Watch>(
     options: Options,
     watch: &mut H,
 ) -> Result<Summary, RecordingFault> {
-    let Ok(mut reader) = BufReader::new(alloc, reader) else {
-        return Err(before_all(Cause::Memory));
-    };
+    match BufReader::new(alloc, reader) {
+        Ok(mut reader) => play_buffered(alloc, &mut reader, kind, out, options, watch),
+        Err(_) => Err(before_all(Cause::Memory)),
+    }
+}
+
+/// The same, of a buffer.
+fn play_buffered<R: Read, W: Write, H: Watch>(
+    alloc: Global,
+    reader: &mut BufReader<R>,
+    kind: Kind,
+    out: &mut W,
+    options: Options,
+    watch: &mut H,
+) -> Result<Summary, RecordingFault> {
     let is_binary = match kind {
         Kind::Binary => true,
         Kind::Text => false,
-        Kind::Told => matches!(first_byte(&mut reader)?, Some(first) if begins_binary(first)),
+        Kind::Told => matches!(first_byte(reader)?, Some(first) if begins_binary(first)),
     };
     if is_binary {
-        play_binary(alloc, &mut reader, out, options, watch)
+        play_binary(alloc, reader, out, options, watch)
     } else {
-        skip_mark(&mut reader)?;
-        play(alloc, &mut reader, out, options, watch)
+        skip_mark(reader)?;
+        play(alloc, reader, out, options, watch)
     }
 }

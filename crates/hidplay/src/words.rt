@@ -2,9 +2,9 @@
 
 use super::codes::CODES;
 use super::source::Kind;
-use clap::{Arg, ArgAction, Command, Error};
+use clap::{Arg, ArgAction, ArgMatches, Command, Error};
 use hid_recording::Options;
-use std::alloc::Global;
+use std::alloc::{AllocError, Global};
 
 /// What the words ask for.
 #[derive(Drop)]
@@ -23,27 +23,37 @@ fn flag<'a>(alloc: Global, name: &'a str, help: &'a str) -> Arg<'a> {
         .help(help)
 }
 
-fn command<'a>(alloc: Global) -> Result<Command<'a>, Error> {
-    let files = Arg::new(alloc, "FILE")
+fn files<'a>(alloc: Global) -> Arg<'a> {
+    Arg::new(alloc, "FILE")
         .action(ArgAction::Append)
         .num_args(0..)
         .help(
             "Text of hid-recorder or usbhid-dump, or a binary report descriptor; - and no FILE are standard input",
-        );
-    let json = flag(
+        )
+}
+
+fn json<'a>(alloc: Global) -> Result<Arg<'a>, AllocError> {
+    flag(
         alloc,
         "json",
         "Print each event and refusal as a line of JSON",
     )
     .conflicts_with("layout")?
-    .conflicts_with("values")?;
-    let text = flag(
+    .conflicts_with("values")
+}
+
+fn text<'a>(alloc: Global) -> Result<Arg<'a>, AllocError> {
+    flag(
         alloc,
         "text",
         "Take each file for text, whatever its first byte is",
     )
-    .conflicts_with("binary")?;
-    let command = Command::new(alloc, "hidplay")
+    .conflicts_with("binary")
+}
+
+/// The program, and what it prints beside the events.
+fn printing<'a>(alloc: Global) -> Result<Command<'a>, AllocError> {
+    Command::new(alloc, "hidplay")
         .version("0.2.0")
         .about("Plays recordings of USB HID devices: prints the events that a host sees")
         .after_help(CODES)
@@ -53,21 +63,36 @@ fn command<'a>(alloc: Global) -> Result<Command<'a>, Error> {
             "Print the layout of each report descriptor",
         ))?
         .arg(flag(alloc, "values", "Print the values of each report"))?
-        .arg(flag(alloc, "names", "Print the name of each event's usage"))?
-        .arg(json)?
-        .arg(flag(
-            alloc,
-            "strict",
-            "End all files at the first line that is refused",
-        ))?
-        .arg(text)?
+        .arg(flag(alloc, "names", "Print the name of each event's usage"))
+}
+
+/// Adds an argument, if memory was there for it.
+fn add<'a>(
+    command: Command<'a>,
+    made: Result<Arg<'a>, AllocError>,
+) -> Result<Command<'a>, AllocError> {
+    match made {
+        Ok(arg) => command.arg(arg),
+        Err(error) => {
+            drop(command);
+            Err(error)
+        }
+    }
+}
+
+fn command<'a>(alloc: Global) -> Result<Command<'a>, AllocError> {
+    let command = add(printing(alloc)?, json(alloc))?.arg(flag(
+        alloc,
+        "strict",
+        "End all files at the first line that is refused",
+    ))?;
+    add(command, text(alloc))?
         .arg(flag(
             alloc,
             "binary",
             "Take each file for a binary report descriptor",
         ))?
-        .arg(files)?;
-    Ok(command)
+        .arg(files(alloc))
 }
 
 /// What files are taken for; one of the two at most is asked for.
@@ -84,6 +109,13 @@ fn kind_of(is_text: bool, is_binary: bool) -> Kind {
 /// What the words behind the first ask for, which is the program's name.
 pub fn asked_by<'a>(alloc: Global, words: &'a [String]) -> Result<Asked<'a>, Error> {
     let matches = command(alloc)?.try_get_matches_from(words)?;
+    let asked = asked_in(alloc, &matches);
+    drop(matches);
+    asked
+}
+
+/// The same, of the words that were found.
+fn asked_in<'a>(alloc: Global, matches: &ArgMatches<'a>) -> Result<Asked<'a>, Error> {
     let mut files = Vec::new(alloc);
     if let Some(names) = matches.get_strs("FILE") {
         for name in names {
