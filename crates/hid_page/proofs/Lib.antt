@@ -1,2 +1,1 @@
-mod TextLemmas
 mod Vectors

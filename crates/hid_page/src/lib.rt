@@ -14,6 +14,7 @@
 
 mod drawing;
 mod field_table;
+mod frames;
 mod item_table;
 mod page;
 mod windows;

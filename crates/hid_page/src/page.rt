@@ -5,12 +5,13 @@ ghost use Rattle.hid_pieces.specs.Items.{IsWhole};
 ghost use Rattle.hid_page.specs.Page.{heading, heading_at, svg_of, characters_of, section, sections, page_of, refusal, refused_page};
 
 use crate::field_table::{print_field_table, print_mark_rules};
+use crate::frames::frames_in;
 use crate::item_table::print_item_table;
 use crate::windows::print_windows;
 use hid_items::Item;
 use hid_layout::{Layout, Report};
 use hid_picture::{print_picture, print_terminal, push_escaped};
-use hid_pieces::{Drawn, pieces_of, print_count, print_report_name, report_at};
+use hid_pieces::{pieces_of, print_count, print_report_name, report_at};
 use std::alloc::{AllocError, Global};
 
 /// What a page begins with.
@@ -70,13 +71,7 @@ pub fn print_svg(
     ensures { OnOk result (string_bytes text.new
         ≡ string_bytes text.old ++ svg_of layout.now items.now mains.now r) }
 {
-    let drawn = Drawn {
-        layout,
-        items,
-        mains,
-        report: r,
-    };
-    let frames = drawn.frames(alloc)?;
+    let frames = frames_in(alloc, layout, items, mains, r)?;
     let pieces = pieces_of(alloc, layout, r)?;
     print_picture(alloc, text, layout, r, &frames, &pieces)
 }
@@ -95,13 +90,7 @@ pub fn print_characters(
     ensures { OnOk result (string_bytes text.new
         ≡ string_bytes text.old ++ characters_of layout.now items.now mains.now r) }
 {
-    let drawn = Drawn {
-        layout,
-        items,
-        mains,
-        report: r,
-    };
-    let frames = drawn.frames(alloc)?;
+    let frames = frames_in(alloc, layout, items, mains, r)?;
     let pieces = pieces_of(alloc, layout, r)?;
     print_terminal(alloc, text, layout, r, &frames, &pieces)
 }

@@ -6,10 +6,11 @@ ghost use Rattle.hid_layout.specs.Reports.{report_bytes};
 ghost use Rattle.hid_page.specs.Page.{windows_of};
 ghost use Rattle.hid_page.specs.Windows.{window_count, cut_above, window_box, window_use, window, windows_by, windows};
 
+use crate::frames::frames_in;
 use hid_items::Item;
 use hid_layout::Layout;
 use hid_picture::{RIGHT, gap_of, name_left, row_top, rows_of};
-use hid_pieces::{Drawn, deepest, pieces_of, report_at};
+use hid_pieces::{deepest, pieces_of, report_at};
 use std::alloc::{AllocError, Global};
 
 /// The bytes of a window: as many rows as the smaller of the usual sheets holds below a heading.
@@ -123,13 +124,7 @@ pub fn print_windows(
         ≡ string_bytes text.old ++ windows_of layout.now items.now mains.now r) }
 {
     let bytes = bytes_of(layout, r);
-    let drawn = Drawn {
-        layout,
-        items,
-        mains,
-        report: r,
-    };
-    let frames = drawn.frames(alloc)?;
+    let frames = frames_in(alloc, layout, items, mains, r)?;
     let pieces = pieces_of(alloc, layout, r)?;
     let rows = rows_of(alloc, layout, r, bytes, &frames, &pieces)?;
     print_windows_by(text, r, deepest(&frames), &rows, bytes)

@@ -1,2 +1,3 @@
 mod EscapeLemmas
+pub mod TextLemmas
 mod Vectors

@@ -26,23 +26,15 @@ impl From<AllocError> for InputFault {
 
 impl fmt::Display for InputFault {
     fn fmt<W: fmt::Write>(&self, f: &mut fmt::Formatter<W>) -> fmt::Result {
-        match self {
-            InputFault::BadHex => write!(f, "a byte isn't two hex digits"),
-            InputFault::BadCount => write!(f, "the count of the R: line isn't that of its bytes"),
-            InputFault::BadArray => {
-                write!(
-                    f,
-                    "an element of the array isn't 0x with one or two hex digits"
-                )
-            }
+        f.write_str(match self {
+            InputFault::BadHex => "a byte isn't two hex digits",
+            InputFault::BadCount => "the count of the R: line isn't that of its bytes",
+            InputFault::BadArray => "an element of the array isn't 0x with one or two hex digits",
             InputFault::NoDescriptor => {
-                write!(
-                    f,
-                    "text without a descriptor: hex digits, an R: line, an array of C or what usbhid-dump prints is expected"
-                )
+                "text without a descriptor: hex digits, an R: line, an array of C or what usbhid-dump prints is expected"
             }
-            InputFault::Memory => write!(f, "memory was wanting"),
-        }
+            InputFault::Memory => "memory was wanting",
+        })
     }
 }
 
@@ -134,12 +126,10 @@ fn read_array(alloc: Global, text: &[u8]) -> Result<Vec<u8>, InputFault> {
         match word {
             [] => {}
             [b'0', b'x' | b'X', low] => {
-                digits.push(b'0').map_err(AllocError::from)?;
-                digits.push(*low).map_err(AllocError::from)?;
+                digits.extend_from_slice(&[b'0', *low])?;
             }
             [b'0', b'x' | b'X', high, low] => {
-                digits.push(*high).map_err(AllocError::from)?;
-                digits.push(*low).map_err(AllocError::from)?;
+                digits.extend_from_slice(&[*high, *low])?;
             }
             _ => return Err(InputFault::BadArray),
         }
