@@ -1,8 +1,8 @@
 //! The words of the command line.
 
-use clap::{Arg, ArgAction, Command, Error, value_parser};
+use clap::{Arg, ArgAction, ArgMatches, Command, Error, value_parser};
 use hid_page::Form;
-use std::alloc::Global;
+use std::alloc::{AllocError, Global};
 
 /// What the words ask for.
 #[derive(Clone, Copy)]
@@ -15,40 +15,54 @@ pub struct Asked<'a> {
 const CODES: &str =
     "A descriptor is read as binary, or as text: the first R: line of hid-recorder, hex digits, what usbhid-dump prints, or\nan array of C.\nL1 to L16 are why it is refused: docs/RECORDINGS.md. The pictures: docs/PICTURES.md.\nBoth are installed in share/doc/rulohevian.";
 
-fn command<'a>(alloc: Global) -> Result<Command<'a>, Error> {
-    let svg = Arg::new(alloc, "svg")
+fn svg<'a>(alloc: Global) -> Result<Arg<'a>, AllocError> {
+    Arg::new(alloc, "svg")
         .long("svg")
         .value_name("N")
         .value_parser(value_parser!(u16))
-        .conflicts_with("text")?
         .help(
             "Draw the picture of the report N alone, as SVG: Input, Output, then Feature reports, each by ID, from 0",
-        );
-    let text = Arg::new(alloc, "text")
+        )
+        .conflicts_with("text")
+}
+
+fn text<'a>(alloc: Global) -> Arg<'a> {
+    Arg::new(alloc, "text")
         .long("text")
         .action(ArgAction::SetTrue)
-        .help("Draw the pictures in characters");
-    let file = Arg::new(alloc, "FILE").help(
-        "The report descriptor; - and no FILE are standard input",
-    );
-    let command = Command::new(alloc, "hidmap")
+        .help("Draw the pictures in characters")
+}
+
+fn file<'a>(alloc: Global) -> Arg<'a> {
+    Arg::new(alloc, "FILE").help("The report descriptor; - and no FILE are standard input")
+}
+
+fn command<'a>(alloc: Global) -> Result<Command<'a>, AllocError> {
+    let svg = svg(alloc)?;
+    Command::new(alloc, "hidmap")
         .version("0.2.0")
         .about("Draws where each field stands in the reports of a USB HID device, as an HTML page")
         .after_help(CODES)
         .arg(svg)?
-        .arg(text)?
-        .arg(file)?;
-    Ok(command)
+        .arg(text(alloc))?
+        .arg(file(alloc))
 }
 
 /// What the words behind the first ask for, which is the program's name.
 pub fn asked_by<'a>(alloc: Global, words: &'a [String]) -> Result<Asked<'a>, Error> {
     let matches = command(alloc)?.try_get_matches_from(words)?;
+    let asked = asked_in(&matches);
+    drop(matches);
+    Ok(asked)
+}
+
+/// The same, of the words that were found.
+fn asked_in<'a>(matches: &ArgMatches<'a>) -> Asked<'a> {
     let form = match matches.get_one::<u16>("svg") {
         Some(report) => Form::Svg(usize::from(report)),
         None if matches.get_flag("text") => Form::Characters,
         None => Form::Page,
     };
     let file = matches.get_str("FILE").unwrap_or("-");
-    Ok(Asked { form, file })
+    Asked { form, file }
 }
