@@ -37,8 +37,8 @@ abbrev pub view_played : Contents → List Step → List Cell
 view_played layout steps =
     view_of (items_of layout) (blank (items_of layout)) (rounds_played layout steps)
 
--- The device has a layout that suits it; where no step is of a transfer or a reset, its events are what the rounds that
--- crossed tell, and a control is held exactly where the view that took their parts holds it.
+-- The device has a layout that suits it; where no step is of a transfer, a halt or a reset, its events are what the rounds
+-- that crossed tell, and a control is held exactly where the view that took their parts holds it.
 pub record IsPlayed (config : Config) (descriptor : List ℕ) (steps : List Step) (control : ControlId)
     (given : List Delivered) (is_held : Bool) : Type 0 where
   pub layout : Contents

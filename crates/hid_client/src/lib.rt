@@ -7,12 +7,13 @@
 //! ```
 //! It attaches one device to a bus of its own, runs steps, and looks at one control in the host's view.
 //!
-//! The rule to know: what it promises it has from the clauses `attached` on `Rig::attach`, `headline` and `rounds` on
-//! `Rig::run`, and `shows` on `Rig::host`, and from nothing inside them.
+//! The rule to know: what it promises it has from the clauses `new` and `memory` on `Rig::new`, `attached` and `attaches` on
+//! `Rig::attach`, `headline`, `rounds` and `stops` on `Rig::run`, and `shows` and `none` on `Rig::host`, and from nothing
+//! inside them.
 //!
-//! The promise, for every descriptor that is accepted and steps without transfers and resets: the events are those of the
-//! rounds that crossed, and the control is held exactly where the view that took their parts holds it: `played` on
-//! [`play`].
+//! The promise, for every descriptor that is accepted and steps without transfers, halts and resets: the events are those of
+//! the rounds that crossed, and the control is held exactly where the view that took their parts holds it: `played` on
+//! [`play`]. Where nothing is told, memory was wanting, or the device or a step is refused: `refused`.
 #![tactic(auto)]
 
 mod playing;
