@@ -2,15 +2,10 @@
 ghost use Rattle.std.specs.Prelude.{◌≡◌, ◌≤◌, ℕ, List, [], Ok, Err, IfOk, IfErr, OnOk, OnErr};
 ghost use Rattle.hid_descriptor.specs.Faults.{Explains};
 ghost use Rattle.usb_packet.specs.declared.packet.TheConstants.{MAX_ENDPOINT};
-ghost use Rattle.hid_layout.specs.Controls.{items_of};
-ghost use Rattle.hid_layout.specs.Layout.{Contents};
-ghost use Rattle.usb_control.specs.declared.descriptors.ConfigInfo.{ConfigInfo};
 ghost use Rattle.hid_device.specs.Laying.{Lays};
 ghost use Rattle.hid_requests.specs.declared.request.Request.TheVariants.{Config, Configure, Report};
-ghost use Rattle.hid_usages.specs.Cells.{FitsView, blank};
 ghost use Rattle.hid_host.specs.Conclusions.{ConfigRead, DeviceRead, IsNoLayout, Makes, ReportRead};
 ghost use Rattle.hid_host.specs.Phase.{HasEndpoint};
-ghost use Rattle.hid_host.specs.declared.phase.HostPhase.TheVariants.{Parsed};
 
 use crate::fault::{DescriptorFault, StackFault};
 use crate::phase::HostPhase;
@@ -70,7 +65,7 @@ fn read_report(alloc: Global, info: &ConfigInfo, bytes: &[u8]) -> Result<Layout,
     layout_of(alloc, bytes)
 }
 
-// Each phase is made where it stands, in a function of its own: else the end of any request makes room for all of them.
+// Each phase is made in a function of its own: else the end of any request makes room for all of them.
 
 /// What a configuration says is kept.
 #[inline(never)]
@@ -101,22 +96,6 @@ fn parsed(alloc: Global, bytes: &[u8], phase: &mut HostPhase) -> Result<(), Stac
     Ok(())
 }
 
-/// The phase of a host whose device was configured: with its layout and the initial view it is ready.
-fn ready_phase(addr: u8, phase: HostPhase, view: View) -> HostPhase
-    requires addr { addr ≤ MAX_ADDRESS }
-    requires endpoint { HasEndpoint phase }
-    requires view { (info : ConfigInfo) (layout : Contents) → phase ≡ Parsed info layout
-        → (view ≡ blank (items_of layout)) × FitsView (items_of layout) view }
-    ensures { Makes addr Configure phase [] (Ok result) }
-{
-    match phase {
-        HostPhase::Parsed(info, layout) => {
-            HostPhase::Ready(ReadyHost::new(addr, info.endpoint, layout, view))
-        }
-        HostPhase::Cold | HostPhase::Described(_) | HostPhase::Ready(_) => phase,
-    }
-}
-
 /// A host whose device was configured becomes ready. It keeps its layout where no memory is found.
 #[inline(never)]
 fn configured(alloc: Global, addr: u8, phase: &mut HostPhase) -> Result<(), StackFault>
@@ -126,12 +105,15 @@ fn configured(alloc: Global, addr: u8, phase: &mut HostPhase) -> Result<(), Stac
     ensures memory { IfErr result (λ fault. Makes addr Configure phase.old [] (Err fault)) }
     ensures err { OnErr result (phase.new ≡ phase.old) }
 {
-    let HostPhase::Parsed(_, layout) = &*phase else {
+    let HostPhase::Parsed(info, layout) = &*phase else {
         return Ok(());
     };
+    let endpoint = info.endpoint;
     let view = View::initial(alloc, layout)?;
-    let parsed = mem::replace(phase, HostPhase::Cold);
-    phase.go_on(ready_phase(addr, parsed, view));
+    let HostPhase::Parsed(_, layout) = mem::replace(phase, HostPhase::Cold) else {
+        unreachable!()
+    };
+    phase.go_on(HostPhase::Ready(ReadyHost::new(addr, endpoint, layout, view)));
     Ok(())
 }
 

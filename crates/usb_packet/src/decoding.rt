@@ -1,7 +1,7 @@
 //! From bytes to the packet that they spell (USB 2.0, 8.3 and 8.4).
 ghost use Rattle.std.specs.Prelude.{◌≡◌, ◌∷◌, Ok, IfOk, IfErr};
 ghost use Rattle.usb_packet.specs.Spelling.{Spells, IsHandshake, token_pid, data_pid, pid_of};
-ghost use Rattle.usb_packet.specs.Fault.{IsChecked, IsFault, Reads};
+ghost use Rattle.usb_packet.specs.Fault.{IsFault, Reads};
 ghost use Rattle.usb_packet.specs.Lent.{owned, owned_or_fault};
 
 use crate::fault::PacketFault;
@@ -65,16 +65,7 @@ pub fn read(bytes: &[u8]) -> Result<LentPacket<'_>, PacketFault>
     if first >> 4 != 0x0f - (first & 0x0f) {
         return Err(PacketFault::BadCheck);
     }
-    read_body(*first, body)
-}
-
-// The packet with this PID, whose halves are complements, from what follows it.
-#[inline(always)]
-fn read_body(first: u8, body: &[u8]) -> Result<LentPacket<'_>, PacketFault>
-    requires { IsChecked first }
-    ensures { Reads (owned_or_fault result) (first ∷ body.now) }
-{
-    match first {
+    match *first {
         pid::OUT => token(TokenKind::Out, body),
         pid::IN => token(TokenKind::In, body),
         pid::SETUP => token(TokenKind::Setup, body),
