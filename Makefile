@@ -24,7 +24,6 @@ run: $(HIDRUN)
 # where there is a C compiler.
 test:
 	$(MAKE) --no-print-directory documents layout
-	rm -rf bin/build/rooms
 	rt ci
 	$(MAKE) --no-print-directory hidrun hidplay hidmap examples memory
 	if tools/archive hidstack; then $(MAKE) --no-print-directory library-test; fi

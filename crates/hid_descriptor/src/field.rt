@@ -17,7 +17,7 @@ use crate::usage::Usage;
 use crate::values::{greatest_value, least_value};
 
 /// The fields of an item by what is in force at it, without their usages and collections.
-#[derive(Clone, Copy, Debug)]
+#[derive(Clone, Copy)]
 pub struct KeptField {
     /// The kind of its report.
     pub kind: ReportKind,

@@ -17,7 +17,7 @@ use crate::report::Report;
 use std::alloc::Global;
 
 /// The fields that a report descriptor lists: those of the Input, Output and Feature items that have bits.
-#[derive(Debug, Drop)]
+#[derive(Drop)]
 pub struct ListedFields {
     /// The reports that have bits, by kind and then by ID (HID 1.11, 5.6).
     pub reports: Vec<Report>,

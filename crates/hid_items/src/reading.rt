@@ -4,7 +4,7 @@ use crate::fault::ItemFault;
 use crate::spelling::{Item, kind_of, spelling_length};
 
 /// The items of a descriptor that have yet to come. After a fault no item comes.
-#[derive(Clone, Debug, Drop)]
+#[derive(Clone, Drop)]
 pub struct Items<'a> {
     at: usize,
     rest: &'a [u8],

@@ -99,7 +99,7 @@ pub enum Line {
     },
 }
 
-#[derive(Clone, Copy, Debug)]
+#[derive(Clone, Copy)]
 pub(crate) enum Keyword {
     Layout,
     Values,

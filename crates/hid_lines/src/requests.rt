@@ -15,7 +15,7 @@ use hid_requests::Request;
 /// The most bytes of a report that is set.
 const REPORT_LIMIT: usize = 256;
 
-#[derive(Clone, Copy, Debug)]
+#[derive(Clone, Copy)]
 enum RequestWord {
     Device,
     Config,

@@ -13,7 +13,7 @@ use usb_transact::Fate;
 
 /// What a line says that has no hex words and begins no request. It is a [`Line`] too, which has room for the bytes of a
 /// descriptor, and is dearer to hand on.
-#[derive(Clone, Copy, Debug)]
+#[derive(Clone, Copy)]
 pub enum ShortLine {
     /// `press D U`
     Press { dev: u8, usage: Usage },

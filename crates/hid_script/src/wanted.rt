@@ -7,7 +7,7 @@ use hid_layout::ControlId;
 use hid_usages::Change;
 
 /// A change, without the control that changes.
-#[derive(Clone, Copy, Debug)]
+#[derive(Clone, Copy)]
 pub enum Wanted {
     Press,
     Release,

@@ -52,7 +52,7 @@ pub enum Outcome<'a> {
 ///
 /// Each but the last two leads to `Failed` too: with C1 at a STALL but to SETUP, with C2 at the third try in a row
 /// without an answer, with C3 where too much came.
-#[derive(Clone, Copy, Debug)]
+#[derive(Clone, Copy)]
 pub enum HostStage {
     /// SETUP, and DATA0 with the request.
     Setup,
@@ -80,7 +80,7 @@ pub enum HostStage {
 
 /// A control transfer at the host. A contract sees it as `addr`, `setup`, `bytes` (those that a write sends, or that a
 /// read has got), `stage` and `tries` (how many in a row had no answer).
-#[derive(Debug, Drop)]
+#[derive(Drop)]
 pub struct HostTransfer {
     addr: u8,
     setup: Setup,

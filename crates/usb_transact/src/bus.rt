@@ -11,7 +11,7 @@ use usb_packet::{LentPacket, Packet, decode, read, spell};
 /// The phases of a transaction, by the packet that is sent in each (USB 2.0, 8.5). An interrupt-IN transaction has the
 /// token, the reply and the acknowledgement (8.5.4), a SETUP or OUT transaction the token, the host's data and the
 /// handshake (8.5.3).
-#[derive(Clone, Copy, Debug, PartialEq, Eq)]
+#[derive(Clone, Copy, PartialEq, Eq)]
 pub enum Phase {
     /// The host's token.
     Token,
