@@ -1,9 +1,9 @@
 -- The numbers of patterns.
-use Rattle.std.proofs.Common.{◌≡◌, ℕ, zero, suc, ◌+◌, ◌-◌, ◌*◌, ◌^◌, ◌<◌, ◌≤◌, inl, inr, lit<, Bool, true, false, refl, ◌∙◌, arith, ℤ, pos, negsuc, ◌-ℤ◌, ◌≤ℤ◌, ◌<ℤ◌, neg_ℤ}
+use Rattle.std.proofs.Common.{◌≡◌, ℕ, zero, suc, ◌+◌, ◌-◌, ◌*◌, ◌/◌, ◌^◌, ◌<◌, ◌≤◌, inl, inr, lit<, Bool, true, false, refl, sym, ◌∙◌, bit_and, arith, ℤ, pos, negsuc, ◌+ℤ◌, ◌-ℤ◌, ◌≤ℤ◌, ◌<ℤ◌, neg_ℤ}
 use Rattle.std.specs.Int.{bit_at}
 use Rattle.std.proofs.lemmas.Int.{ints}
 use Rattle.std.proofs.lemmas.Nat.Bits.{bit_at_above}
-use Rattle.std.proofs.lemmas.Nat.{shr_high, pow_pos}
+use Rattle.std.proofs.lemmas.Nat.{and_mask, shr_high, pow_pos}
 use Rattle.std.proofs.Math.Nat.{pow-suc, pow-le-pow_right}
 use Rattle.std.proofs.lemmas.Bool.{cases_lt}
 use Rattle.hid_fields.specs.Value.{value_of, pattern_for, is_negative, FitsField, FitsEitherSign, IsWithin, IsLeastOutside}
@@ -64,12 +64,23 @@ pub pattern_for-lt : (v : ℤ) (w : ℕ) → 0 < w → FitsEitherSign v w → pa
 pattern_for-lt (pos n) w some fits = omega (arith, ints)
 pattern_for-lt (negsuc n) w some fits = omega (arith, ints, twice_half w some)
 
-pub pattern_for-lt_32 : (v : ℤ) (w : ℕ) → 0 < w → w ≤ 32 → FitsEitherSign v w
-    → pattern_for v w < 2 ^ 32
-pattern_for-lt_32 v w some width fits =
-    omega (arith, pattern_for-lt v w some fits, pow-le-pow_right {n = 2} (lit< tt) {i = w} {j = 32} width)
+-- by its top bit, as it is read
+pub value_of-top : (p w : ℕ) (signed : Bool) → signed ≡ true → bit_and (p / 2 ^ (w - 1)) 1 ≡ 1
+    → value_of p w signed ≡ pos p -ℤ pos (2 ^ w)
+value_of-top p w true is top = rw (sym (and_mask (p / 2 ^ (w - 1)) 1) ∙ top) refl
+value_of-top p w false is top = absurd (cc)
 
-pub ruleset patterns = (value_of-pattern_for, pattern_for-only, pattern_for-lt, pattern_for-lt_32)
+-- the pattern of a number that is known
+pub pattern_for-pos : (v : ℤ) (w n : ℕ) → v ≡ pos n → pattern_for v w ≡ n
+pattern_for-pos (pos m) w n is = omega (arith, ints)
+pattern_for-pos (negsuc m) w n is = absurd (omega (arith, ints))
+
+pub pattern_for-neg : (v : ℤ) (w n : ℕ) → v <ℤ pos 0 → (v +ℤ pos (2 ^ w)) ≡ pos n → pattern_for v w ≡ n
+pattern_for-neg (pos m) w n below is = absurd (omega (arith, ints))
+pattern_for-neg (negsuc m) w n below is = omega (arith, ints)
+
+pub width_fits : (w : ℕ) → w ≤ 32 → 2 ^ w ≤ 2 ^ 32
+width_fits w width = pow-le-pow_right {n = 2} (lit< tt) {i = w} {j = 32} width
 
 -- The least pattern out of a range that goes below 0: one of the lower half that is over the
 -- maximum, or the first of the upper half.

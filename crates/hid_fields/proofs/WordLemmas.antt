@@ -1,6 +1,6 @@
 -- Fields of several bytes as one word.
-use Rattle.std.proofs.Common.{◌≡◌, ℕ, zero, suc, ◌+◌, ◌-◌, ◌*◌, ◌/◌, ◌%◌, ◌^◌, ◌<◌, ◌≤◌, ◌⊎◌, inl, inr, length, List, get_or, refl, sym, ap, ◌∙◌, bit_and, bit_or, add_comm, one-add, arith}
-use Rattle.std.specs.Int.{bit_at, sum_through, byte_worth}
+use Rattle.std.proofs.Common.{◌≡◌, ℕ, zero, suc, ◌+◌, ◌-◌, ◌*◌, ◌/◌, ◌%◌, ◌^◌, ◌<◌, ◌≤◌, ◌⊎◌, inl, inr, length, List, get_or, set, get_or-set_same, get_or-set_other, length-set, refl, sym, ap, ◌∙◌, bit_and, bit_or, add_comm, one-add, arith}
+use Rattle.std.specs.Int.{bit_at, sum_through, byte_worth, to_le_bytes, w64}
 use Rattle.std.proofs.lemmas.Nat.Bits.{bit_at-lt, bit_at_cat_low, bit_at_cat_high}
 use Rattle.std.proofs.lemmas.Nat.{or_shifted, pow_below, and_mask, shr_below, mod-pow-add, shr_split, shr_high, mod_low, mod_below, pow_pos, pow-add}
 use Rattle.std.proofs.Math.Nat.{mod-eq_of_lt, mul-le-mul_right, pow-suc}
@@ -90,6 +90,43 @@ pub scattered : (bytes : List ℕ) (word n : ℕ) → length bytes ≡ n → wor
 scattered bytes word n len fits has =
     let small : word < 2 ^ (8 * n) = rw len at fits in
     rw len (pattern_of-scattered bytes word n has ∙ mod-eq_of_lt small)
+
+-- the first n bytes replaced, one after another
+abbrev put_first : List ℕ → List ℕ → ℕ → List ℕ
+put_first bytes from zero = bytes
+put_first bytes from (suc k) = set (put_first bytes from k) k (get_or from k 0)
+
+length-put_first : (bytes from : List ℕ) (n : ℕ) → length (put_first bytes from n) ≡ length bytes
+length-put_first bytes from zero = refl
+length-put_first bytes from (suc k) = length-set (put_first bytes from k) k (get_or from k 0) ∙ length-put_first bytes from k
+
+get_or-put_first : (bytes from : List ℕ) (n k : ℕ) → k < n → n ≤ length bytes → get_or (put_first bytes from n) k 0 ≡ get_or from k 0
+get_or-put_first bytes from zero k h inside = absurd (omega arith)
+get_or-put_first bytes from (suc n) k h inside =
+    elim (cases_eq k n) [
+      | inl e ↦ rw e (get_or-set_same (put_first bytes from n) n (get_or from n 0) 0 (omega (arith, length-put_first bytes from n)))
+      | inr ne ↦
+          get_or-set_other (put_first bytes from n) n k (get_or from n 0) 0 ne
+          ∙ get_or-put_first bytes from n k (omega arith) (omega arith)
+    ]
+
+has-put_first : (bytes from : List ℕ) (word n m : ℕ) → n ≤ m → m ≤ length bytes → HasBytes from word n → HasBytes (put_first bytes from m) word n
+has-put_first bytes from word zero m h inside has = tt
+has-put_first bytes from word (suc n) m h inside has =
+    (has-put_first bytes from word n m (omega arith) inside has.0, get_or-put_first bytes from m n (omega arith) inside ∙ has.1)
+
+-- the bytes of a word
+pub bytes_of_word : (from : List ℕ) (word : ℕ) → from ≡ to_le_bytes w64 word → HasBytes from word 5
+bytes_of_word from word is =
+    let lowest : word % 256 ≡ word / 1 % 256 = omega arith in
+    rw is (((((tt, lowest), refl), refl), refl), refl)
+
+-- what is scattered into a whole slice, byte by byte
+pub scattered_first : (bytes from : List ℕ) (word n : ℕ) → length bytes ≡ n → word < 2 ^ (8 * length bytes) → HasBytes from word n
+    → pattern_of (put_first bytes from n) 0 (8 * length (put_first bytes from n)) ≡ word
+scattered_first bytes from word n len fits has =
+    let same = length-put_first bytes from n in
+    scattered (put_first bytes from n) word n (same ∙ len) (rw same fits) (has-put_first bytes from word n n (omega arith) (omega arith) has)
 
 -- a bit of a field
 pub bit_at-pattern_of : (bytes : List ℕ) (at w k : ℕ) → k < w

@@ -32,7 +32,6 @@ pub fn to_value(pattern: u32, width: u32, signed: bool) -> i64
 }
 
 /// The number modulo 2 to the width.
-#[tactic(auto, using(crate::proofs::ValueLemmas::patterns))]
 fn wrapped(value: i64, width: u32) -> u32
     requires some { 0 < width }
     requires width { width ≤ MAX_WIDTH }
@@ -48,7 +47,6 @@ fn wrapped(value: i64, width: u32) -> u32
 
 /// The one pattern of so many bits, 1 to 32, that stands for a number. The number fits them, with
 /// or without sign: it is at least -2 to the width less 1, and below 2 to the width.
-#[tactic(auto, using(crate::proofs::ValueLemmas::patterns))]
 pub fn to_pattern(value: i64, width: u32) -> u32
     requires some { 0 < width }
     requires width { width ≤ MAX_WIDTH }

@@ -13,3 +13,11 @@ returns-in-len4 c =
 pub returns-in-len5-up : goal.returns-in-len5-up
 returns-in-len5-up c =
     gathered _ 4 _ (omega arith) (λ i. omega (arith, c.type_inv.bytes i)) (omega (arith, c.from_le_bytes-in-len5-up.ensures))
+
+pub returns-in-len1 : goal.returns-in-len1
+returns-in-len1 c =
+    gathered _ 0 _ (omega arith) (λ i. omega (arith, c.type_inv.bytes i)) (omega (arith, c.from.ensures))
+
+pub returns-in-len2 : goal.returns-in-len2
+returns-in-len2 c =
+    gathered _ 1 _ (omega arith) (λ i. omega (arith, c.type_inv.bytes i)) (omega (arith, c.from_le_bytes.ensures))
