@@ -14,6 +14,7 @@ pub mod StepsLemmas
 pub mod LawLemmas
 pub mod CrossingLemmas
 pub mod ComputedLemmas
+pub mod KeepsLemmas
 pub mod MeanwhileLemmas
 pub mod WalkLemmas
 pub mod SearchLemmas

@@ -1,15 +1,11 @@
 -- Ends ends stand where the tries of a transfer lead, whatever comes between them.
-use Rattle.std.proofs.Common.{◌≡◌, ◌++◌, ℕ, Bool, true, false, List, [], ◌∷◌, Option, Some, None, refl, ap, sym, ◌∙◌, subst, inl, inr}
-use Rattle.std.specs.Prelude.{if◌then◌else◌, ◌*◌, ◌+◌, nat_lt, nat_le, ◌&&◌, length}
-use Rattle.std.specs.Bool.{beq}
+use Rattle.std.proofs.Common.{◌≡◌, ℕ, Bool, true, false, List, [], ◌∷◌, Option, Some, None, refl, ap, sym, ◌∙◌, subst, inl, inr}
+use Rattle.std.specs.Prelude.{if◌then◌else◌, ◌*◌, ◌+◌}
 use Rattle.std.proofs.lemmas.Bool.{cases_Bool}
-use Rattle.usb_packet.specs.declared.packet.Packet.{Packet}
-use Rattle.usb_packet.specs.declared.packet.Packet.TheVariants.{Token, Data, Ack, Nak, Stall}
 use Rattle.usb_transact.specs.declared.transaction.Fate.{Fate}
 use Rattle.usb_transact.specs.declared.transaction.Fate.TheVariants.{Clean, TokenLost, ReplyLost, AckLost}
 use Rattle.usb_control.specs.declared.setup.Setup.{Setup as Request}
 use Rattle.usb_control.specs.declared.fault.ControlFault.{ControlFault}
-use Rattle.usb_control.specs.declared.fault.ControlFault.TheVariants.{BusFault, Overrun}
 use Rattle.usb_control.specs.declared.host.HostStage.{HostStage}
 use Rattle.usb_control.specs.declared.host.HostStage.TheVariants as stages
 use Rattle.usb_control.specs.declared.device.Heard.{Heard}
@@ -18,12 +14,12 @@ use Rattle.usb_control.specs.declared.device.Stage.{Stage}
 use Rattle.usb_control.specs.SetupBytes.{IsSpelled}
 use Rattle.usb_control.specs.Computed.{AppliesBy, PreparesBy, Table, acknowledged_if, control_after, control_tried, effect_reached, host_tried, is_acknowledged, is_applied, takes_effect}
 use Rattle.usb_control.specs.Device.{Answers, Applies, Decides as Decides', DevControlState, Effect, ack_heard}
-use Rattle.usb_control.specs.Host.{HostTransferState, IsRunning, took_at, unanswered, failed, not_taken, handshake, in_answered, setup_answered, data_in, status_in, joined, answered, after_read_piece, after_write_piece}
-use Rattle.usb_control.specs.Pieces.{piece_from}
+use Rattle.usb_control.specs.Host.{HostTransferState, IsRunning}
 use Rattle.usb_control.specs.Transfer.{Shape, shape_of, Decision, Refused, Accepted, decision_of, Position, Setup, Piece, Status, Past, Place, Act, Nothing, Decides, TakesEffect, Acts, act_at, act_of, comes, tried, tried_at}
 use Rattle.usb_control.specs.Runs.{run, is_open, is_open_at}
 use Rattle.usb_control.specs.Standing.{Stands, StandsWith, host_stage, toggle}
 use Rattle.usb_control.specs.Meanwhile.{Ends, GoesBy, Turn, Tries, Meanwhile, act_now, is_effect, is_running, ends_tried, turned, turned_all, decision_now, tries_in, LeaveAnswers, StandAt}
+use Rattle.usb_control.proofs.KeepsLemmas.{took_keeps}
 use Rattle.usb_control.proofs.TryLemmas.{try_shown}
 use Rattle.usb_control.proofs.LawLemmas.{kept_across, kept_is}
 use Rattle.usb_control.proofs.ComputedLemmas.{transacts_computed}
@@ -76,70 +72,11 @@ tried_so t request bytes shape fate Past held applied decision place old new act
 
 -- ---- the request stays
 
-unanswered_keeps : (host : HostTransferState) → (unanswered host).setup ≡ host.setup
-unanswered_keeps host = elim (nat_lt host.tries 2) as (λ (b : Bool). (if b then record host { tries = host.tries + 1 } else failed BusFault host).setup ≡ host.setup) [ true ↦ refl | false ↦ refl ]
-
-not_taken_keeps : (packet : Option Packet) (host : HostTransferState) → (not_taken packet host).setup ≡ host.setup
-not_taken_keeps (Some Nak) host = refl
-not_taken_keeps (Some Stall) host = refl
-not_taken_keeps (Some Ack) host = unanswered_keeps host
-not_taken_keeps (Some (Token kind addr endp)) host = unanswered_keeps host
-not_taken_keeps (Some (Data one payload)) host = unanswered_keeps host
-not_taken_keeps None host = unanswered_keeps host
-
-setup_keeps : (packet : Option Packet) (host : HostTransferState) → (setup_answered packet host).setup ≡ host.setup
-setup_keeps (Some Ack) host = refl
-setup_keeps (Some Nak) host = unanswered_keeps host
-setup_keeps (Some Stall) host = unanswered_keeps host
-setup_keeps (Some (Token kind addr endp)) host = unanswered_keeps host
-setup_keeps (Some (Data one payload)) host = unanswered_keeps host
-setup_keeps None host = unanswered_keeps host
-
-handshake_keeps : (packet : Option Packet) (next : HostStage) (host : HostTransferState) → (handshake packet next host).setup ≡ host.setup
-handshake_keeps (Some Ack) next host = refl
-handshake_keeps (Some Nak) next host = not_taken_keeps (Some Nak) host
-handshake_keeps (Some Stall) next host = not_taken_keeps (Some Stall) host
-handshake_keeps (Some (Token kind addr endp)) next host = unanswered_keeps host
-handshake_keeps (Some (Data one payload)) next host = unanswered_keeps host
-handshake_keeps None next host = unanswered_keeps host
-
-in_keeps : (packet : Option Packet) (taken : Bool → List ℕ → HostTransferState → HostTransferState) (host : HostTransferState)
-    → ((one : Bool) (payload : List ℕ) → (taken one payload host).setup ≡ host.setup) → (in_answered packet taken host).setup ≡ host.setup
-in_keeps (Some (Data one payload)) taken host keeps = keeps one payload.items
-in_keeps (Some Ack) taken host keeps = unanswered_keeps host
-in_keeps (Some Nak) taken host keeps = refl
-in_keeps (Some Stall) taken host keeps = refl
-in_keeps (Some (Token kind addr endp)) taken host keeps = unanswered_keeps host
-in_keeps None taken host keeps = unanswered_keeps host
-
-data_keeps : (expected one : Bool) (payload : List ℕ) (host : HostTransferState) → (data_in expected one payload host).setup ≡ host.setup
-data_keeps expected one payload host =
-    elim (beq one expected) as (λ (b : Bool). (if b then joined one payload host else answered host.stage host).setup ≡ host.setup) [
-      | true ↦ elim (nat_le (length payload) 8 && nat_le (length host.bytes + length payload) host.setup.length)
-          as (λ (b : Bool). (if b then record host { bytes = host.bytes ++ payload; stage = after_read_piece (length host.bytes) (length payload) host.setup.length one; tries = 0 } else failed Overrun host).setup ≡ host.setup)
-          [ true ↦ refl | false ↦ refl ]
-      | false ↦ refl
-    ]
-
-status_keeps : (one : Bool) (payload : List ℕ) (host : HostTransferState) → (status_in one payload host).setup ≡ host.setup
-status_keeps false payload host = refl
-status_keeps true [] host = refl
-status_keeps true (b ∷ payload) host = refl
-
-took_keeps : (stage : HostStage) (packet : Option Packet) (host : HostTransferState) → (took_at stage packet host).setup ≡ host.setup
-took_keeps stages.Setup packet host = setup_keeps packet host
-took_keeps (stages.DataIn one) packet host = in_keeps packet (data_in one) host (λ x payload. data_keeps one x payload host)
-took_keeps (stages.DataOut sent one) packet host = handshake_keeps packet (after_write_piece (sent + length (piece_from host.bytes sent)) (length host.bytes) one) host
-took_keeps stages.StatusIn packet host = in_keeps packet status_in host (λ x payload. status_keeps x payload host)
-took_keeps stages.StatusOut packet host = handshake_keeps packet stages.Done host
-took_keeps stages.Done packet host = refl
-took_keeps (stages.Failed fault) packet host = refl
-
 host_keeps : {R : Type 0} (t : Table R) (fate : Fate) (host : HostTransferState) (c : DevControlState R) → (host_tried t fate host c).setup ≡ host.setup
-host_keeps t TokenLost host c = took_keeps host.stage None host
-host_keeps t Clean host c = took_keeps host.stage _ host
-host_keeps t ReplyLost host c = took_keeps host.stage _ host
-host_keeps t AckLost host c = took_keeps host.stage _ host
+host_keeps t TokenLost host c = (took_keeps host.stage None host).0
+host_keeps t Clean host c = (took_keeps host.stage _ host).0
+host_keeps t ReplyLost host c = (took_keeps host.stage _ host).0
+host_keeps t AckLost host c = (took_keeps host.stage _ host).0
 
 -- ---- whole lists
 
