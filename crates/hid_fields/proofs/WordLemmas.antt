@@ -1,5 +1,5 @@
 -- Fields of several bytes as one word.
-use Rattle.std.proofs.Common.{◌≡◌, ℕ, zero, suc, ◌+◌, ◌-◌, ◌*◌, ◌/◌, ◌%◌, ◌^◌, ◌<◌, ◌≤◌, ◌⊎◌, inl, inr, length, List, get_or, set, get_or-set_same, get_or-set_other, length-set, refl, sym, ap, ◌∙◌, bit_and, bit_or, add_comm, one-add, arith}
+use Rattle.std.proofs.Common.{◌≡◌, ℕ, zero, suc, ◌+◌, ◌-◌, ◌*◌, ◌/◌, ◌%◌, ◌^◌, ◌<◌, ◌≤◌, ◌≢◌, ◌⊎◌, inl, inr, length, List, get_or, set, get_or-set_same, get_or-set_other, length-set, refl, sym, ap, ◌∙◌, bit_and, bit_or, add_comm, one-add, arith}
 use Rattle.std.specs.Int.{bit_at, sum_through, byte_worth, to_le_bytes, w64}
 use Rattle.std.proofs.lemmas.Nat.Bits.{bit_at-lt, bit_at_cat_low, bit_at_cat_high}
 use Rattle.std.proofs.lemmas.Nat.{or_shifted, pow_below, and_mask, shr_below, mod-pow-add, shr_split, shr_high, mod_low, mod_below, pow_pos, pow-add}
@@ -39,6 +39,23 @@ low_bits bytes i (suc k) h =
 pub pattern_of-byte : (bytes : List ℕ) (i : ℕ) → get_or bytes i 0 < 256
     → pattern_of bytes (8 * i) 8 ≡ get_or bytes i 0
 pattern_of-byte bytes i small = low_bits bytes i 8 (omega arith) ∙ mod-eq_of_lt small
+
+-- a whole byte that is replaced
+pub byte_put-field : (bytes : List ℕ) (at w pattern : ℕ) → w ≡ 8 → at % 8 ≡ 0 → at / 8 < length bytes → pattern < 2 ^ w
+    → pattern_of (set bytes (at / 8) pattern) at w ≡ pattern
+byte_put-field bytes at w pattern eight whole inside fits =
+    let here : at ≡ 8 * (at / 8) = omega arith in
+    let byte : get_or (set bytes (at / 8) pattern) (at / 8) 0 ≡ pattern = get_or-set_same bytes (at / 8) pattern 0 inside in
+    let small : pattern < 2 ^ 8 = rw eight at fits in
+    rw eight
+    (ap (λ (a : ℕ). pattern_of (set bytes (at / 8) pattern) a 8) here
+    ∙ pattern_of-byte (set bytes (at / 8) pattern) (at / 8) (rw byte small) ∙ byte)
+
+pub byte_put-others : (bytes : List ℕ) (at w pattern n : ℕ) → w ≡ 8 → at % 8 ≡ 0 → IsOutside at w n
+    → bit_of (set bytes (at / 8) pattern) n ≡ bit_of bytes n
+byte_put-others bytes at w pattern n eight whole outside =
+    let apart : n / 8 ≢ at / 8 = elim outside [ inl below ↦ omega arith | inr above ↦ omega arith ] in
+    ap (λ (x : ℕ). bit_at x (n % 8)) (get_or-set_other bytes (at / 8) (n / 8) pattern 0 apart)
 
 -- the bits of the next byte
 pattern_of-next_byte : (bytes : List ℕ) (k : ℕ) → get_or bytes k 0 < 256
