@@ -1,10 +1,11 @@
 -- Bits of a part of a slice, and of a slice whose part was written.
-use Rattle.std.proofs.Common.{◌≡◌, ℕ, ◌+◌, ◌-◌, ◌*◌, ◌/◌, ◌%◌, ◌<◌, ◌≤◌, ◌⊎◌, inl, inr, length, List, get_or, refl, sym, ap, ◌∙◌, arith, rules}
+use Rattle.std.proofs.Common.{◌≡◌, ℕ, ◌+◌, ◌-◌, ◌*◌, ◌/◌, ◌%◌, ◌<◌, ◌≤◌, ◌⊎◌, inl, inr, length, List, get_or, drop, refl, sym, ap, ◌∙◌, arith}
 use borrow.Rule.Slice.PartMut.{put_mid}
+use Rattle.std.specs.Int.{bit_at}
 use Rattle.std.specs.List.{between}
 use Rattle.std.proofs.lemmas.List.Edits.{get_or-between}
-use Rattle.std.proofs.lemmas.List.{places}
-use Rattle.std.proofs.lemmas.Slice.{between-put_mid}
+use Rattle.std.proofs.lemmas.List.{get_or-take, get_or-drop}
+use Rattle.std.proofs.lemmas.Slice.{between-put_mid, take-put_mid_below, drop-put_mid}
 use Rattle.hid_fields.specs.Field.{bit_of, pattern_of}
 use Rattle.hid_fields.proofs.FieldLemmas.{pattern_of-same}
 
@@ -42,14 +43,25 @@ bit_of-put xs ys first last k inside len h =
     ∙ ap (λ (zs : List ℕ). bit_of zs k) (between-put_mid first (last - first) xs ys last inside len)
 
 -- the bits of the other bytes stay
-pub bit_of-put_other : (xs ys : List ℕ) (first last n : ℕ) → last ≤ length xs
+pub bit_of-put_other : (xs ys : List ℕ) (first last n : ℕ) → first ≤ last → last ≤ length xs
     → length ys ≡ last - first
     → (n < 8 * first) ⊎ (8 * last ≤ n) → bit_of (put_mid first (last - first) xs ys) n ≡ bit_of xs n
-bit_of-put_other xs ys first last n inside len (inl below) =
+bit_of-put_other xs ys first last n order inside len (inl below) =
+    let whole = put_mid first (last - first) xs ys in
     let h : n / 8 < first = omega arith in
-    let e : get_or (put_mid first (last - first) xs ys) (n / 8) 0 ≡ get_or xs (n / 8) 0 = search (rules, places) in
-    rw e refl
-bit_of-put_other xs ys first last n inside len (inr above) =
-    let h : last ≤ n / 8 = omega arith in
-    let e : get_or (put_mid first (last - first) xs ys) (n / 8) 0 ≡ get_or xs (n / 8) 0 = search (rules, places) in
-    rw e refl
+    let e : get_or whole (n / 8) 0 ≡ get_or xs (n / 8) 0 =
+    sym (get_or-take first whole (n / 8) 0 h)
+    ∙ ap (λ (zs : List ℕ). get_or zs (n / 8) 0) (take-put_mid_below first (last - first) xs ys first (omega arith) (omega arith))
+    ∙ get_or-take first xs (n / 8) 0 h
+    in
+    ap (λ (byte : ℕ). bit_at byte (n % 8)) e
+bit_of-put_other xs ys first last n order inside len (inr above) =
+    let whole = put_mid first (last - first) xs ys in
+    let h : last + (n / 8 - last) ≡ n / 8 = omega arith in
+    let same : drop last whole ≡ drop last xs = drop-put_mid first (last - first) xs ys last (omega arith) (omega arith) len in
+    let e : get_or whole (last + (n / 8 - last)) 0 ≡ get_or xs (last + (n / 8 - last)) 0 =
+    sym (get_or-drop last whole (n / 8 - last) 0)
+    ∙ ap (λ (zs : List ℕ). get_or zs (n / 8 - last) 0) same
+    ∙ get_or-drop last xs (n / 8 - last) 0
+    in
+    ap (λ (byte : ℕ). bit_at byte (n % 8)) (rw h at e)

@@ -266,16 +266,16 @@ bit_of-spliced xs ys at s w m pattern k h inside word outside =
     ∙ bit_at-pattern_of xs at m k inside
 
 -- a bit outside a field that was replaced in a part of a slice
-pub put_elsewhere : (xs ys : List ℕ) (first last s w pattern n : ℕ) → last ≤ length xs
+pub put_elsewhere : (xs ys : List ℕ) (first last s w pattern n : ℕ) → first ≤ last → last ≤ length xs
     → length (between first last xs) ≡ last - first → length ys ≡ last - first
     → pattern < 2 ^ w
     → pattern_of ys 0 (8 * length (between first last xs)) ≡ spliced s w pattern (pattern_of (between first last xs) 0 (8 * length (between first last xs)))
     → IsOutside (8 * first + s) w n → bit_of (put_mid first (last - first) xs ys) n ≡ bit_of xs n
-put_elsewhere xs ys first last s w pattern n inside part_len len fits word outside =
+put_elsewhere xs ys first last s w pattern n order inside part_len len fits word outside =
     elim (cases_lt n (8 * first)) [
-      | inl below ↦ bit_of-put_other xs ys first last n inside len (inl below)
+      | inl below ↦ bit_of-put_other xs ys first last n order inside len (inl below)
       | inr from ↦ elim (cases_lt n (8 * last)) [
-        | inr above ↦ bit_of-put_other xs ys first last n inside len (inr above)
+        | inr above ↦ bit_of-put_other xs ys first last n order inside len (inr above)
         | inl within ↦
             let k = n - 8 * first in
             let place : 8 * first + (0 + k) ≡ n = omega arith in

@@ -59,5 +59,5 @@ returns-clause-others c = λ n outside.
     ap (λ (m : ℕ). pattern_of ys 0 m) (sym same_len) ∙ c.scatter.ensures ∙ c.splice-word.ensures
     ∙ ap (λ (x : ℕ). spliced shift c.args.width c.args.pattern x) c.gather.ensures
     in
-    put_elsewhere xs ys first last shift c.args.width c.args.pattern n (omega arith) part_len len c.requires.fits word
+    put_elsewhere xs ys first last shift c.args.width c.args.pattern n (omega arith) (omega arith) part_len len c.requires.fits word
     (elim outside [ inl below ↦ inl (omega arith) | inr above ↦ inr (omega arith) ])
