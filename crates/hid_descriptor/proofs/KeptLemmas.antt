@@ -116,6 +116,15 @@ id_there fs kind id old k small some =
     by_case false true h false e = absurd (cc)
     by_case false false h false e = absurd (cc)
 
+-- the elements of a field that is not too long
+pub few_elements : (f : KeptField) → f.size * f.count ≢ 0 → f.offset + f.size * f.count ≤ 2048 → cond (is_padding f.shape) 0 f.count ≤ 2048
+few_elements f some short = by_case f.size f.count (is_padding f.shape) some (omega (arith, short))
+  where
+    by_case : (size count : ℕ) (b : Bool) → size * count ≢ 0 → size * count ≤ 2048 → cond b 0 count ≤ 2048
+    by_case size count true some short = omega arith
+    by_case zero count false some short = absurd (some (omega arith))
+    by_case (suc size) count false some short = omega (arith, short)
+
 placed_more : (heads : List KeptField) (f : KeptField) → ArePlaced heads → f.offset + f.size * f.count ≤ 2048 → ArePlaced (heads ++ f ∷ [])
 placed_more [] f w h zero g e = let same : f ≡ g = some_is f g e in subst (λ (x : KeptField). x.offset + x.size * x.count ≤ 2048) same h
 placed_more [] f w h (suc i) g e = absurd (cc)

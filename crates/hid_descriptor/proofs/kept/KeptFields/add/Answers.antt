@@ -1,7 +1,11 @@
 use Rattle.std.proofs.Common.{arith, ap, ◌+◌, map}
 use Rattle.hid_descriptor.specs.Locals.{entry_on_page}
-use Rattle.hid_descriptor.proofs.KeptLemmas.{kept_more, id_there}
+use Rattle.hid_descriptor.proofs.KeptLemmas.{kept_more, id_there, few_elements}
 use Rattle.hid_descriptor.proofs.kept.KeptFields.add.Goals as goal
+
+pub overflow_add-self : goal.overflow_add-self
+overflow_add-self c =
+    record { fits = omega (arith, c.args.self.now.bounded, c.args.self.now.counted, few_elements c.args.field.now c.requires.some c.requires.short, c.elements.ensures) }
 
 pub returns-in_ok-add-2 : goal.returns-in_ok-add-2
 returns-in_ok-add-2 c fs k =
