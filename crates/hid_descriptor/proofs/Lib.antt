@@ -15,6 +15,7 @@ pub mod FlagLemmas
 pub mod ListsLemmas
 pub mod TotalsLemmas
 pub mod OrderLemmas
+pub mod PushLemmas
 pub mod KeptLemmas
 pub mod Shares
 pub mod FieldFacts
