@@ -2,6 +2,7 @@
 use Rattle.std.proofs.Common.{◌≡◌, ℕ, zero, suc, ◌+◌, ◌*◌, ◌<◌, ◌≤◌, ◌-◌, min, Bool, false, ℤ, pos, List, [], ◌∷◌, ◌++◌, length, length-append, get_or, take, Some, refl, sym, ap, ◌∙◌, add-one, inl, inr, arith}
 use Rattle.std.specs.List.{slice_get}
 use Rattle.std.specs.List.{between}
+use Rattle.std.proofs.Math.Nat.{mul-le-mul_left, mul-suc}
 use Rattle.std.proofs.lemmas.Bool.{cases_lt}
 use Rattle.hid_fields.proofs.PartLemmas.{pattern_of-between}
 use Rattle.std.proofs.lemmas.Grind.{common_steps}
@@ -40,6 +41,10 @@ numbers_in-at bytes at w signed (suc n) j h = elim (cases_lt j n) [
 
 -- the numbers of a run of fields, one by one
 pub ruleset run_numbers = (numbers_in-at, numbers_in-length)
+
+-- a field that is one of several ends where they do, or earlier
+pub step_within : (w k n : ℕ) → k < n → w * k + w ≤ w * n
+step_within w k n h = omega (arith, mul-le-mul_left {m = suc k} {n = n} w h, mul-suc w k)
 
 -- a field of one bit is that bit
 pub one_bit : (bytes : List ℕ) (b : ℕ) → number_at bytes b 1 false ≡ pos (bit_of bytes b)

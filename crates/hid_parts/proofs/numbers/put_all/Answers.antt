@@ -1,9 +1,11 @@
-use Rattle.std.proofs.Common.{rules, ◌≡◌, ◌<◌, ◌+◌, ◌*◌, ◌∙◌, sym, to_z, of_z, w64, length, pos, arith}
+use Rattle.std.proofs.Common.{rules, ◌≡◌, ℕ, ◌<◌, ◌+◌, ◌*◌, ◌∙◌, sym, ap, subst, to_z, of_z, w64, length, pos, arith}
+use Rattle.std.proofs.lemmas.List.{take_all}
 use Rattle.std.proofs.lemmas.Int.{to_z-of_z}
+use Rattle.hid_fields.specs.Field.{IsOutside}
 use Rattle.hid_fields.specs.Value.{FitsField, FitsEitherSign}
-use Rattle.hid_parts.specs.Numbers.{number_at}
+use Rattle.hid_parts.specs.Numbers.{number_at, numbers_in}
 use Rattle.hid_parts.proofs.DrawLemmas.{drawn_at}
-use Rattle.hid_parts.proofs.NumberLemmas.{written, others_written}
+use Rattle.hid_parts.proofs.NumberLemmas.{step_within, written, others_written}
 use Rattle.std.proofs.lemmas.Simd.{mask_l-lt}
 use Rattle.hid_parts.proofs.SwitchLemmas.{pattern_count, pattern_sent}
 use Rattle.hid_parts.proofs.numbers.put_all.Goals as goal
@@ -38,3 +40,27 @@ loop-k-preserved g c =
       left = drawn.1;
       others = λ n h. others_written c.args.bytes.now c.loop-k.bytes c.put_number.new.bytes c.args.at c.args.width c.loop-k.k n c.put_number.ensures.others c.loop-k.invariant.others h;
     }
+
+pub overflow_mul-width : goal.overflow_mul-width
+overflow_mul-width g c = record { fits = omega (arith, step_within c.args.width c.loop-k.k c.args.count c.loop-k-test.true, c.requires.inside, c.requires.short) }
+
+pub overflow_add-at : goal.overflow_add-at
+overflow_add-at g c = record { fits = omega (arith, step_within c.args.width c.loop-k.k c.args.count c.loop-k-test.true, c.requires.inside, c.requires.short) }
+
+pub put_number-requires-clause-inside : goal.put_number-requires-clause-inside
+put_number-requires-clause-inside g c = omega (arith, step_within c.args.width c.loop-k.k c.args.count c.loop-k-test.true, c.requires.inside)
+
+pub returns-in-Some-clause-others : goal.returns-in-Some-clause-others
+returns-in-Some-clause-others g c = λ n outside.
+    let bits : c.args.width * c.args.count ≡ c.args.count = omega (arith, ap (λ (w : ℕ). w * c.args.count) c.if-width-eq1.true) in
+    c.put.ensures.others n (subst (λ (m : ℕ). IsOutside c.args.at m n) bits outside)
+
+pub returns-clause-numbers : goal.returns-clause-numbers
+returns-clause-numbers g c = λ signed fits.
+    let last : c.loop-k.k ≡ c.args.count = omega arith in
+    ap (numbers_in c.loop-k.bytes c.args.at c.args.width signed) (sym last) ∙ c.loop-k.invariant.so_far signed fits ∙ take_all c.loop-k.k c.args.numbers (omega (arith, c.requires.one_each))
+
+pub returns-clause-others : goal.returns-clause-others
+returns-clause-others g c = λ n outside.
+    let last : c.args.count ≡ c.loop-k.k = omega arith in
+    c.loop-k.invariant.others n (subst (λ (m : ℕ). IsOutside c.args.at (c.args.width * m) n) last outside)

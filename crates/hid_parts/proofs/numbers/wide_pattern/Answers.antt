@@ -7,10 +7,10 @@ use Rattle.hid_fields.proofs.WordLemmas.{pattern_of-add}
 use Rattle.std.proofs.Math.Pow.{pow_mono}
 use Rattle.hid_parts.proofs.numbers.wide_pattern.Goals as goal
 
-joined : (bytes : List ℕ) (at width low high : ℕ) → 32 ≤ width → width ≤ 64 → low ≡ pattern_of bytes at 32 → high ≡ pattern_of bytes (at + 32) (width - 32)
+joined : (bytes : List ℕ) (at width low high : ℕ) → 32 < width → width ≤ 64 → low ≡ pattern_of bytes at 32 → high ≡ pattern_of bytes (at + 32) (width - 32)
     → bit_or (high * 2 ^ 32 % 2 ^ 64) low ≡ pattern_of bytes at width
 joined bytes at width low high wide narrow is is' =
-    let n = width - 32 in
+    let n : ℕ = width - 32 in
     let sum : 32 + n ≡ width = omega arith in
     let low_fits : low < 2 ^ 32 = rw is (pattern_of-lt bytes at 32) in
     let high_fits : high < 2 ^ 32 = rw is' (omega (arith, pattern_of-lt bytes (at + 32) n, pow_mono {i = n} {j = 32} (omega arith))) in
@@ -22,4 +22,7 @@ joined bytes at width low high wide narrow is is' =
 pub returns-else-width-le32 : goal.returns-else-width-le32
 returns-else-width-le32 g c =
     rw (c.from-else-width-le32.ensures, c.from-else-width-le32-2.ensures)
-    (joined c.args.bytes.now c.args.at c.args.width c.get-low.result c.get-high.result (omega arith) (omega arith) c.get-low.ensures.pattern c.get-high.ensures.pattern)
+    (joined c.args.bytes.now c.args.at c.args.width c.get-low.result c.get-high.result c.if-width-le32.false c.requires.width c.get-low.ensures.pattern c.get-high.ensures.pattern)
+
+pub returns-then-width-le32 : goal.returns-then-width-le32
+returns-then-width-le32 g c = c.from.ensures ∙ c.get.ensures.pattern
