@@ -42,6 +42,12 @@ numbers_in-at bytes at w signed (suc n) j h = elim (cases_lt j n) [
 -- the numbers of a run of fields, one by one
 pub ruleset run_numbers = (numbers_in-at, numbers_in-length)
 
+pub within_run : (bytes : List ℕ) (at w : ℕ) (signed : Bool) (n j : ℕ) (vs : List ℤ) → numbers_in bytes at w signed n ≡ vs → j < length vs → j < n
+within_run bytes at w signed n j vs is h = omega (arith, ap length is, numbers_in-length bytes at w signed n)
+
+pub number_of_run : (bytes : List ℕ) (at w : ℕ) (signed : Bool) (n j : ℕ) (vs : List ℤ) (v : ℤ) → numbers_in bytes at w signed n ≡ vs → j < length vs → v ≡ number_at bytes (at + w * j) w signed → slice_get vs j ≡ Some v
+number_of_run bytes at w signed n j vs v is h e = ap (λ l. slice_get l j) (sym is) ∙ numbers_in-at bytes at w signed n j (within_run bytes at w signed n j vs is h) ∙ ap Some (sym e)
+
 -- a field that is one of several ends where they do, or earlier
 pub step_within : (w k n : ℕ) → k < n → w * k + w ≤ w * n
 step_within w k n h = omega (arith, mul-le-mul_left {m = suc k} {n = n} w h, mul-suc w k)
