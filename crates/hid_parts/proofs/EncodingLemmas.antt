@@ -12,12 +12,15 @@ use Rattle.hid_layout.specs.declared.main_item.MainItem.{MainItem}
 use Rattle.hid_layout.specs.Layout.{Contents}
 use Rattle.hid_layout.specs.Reports.{IsLayout, HasElements, first_bit, report_bytes}
 use Rattle.hid_descriptor.specs.Fields.{is_padding}
+use Rattle.hid_descriptor.specs.Usages.{Entry, usage_list}
+use Rattle.hid_descriptor.specs.declared.shape.Shape.{Shape}
+use Rattle.hid_layout.specs.Controls.{form_of}
 use Rattle.std.proofs.lemmas.Bool.Decides.{nat_tests}
 use Rattle.hid_parts.specs.Numbers.{numbers_in}
 use Rattle.hid_parts.specs.Encoding.{IsData, Shows, CanSend, IsEncoding, bare_report, part_numbers, sent_at, place}
 use Rattle.hid_cells.proofs.PlanLemmas.{Skips}
 use Rattle.hid_cells.specs.declared.cell.Cell.{Cell}
-use Rattle.hid_parts.specs.Sending.{placed_from, pressed_count}
+use Rattle.hid_parts.specs.Sending.{sent, placed_from, pressed_count}
 use Rattle.hid_parts.proofs.PlaceLemmas.{placed_from-length}
 use Rattle.hid_parts.proofs.NumberLemmas.{numbers_in-agree}
 
@@ -102,6 +105,13 @@ pub ruleset whole_report = (refill_same, shows_none)
 pub encoded : (layout : Contents) (r k : ℕ) (numbers : ℕ → List ℤ) (bytes : List ℕ) → k ≡ length layout.items → length bytes ≡ report_bytes layout r
     → Shows layout r numbers k (bare_report layout r) bytes → IsEncoding layout r numbers bytes
 encoded layout r k numbers bytes e whole s = record { whole = whole; shows = rw (← e) s }
+
+pub sent_there : (layout : Contents) (i : ℕ) (item : MainItem) (es : List Entry) (cell : Cell) (shape : Shape) → slice_get layout.items i ≡ Some item → slice_get layout.entries i ≡ Some es → item.shape ≡ shape
+    → sent_at layout i cell ≡ sent item (usage_list es) (form_of item (usage_list es) shape) cell
+sent_there layout i item es cell shape it ranges is =
+    ap (λ (o : Option MainItem). elim o as (λ _. List ℤ) [ None ↦ [] | Some x ↦ elim (slice_get layout.entries i) as (λ _. List ℤ) [ None ↦ [] | Some l ↦ sent x (usage_list l) (form_of x (usage_list l) x.shape) cell ] ]) it
+    ∙ ap (λ (o : Option (List Entry)). elim o as (λ _. List ℤ) [ None ↦ [] | Some l ↦ sent item (usage_list l) (form_of item (usage_list l) item.shape) cell ]) ranges
+    ∙ ap (λ (s : Shape). sent item (usage_list es) (form_of item (usage_list es) s) cell) is
 
 pub cell_numbers : (layout : Contents) (parts : List Cell) (i : ℕ) (cell : Cell) → slice_get parts i ≡ Some cell → part_numbers layout parts i ≡ sent_at layout i cell
 cell_numbers layout parts i cell h = ap (λ (o : Option Cell). elim o as (λ _. List ℤ) [ None ↦ [] | Some x ↦ sent_at layout i x ]) h
