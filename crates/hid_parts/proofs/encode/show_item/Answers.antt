@@ -1,4 +1,4 @@
-use Rattle.std.proofs.Common.{◌∙◌, sym}
+use Rattle.std.proofs.Common.{◌∙◌, sym, arith}
 use Rattle.hid_parts.specs.Encoding.{IsData, part_numbers}
 use Rattle.hid_parts.proofs.EncodingLemmas.{data_if, no_data_if, place_inside, shows_passed, shows_next, cell_numbers}
 use Rattle.hid_parts.proofs.encode.show_item.Goals as goal
@@ -29,3 +29,12 @@ pub returns-else-is_data-clause-shows : goal.returns-else-is_data-clause-shows
 returns-else-is_data-clause-shows g c = λ before s.
     shows_passed c.args.layout.now c.args.report (part_numbers c.args.layout.now c.args.shown.now) c.args.i before c.args.bytes.now
     (no_data_if c.args.layout.now c.args.report c.args.i c.item_at-item.result.now c.item_at-item.ensures.item (sym c.is_data.ensures ∙ c.if-is_data.false)) s
+
+pub cell_at-requires : goal.cell_at-requires
+cell_at-requires g c = omega (arith, c.requires.part.all_there, c.requires.listed)
+
+pub write_item-requires-clause-listed : goal.write_item-requires-clause-listed
+write_item-requires-clause-listed g c = c.item_at-item.ensures.item
+
+pub write_item-requires-clause-places : goal.write_item-requires-clause-places
+write_item-requires-clause-places g c = c.requires.part.few_places c.args.i c.cell_at.result.now c.cell_at.ensures
