@@ -69,10 +69,7 @@ fn roll_over(cell: &mut Cell, elements: usize)
     if rolls {
         match mem::replace(cell, Cell::Vacant) {
             Cell::Pressed(flags) => *cell = Cell::RolledOver(flags),
-            Cell::Vacant => {}
-            Cell::Holding(values) => *cell = Cell::Holding(values),
-            Cell::Moved(motions) => *cell = Cell::Moved(motions),
-            Cell::RolledOver(flags) => *cell = Cell::RolledOver(flags),
+            other => *cell = other,
         }
     }
 }
