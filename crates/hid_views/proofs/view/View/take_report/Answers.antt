@@ -41,3 +41,13 @@ invariant_of-self g c =
     let fits = subst (λ (cells : List Cell). Suits InView (items_of c.args.layout.now) cells) (sym is) (read_view_fits c.args.layout.now c.in-Ok.report c.args.bytes.now c.args.self.now c.plan_of-places.ensures.layout input c.requires.fits) in
     let names = subst (λ (cells : List Cell). NamesNone cells c.self.inside.named) c.self.view_is c.self.invariant in
     names_stay (items_of c.args.layout.now) c.args.self.now _ c.self.inside.named c.take_items.new.named c.requires.fits fits names c.take_items.ensures.named
+
+pub take_items-requires-clause-fits : goal.take_items-requires-clause-fits
+take_items-requires-clause-fits g c =
+    let same : c.deref_mut.result.now ≡ c.args.self.now = search rules in
+    subst (λ (cells : List Cell). Suits InView (items_of c.args.layout.now) cells) (sym same) c.requires.fits
+
+pub take_items-requires-clause-named : goal.take_items-requires-clause-named
+take_items-requires-clause-named g c =
+    let same : c.deref_mut.result.now ≡ c.args.self.now = search rules in
+    subst (λ (cells : List Cell). NamesNone cells c.self.inside.named) (c.self.view_is ∙ sym same) c.self.invariant
