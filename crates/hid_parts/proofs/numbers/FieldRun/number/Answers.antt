@@ -1,4 +1,4 @@
-use Rattle.std.proofs.Common.{◌≡◌, ℕ, ◌+◌, ◌*◌, ◌<◌, ◌∙◌, to_z, of_z, w64, ap, arith, rules}
+use Rattle.std.proofs.Common.{◌≡◌, ℕ, ◌<◌, ◌∙◌, to_z, of_z, w64, ap, arith, rules}
 use Rattle.std.proofs.lemmas.Int.{to_z-of_z}
 use Rattle.hid_fields.specs.Value.{value_of}
 use Rattle.hid_parts.proofs.NumberLemmas.{step_within, within_run, number_of_run}
