@@ -71,6 +71,13 @@ frame_said [] = Some 1
 frame_said (count ∷ []) = count_of count
 frame_said _ = None
 
+-- [FATE [COUNT]]
+unfoldable pub tries_said : List Word → Option (Fate × ℕ)
+tries_said [] = Some (Clean, 1)
+tries_said (fate ∷ []) = two (fate_of fate) (Some 1)
+tries_said (fate ∷ count ∷ []) = two (fate_of fate) (count_of count)
+tries_said _ = None
+
 -- D [FATE [COUNT]]
 unfoldable pub poll_said : List Word → Option (ℕ × Fate × ℕ)
 poll_said (dev ∷ []) = three (device_of dev) (Some Clean) (Some 1)

@@ -1,5 +1,5 @@
 -- The words of a line, and the bytes that words of hex spell (our choice: the script language of docs/SCRIPT.md).
-use Rattle.std.specs.Prelude.{◌≡◌, ℕ, ◌+◌, ◌*◌, ◌/◌, ◌==◌, Bool, not, ◌||◌, List, [], ◌∷◌, length, filter, sum_by, if◌then◌else◌, Option, None, Some, Result, MatchResult, is_ok}
+use Rattle.std.specs.Prelude.{◌≡◌, ℕ, ◌≤◌, ◌+◌, ◌*◌, ◌/◌, ◌==◌, Bool, not, ◌||◌, List, [], ◌∷◌, length, filter, sum_by, if◌then◌else◌, Option, None, Some, Result, MatchResult, is_ok}
 use Rattle.std.specs.List.{slice_split, list_all, flat_map}
 use Rattle.std.specs.Result.{result_unwrap_or}
 use Rattle.std.specs.Str.{bytes_eq}
@@ -28,6 +28,21 @@ words_of line = filter (λ word. not (length word == 0)) (slice_split is_blank l
 abbrev pub Parts : List Word → Option (Word × List Word) → Type 0
 Parts words None = words ≡ []
 Parts words (Some found) = words ≡ found.0 ∷ found.1
+
+-- words begin with two, before others, or there are fewer
+abbrev pub TwoParts : List Word → Option (Word × Word × List Word) → Type 0
+TwoParts words None = length words ≤ 1
+TwoParts words (Some found) = words ≡ found.0 ∷ found.1 ∷ found.2
+
+-- two words, where there are no others
+unfoldable pub two_words : List Word → Option (Word × Word)
+two_words (first ∷ second ∷ []) = Some (first, second)
+two_words _ = None
+
+-- and three
+unfoldable pub three_words : List Word → Option (Word × Word × Word)
+three_words (first ∷ second ∷ third ∷ []) = Some (first, second, third)
+three_words _ = None
 
 -- what a table has under a word
 abbrev pub look_up : {X : Type 0} → List (Word × X) → Word → Option X

@@ -2,10 +2,10 @@
 
 ghost use Rattle.std.specs.Prelude.{◌≡◌};
 ghost use Rattle.hid_lines.specs.Words.{words_of};
-ghost use Rattle.hid_lines.specs.Arguments.{fate_of, boot_of, start_of, control_said, set_said, move_said, frame_said, poll_said, one_device_said};
+ghost use Rattle.hid_lines.specs.Arguments.{three, fate_of, boot_of, start_of, control_said, set_said, move_said, frame_said, tries_said, poll_said, one_device_said};
 
 use super::numbers::{read_amount, read_count, read_device, read_signed, read_usage};
-use super::words::{first_word, look_up};
+use super::words::{first_word, look_up, three_words, two_words};
 use hid_descriptor::Usage;
 use hid_requests::{Boot, Start};
 use usb_transact::Fate;
@@ -46,58 +46,50 @@ fn read_fate(word: &[u8]) -> Option<Fate>
     )
 }
 
+/// What three words say; nothing where one of them isn't understood.
+fn all_said<A: Copy, B: Copy, C: Copy>(
+    first: Option<A>,
+    second: Option<B>,
+    third: Option<C>,
+) -> Option<(A, B, C)>
+    ensures { result ≡ three first second third }
+{
+    match (first, second, third) {
+        (Some(first), Some(second), Some(third)) => Some((first, second, third)),
+        _ => None,
+    }
+}
+
 /// `D U`: a control of a device, by its usage.
-#[tactic(auto, unfolding(crate::specs::Arguments::control_said))]
+#[tactic(auto, unfolding(crate::specs::Arguments::control_said, crate::specs::Words::two_words))]
 pub fn read_control(text: &[u8]) -> Option<(u8, Usage)>
     ensures { result ≡ control_said (words_of text.now) }
 {
-    let (dev, text) = first_word(text)?;
-    let (usage, text) = first_word(text)?;
-    if first_word(text).is_some() {
-        return None;
-    }
-    let dev = read_device(dev)?;
-    let usage = read_usage(usage)?;
-    Some((dev, usage))
+    let (dev, usage) = two_words(text)?;
+    read_device(dev).zip(read_usage(usage))
 }
 
 /// `D U N`: a control, and what it is set to.
-#[tactic(auto, unfolding(crate::specs::Arguments::set_said))]
+#[tactic(auto, unfolding(crate::specs::Arguments::set_said, crate::specs::Words::three_words))]
 pub fn read_set(text: &[u8]) -> Option<(u8, Usage, i64)>
     ensures { result ≡ set_said (words_of text.now) }
 {
-    let (dev, text) = first_word(text)?;
-    let (usage, text) = first_word(text)?;
-    let (value, text) = first_word(text)?;
-    if first_word(text).is_some() {
-        return None;
-    }
-    let dev = read_device(dev)?;
-    let usage = read_usage(usage)?;
-    let value = read_signed(value)?;
-    Some((dev, usage, value))
+    let (dev, usage, value) = three_words(text)?;
+    all_said(read_device(dev), read_usage(usage), read_signed(value))
 }
 
 /// `D U N`: a control, and by how much it moves.
-#[tactic(auto, unfolding(crate::specs::Arguments::move_said))]
+#[tactic(auto, unfolding(crate::specs::Arguments::move_said, crate::specs::Words::three_words))]
 pub fn read_move(text: &[u8]) -> Option<(u8, Usage, i32)>
     ensures { result ≡ move_said (words_of text.now) }
 {
-    let (dev, text) = first_word(text)?;
-    let (usage, text) = first_word(text)?;
-    let (by, text) = first_word(text)?;
-    if first_word(text).is_some() {
-        return None;
-    }
-    let dev = read_device(dev)?;
-    let usage = read_usage(usage)?;
-    let by = read_amount(by)?;
-    Some((dev, usage, by))
+    let (dev, usage, by) = three_words(text)?;
+    all_said(read_device(dev), read_usage(usage), read_amount(by))
 }
 
-/// `[COUNT]`: how many frames pass.
+/// `[COUNT]`: how often; once where no count stands.
 #[tactic(auto, unfolding(crate::specs::Arguments::frame_said))]
-pub fn read_frame(text: &[u8]) -> Option<u16>
+pub fn read_times(text: &[u8]) -> Option<u16>
     ensures { result ≡ frame_said (words_of text.now) }
 {
     let Some((count, text)) = first_word(text) else {
@@ -109,22 +101,25 @@ pub fn read_frame(text: &[u8]) -> Option<u16>
     read_count(count)
 }
 
+/// `[FATE [COUNT]]`: what is lost, and how often.
+#[tactic(auto, unfolding(crate::specs::Arguments::tries_said, crate::specs::Arguments::frame_said))]
+fn read_tries(text: &[u8]) -> Option<(Fate, u16)>
+    ensures { result ≡ tries_said (words_of text.now) }
+{
+    let Some((fate, text)) = first_word(text) else {
+        return Some((Fate::Clean, 1));
+    };
+    read_fate(fate).zip(read_times(text))
+}
+
 /// `D [FATE [COUNT]]`: a device, what is lost, and how often it is polled, or a transfer tried.
-#[tactic(auto, unfolding(crate::specs::Arguments::poll_said))]
+#[tactic(auto, unfolding(crate::specs::Arguments::poll_said, crate::specs::Arguments::tries_said))]
 pub fn read_poll(text: &[u8]) -> Option<(u8, Fate, u16)>
     ensures { result ≡ poll_said (words_of text.now) }
 {
     let (dev, text) = first_word(text)?;
-    let Some((fate, text)) = first_word(text) else {
-        return Some((read_device(dev)?, Fate::Clean, 1));
-    };
-    let Some((count, text)) = first_word(text) else {
-        return Some((read_device(dev)?, read_fate(fate)?, 1));
-    };
-    if first_word(text).is_some() {
-        return None;
-    }
-    Some((read_device(dev)?, read_fate(fate)?, read_count(count)?))
+    let (dev, (fate, count)) = read_device(dev).zip(read_tries(text))?;
+    Some((dev, fate, count))
 }
 
 /// `D`: a device alone, which is reset or halted.

@@ -10,7 +10,7 @@ use super::arguments::{read_boot, read_start};
 use super::fault::LineFault;
 use super::requests::read_begin;
 use super::short::read_short_words;
-use super::words::{first_word, look_up, no_blank, read_hex};
+use super::words::{first_two_words, first_word, look_up, no_blank, read_hex};
 use arrayvec::ArrayVec;
 use hid_descriptor::Usage;
 use hid_requests::{Boot, Request, Start};
@@ -267,10 +267,12 @@ fn read_attachment(text: &[u8]) -> Result<Line, LineFault>
     requires { length text.now ≤ 1024 }
     ensures { result ≡ device_said (words_of text.now) }
 {
-    let (start, text) = first_word(text).ok_or(LineFault::Syntax)?;
-    let (kind, hex) = first_word(text).ok_or(LineFault::Syntax)?;
-    let start = read_start(start).ok_or(LineFault::Syntax)?;
-    let boot = read_boot(kind).ok_or(LineFault::Syntax)?;
+    let Some((start, kind, hex)) = first_two_words(text) else {
+        return Err(LineFault::Syntax);
+    };
+    let Some((start, boot)) = read_start(start).zip(read_boot(kind)) else {
+        return Err(LineFault::Syntax);
+    };
     let bytes = read_hex(hex)?;
     Ok(Line::Device { start, boot, bytes })
 }

@@ -7,7 +7,7 @@ ghost use Rattle.hid_lines.specs.Requests.{request_word_of, kind_of, boot_protoc
 use super::fault::LineFault;
 use super::line::Line;
 use super::numbers::{read_byte, read_device};
-use super::words::{count_bytes, first_word, look_up, read_hex};
+use super::words::{count_bytes, first_two_words, first_word, look_up, read_hex, two_words};
 use arrayvec::ArrayVec;
 use hid_descriptor::ReportKind;
 use hid_requests::Request;
@@ -93,18 +93,12 @@ fn alone(request: Request, text: &[u8]) -> Result<Request, LineFault>
 }
 
 /// `ID TIME`: an idle time that is set (7.2.4).
-#[tactic(auto, unfolding(crate::specs::Requests::idle_said))]
+#[tactic(auto, unfolding(crate::specs::Requests::idle_said, crate::specs::Words::two_words))]
 fn read_idle(text: &[u8]) -> Option<(u8, u8)>
     ensures { result ≡ idle_said (words_of text.now) }
 {
-    let (id, text) = first_word(text)?;
-    let (time, text) = first_word(text)?;
-    if first_word(text).is_some() {
-        return None;
-    }
-    let id = read_byte(id)?;
-    let time = read_byte(time)?;
-    Some((id, time))
+    let (id, time) = two_words(text)?;
+    read_byte(id).zip(read_byte(time))
 }
 
 /// `ID`: a report by its Report ID.
@@ -132,18 +126,12 @@ fn read_protocol(text: &[u8]) -> Option<bool>
 }
 
 /// `TYPE ID`: a report that is asked for (7.2.1).
-#[tactic(auto, unfolding(crate::specs::Requests::report_said))]
+#[tactic(auto, unfolding(crate::specs::Requests::report_said, crate::specs::Words::two_words))]
 fn read_report(text: &[u8]) -> Option<(ReportKind, u8)>
     ensures { result ≡ report_said (words_of text.now) }
 {
-    let (kind, text) = first_word(text)?;
-    let (id, text) = first_word(text)?;
-    if first_word(text).is_some() {
-        return None;
-    }
-    let kind = read_kind(kind)?;
-    let id = read_byte(id)?;
-    Some((kind, id))
+    let (kind, id) = two_words(text)?;
+    read_kind(kind).zip(read_byte(id))
 }
 
 /// `TYPE ID HEX`: a report that is set (7.2.2). How many bytes there are is looked at before their digits.
@@ -152,10 +140,12 @@ fn read_set_report(text: &[u8]) -> Result<Request, LineFault>
     requires { length text.now ≤ 1024 }
     ensures { result ≡ set_report_said (words_of text.now) }
 {
-    let (kind, text) = first_word(text).ok_or(LineFault::Syntax)?;
-    let (id, hex) = first_word(text).ok_or(LineFault::Syntax)?;
-    let kind = read_kind(kind).ok_or(LineFault::Syntax)?;
-    let id = read_byte(id).ok_or(LineFault::Syntax)?;
+    let Some((kind, id, hex)) = first_two_words(text) else {
+        return Err(LineFault::Syntax);
+    };
+    let Some((kind, id)) = read_kind(kind).zip(read_byte(id)) else {
+        return Err(LineFault::Syntax);
+    };
     if count_bytes(hex) > REPORT_LIMIT {
         return Err(LineFault::Syntax);
     }
@@ -178,20 +168,28 @@ fn read_asked(word: RequestWord, text: &[u8]) -> Result<Request, LineFault>
         RequestWord::Status => alone(Request::Status, text),
         RequestWord::GetConfiguration => alone(Request::GetConfiguration, text),
         RequestWord::Idle => {
-            let (id, time) = read_idle(text).ok_or(LineFault::Syntax)?;
+            let Some((id, time)) = read_idle(text) else {
+                return Err(LineFault::Syntax);
+            };
             Ok(Request::Idle { id, time })
         }
         RequestWord::GetIdle => {
-            let id = read_id(text).ok_or(LineFault::Syntax)?;
+            let Some(id) = read_id(text) else {
+                return Err(LineFault::Syntax);
+            };
             Ok(Request::GetIdle { id })
         }
         RequestWord::Protocol => {
-            let boot = read_protocol(text).ok_or(LineFault::Syntax)?;
+            let Some(boot) = read_protocol(text) else {
+                return Err(LineFault::Syntax);
+            };
             Ok(Request::Protocol { boot })
         }
         RequestWord::GetProtocol => alone(Request::GetProtocol, text),
         RequestWord::GetReport => {
-            let (kind, id) = read_report(text).ok_or(LineFault::Syntax)?;
+            let Some((kind, id)) = read_report(text) else {
+                return Err(LineFault::Syntax);
+            };
             Ok(Request::GetReport { kind, id })
         }
         RequestWord::SetReport => read_set_report(text),
@@ -207,8 +205,12 @@ fn read_request(text: &[u8]) -> Result<Request, LineFault>
     requires { length text.now ≤ 1024 }
     ensures { result ≡ request_said (words_of text.now) }
 {
-    let (first, rest) = first_word(text).ok_or(LineFault::Syntax)?;
-    let word = read_request_word(first).ok_or(LineFault::Syntax)?;
+    let Some((first, rest)) = first_word(text) else {
+        return Err(LineFault::Syntax);
+    };
+    let Some(word) = read_request_word(first) else {
+        return Err(LineFault::Syntax);
+    };
     read_asked(word, rest)
 }
 
@@ -219,8 +221,12 @@ pub fn read_begin(text: &[u8]) -> Result<Line, LineFault>
     requires { length text.now ≤ 1024 }
     ensures { result ≡ begin_said (words_of text.now) }
 {
-    let (dev, request) = first_word(text).ok_or(LineFault::Syntax)?;
-    let dev = read_device(dev).ok_or(LineFault::Syntax)?;
+    let Some((dev, request)) = first_word(text) else {
+        return Err(LineFault::Syntax);
+    };
+    let Some(dev) = read_device(dev) else {
+        return Err(LineFault::Syntax);
+    };
     let request = read_request(request)?;
     Ok(Line::Begin { dev, request })
 }

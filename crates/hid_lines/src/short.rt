@@ -5,7 +5,7 @@ ghost use Rattle.hid_lines.specs.Line.{meaning_of, words_said};
 ghost use Rattle.hid_lines.specs.Short.{line_of, may_be_long, is_long, short_said};
 ghost use Rattle.hid_lines.specs.Words.{words_of};
 
-use super::arguments::{read_control, read_frame, read_move, read_one_device, read_poll, read_set};
+use super::arguments::{read_control, read_move, read_one_device, read_poll, read_set, read_times};
 use super::line::{Keyword, LINE_LIMIT, Line, read_keyword};
 use super::words::first_word;
 use hid_descriptor::Usage;
@@ -65,7 +65,7 @@ pub(super) fn read_short_words(keyword: Keyword, text: &[u8]) -> Option<ShortLin
             Some(ShortLine::Move { dev, usage, by })
         }
         Keyword::Frame => {
-            let count = read_frame(text)?;
+            let count = read_times(text)?;
             Some(ShortLine::Frame { count })
         }
         Keyword::Poll => {

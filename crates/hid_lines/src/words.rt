@@ -5,7 +5,7 @@ ghost use Rattle.std.specs.Option.{option_map};
 ghost use Rattle.std.specs.Result.{result_unwrap_or};
 ghost use Rattle.hex.specs.Hex.{decode_of, hex_digit_value};
 ghost use Rattle.arrayvec.specs.ArrayVec.{array_vec_len};
-ghost use Rattle.hid_lines.specs.Words.{Parts, is_blank, is_no_blank, words_of, look_up as under, hex_of, pair_of, GivesHex, byte_count};
+ghost use Rattle.hid_lines.specs.Words.{Parts, TwoParts, is_blank, is_no_blank, words_of, two_words, three_words, look_up as under, hex_of, pair_of, GivesHex, byte_count};
 
 use super::fault::LineFault;
 use super::line::HEX_LIMIT;
@@ -43,6 +43,38 @@ pub fn first_word(text: &[u8]) -> Option<(&[u8], &[u8])>
     let text = &text[start..];
     let end = blank(text).unwrap_or(text.len());
     Some((&text[..end], &text[end..]))
+}
+
+/// The first two words of a text and what stands behind them, where the text has two.
+pub fn first_two_words(text: &[u8]) -> Option<(&[u8], &[u8], &[u8])>
+    ensures words { TwoParts (words_of text.now) (option_map (λ found. (found.0.now, found.1.now, words_of found.2.now)) result) }
+    ensures room { IfSome result (λ found. length found.2.now ≤ length text.now) }
+{
+    let (first, text) = first_word(text)?;
+    let (second, text) = first_word(text)?;
+    Some((first, second, text))
+}
+
+/// The two words of a text; none where there are more or fewer.
+#[tactic(auto, unfolding(crate::specs::Words::two_words))]
+pub fn two_words(text: &[u8]) -> Option<(&[u8], &[u8])>
+    ensures { option_map (λ words. (words.0.now, words.1.now)) result ≡ two_words (words_of text.now) }
+{
+    let (first, second, more) = first_two_words(text)?;
+    match first_word(more) {
+        Some(_) => None,
+        None => Some((first, second)),
+    }
+}
+
+/// The three words of a text; none where there are more or fewer.
+#[tactic(auto, unfolding(crate::specs::Words::two_words, crate::specs::Words::three_words))]
+pub fn three_words(text: &[u8]) -> Option<(&[u8], &[u8], &[u8])>
+    ensures { option_map (λ words. (words.0.now, words.1.now, words.2.now)) result ≡ three_words (words_of text.now) }
+{
+    let (first, text) = first_word(text)?;
+    let (second, third) = two_words(text)?;
+    Some((first, second, third))
 }
 
 /// The words between spaces and tabs.
