@@ -1,7 +1,7 @@
 //! A layout, as it is printed.
 
 ghost use Rattle.std.specs.Prelude.{◌≡◌, ◌++◌, ◌∷◌, ◌<◌, length, OnOk, slice_get, string_bytes, codes};
-ghost use Rattle.std.specs.Fmt.{decimal};
+ghost use Rattle.std.specs.Fmt.{decimal, signed_decimal};
 ghost use Rattle.hid_descriptor.specs.Flags.{has_flag, RELATIVE};
 ghost use Rattle.hid_text.specs.LayoutText.{kind_word, report_name, collection_text, shape_word, range_words, entries_text, details_text, path_text, item_head, item_line, report_line, report_at, item_at, layout_lines, layout_text};
 
@@ -55,6 +55,17 @@ fn shape_word(item: &MainItem) -> &'static str
     }
 }
 
+/// Adds the least and the greatest value of an item: ` -127..127`.
+fn print_bounds(text: &mut String, item: &MainItem) -> Result<(), AllocError>
+    ensures { OnOk result (string_bytes text.new ≡ string_bytes text.old
+        ++ 32 ∷ signed_decimal item.now.min ++ codes ".." ++ signed_decimal item.now.max) }
+{
+    text.push(' ')?;
+    print_signed(text, item.min)?;
+    text.push_str("..")?;
+    print_signed(text, item.max)
+}
+
 /// Adds the range of an item.
 fn print_range(text: &mut String, item: &MainItem) -> Result<(), AllocError>
     ensures { OnOk result (string_bytes text.new ≡ string_bytes text.old ++ range_words item.now) }
@@ -62,10 +73,7 @@ fn print_range(text: &mut String, item: &MainItem) -> Result<(), AllocError>
     if item.flags.has_null_state() {
         text.push_str(" null")?;
     }
-    text.push(' ')?;
-    print_signed(text, item.min)?;
-    text.push_str("..")?;
-    print_signed(text, item.max)
+    print_bounds(text, item)
 }
 
 /// Adds each usage entry behind a space.

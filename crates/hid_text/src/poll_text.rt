@@ -2,7 +2,7 @@
 
 ghost use Rattle.std.specs.Prelude.{◌≡◌, ◌++◌, OnOk, string_bytes};
 ghost use Rattle.std.specs.Option.{option_copied};
-ghost use Rattle.hid_text.specs.PollText.{packet_words, reply_words, verdict_word, poll_text};
+ghost use Rattle.hid_text.specs.PollText.{packet_words, reply_words, reply_text, verdict_word, poll_text};
 
 use hid_notation::print_bytes;
 use std::alloc::AllocError;
@@ -15,15 +15,8 @@ fn print_packet(text: &mut String, packet: &Packet) -> Result<(), AllocError>
         ≡ string_bytes text.old ++ packet_words packet.now) }
 {
     match packet {
-        Packet::Data {
-            one: false,
-            payload,
-        } => {
-            text.push_str("DATA0")?;
-            print_bytes(text, payload.as_slice())
-        }
-        Packet::Data { one: true, payload } => {
-            text.push_str("DATA1")?;
+        Packet::Data { one, payload } => {
+            text.push_str(if *one { "DATA1" } else { "DATA0" })?;
             print_bytes(text, payload.as_slice())
         }
         Packet::Nak => text.push_str("NAK"),
@@ -39,6 +32,17 @@ fn print_reply(text: &mut String, bytes: &[u8]) -> Result<(), AllocError>
     match decode(bytes) {
         Ok(packet) => print_packet(text, &packet),
         Err(_) => text.push_str("none"),
+    }
+}
+
+/// Adds what a device sent, if it did.
+fn print_sent(text: &mut String, reply: Option<&[u8]>) -> Result<(), AllocError>
+    ensures { OnOk result (string_bytes text.new
+        ≡ string_bytes text.old ++ reply_text (option_copied reply.entry)) }
+{
+    match reply {
+        None => text.push_str("none"),
+        Some(bytes) => print_reply(text, bytes),
     }
 }
 
@@ -67,10 +71,7 @@ pub fn print_poll(
         ≡ string_bytes text.old ++ poll_text dev (option_copied reply.entry) took.now) }
 {
     write!(text, "{dev} poll ")?;
-    match reply {
-        None => text.push_str("none")?,
-        Some(bytes) => print_reply(text, bytes)?,
-    }
+    print_sent(text, reply)?;
     let verdict = verdict_word(took);
     writeln!(text, " {verdict}")
 }

@@ -1,10 +1,10 @@
 //! The values of a report, as they are printed.
 
 ghost use Rattle.std.specs.Prelude.{◌≡◌, ◌++◌, ◌∷◌, ◌<◌, ◌≤◌, length, IfSome, OnOk, slice_get, string_bytes, codes};
-ghost use Rattle.std.specs.Fmt.{decimal};
+ghost use Rattle.std.specs.Fmt.{decimal, signed_decimal};
 ghost use Rattle.hid_descriptor.specs.Usages.{usage_list};
 ghost use Rattle.hid_layout.specs.Reports.{report_bytes};
-ghost use Rattle.hid_notation.specs.Text.{joined_below};
+ghost use Rattle.hid_notation.specs.Text.{joined_below, usage_or_dash};
 ghost use Rattle.hid_usages.specs.Reading.{usage_named};
 ghost use Rattle.hid_text.specs.ValuesText.{usage_of_element, usage_shown, value_line, value_at, values_at, values_text};
 
@@ -57,6 +57,17 @@ fn print_place(text: &mut String, i: usize, j: usize) -> Result<(), AllocError>
     print_number(text, j as u64)
 }
 
+/// Adds a number, and the usage that it belongs to: ` -127 01:30`.
+fn print_number_of(text: &mut String, number: i64, usage: Option<Usage>) -> Result<(), AllocError>
+    ensures { OnOk result (string_bytes text.new ≡ string_bytes text.old
+        ++ 32 ∷ signed_decimal number ++ 32 ∷ usage_or_dash usage) }
+{
+    text.push(' ')?;
+    print_signed(text, number)?;
+    text.push(' ')?;
+    print_usage_or_dash(text, usage)
+}
+
 /// Adds the line of a value.
 #[tactic(auto, unfolding(crate::specs::ValuesText::value_line))]
 fn print_value(
@@ -70,10 +81,7 @@ fn print_value(
         ≡ string_bytes text.old ++ value_line i j number usage) }
 {
     print_place(text, i, j)?;
-    text.push(' ')?;
-    print_signed(text, number)?;
-    text.push(' ')?;
-    print_usage_or_dash(text, usage)?;
+    print_number_of(text, number, usage)?;
     text.push('\n')
 }
 
