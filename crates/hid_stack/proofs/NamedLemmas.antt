@@ -42,11 +42,12 @@ pub record IsNamed (members : List Member) (dev i : ℕ) (m : Member) : Type 0 w
   pub read : slice_get members i ≡ Some m
   pub here : member_at members dev ≡ Some m
 
-pub named : (slots members : List Member) (dev i : ℕ) (m : Member) → slots ≡ members → dev ≡ i + 1 → i < length slots → m ≡ get_or slots i m → IsNamed members dev i m
+pub named : (slots members : List Member) (dev i : ℕ) (m : Member) → slots ≡ members → dev ≡ i + 1 → i < length members → m ≡ get_or slots i m → IsNamed members dev i m
 named slots members dev i m same number within is =
     let place : dev - 1 ≡ i = omega arith in
     let some : eqb dev 0 ≡ false = grind (arith, nat_tests) in
-    let read : slice_get members i ≡ Some m = subst (λ (ms : List Member). slice_get ms i ≡ Some m) same (slice_get_read slots (length slots) i m refl within is) in
+    let read : slice_get members i ≡ Some m = subst (λ (ms : List Member). slice_get ms i ≡ Some m) same
+        (slice_get_read slots (length slots) i m refl (subst (λ (ms : List Member). i < length ms) (sym same) within) is) in
     record {
       place = place;
       read = read;

@@ -76,7 +76,7 @@ pub returns-after-change-clause-after : goal.returns-after-change-clause-after
 returns-after-change-clause-after c =
     where_done c.match-change.result _ (subst (λ (x : Step). slice_set c.self.inside.slots.items c.in_ok-i-in-Change.i c.change.new.self ≡ bus_after c.args.self.now x) (sym c.in-Change.is)
     (leaves c.self.inside.slots.items c.args.self.now c.in-Change.dev c.in_ok-i-in-Change.i c.index_mut.result.now c.change.new.self (Scheduled (Changes c.in-Change.change)) c.self.view_is
-    (named c.self.inside.slots.items c.args.self.now c.in-Change.dev c.in_ok-i-in-Change.i c.index_mut.result.now c.self.view_is c.in_ok-i-in-Change.ensures.place.0 (search rules) c.index_mut.ensures.value) c.change.ensures.after))
+    (named c.self.inside.slots.items c.args.self.now c.in-Change.dev c.in_ok-i-in-Change.i c.index_mut.result.now c.self.view_is c.in_ok-i-in-Change.ensures.place.0 c.in_ok-i-in-Change.ensures.place.1 c.index_mut.ensures.value) c.change.ensures.after))
 
 pub returns-after-change-clause-refused : goal.returns-after-change-clause-refused
 returns-after-change-clause-refused c =
@@ -86,7 +86,7 @@ returns-after-change-clause-refused c =
     ] in
     subst (λ (x : Step). (e : StackFault) → refusal c.args.self.now x ≡ Some e → c.match-change.result ≡ Err e) (sym c.in-Change.is)
     (change_refused c.args.self.now c.in-Change.dev c.in_ok-i-in-Change.i c.index_mut.result.now c.in-Change.change c.change.result c.change.new.self.station.standing.snapshot c.match-change.result
-    (named c.self.inside.slots.items c.args.self.now c.in-Change.dev c.in_ok-i-in-Change.i c.index_mut.result.now c.self.view_is c.in_ok-i-in-Change.ensures.place.0 (search rules) c.index_mut.ensures.value) c.change.ensures.changes told)
+    (named c.self.inside.slots.items c.args.self.now c.in-Change.dev c.in_ok-i-in-Change.i c.index_mut.result.now c.self.view_is c.in_ok-i-in-Change.ensures.place.0 c.in_ok-i-in-Change.ensures.place.1 c.index_mut.ensures.value) c.change.ensures.changes told)
 
 pub returns-after-change-clause-only : goal.returns-after-change-clause-only
 returns-after-change-clause-only c =
@@ -96,49 +96,49 @@ returns-after-change-clause-only c =
     ] in
     subst (λ (x : Step). IfErr c.match-change.result (λ e. IsRefusal c.args.self.now x e)) (sym c.in-Change.is)
     (change_only c.args.self.now c.in-Change.dev c.in_ok-i-in-Change.i c.index_mut.result.now c.in-Change.change c.change.result c.change.new.self.station.standing.snapshot c.match-change.result
-    (named c.self.inside.slots.items c.args.self.now c.in-Change.dev c.in_ok-i-in-Change.i c.index_mut.result.now c.self.view_is c.in_ok-i-in-Change.ensures.place.0 (search rules) c.index_mut.ensures.value) c.change.ensures.changes told)
+    (named c.self.inside.slots.items c.args.self.now c.in-Change.dev c.in_ok-i-in-Change.i c.index_mut.result.now c.self.view_is c.in_ok-i-in-Change.ensures.place.0 c.in_ok-i-in-Change.ensures.place.1 c.index_mut.ensures.value) c.change.ensures.changes told)
 
 pub returns-in_ok-i-in-Poll-clause-told : goal.returns-in_ok-i-in-Poll-clause-told
 returns-in_ok-i-in-Poll-clause-told c =
     subst (λ (x : Step). IfOk c.poll.result (λ told. Tells c.args.self.now x told)) (sym c.in-Poll.is)
     (poll_tells c.args.self.now c.in-Poll.dev c.in_ok-i-in-Poll.i c.index_mut-in-Poll.result.now c.in-Poll.fate c.poll.result
-    (named c.self.inside.slots.items c.args.self.now c.in-Poll.dev c.in_ok-i-in-Poll.i c.index_mut-in-Poll.result.now c.self.view_is c.in_ok-i-in-Poll.ensures.place.0 (search rules) c.index_mut-in-Poll.ensures.value) c.poll.ensures.told)
+    (named c.self.inside.slots.items c.args.self.now c.in-Poll.dev c.in_ok-i-in-Poll.i c.index_mut-in-Poll.result.now c.self.view_is c.in_ok-i-in-Poll.ensures.place.0 c.in_ok-i-in-Poll.ensures.place.1 c.index_mut-in-Poll.ensures.value) c.poll.ensures.told)
 
 pub returns-in_ok-i-in-Poll-clause-after : goal.returns-in_ok-i-in-Poll-clause-after
 returns-in_ok-i-in-Poll-clause-after c =
     subst (λ (x : Step). OnOk c.poll.result (slice_set c.self.inside.slots.items c.in_ok-i-in-Poll.i c.poll.new.self ≡ bus_after c.args.self.now x)) (sym c.in-Poll.is)
     (on_ok_weaker c.poll.result (leaves c.self.inside.slots.items c.args.self.now c.in-Poll.dev c.in_ok-i-in-Poll.i c.index_mut-in-Poll.result.now c.poll.new.self (Scheduled (Polls c.in-Poll.fate)) c.self.view_is
-    (named c.self.inside.slots.items c.args.self.now c.in-Poll.dev c.in_ok-i-in-Poll.i c.index_mut-in-Poll.result.now c.self.view_is c.in_ok-i-in-Poll.ensures.place.0 (search rules) c.index_mut-in-Poll.ensures.value)) c.poll.ensures.after)
+    (named c.self.inside.slots.items c.args.self.now c.in-Poll.dev c.in_ok-i-in-Poll.i c.index_mut-in-Poll.result.now c.self.view_is c.in_ok-i-in-Poll.ensures.place.0 c.in_ok-i-in-Poll.ensures.place.1 c.index_mut-in-Poll.ensures.value)) c.poll.ensures.after)
 
 pub returns-in_ok-i-in-Poll-clause-events : goal.returns-in_ok-i-in-Poll-clause-events
 returns-in_ok-i-in-Poll-clause-events c =
     subst (λ (x : Step). OnOk c.poll.result (c.poll.new.out.items ≡ c.args.out.now.items ++ delivered_at c.args.self.now x)) (sym c.in-Poll.is)
     (one_delivered c.args.self.now c.in-Poll.dev c.in_ok-i-in-Poll.i c.index_mut-in-Poll.result.now (Scheduled (Polls c.in-Poll.fate)) c.poll.result c.args.out.now.items c.poll.new.out.items
-    (named c.self.inside.slots.items c.args.self.now c.in-Poll.dev c.in_ok-i-in-Poll.i c.index_mut-in-Poll.result.now c.self.view_is c.in_ok-i-in-Poll.ensures.place.0 (search rules) c.index_mut-in-Poll.ensures.value) c.poll.ensures.events)
+    (named c.self.inside.slots.items c.args.self.now c.in-Poll.dev c.in_ok-i-in-Poll.i c.index_mut-in-Poll.result.now c.self.view_is c.in_ok-i-in-Poll.ensures.place.0 c.in_ok-i-in-Poll.ensures.place.1 c.index_mut-in-Poll.ensures.value) c.poll.ensures.events)
 
 pub returns-in_ok-i-in-Poll-clause-refused : goal.returns-in_ok-i-in-Poll-clause-refused
 returns-in_ok-i-in-Poll-clause-refused c =
     subst (λ (x : Step). (e : StackFault) → refusal c.args.self.now x ≡ Some e → c.poll.result ≡ Err e) (sym c.in-Poll.is)
     (poll_refused c.args.self.now c.in-Poll.dev c.in_ok-i-in-Poll.i c.index_mut-in-Poll.result.now c.in-Poll.fate c.poll.result
-    (named c.self.inside.slots.items c.args.self.now c.in-Poll.dev c.in_ok-i-in-Poll.i c.index_mut-in-Poll.result.now c.self.view_is c.in_ok-i-in-Poll.ensures.place.0 (search rules) c.index_mut-in-Poll.ensures.value) c.poll.ensures.refused)
+    (named c.self.inside.slots.items c.args.self.now c.in-Poll.dev c.in_ok-i-in-Poll.i c.index_mut-in-Poll.result.now c.self.view_is c.in_ok-i-in-Poll.ensures.place.0 c.in_ok-i-in-Poll.ensures.place.1 c.index_mut-in-Poll.ensures.value) c.poll.ensures.refused)
 
 pub returns-in_ok-i-in-Poll-clause-only : goal.returns-in_ok-i-in-Poll-clause-only
 returns-in_ok-i-in-Poll-clause-only c =
     subst (λ (x : Step). IfErr c.poll.result (λ e. IsRefusal c.args.self.now x e)) (sym c.in-Poll.is)
     (poll_only c.args.self.now c.in-Poll.dev c.in_ok-i-in-Poll.i c.index_mut-in-Poll.result.now c.in-Poll.fate c.poll.result
-    (named c.self.inside.slots.items c.args.self.now c.in-Poll.dev c.in_ok-i-in-Poll.i c.index_mut-in-Poll.result.now c.self.view_is c.in_ok-i-in-Poll.ensures.place.0 (search rules) c.index_mut-in-Poll.ensures.value) c.poll.ensures.only)
+    (named c.self.inside.slots.items c.args.self.now c.in-Poll.dev c.in_ok-i-in-Poll.i c.index_mut-in-Poll.result.now c.self.view_is c.in_ok-i-in-Poll.ensures.place.0 c.in_ok-i-in-Poll.ensures.place.1 c.index_mut-in-Poll.ensures.value) c.poll.ensures.only)
 
 pub returns-in_ok-i-in-Poll-clause-room : goal.returns-in_ok-i-in-Poll-clause-room
 returns-in_ok-i-in-Poll-clause-room c =
     subst (λ (x : Step). HasRoomFor c.args.self.now x (vec_len c.args.out.now) (vec_capacity c.args.out.now) → c.poll.result ≢ Err Memory) (sym c.in-Poll.is)
     (enough_room c.args.self.now c.in-Poll.dev c.in_ok-i-in-Poll.i c.index_mut-in-Poll.result.now c.poll.result (vec_len c.args.out.now) (vec_capacity c.args.out.now)
-    (named c.self.inside.slots.items c.args.self.now c.in-Poll.dev c.in_ok-i-in-Poll.i c.index_mut-in-Poll.result.now c.self.view_is c.in_ok-i-in-Poll.ensures.place.0 (search rules) c.index_mut-in-Poll.ensures.value) c.poll.ensures.room)
+    (named c.self.inside.slots.items c.args.self.now c.in-Poll.dev c.in_ok-i-in-Poll.i c.index_mut-in-Poll.result.now c.self.view_is c.in_ok-i-in-Poll.ensures.place.0 c.in_ok-i-in-Poll.ensures.place.1 c.index_mut-in-Poll.ensures.value) c.poll.ensures.room)
 
 pub returns-in_ok-i-in-Poll-clause-few : goal.returns-in_ok-i-in-Poll-clause-few
 returns-in_ok-i-in-Poll-clause-few c =
     subst (λ (x : Step). vec_len c.poll.new.out ≤ vec_len c.args.out.now + most_events c.args.self.now x) (sym c.in-Poll.is)
     (few_of_it c.args.self.now c.in-Poll.dev c.in_ok-i-in-Poll.i c.index_mut-in-Poll.result.now (vec_len c.args.out.now) (vec_len c.poll.new.out)
-    (named c.self.inside.slots.items c.args.self.now c.in-Poll.dev c.in_ok-i-in-Poll.i c.index_mut-in-Poll.result.now c.self.view_is c.in_ok-i-in-Poll.ensures.place.0 (search rules) c.index_mut-in-Poll.ensures.value) c.poll.ensures.few)
+    (named c.self.inside.slots.items c.args.self.now c.in-Poll.dev c.in_ok-i-in-Poll.i c.index_mut-in-Poll.result.now c.self.view_is c.in_ok-i-in-Poll.ensures.place.0 c.in_ok-i-in-Poll.ensures.place.1 c.index_mut-in-Poll.ensures.value) c.poll.ensures.few)
 
 pub returns-after-change-clause-err : goal.returns-after-change-clause-err
 returns-after-change-clause-err c =
@@ -148,7 +148,7 @@ returns-after-change-clause-err c =
     ] in
     subst (λ (x : Step). IfErr c.match-change.result (λ e. slice_set c.self.inside.slots.items c.in_ok-i-in-Change.i c.change.new.self ≡ refused_after c.args.self.now x e)) (sym c.in-Change.is)
     (change_err c.self.inside.slots.items c.args.self.now c.in-Change.dev c.in_ok-i-in-Change.i c.index_mut.result.now c.change.new.self c.in-Change.change c.change.result c.match-change.result c.self.view_is
-    (named c.self.inside.slots.items c.args.self.now c.in-Change.dev c.in_ok-i-in-Change.i c.index_mut.result.now c.self.view_is c.in_ok-i-in-Change.ensures.place.0 (search rules) c.index_mut.ensures.value) told c.change.ensures.changes c.change.ensures.after)
+    (named c.self.inside.slots.items c.args.self.now c.in-Change.dev c.in_ok-i-in-Change.i c.index_mut.result.now c.self.view_is c.in_ok-i-in-Change.ensures.place.0 c.in_ok-i-in-Change.ensures.place.1 c.index_mut.ensures.value) told c.change.ensures.changes c.change.ensures.after)
 
 pub returns-after-change-clause-between : goal.returns-after-change-clause-between
 returns-after-change-clause-between c = subst (λ (x : Step). ConfiguresBetweenRounds c.args.self.now (x ∷ [])) (sym c.in-Change.is) (others_between c.args.self.now (Change c.in-Change.dev c.in-Change.change) tt)
@@ -157,7 +157,7 @@ pub returns-in_ok-i-in-Poll-clause-err : goal.returns-in_ok-i-in-Poll-clause-err
 returns-in_ok-i-in-Poll-clause-err c =
     subst (λ (x : Step). IfErr c.poll.result (λ e. slice_set c.self.inside.slots.items c.in_ok-i-in-Poll.i c.poll.new.self ≡ refused_after c.args.self.now x e)) (sym c.in-Poll.is)
     (stays_refused c.self.inside.slots.items c.args.self.now c.in-Poll.dev c.in_ok-i-in-Poll.i c.index_mut-in-Poll.result.now c.poll.new.self c.poll.result _ c.self.view_is
-    (named c.self.inside.slots.items c.args.self.now c.in-Poll.dev c.in_ok-i-in-Poll.i c.index_mut-in-Poll.result.now c.self.view_is c.in_ok-i-in-Poll.ensures.place.0 (search rules) c.index_mut-in-Poll.ensures.value) c.poll.ensures.err)
+    (named c.self.inside.slots.items c.args.self.now c.in-Poll.dev c.in_ok-i-in-Poll.i c.index_mut-in-Poll.result.now c.self.view_is c.in_ok-i-in-Poll.ensures.place.0 c.in_ok-i-in-Poll.ensures.place.1 c.index_mut-in-Poll.ensures.value) c.poll.ensures.err)
 
 pub returns-in_ok-i-in-Poll-clause-between : goal.returns-in_ok-i-in-Poll-clause-between
 returns-in_ok-i-in-Poll-clause-between c = subst (λ (x : Step). ConfiguresBetweenRounds c.args.self.now (x ∷ [])) (sym c.in-Poll.is) (others_between c.args.self.now (Poll c.in-Poll.dev c.in-Poll.fate) tt)
@@ -179,7 +179,7 @@ returns-after-begin-clause-after c =
     ] in
     subst (λ (x : Step). OnOk c.match-begin.result (slice_set c.self.inside.slots.items c.in_ok-i-in-Begin.i c.begin.new.self ≡ bus_after c.args.self.now x)) (sym c.in-Begin.is)
     (begin_done c.begin.result c.match-begin.result _ told (on_ok_weaker c.begin.result (leaves c.self.inside.slots.items c.args.self.now c.in-Begin.dev c.in_ok-i-in-Begin.i c.index_mut-in-Begin.result.now c.begin.new.self (Begins c.in-Begin.request) c.self.view_is
-    (named c.self.inside.slots.items c.args.self.now c.in-Begin.dev c.in_ok-i-in-Begin.i c.index_mut-in-Begin.result.now c.self.view_is c.in_ok-i-in-Begin.ensures.place.0 (search rules) c.index_mut-in-Begin.ensures.value)) c.begin.ensures.after))
+    (named c.self.inside.slots.items c.args.self.now c.in-Begin.dev c.in_ok-i-in-Begin.i c.index_mut-in-Begin.result.now c.self.view_is c.in_ok-i-in-Begin.ensures.place.0 c.in_ok-i-in-Begin.ensures.place.1 c.index_mut-in-Begin.ensures.value)) c.begin.ensures.after))
 
 pub returns-after-begin-clause-refused : goal.returns-after-begin-clause-refused
 returns-after-begin-clause-refused c =
@@ -189,7 +189,7 @@ returns-after-begin-clause-refused c =
     ] in
     subst (λ (x : Step). (e : StackFault) → refusal c.args.self.now x ≡ Some e → c.match-begin.result ≡ Err e) (sym c.in-Begin.is)
     (begin_refused c.args.self.now c.in-Begin.dev c.in_ok-i-in-Begin.i c.index_mut-in-Begin.result.now c.in-Begin.request c.begin.result c.match-begin.result
-    (named c.self.inside.slots.items c.args.self.now c.in-Begin.dev c.in_ok-i-in-Begin.i c.index_mut-in-Begin.result.now c.self.view_is c.in_ok-i-in-Begin.ensures.place.0 (search rules) c.index_mut-in-Begin.ensures.value) told c.begin.ensures.refused)
+    (named c.self.inside.slots.items c.args.self.now c.in-Begin.dev c.in_ok-i-in-Begin.i c.index_mut-in-Begin.result.now c.self.view_is c.in_ok-i-in-Begin.ensures.place.0 c.in_ok-i-in-Begin.ensures.place.1 c.index_mut-in-Begin.ensures.value) told c.begin.ensures.refused)
 
 pub returns-after-begin-clause-only : goal.returns-after-begin-clause-only
 returns-after-begin-clause-only c =
@@ -199,7 +199,7 @@ returns-after-begin-clause-only c =
     ] in
     subst (λ (x : Step). IfErr c.match-begin.result (λ e. IsRefusal c.args.self.now x e)) (sym c.in-Begin.is)
     (begin_only c.args.self.now c.in-Begin.dev c.in_ok-i-in-Begin.i c.index_mut-in-Begin.result.now c.in-Begin.request c.begin.result c.match-begin.result
-    (named c.self.inside.slots.items c.args.self.now c.in-Begin.dev c.in_ok-i-in-Begin.i c.index_mut-in-Begin.result.now c.self.view_is c.in_ok-i-in-Begin.ensures.place.0 (search rules) c.index_mut-in-Begin.ensures.value) told c.begin.ensures.only)
+    (named c.self.inside.slots.items c.args.self.now c.in-Begin.dev c.in_ok-i-in-Begin.i c.index_mut-in-Begin.result.now c.self.view_is c.in_ok-i-in-Begin.ensures.place.0 c.in_ok-i-in-Begin.ensures.place.1 c.index_mut-in-Begin.ensures.value) told c.begin.ensures.only)
 
 pub returns-after-begin-clause-err : goal.returns-after-begin-clause-err
 returns-after-begin-clause-err c =
@@ -209,7 +209,7 @@ returns-after-begin-clause-err c =
     ] in
     subst (λ (x : Step). IfErr c.match-begin.result (λ e. slice_set c.self.inside.slots.items c.in_ok-i-in-Begin.i c.begin.new.self ≡ refused_after c.args.self.now x e)) (sym c.in-Begin.is)
     (begin_err c.self.inside.slots.items c.args.self.now c.in-Begin.dev c.in_ok-i-in-Begin.i c.index_mut-in-Begin.result.now c.begin.new.self c.in-Begin.request c.begin.result c.match-begin.result c.self.view_is
-    (named c.self.inside.slots.items c.args.self.now c.in-Begin.dev c.in_ok-i-in-Begin.i c.index_mut-in-Begin.result.now c.self.view_is c.in_ok-i-in-Begin.ensures.place.0 (search rules) c.index_mut-in-Begin.ensures.value) told c.begin.ensures.err)
+    (named c.self.inside.slots.items c.args.self.now c.in-Begin.dev c.in_ok-i-in-Begin.i c.index_mut-in-Begin.result.now c.self.view_is c.in_ok-i-in-Begin.ensures.place.0 c.in_ok-i-in-Begin.ensures.place.1 c.index_mut-in-Begin.ensures.value) told c.begin.ensures.err)
 
 pub returns-after-begin-clause-between : goal.returns-after-begin-clause-between
 returns-after-begin-clause-between c = subst (λ (x : Step). ConfiguresBetweenRounds c.args.self.now (x ∷ [])) (sym c.in-Begin.is) (others_between c.args.self.now (Begin c.in-Begin.dev c.in-Begin.request) tt)
@@ -221,7 +221,7 @@ returns-after-control-clause-told c =
       | in-Err-control w ↦ w.result-is ∙ sym (ap control_told w.in-Err-control.is)
     ] in
     let named_tries = tries_named c.self.inside.slots.items c.args.self.now c.in-Control.dev c.in_ok-i-in-Control.i c.index_mut-in-Control.result.now c.control.new.self c.in-Control.fate c.control.result c.match-control.result c.self.view_is
-    (named c.self.inside.slots.items c.args.self.now c.in-Control.dev c.in_ok-i-in-Control.i c.index_mut-in-Control.result.now c.self.view_is c.in_ok-i-in-Control.ensures.place.0 (search rules) c.index_mut-in-Control.ensures.value) c.control.ensures.tries told in
+    (named c.self.inside.slots.items c.args.self.now c.in-Control.dev c.in_ok-i-in-Control.i c.index_mut-in-Control.result.now c.self.view_is c.in_ok-i-in-Control.ensures.place.0 c.in_ok-i-in-Control.ensures.place.1 c.index_mut-in-Control.ensures.value) c.control.ensures.tries told in
     subst (λ (x : Step). IfOk c.match-control.result (λ told. Tells c.args.self.now x told)) (sym c.in-Control.is) named_tries.told
 
 pub returns-after-control-clause-after : goal.returns-after-control-clause-after
@@ -231,7 +231,7 @@ returns-after-control-clause-after c =
       | in-Err-control w ↦ w.result-is ∙ sym (ap control_told w.in-Err-control.is)
     ] in
     let named_tries = tries_named c.self.inside.slots.items c.args.self.now c.in-Control.dev c.in_ok-i-in-Control.i c.index_mut-in-Control.result.now c.control.new.self c.in-Control.fate c.control.result c.match-control.result c.self.view_is
-    (named c.self.inside.slots.items c.args.self.now c.in-Control.dev c.in_ok-i-in-Control.i c.index_mut-in-Control.result.now c.self.view_is c.in_ok-i-in-Control.ensures.place.0 (search rules) c.index_mut-in-Control.ensures.value) c.control.ensures.tries told in
+    (named c.self.inside.slots.items c.args.self.now c.in-Control.dev c.in_ok-i-in-Control.i c.index_mut-in-Control.result.now c.self.view_is c.in_ok-i-in-Control.ensures.place.0 c.in_ok-i-in-Control.ensures.place.1 c.index_mut-in-Control.ensures.value) c.control.ensures.tries told in
     subst (λ (x : Step). OnOk c.match-control.result (slice_set c.self.inside.slots.items c.in_ok-i-in-Control.i c.control.new.self ≡ bus_after c.args.self.now x)) (sym c.in-Control.is) named_tries.after
 
 pub returns-after-control-clause-refused : goal.returns-after-control-clause-refused
@@ -241,7 +241,7 @@ returns-after-control-clause-refused c =
       | in-Err-control w ↦ w.result-is ∙ sym (ap control_told w.in-Err-control.is)
     ] in
     let named_tries = tries_named c.self.inside.slots.items c.args.self.now c.in-Control.dev c.in_ok-i-in-Control.i c.index_mut-in-Control.result.now c.control.new.self c.in-Control.fate c.control.result c.match-control.result c.self.view_is
-    (named c.self.inside.slots.items c.args.self.now c.in-Control.dev c.in_ok-i-in-Control.i c.index_mut-in-Control.result.now c.self.view_is c.in_ok-i-in-Control.ensures.place.0 (search rules) c.index_mut-in-Control.ensures.value) c.control.ensures.tries told in
+    (named c.self.inside.slots.items c.args.self.now c.in-Control.dev c.in_ok-i-in-Control.i c.index_mut-in-Control.result.now c.self.view_is c.in_ok-i-in-Control.ensures.place.0 c.in_ok-i-in-Control.ensures.place.1 c.index_mut-in-Control.ensures.value) c.control.ensures.tries told in
     subst (λ (x : Step). (e : StackFault) → refusal c.args.self.now x ≡ Some e → c.match-control.result ≡ Err e) (sym c.in-Control.is) named_tries.refused
 
 pub returns-after-control-clause-only : goal.returns-after-control-clause-only
@@ -251,7 +251,7 @@ returns-after-control-clause-only c =
       | in-Err-control w ↦ w.result-is ∙ sym (ap control_told w.in-Err-control.is)
     ] in
     let named_tries = tries_named c.self.inside.slots.items c.args.self.now c.in-Control.dev c.in_ok-i-in-Control.i c.index_mut-in-Control.result.now c.control.new.self c.in-Control.fate c.control.result c.match-control.result c.self.view_is
-    (named c.self.inside.slots.items c.args.self.now c.in-Control.dev c.in_ok-i-in-Control.i c.index_mut-in-Control.result.now c.self.view_is c.in_ok-i-in-Control.ensures.place.0 (search rules) c.index_mut-in-Control.ensures.value) c.control.ensures.tries told in
+    (named c.self.inside.slots.items c.args.self.now c.in-Control.dev c.in_ok-i-in-Control.i c.index_mut-in-Control.result.now c.self.view_is c.in_ok-i-in-Control.ensures.place.0 c.in_ok-i-in-Control.ensures.place.1 c.index_mut-in-Control.ensures.value) c.control.ensures.tries told in
     subst (λ (x : Step). IfErr c.match-control.result (λ e. IsRefusal c.args.self.now x e)) (sym c.in-Control.is) named_tries.only
 
 pub returns-after-control-clause-err : goal.returns-after-control-clause-err
@@ -261,7 +261,7 @@ returns-after-control-clause-err c =
       | in-Err-control w ↦ w.result-is ∙ sym (ap control_told w.in-Err-control.is)
     ] in
     let named_tries = tries_named c.self.inside.slots.items c.args.self.now c.in-Control.dev c.in_ok-i-in-Control.i c.index_mut-in-Control.result.now c.control.new.self c.in-Control.fate c.control.result c.match-control.result c.self.view_is
-    (named c.self.inside.slots.items c.args.self.now c.in-Control.dev c.in_ok-i-in-Control.i c.index_mut-in-Control.result.now c.self.view_is c.in_ok-i-in-Control.ensures.place.0 (search rules) c.index_mut-in-Control.ensures.value) c.control.ensures.tries told in
+    (named c.self.inside.slots.items c.args.self.now c.in-Control.dev c.in_ok-i-in-Control.i c.index_mut-in-Control.result.now c.self.view_is c.in_ok-i-in-Control.ensures.place.0 c.in_ok-i-in-Control.ensures.place.1 c.index_mut-in-Control.ensures.value) c.control.ensures.tries told in
     subst (λ (x : Step). IfErr c.match-control.result (λ e. slice_set c.self.inside.slots.items c.in_ok-i-in-Control.i c.control.new.self ≡ refused_after c.args.self.now x e)) (sym c.in-Control.is) named_tries.err
 
 pub returns-after-control-clause-events : goal.returns-after-control-clause-events
@@ -273,7 +273,7 @@ returns-after-control-clause-events c =
     subst (λ (x : Step). OnOk c.match-control.result (c.control.new.out.items ≡ c.args.out.now.items ++ delivered_at c.args.self.now x)) (sym c.in-Control.is)
     (control_done c.control.result c.match-control.result _ told
     (one_delivered c.args.self.now c.in-Control.dev c.in_ok-i-in-Control.i c.index_mut-in-Control.result.now (Controls c.in-Control.fate) c.control.result c.args.out.now.items c.control.new.out.items
-    (named c.self.inside.slots.items c.args.self.now c.in-Control.dev c.in_ok-i-in-Control.i c.index_mut-in-Control.result.now c.self.view_is c.in_ok-i-in-Control.ensures.place.0 (search rules) c.index_mut-in-Control.ensures.value) c.control.ensures.events))
+    (named c.self.inside.slots.items c.args.self.now c.in-Control.dev c.in_ok-i-in-Control.i c.index_mut-in-Control.result.now c.self.view_is c.in_ok-i-in-Control.ensures.place.0 c.in_ok-i-in-Control.ensures.place.1 c.index_mut-in-Control.ensures.value) c.control.ensures.events))
 
 pub returns-after-control-clause-err_events : goal.returns-after-control-clause-err_events
 returns-after-control-clause-err_events c =
@@ -291,23 +291,23 @@ returns-after-control-clause-room c =
     ] in
     subst (λ (x : Step). HasRoomFor c.args.self.now x (vec_len c.args.out.now) (vec_capacity c.args.out.now) → c.match-control.result ≢ Err Memory) (sym c.in-Control.is)
     (control_room c.args.self.now c.in-Control.dev c.in_ok-i-in-Control.i c.index_mut-in-Control.result.now c.in-Control.fate c.control.result c.match-control.result (vec_len c.args.out.now) (vec_capacity c.args.out.now)
-    (named c.self.inside.slots.items c.args.self.now c.in-Control.dev c.in_ok-i-in-Control.i c.index_mut-in-Control.result.now c.self.view_is c.in_ok-i-in-Control.ensures.place.0 (search rules) c.index_mut-in-Control.ensures.value) told c.control.ensures.room)
+    (named c.self.inside.slots.items c.args.self.now c.in-Control.dev c.in_ok-i-in-Control.i c.index_mut-in-Control.result.now c.self.view_is c.in_ok-i-in-Control.ensures.place.0 c.in_ok-i-in-Control.ensures.place.1 c.index_mut-in-Control.ensures.value) told c.control.ensures.room)
 
 pub returns-after-control-clause-few : goal.returns-after-control-clause-few
 returns-after-control-clause-few c =
     subst (λ (x : Step). vec_len c.control.new.out ≤ vec_len c.args.out.now + most_events c.args.self.now x) (sym c.in-Control.is)
     (control_few c.args.self.now c.in-Control.dev c.in_ok-i-in-Control.i c.index_mut-in-Control.result.now c.in-Control.fate (vec_len c.args.out.now) (vec_len c.control.new.out)
-    (named c.self.inside.slots.items c.args.self.now c.in-Control.dev c.in_ok-i-in-Control.i c.index_mut-in-Control.result.now c.self.view_is c.in_ok-i-in-Control.ensures.place.0 (search rules) c.index_mut-in-Control.ensures.value) c.control.ensures.few)
+    (named c.self.inside.slots.items c.args.self.now c.in-Control.dev c.in_ok-i-in-Control.i c.index_mut-in-Control.result.now c.self.view_is c.in_ok-i-in-Control.ensures.place.0 c.in_ok-i-in-Control.ensures.place.1 c.index_mut-in-Control.ensures.value) c.control.ensures.few)
 
 pub returns-after-control-clause-between : goal.returns-after-control-clause-between
 returns-after-control-clause-between c = subst (λ (x : Step). ConfiguresBetweenRounds c.args.self.now (x ∷ [])) (sym c.in-Control.is)
     (control_between c.args.self.now c.in-Control.dev c.in_ok-i-in-Control.i c.index_mut-in-Control.result.now c.in-Control.fate
-    (named c.self.inside.slots.items c.args.self.now c.in-Control.dev c.in_ok-i-in-Control.i c.index_mut-in-Control.result.now c.self.view_is c.in_ok-i-in-Control.ensures.place.0 (search rules) c.index_mut-in-Control.ensures.value) c.control.ensures.between)
+    (named c.self.inside.slots.items c.args.self.now c.in-Control.dev c.in_ok-i-in-Control.i c.index_mut-in-Control.result.now c.self.view_is c.in_ok-i-in-Control.ensures.place.0 c.in_ok-i-in-Control.ensures.place.1 c.index_mut-in-Control.ensures.value) c.control.ensures.between)
 
 pub returns-after-control-clause-cuts : goal.returns-after-control-clause-cuts
 returns-after-control-clause-cuts c = subst (λ (x : Step). OnlyHaltsCut c.args.self.now x) (sym c.in-Control.is)
     (control_cuts c.args.self.now c.in-Control.dev c.in_ok-i-in-Control.i c.index_mut-in-Control.result.now c.in-Control.fate
-    (named c.self.inside.slots.items c.args.self.now c.in-Control.dev c.in_ok-i-in-Control.i c.index_mut-in-Control.result.now c.self.view_is c.in_ok-i-in-Control.ensures.place.0 (search rules) c.index_mut-in-Control.ensures.value) c.control.ensures.cuts)
+    (named c.self.inside.slots.items c.args.self.now c.in-Control.dev c.in_ok-i-in-Control.i c.index_mut-in-Control.result.now c.self.view_is c.in_ok-i-in-Control.ensures.place.0 c.in_ok-i-in-Control.ensures.place.1 c.index_mut-in-Control.ensures.value) c.control.ensures.cuts)
 
 -- a halt of the device
 
@@ -318,31 +318,31 @@ pub returns-in_ok-i-in-Halt-clause-after : goal.returns-in_ok-i-in-Halt-clause-a
 returns-in_ok-i-in-Halt-clause-after c =
     subst (λ (x : Step). OnOk c.halt.result (slice_set c.self.inside.slots.items c.in_ok-i-in-Halt.i c.halt.new.self ≡ bus_after c.args.self.now x)) (sym c.in-Halt.is)
     (on_ok_weaker c.halt.result (leaves c.self.inside.slots.items c.args.self.now c.in-Halt.dev c.in_ok-i-in-Halt.i c.index_mut-in-Halt.result.now c.halt.new.self Halts c.self.view_is
-    (named c.self.inside.slots.items c.args.self.now c.in-Halt.dev c.in_ok-i-in-Halt.i c.index_mut-in-Halt.result.now c.self.view_is c.in_ok-i-in-Halt.ensures.place.0 (search rules) c.index_mut-in-Halt.ensures.value)) c.halt.ensures.after)
+    (named c.self.inside.slots.items c.args.self.now c.in-Halt.dev c.in_ok-i-in-Halt.i c.index_mut-in-Halt.result.now c.self.view_is c.in_ok-i-in-Halt.ensures.place.0 c.in_ok-i-in-Halt.ensures.place.1 c.index_mut-in-Halt.ensures.value)) c.halt.ensures.after)
 
 pub returns-in_ok-i-in-Halt-clause-events : goal.returns-in_ok-i-in-Halt-clause-events
 returns-in_ok-i-in-Halt-clause-events c =
     subst (λ (x : Step). OnOk c.halt.result (c.halt.new.out.items ≡ c.args.out.now.items ++ delivered_at c.args.self.now x)) (sym c.in-Halt.is)
     (one_delivered c.args.self.now c.in-Halt.dev c.in_ok-i-in-Halt.i c.index_mut-in-Halt.result.now Halts c.halt.result c.args.out.now.items c.halt.new.out.items
-    (named c.self.inside.slots.items c.args.self.now c.in-Halt.dev c.in_ok-i-in-Halt.i c.index_mut-in-Halt.result.now c.self.view_is c.in_ok-i-in-Halt.ensures.place.0 (search rules) c.index_mut-in-Halt.ensures.value) c.halt.ensures.events)
+    (named c.self.inside.slots.items c.args.self.now c.in-Halt.dev c.in_ok-i-in-Halt.i c.index_mut-in-Halt.result.now c.self.view_is c.in_ok-i-in-Halt.ensures.place.0 c.in_ok-i-in-Halt.ensures.place.1 c.index_mut-in-Halt.ensures.value) c.halt.ensures.events)
 
 pub returns-in_ok-i-in-Halt-clause-refused : goal.returns-in_ok-i-in-Halt-clause-refused
 returns-in_ok-i-in-Halt-clause-refused c =
     subst (λ (x : Step). (e : StackFault) → refusal c.args.self.now x ≡ Some e → c.halt.result ≡ Err e) (sym c.in-Halt.is)
     (never_refused c.args.self.now (Halt c.in-Halt.dev) c.halt.result (never_stands c.args.self.now c.in-Halt.dev c.in_ok-i-in-Halt.i c.index_mut-in-Halt.result.now
-    (named c.self.inside.slots.items c.args.self.now c.in-Halt.dev c.in_ok-i-in-Halt.i c.index_mut-in-Halt.result.now c.self.view_is c.in_ok-i-in-Halt.ensures.place.0 (search rules) c.index_mut-in-Halt.ensures.value)))
+    (named c.self.inside.slots.items c.args.self.now c.in-Halt.dev c.in_ok-i-in-Halt.i c.index_mut-in-Halt.result.now c.self.view_is c.in_ok-i-in-Halt.ensures.place.0 c.in_ok-i-in-Halt.ensures.place.1 c.index_mut-in-Halt.ensures.value)))
 
 pub returns-in_ok-i-in-Halt-clause-only : goal.returns-in_ok-i-in-Halt-clause-only
 returns-in_ok-i-in-Halt-clause-only c =
     subst (λ (x : Step). IfErr c.halt.result (λ e. IsRefusal c.args.self.now x e)) (sym c.in-Halt.is)
     (memory_only c.args.self.now (Halt c.in-Halt.dev) c.halt.result (never_stands c.args.self.now c.in-Halt.dev c.in_ok-i-in-Halt.i c.index_mut-in-Halt.result.now
-    (named c.self.inside.slots.items c.args.self.now c.in-Halt.dev c.in_ok-i-in-Halt.i c.index_mut-in-Halt.result.now c.self.view_is c.in_ok-i-in-Halt.ensures.place.0 (search rules) c.index_mut-in-Halt.ensures.value)) tt c.halt.ensures.only)
+    (named c.self.inside.slots.items c.args.self.now c.in-Halt.dev c.in_ok-i-in-Halt.i c.index_mut-in-Halt.result.now c.self.view_is c.in_ok-i-in-Halt.ensures.place.0 c.in_ok-i-in-Halt.ensures.place.1 c.index_mut-in-Halt.ensures.value)) tt c.halt.ensures.only)
 
 pub returns-in_ok-i-in-Halt-clause-err : goal.returns-in_ok-i-in-Halt-clause-err
 returns-in_ok-i-in-Halt-clause-err c =
     subst (λ (x : Step). IfErr c.halt.result (λ e. slice_set c.self.inside.slots.items c.in_ok-i-in-Halt.i c.halt.new.self ≡ refused_after c.args.self.now x e)) (sym c.in-Halt.is)
     (stays_refused c.self.inside.slots.items c.args.self.now c.in-Halt.dev c.in_ok-i-in-Halt.i c.index_mut-in-Halt.result.now c.halt.new.self c.halt.result _ c.self.view_is
-    (named c.self.inside.slots.items c.args.self.now c.in-Halt.dev c.in_ok-i-in-Halt.i c.index_mut-in-Halt.result.now c.self.view_is c.in_ok-i-in-Halt.ensures.place.0 (search rules) c.index_mut-in-Halt.ensures.value) c.halt.ensures.err)
+    (named c.self.inside.slots.items c.args.self.now c.in-Halt.dev c.in_ok-i-in-Halt.i c.index_mut-in-Halt.result.now c.self.view_is c.in_ok-i-in-Halt.ensures.place.0 c.in_ok-i-in-Halt.ensures.place.1 c.index_mut-in-Halt.ensures.value) c.halt.ensures.err)
 
 pub returns-in_ok-i-in-Halt-clause-between : goal.returns-in_ok-i-in-Halt-clause-between
 returns-in_ok-i-in-Halt-clause-between c = subst (λ (x : Step). ConfiguresBetweenRounds c.args.self.now (x ∷ [])) (sym c.in-Halt.is) (others_between c.args.self.now (Halt c.in-Halt.dev) tt)
@@ -351,13 +351,13 @@ pub returns-in_ok-i-in-Halt-clause-room : goal.returns-in_ok-i-in-Halt-clause-ro
 returns-in_ok-i-in-Halt-clause-room c =
     subst (λ (x : Step). HasRoomFor c.args.self.now x (vec_len c.args.out.now) (vec_capacity c.args.out.now) → c.halt.result ≢ Err Memory) (sym c.in-Halt.is)
     (enough_room c.args.self.now c.in-Halt.dev c.in_ok-i-in-Halt.i c.index_mut-in-Halt.result.now c.halt.result (vec_len c.args.out.now) (vec_capacity c.args.out.now)
-    (named c.self.inside.slots.items c.args.self.now c.in-Halt.dev c.in_ok-i-in-Halt.i c.index_mut-in-Halt.result.now c.self.view_is c.in_ok-i-in-Halt.ensures.place.0 (search rules) c.index_mut-in-Halt.ensures.value) c.halt.ensures.room)
+    (named c.self.inside.slots.items c.args.self.now c.in-Halt.dev c.in_ok-i-in-Halt.i c.index_mut-in-Halt.result.now c.self.view_is c.in_ok-i-in-Halt.ensures.place.0 c.in_ok-i-in-Halt.ensures.place.1 c.index_mut-in-Halt.ensures.value) c.halt.ensures.room)
 
 pub returns-in_ok-i-in-Halt-clause-few : goal.returns-in_ok-i-in-Halt-clause-few
 returns-in_ok-i-in-Halt-clause-few c =
     subst (λ (x : Step). vec_len c.halt.new.out ≤ vec_len c.args.out.now + most_events c.args.self.now x) (sym c.in-Halt.is)
     (few_of_it c.args.self.now c.in-Halt.dev c.in_ok-i-in-Halt.i c.index_mut-in-Halt.result.now (vec_len c.args.out.now) (vec_len c.halt.new.out)
-    (named c.self.inside.slots.items c.args.self.now c.in-Halt.dev c.in_ok-i-in-Halt.i c.index_mut-in-Halt.result.now c.self.view_is c.in_ok-i-in-Halt.ensures.place.0 (search rules) c.index_mut-in-Halt.ensures.value) c.halt.ensures.few)
+    (named c.self.inside.slots.items c.args.self.now c.in-Halt.dev c.in_ok-i-in-Halt.i c.index_mut-in-Halt.result.now c.self.view_is c.in_ok-i-in-Halt.ensures.place.0 c.in_ok-i-in-Halt.ensures.place.1 c.index_mut-in-Halt.ensures.value) c.halt.ensures.few)
 
 -- a reset
 
@@ -368,31 +368,31 @@ pub returns-in_ok-i-in-Reset-clause-after : goal.returns-in_ok-i-in-Reset-clause
 returns-in_ok-i-in-Reset-clause-after c =
     subst (λ (x : Step). OnOk c.reset.result (slice_set c.self.inside.slots.items c.in_ok-i-in-Reset.i c.reset.new.self ≡ bus_after c.args.self.now x)) (sym c.in-Reset.is)
     (on_ok_weaker c.reset.result (leaves c.self.inside.slots.items c.args.self.now c.in-Reset.dev c.in_ok-i-in-Reset.i c.index_mut-in-Reset.result.now c.reset.new.self Resets c.self.view_is
-    (named c.self.inside.slots.items c.args.self.now c.in-Reset.dev c.in_ok-i-in-Reset.i c.index_mut-in-Reset.result.now c.self.view_is c.in_ok-i-in-Reset.ensures.place.0 (search rules) c.index_mut-in-Reset.ensures.value)) c.reset.ensures.after)
+    (named c.self.inside.slots.items c.args.self.now c.in-Reset.dev c.in_ok-i-in-Reset.i c.index_mut-in-Reset.result.now c.self.view_is c.in_ok-i-in-Reset.ensures.place.0 c.in_ok-i-in-Reset.ensures.place.1 c.index_mut-in-Reset.ensures.value)) c.reset.ensures.after)
 
 pub returns-in_ok-i-in-Reset-clause-events : goal.returns-in_ok-i-in-Reset-clause-events
 returns-in_ok-i-in-Reset-clause-events c =
     subst (λ (x : Step). OnOk c.reset.result (c.reset.new.out.items ≡ c.args.out.now.items ++ delivered_at c.args.self.now x)) (sym c.in-Reset.is)
     (one_delivered c.args.self.now c.in-Reset.dev c.in_ok-i-in-Reset.i c.index_mut-in-Reset.result.now Resets c.reset.result c.args.out.now.items c.reset.new.out.items
-    (named c.self.inside.slots.items c.args.self.now c.in-Reset.dev c.in_ok-i-in-Reset.i c.index_mut-in-Reset.result.now c.self.view_is c.in_ok-i-in-Reset.ensures.place.0 (search rules) c.index_mut-in-Reset.ensures.value) c.reset.ensures.events)
+    (named c.self.inside.slots.items c.args.self.now c.in-Reset.dev c.in_ok-i-in-Reset.i c.index_mut-in-Reset.result.now c.self.view_is c.in_ok-i-in-Reset.ensures.place.0 c.in_ok-i-in-Reset.ensures.place.1 c.index_mut-in-Reset.ensures.value) c.reset.ensures.events)
 
 pub returns-in_ok-i-in-Reset-clause-refused : goal.returns-in_ok-i-in-Reset-clause-refused
 returns-in_ok-i-in-Reset-clause-refused c =
     subst (λ (x : Step). (e : StackFault) → refusal c.args.self.now x ≡ Some e → c.reset.result ≡ Err e) (sym c.in-Reset.is)
     (never_refused c.args.self.now (Reset c.in-Reset.dev) c.reset.result (never_stands c.args.self.now c.in-Reset.dev c.in_ok-i-in-Reset.i c.index_mut-in-Reset.result.now
-    (named c.self.inside.slots.items c.args.self.now c.in-Reset.dev c.in_ok-i-in-Reset.i c.index_mut-in-Reset.result.now c.self.view_is c.in_ok-i-in-Reset.ensures.place.0 (search rules) c.index_mut-in-Reset.ensures.value)))
+    (named c.self.inside.slots.items c.args.self.now c.in-Reset.dev c.in_ok-i-in-Reset.i c.index_mut-in-Reset.result.now c.self.view_is c.in_ok-i-in-Reset.ensures.place.0 c.in_ok-i-in-Reset.ensures.place.1 c.index_mut-in-Reset.ensures.value)))
 
 pub returns-in_ok-i-in-Reset-clause-only : goal.returns-in_ok-i-in-Reset-clause-only
 returns-in_ok-i-in-Reset-clause-only c =
     subst (λ (x : Step). IfErr c.reset.result (λ e. IsRefusal c.args.self.now x e)) (sym c.in-Reset.is)
     (memory_only c.args.self.now (Reset c.in-Reset.dev) c.reset.result (never_stands c.args.self.now c.in-Reset.dev c.in_ok-i-in-Reset.i c.index_mut-in-Reset.result.now
-    (named c.self.inside.slots.items c.args.self.now c.in-Reset.dev c.in_ok-i-in-Reset.i c.index_mut-in-Reset.result.now c.self.view_is c.in_ok-i-in-Reset.ensures.place.0 (search rules) c.index_mut-in-Reset.ensures.value)) tt c.reset.ensures.only)
+    (named c.self.inside.slots.items c.args.self.now c.in-Reset.dev c.in_ok-i-in-Reset.i c.index_mut-in-Reset.result.now c.self.view_is c.in_ok-i-in-Reset.ensures.place.0 c.in_ok-i-in-Reset.ensures.place.1 c.index_mut-in-Reset.ensures.value)) tt c.reset.ensures.only)
 
 pub returns-in_ok-i-in-Reset-clause-err : goal.returns-in_ok-i-in-Reset-clause-err
 returns-in_ok-i-in-Reset-clause-err c =
     subst (λ (x : Step). IfErr c.reset.result (λ e. slice_set c.self.inside.slots.items c.in_ok-i-in-Reset.i c.reset.new.self ≡ refused_after c.args.self.now x e)) (sym c.in-Reset.is)
     (stays_refused c.self.inside.slots.items c.args.self.now c.in-Reset.dev c.in_ok-i-in-Reset.i c.index_mut-in-Reset.result.now c.reset.new.self c.reset.result _ c.self.view_is
-    (named c.self.inside.slots.items c.args.self.now c.in-Reset.dev c.in_ok-i-in-Reset.i c.index_mut-in-Reset.result.now c.self.view_is c.in_ok-i-in-Reset.ensures.place.0 (search rules) c.index_mut-in-Reset.ensures.value) c.reset.ensures.err)
+    (named c.self.inside.slots.items c.args.self.now c.in-Reset.dev c.in_ok-i-in-Reset.i c.index_mut-in-Reset.result.now c.self.view_is c.in_ok-i-in-Reset.ensures.place.0 c.in_ok-i-in-Reset.ensures.place.1 c.index_mut-in-Reset.ensures.value) c.reset.ensures.err)
 
 pub returns-in_ok-i-in-Reset-clause-between : goal.returns-in_ok-i-in-Reset-clause-between
 returns-in_ok-i-in-Reset-clause-between c = subst (λ (x : Step). ConfiguresBetweenRounds c.args.self.now (x ∷ [])) (sym c.in-Reset.is) (others_between c.args.self.now (Reset c.in-Reset.dev) tt)
@@ -401,10 +401,10 @@ pub returns-in_ok-i-in-Reset-clause-room : goal.returns-in_ok-i-in-Reset-clause-
 returns-in_ok-i-in-Reset-clause-room c =
     subst (λ (x : Step). HasRoomFor c.args.self.now x (vec_len c.args.out.now) (vec_capacity c.args.out.now) → c.reset.result ≢ Err Memory) (sym c.in-Reset.is)
     (enough_room c.args.self.now c.in-Reset.dev c.in_ok-i-in-Reset.i c.index_mut-in-Reset.result.now c.reset.result (vec_len c.args.out.now) (vec_capacity c.args.out.now)
-    (named c.self.inside.slots.items c.args.self.now c.in-Reset.dev c.in_ok-i-in-Reset.i c.index_mut-in-Reset.result.now c.self.view_is c.in_ok-i-in-Reset.ensures.place.0 (search rules) c.index_mut-in-Reset.ensures.value) c.reset.ensures.room)
+    (named c.self.inside.slots.items c.args.self.now c.in-Reset.dev c.in_ok-i-in-Reset.i c.index_mut-in-Reset.result.now c.self.view_is c.in_ok-i-in-Reset.ensures.place.0 c.in_ok-i-in-Reset.ensures.place.1 c.index_mut-in-Reset.ensures.value) c.reset.ensures.room)
 
 pub returns-in_ok-i-in-Reset-clause-few : goal.returns-in_ok-i-in-Reset-clause-few
 returns-in_ok-i-in-Reset-clause-few c =
     subst (λ (x : Step). vec_len c.reset.new.out ≤ vec_len c.args.out.now + most_events c.args.self.now x) (sym c.in-Reset.is)
     (few_of_it c.args.self.now c.in-Reset.dev c.in_ok-i-in-Reset.i c.index_mut-in-Reset.result.now (vec_len c.args.out.now) (vec_len c.reset.new.out)
-    (named c.self.inside.slots.items c.args.self.now c.in-Reset.dev c.in_ok-i-in-Reset.i c.index_mut-in-Reset.result.now c.self.view_is c.in_ok-i-in-Reset.ensures.place.0 (search rules) c.index_mut-in-Reset.ensures.value) c.reset.ensures.few)
+    (named c.self.inside.slots.items c.args.self.now c.in-Reset.dev c.in_ok-i-in-Reset.i c.index_mut-in-Reset.result.now c.self.view_is c.in_ok-i-in-Reset.ensures.place.0 c.in_ok-i-in-Reset.ensures.place.1 c.index_mut-in-Reset.ensures.value) c.reset.ensures.few)
