@@ -47,7 +47,7 @@ named slots members dev i m same number within is =
     let place : dev - 1 ≡ i = omega arith in
     let some : eqb dev 0 ≡ false = grind (arith, nat_tests) in
     let read : slice_get members i ≡ Some m = subst (λ (ms : List Member). slice_get ms i ≡ Some m) same
-        (slice_get_read slots (length slots) i m refl (subst (λ (ms : List Member). i < length ms) (sym same) within) is) in
+    (slice_get_read slots (length slots) i m refl (subst (λ (ms : List Member). i < length ms) (sym same) within) is) in
     record {
       place = place;
       read = read;

@@ -1,4 +1,4 @@
-use Rattle.std.proofs.Common.{◌≡◌, ◌++◌, ◌+◌, ◌<◌, ◌≤◌, ◌∙◌, ℕ, List, length, [], ◌∷◌, Err, map, ap, sym, subst, rules, arith, vec_len, vec_capacity}
+use Rattle.std.proofs.Common.{◌≡◌, ◌++◌, ◌+◌, ◌<◌, ◌≤◌, ◌∙◌, ℕ, List, length, [], ◌∷◌, Err, map, ap, sym, subst, arith, vec_len, vec_capacity}
 use Rattle.std.specs.Prelude.{slice_set, Some, IfOk, IfErr, OnOk, ◌≢◌}
 use Rattle.hid_host.specs.declared.fault.StackFault.{StackFault}
 use Rattle.hid_host.specs.declared.fault.StackFault.TheVariants.{Memory}

@@ -2,7 +2,8 @@ use Rattle.std.proofs.Common.{◌≡◌, ◌++◌, ◌∙◌, Err, List, ap, sub
 use Rattle.hid_cells.specs.declared.event.Event.{Event}
 use Rattle.hid_host.specs.declared.fault.StackFault.TheVariants.{Memory}
 use Rattle.hid_host.specs.Host.{running}
-use Rattle.hid_stack.specs.Members.{Member}
+use Rattle.hid_stack.specs.Members.{Member, Controls, deed_at}
+use Rattle.hid_stack.specs.Sums.{CutsByRequest, IsBetween}
 use Rattle.hid_stack.specs.Rig.{HasRoomToTry, tagged}
 use Rattle.hid_stack.specs.Slot.{TriesTransfer, joint}
 use Rattle.hid_stack.proofs.SlotLemmas.{err_nothing, never_wanting, transfers_so, uncut_err}
@@ -35,3 +36,9 @@ returns-clause-room c =
     let m = joint c.self.inside.device c.self.inside.host in
     subst (λ (x : Member). HasRoomToTry c.args.fate x (running x.transfer) (vec_len c.args.out.now) (vec_capacity c.args.out.now) → tried.result ≡ Err Memory → ⊥) c.self.view_is
     (never_wanting c.args.fate m (running c.self.inside.host.transfer) tried.result (joint tried.new.device tried.new.host) (vec_len c.args.out.now) (vec_capacity c.args.out.now) tried.ensures.tries)
+
+pub returns-clause-between : goal.returns-clause-between
+returns-clause-between c = subst (λ (m : Member). IsBetween m.station (deed_at m (Controls c.args.fate))) c.self.view_is c.control_pair-result.ensures.between
+
+pub returns-clause-cuts : goal.returns-clause-cuts
+returns-clause-cuts c = subst (λ (m : Member). CutsByRequest c.args.fate m (running m.transfer)) c.self.view_is c.control_pair-result.ensures.cuts

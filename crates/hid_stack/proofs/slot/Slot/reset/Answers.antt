@@ -1,0 +1,16 @@
+use Rattle.std.proofs.Common.{◌++◌, ◌∙◌, List, map, ap}
+use Rattle.hid_layout.specs.Controls.{items_of}
+use Rattle.hid_cells.specs.declared.event.Event.{Event}
+use Rattle.hid_steps.specs.declared.step.Delivered.{Delivered}
+use Rattle.hid_stack.specs.Members.{Member, Resets, deed_at, events_by, member_after}
+use Rattle.hid_stack.specs.Rig.{tagged}
+use Rattle.hid_stack.proofs.slot.Slot.reset.Goals as goal
+
+pub returns-clause-after : goal.returns-clause-after
+returns-clause-after c = c.reset_pair.ensures.after ∙ ap (λ (m : Member). member_after m Resets) c.self.view_is
+
+pub returns-clause-events : goal.returns-clause-events
+returns-clause-events c =
+    c.hand_over.ensures.items ∙ ap (λ (out : List Delivered). out ++ map (tagged c.args.dev) c.deref.result.now) c.reserve.ensures.items
+    ∙ ap (λ (events : List Event). c.args.out.now.items ++ map (tagged c.args.dev) events) (c.deref.ensures.value ∙ c.reset_pair.ensures.events
+    ∙ ap (λ (m : Member). events_by (items_of m.layout) m.station (deed_at m Resets)) c.self.view_is)
