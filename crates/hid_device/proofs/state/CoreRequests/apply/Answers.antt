@@ -1,0 +1,50 @@
+use Rattle.std.proofs.Common.{◌≡◌, ap, sym, ◌∙◌}
+use Rattle.hid_device.specs.declared.decisions.Pending.{Pending}
+use Rattle.hid_device.specs.declared.decisions.Pending.TheVariants.{Nothing, Configure, Keep, Protocol, Halt, Clear}
+use Rattle.hid_device.specs.Core.{CoreState}
+use Rattle.hid_device.specs.Deciding.{effected}
+use Rattle.hid_device.specs.contracts.state.Core.{the_view}
+use Rattle.hid_device.proofs.OutputLemmas.{sound_with}
+use Rattle.hid_device.proofs.state.CoreRequests.apply.Goals as goal
+
+pub returns-in-Nothing : goal.returns-in-Nothing
+returns-in-Nothing c =
+    let pending : c.args.self.now.pending ≡ Nothing = ap (λ (core : CoreState). core.pending) (sym c.self.view_is) ∙ c.in-Nothing.is in
+    ap (λ (pending : Pending). effected c.args.self.now c.args.bytes.now pending) (sym pending)
+
+pub returns-in-Configure : goal.returns-in-Configure
+returns-in-Configure c =
+    let pending : c.args.self.now.pending ≡ Configure = ap (λ (core : CoreState). core.pending) (sym c.self.view_is) ∙ c.in-Configure.is in
+    c.configure.ensures ∙ ap (λ (pending : Pending). effected c.args.self.now c.args.bytes.now pending) (sym pending)
+
+pub returns-in-Keep : goal.returns-in-Keep
+returns-in-Keep c =
+    let pending : c.args.self.now.pending ≡ Keep c.in-Keep.place = ap (λ (core : CoreState). core.pending) (sym c.self.view_is) ∙ c.in-Keep.is in
+    c.keep.ensures ∙ ap (λ (pending : Pending). effected c.args.self.now c.args.bytes.now pending) (sym pending)
+
+pub returns-in-Halt : goal.returns-in-Halt
+returns-in-Halt c =
+    let pending : c.args.self.now.pending ≡ Halt = ap (λ (core : CoreState). core.pending) (sym c.self.view_is) ∙ c.in-Halt.is in
+    c.halt.ensures ∙ ap (λ (pending : Pending). effected c.args.self.now c.args.bytes.now pending) (sym pending)
+
+pub returns-in-Clear : goal.returns-in-Clear
+returns-in-Clear c =
+    let pending : c.args.self.now.pending ≡ Clear = ap (λ (core : CoreState). core.pending) (sym c.self.view_is) ∙ c.in-Clear.is in
+    c.clear.ensures ∙ ap (λ (pending : Pending). effected c.args.self.now c.args.bytes.now pending) (sym pending)
+
+pub returns-in-Protocol : goal.returns-in-Protocol
+returns-in-Protocol c =
+    let pending : c.args.self.now.pending ≡ Protocol c.in-Protocol.protocol = ap (λ (core : CoreState). core.pending) (sym c.self.view_is) ∙ c.in-Protocol.is in
+    ap (λ (core : CoreState). effected core c.args.bytes.now (Protocol c.in-Protocol.protocol)) c.self.view_is
+    ∙ ap (λ (pending : Pending). effected c.args.self.now c.args.bytes.now pending) (sym pending)
+
+pub invariant_of-self-in-Protocol : goal.invariant_of-self-in-Protocol
+invariant_of-self-in-Protocol c =
+    let before = c.self.invariant.sound in
+    record {
+      sound = sound_with (the_view c.self.inside) c.self.inside.is_configured c.self.inside.idle.items c.in-Protocol.protocol _ before before.each_idle before.outputs;
+      calm = c.self.invariant.calm;
+      armed = c.self.invariant.armed;
+      round = c.self.invariant.round;
+      room = c.self.invariant.room;
+    }
