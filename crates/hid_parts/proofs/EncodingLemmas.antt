@@ -106,6 +106,7 @@ pub encoded : (layout : Contents) (r k : ℕ) (numbers : ℕ → List ℤ) (byte
     → Shows layout r numbers k (bare_report layout r) bytes → IsEncoding layout r numbers bytes
 encoded layout r k numbers bytes e whole s = record { whole = whole; shows = rw (← e) s }
 
+-- what is sent of a cell at a listed item, by the item and its usages
 pub sent_there : (layout : Contents) (i : ℕ) (item : MainItem) (es : List Entry) (cell : Cell) (shape : Shape) → slice_get layout.items i ≡ Some item → slice_get layout.entries i ≡ Some es → item.shape ≡ shape
     → sent_at layout i cell ≡ sent item (usage_list es) (form_of item (usage_list es) shape) cell
 sent_there layout i item es cell shape it ranges is =

@@ -35,7 +35,7 @@ fn print_reply(text: &mut String, bytes: &[u8]) -> Result<(), AllocError>
     }
 }
 
-/// Adds what a device sent, if it did.
+/// Adds what a device sent, or `none`.
 fn print_sent(text: &mut String, reply: Option<&[u8]>) -> Result<(), AllocError>
     ensures { OnOk result (string_bytes text.new
         ≡ string_bytes text.old ++ reply_text (option_copied reply.entry)) }
