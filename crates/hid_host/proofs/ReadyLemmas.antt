@@ -9,10 +9,10 @@ use Rattle.hid_layout.specs.Layout.{Contents}
 use Rattle.hid_layout.specs.Reports.{IsLayout}
 use Rattle.hid_cells.specs.declared.cell.Cell.{Cell}
 use Rattle.hid_cells.specs.declared.event.Event.{Event}
-use Rattle.hid_usages.specs.Cells.{FitsView}
+use Rattle.hid_cells.specs.Cells.{FitsView}
 use Rattle.hid_cells.specs.declared.fault.ReportFault.{ReportFault}
-use Rattle.hid_usages.specs.Reading.{report_named}
-use Rattle.hid_usages.specs.Taking.{TakesReport, read_events, read_view}
+use Rattle.hid_views.specs.Reading.{report_named}
+use Rattle.hid_views.specs.Taking.{TakesReport, read_events, read_view}
 use Rattle.hid_host.specs.Ready.{events_read, read_or_fault, view_read}
 use Rattle.hid_views.proofs.TakeLemmas.{named_input, read_events_few}
 

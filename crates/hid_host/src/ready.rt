@@ -5,9 +5,9 @@ ghost use Rattle.std.specs.Option.{option_map};
 ghost use Rattle.hid_descriptor.specs.declared.limits.TheConstants.{MAX_REPORT_BYTES};
 ghost use Rattle.hid_layout.specs.Controls.{items_of, max_events};
 ghost use Rattle.hid_layout.specs.Reports.{IsLayout};
-ghost use Rattle.hid_usages.specs.Cells.{FitsView, blank};
-ghost use Rattle.hid_usages.specs.Parts.{IsInput};
-ghost use Rattle.hid_usages.specs.Reading.{report_named};
+ghost use Rattle.hid_cells.specs.Cells.{FitsView, blank};
+ghost use Rattle.hid_cells.specs.Parts.{IsInput};
+ghost use Rattle.hid_views.specs.Reading.{report_named};
 ghost use Rattle.usb_packet.specs.Lent.{owned, IsShort};
 ghost use Rattle.usb_packet.specs.Spelling.{Fits};
 ghost use Rattle.usb_transact.specs.Taken.{taken};
@@ -18,10 +18,11 @@ ghost use Rattle.hid_host.specs.Resetting.{SuitsRound, awaited, known_cut, known
 
 use crate::fault::StackFault;
 use arrayvec::ArrayVec;
-use hid_cells::pieces_of;
+use hid_cells::{Event, ReportFault, pieces_of};
 use hid_fields::WordCodec;
 use hid_layout::Layout;
-use hid_usages::{Event, Reader, ReportFault, Shown, View, bytes_awaited, changes_and_drops};
+use hid_parts::Shown;
+use hid_views::{Reader, View, bytes_awaited, changes_and_drops};
 use std::marker::Model;
 use usb_packet::{LentPacket, MAX_ADDRESS, MAX_ENDPOINT, MAX_PAYLOAD, Packet};
 use usb_transact::{HostPipe, Took};

@@ -2,10 +2,10 @@
 
 ghost use Rattle.std.specs.Prelude.{◌≡◌};
 
+use hid_cells::ReportFault;
 use hid_layout::LayoutFault;
 use hid_lines::LineFault;
 use hid_stack::StackFault;
-use hid_usages::ReportFault;
 use std::alloc::AllocError;
 use thiserror::Error;
 

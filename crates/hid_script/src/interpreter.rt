@@ -16,7 +16,7 @@ use hid_layout::{Layout, Usage};
 use hid_lines::{Line, ShortLine, parse_line, read_short, says_nothing};
 use hid_stack::{Delivered, Request, Rig, Start, Step};
 use hid_text::{print_layout, print_step, print_values};
-use hid_usages::input_report;
+use hid_views::input_report;
 use std::alloc::Global;
 use std::io::Write;
 use usb_control::Outcome;

@@ -33,6 +33,6 @@ mod wanted;
 
 pub use fault::{Cause, Options, ScriptFault, StepFault, Summary};
 pub use fault_text::fault_line;
+pub use hid_cells::ReportFault;
 pub use hid_lines::{Line, LineFault, parse_line};
-pub use hid_usages::ReportFault;
 pub use runs::run;

@@ -8,8 +8,8 @@ use Rattle.hid_layout.specs.Controls.{items_of, max_events}
 use Rattle.hid_cells.specs.declared.cell.Cell.{Cell}
 use Rattle.hid_cells.specs.declared.change.Change.{Change}
 use Rattle.hid_cells.specs.declared.change.ChangeFault.{ChangeFault}
-use Rattle.hid_usages.specs.Snapshots.{changed}
-use Rattle.hid_usages.specs.Snapshots as snapshots
+use Rattle.hid_cells.specs.Snapshots.{changed}
+use Rattle.hid_cells.specs.Snapshots as snapshots
 use Rattle.usb_transact.specs.declared.transaction.Fate.{Fate}
 use Rattle.usb_control.specs.declared.fault.ControlFault.TheVariants.{NoTransfer}
 use Rattle.usb_control.specs.declared.host.Progress.{Progress}

@@ -8,8 +8,8 @@ use Rattle.hid_cells.specs.declared.cell.Cell.{Cell}
 use Rattle.hid_cells.specs.declared.event.Event.{Event}
 use Rattle.hid_cells.specs.Pieces.{piece_of, pieces_of}
 use Rattle.hid_parts.specs.Encoded.{part_bytes}
-use Rattle.hid_usages.specs.Cells.{FitsView}
-use Rattle.hid_usages.specs.Views.{seen}
+use Rattle.hid_cells.specs.Cells.{FitsView}
+use Rattle.hid_cells.specs.Views.{seen}
 use Rattle.hid_views.proofs.CrossingLemmas.{seen_is_view}
 use Rattle.usb_packet.specs.declared.packet.Packet.{Packet}
 use Rattle.usb_packet.specs.declared.packet.Packet.TheVariants as packets

@@ -13,13 +13,13 @@ ghost use Rattle.hid_stack.specs.Tells.{kept_if};
 ghost use Rattle.hid_stack.specs.Sums.{CutsByRequest, IsBetween};
 
 use crate::slot::is_sound;
+use hid_cells::Event;
 use hid_device::Device;
 use hid_host::laws::{
     control_steps_are_computed, devices_leave_transfers, hosts_know_their_devices,
     rounds_suit_their_hosts,
 };
 use hid_host::{HostDevice, StackFault};
-use hid_usages::Event;
 use usb_control::Progress;
 use usb_transact::Fate;
 

@@ -3,7 +3,7 @@ ghost use Rattle.hid_device.specs.Device.{core_of, is_poll};
 ghost use Rattle.std.specs.Prelude.{◌≡◌, ◌≤◌, ◌+◌, true, false, [], Some, None, if◌then◌else◌, length, IfSome, vec_len, vec_capacity};
 ghost use Rattle.std.specs.Option.{option_map};
 ghost use Rattle.hid_layout.specs.Controls.{items_of, max_events};
-ghost use Rattle.hid_usages.specs.Encoding.{AreBytes};
+ghost use Rattle.hid_parts.specs.Encoding.{AreBytes};
 ghost use Rattle.usb_packet.specs.Lent.{owned, IsShort};
 ghost use Rattle.usb_packet.specs.Spelling.{Fits};
 ghost use Rattle.usb_transact.specs.Bus.{arrived};
@@ -18,11 +18,11 @@ ghost use Rattle.hid_lives.specs.Stations.{events_at};
 ghost use Rattle.hid_stack.specs.Tells.{TellsPoll};
 
 use arrayvec::ArrayVec;
+use hid_cells::Event;
 use hid_device::Device;
 use hid_host::laws::hosts_know_their_devices;
 use hid_host::{HostDevice, StackFault};
 use hid_steps::Told;
-use hid_usages::Event;
 use usb_packet::{LentPacket, Packet, spell, spell_lent};
 use usb_transact::{Bus, Fate, Phase, Took, read_arrived};
 

@@ -1,4 +1,3 @@
 pub mod Vectors
 pub mod BootDescriptors
 pub mod BootLemmas
-pub mod ReaderLemmas

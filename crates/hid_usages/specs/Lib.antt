@@ -17,4 +17,4 @@ pub use Rattle.hid_views.specs.Law
 pub use Rattle.hid_views.specs.Crossing
 pub use Rattle.hid_views.specs.OneReport
 pub mod Boot
-pub mod Reader
+pub use Rattle.hid_views.specs.Reader

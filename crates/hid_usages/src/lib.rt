@@ -21,7 +21,6 @@
 #![tactic(auto)]
 
 pub mod boot;
-mod reader;
 
 pub use hid_cells::{
     Cell, Change, ChangeFault, Event, Flags, MemoryFault, Motions, ReportFault, Values,
@@ -29,6 +28,5 @@ pub use hid_cells::{
 };
 pub use hid_parts::{Shown, Snapshot, encode_report};
 pub use hid_views::{
-    View, bytes_awaited, changes, changes_and_drops, element_value, input_report, laws,
+    Reader, View, bytes_awaited, changes, changes_and_drops, element_value, input_report, laws,
 };
-pub use reader::Reader;

@@ -17,3 +17,4 @@ pub mod DropLemmas
 pub mod RoomLemmas
 pub mod BackLemmas
 pub mod BoundLemmas
+pub mod ReaderLemmas

@@ -9,3 +9,4 @@ pub mod OneReport
 pub mod Bits
 pub mod Dropping
 pub mod Keeping
+pub mod Reader

@@ -5,7 +5,7 @@
 //!   an element of 07:01 in an array    the keys of that array stay as they were
 //!   a number out of its range          null where the control has null, else nothing changes
 //! ```
-//! Any bytes give one view and one list of events: `taken` on [`View::take_report`].
+//! Any bytes give one view and one list of events: `taken` on [`View::take_report`]. A [`Reader`] owns a layout with its view.
 #![tactic(auto)]
 
 mod back;
@@ -17,8 +17,10 @@ mod elements;
 mod input;
 pub mod laws;
 mod read;
+mod reader;
 mod take;
 mod view;
 
 pub use input::{bytes_awaited, element_value, input_report};
+pub use reader::Reader;
 pub use view::{View, changes, changes_and_drops};

@@ -6,13 +6,13 @@ ghost use Rattle.hid_layout.specs.Controls.{items_of, max_events};
 ghost use Rattle.hid_layout.specs.Reports.{IsLayout};
 ghost use Rattle.hid_cells.specs.Cells.{FitsView};
 ghost use Rattle.hid_views.specs.Taking.{TakesReport};
-ghost use Rattle.hid_usages.specs.Reader.{kept_of};
+ghost use Rattle.hid_views.specs.Reader.{kept_of};
 
+use crate::view::View;
 use arrayvec::ArrayVec;
 use hid_cells::{Event, ReportFault};
 use hid_fields::FieldCodec;
 use hid_layout::Layout;
-use hid_views::View;
 use std::marker::Model;
 
 /// The layout of a device's reports, and a host's view of its controls. A contract sees both.
@@ -28,7 +28,7 @@ pub struct Reader {
 }
 
 impl Model for Reader {
-    ghost use Rattle.hid_usages.specs.Reader.{Seen, IsReader};
+    ghost use Rattle.hid_views.specs.Reader.{Seen, IsReader};
 
     ghost Value = { Seen };
 

@@ -3,9 +3,9 @@ use Rattle.std.specs.Vec.{vec_len, vec_capacity}
 use Rattle.hid_layout.specs.Controls.{items_of, max_events}
 use Rattle.hid_cells.specs.Cells.{FitsView}
 use Rattle.hid_views.specs.Taking.{TakesReport}
-use Rattle.hid_usages.specs.Reader.{Seen}
-use Rattle.hid_usages.proofs.ReaderLemmas.{still_taken, reader_after}
-use Rattle.hid_usages.proofs.reader.Reader.take_report.Goals as goal
+use Rattle.hid_views.specs.Reader.{Seen}
+use Rattle.hid_views.proofs.ReaderLemmas.{still_taken, reader_after}
+use Rattle.hid_views.proofs.reader.Reader.take_report.Goals as goal
 
 pub returns-then-is_kept-clause-taken : goal.returns-then-is_kept-clause-taken
 returns-then-is_kept-clause-taken g c =

@@ -21,7 +21,7 @@ use Rattle.hid_cells.proofs.ItemLemmas.{got, form_at-is}
 use Rattle.hid_views.specs.Reading.{read_cell, names_rollover, read_named, is_data_in, item_numbers}
 use Rattle.hid_views.specs.Taking.{TakesReport, list_at, read_by_report, told_by_report, read_by_numbers, told_by_numbers, read_from, told_from, read_view, read_events}
 use Rattle.hid_views.proofs.EventLemmas.{has_places}
-use Rattle.hid_usages.specs.Reader.{IsStill, IsReader, kept_of}
+use Rattle.hid_views.specs.Reader.{IsStill, IsReader, kept_of}
 use Rattle.hid_cells.proofs.CodeLemmas.{both_true}
 use Rattle.hid_views.proofs.TakeLemmas.{named_input, read_view-at, read_view_fits}
 
