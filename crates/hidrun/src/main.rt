@@ -12,12 +12,13 @@
 mod status;
 mod words;
 
+use clap::error::ErrorKind;
 use hid_script::{Cause, Options, ScriptFault, Summary, run};
 use status::{OUTSIDE, WRONG_USAGE, exit_of};
 use std::env;
 use std::io::BufWriter;
 use std::process::ExitCode;
-use words::{WordsFault, options_of};
+use words::options_of;
 
 const USAGE: &str = "usage: hidrun [--layout] [--trace]";
 
@@ -32,10 +33,17 @@ fn main(rt: HostRuntime) -> ExitCode {
     };
     match options_of(alloc, words.as_slice()) {
         Ok(options) => run_script(&rt, options),
-        Err(WordsFault::Memory) => ExitCode::from(OUTSIDE),
-        Err(WordsFault::Usage) => {
+        Err(error) => ExitCode::from(tell_words(&rt, &error)),
+    }
+}
+
+/// Tells how the program is called, unless memory was wanting for the words.
+fn tell_words(rt: &HostRuntime, error: &clap::Error) -> u8 {
+    match error.kind() {
+        ErrorKind::OutOfMemory => OUTSIDE,
+        _ => {
             let _ = eprintln!(rt; "{USAGE}");
-            ExitCode::from(WRONG_USAGE)
+            WRONG_USAGE
         }
     }
 }

@@ -1,43 +1,33 @@
 //! The words of the command line.
 
-use clap::error::ErrorKind;
-use clap::{Arg, ArgAction, Command};
+use clap::{Arg, ArgAction, ArgMatches, Command, Error};
 use hid_script::Options;
-use std::alloc::Global;
+use std::alloc::{AllocError, Global};
 
-/// Why words give no options.
-#[derive(Clone, Copy, Debug, PartialEq, Eq)]
-pub enum WordsFault {
-    /// A word that is none of the options.
-    Usage,
-    /// Memory was wanting.
-    Memory,
+fn flag<'a>(alloc: Global, name: &'a str) -> Arg<'a> {
+    Arg::new(alloc, name).long(name).action(ArgAction::Count)
+}
+
+fn command<'a>(alloc: Global) -> Result<Command<'a>, AllocError> {
+    Command::new(alloc, "hidrun")
+        .disable_help_flag(true)
+        .arg(flag(alloc, "layout"))?
+        .arg(flag(alloc, "trace"))
 }
 
 /// The options that the words name behind the first, which is the program's name: `--layout` and `--trace`, each any
 /// number of times.
-pub fn options_of(alloc: Global, words: &[String]) -> Result<Options, WordsFault> {
-    read(alloc, words).map_err(|error| match error.kind() {
-        ErrorKind::OutOfMemory => WordsFault::Memory,
-        _ => WordsFault::Usage,
-    })
+pub fn options_of(alloc: Global, words: &[String]) -> Result<Options, Error> {
+    let matches = command(alloc)?.try_get_matches_from(words)?;
+    let options = options_in(&matches);
+    drop(matches);
+    Ok(options)
 }
 
-fn read(alloc: Global, words: &[String]) -> Result<Options, clap::Error> {
-    let layout = Arg::new(alloc, "layout")
-        .long("layout")
-        .action(ArgAction::Count);
-    let trace = Arg::new(alloc, "trace")
-        .long("trace")
-        .action(ArgAction::Count);
-    let command = Command::new(alloc, "hidrun")
-        .disable_help_flag(true)
-        .disable_version_flag(true)
-        .arg(layout)?
-        .arg(trace)?;
-    let matches = command.try_get_matches_from(words)?;
-    Ok(Options {
+/// The same, of the words that were found.
+fn options_in(matches: &ArgMatches<'_>) -> Options {
+    Options {
         layout: matches.get_count("layout") > 0,
         trace: matches.get_count("trace") > 0,
-    })
+    }
 }
