@@ -37,15 +37,18 @@ fn file<'a>(alloc: Global) -> Arg<'a> {
     Arg::new(alloc, "FILE").help("The report descriptor; - and no FILE are standard input")
 }
 
-fn command<'a>(alloc: Global) -> Result<Command<'a>, AllocError> {
+/// The program, and the report that it may draw alone.
+fn drawing<'a>(alloc: Global) -> Result<Command<'a>, AllocError> {
     let svg = svg(alloc)?;
     Command::new(alloc, "hidmap")
         .version("0.2.0")
         .about("Draws where each field stands in the reports of a USB HID device, as an HTML page")
         .after_help(CODES)
-        .arg(svg)?
-        .arg(text(alloc))?
-        .arg(file(alloc))
+        .arg(svg)
+}
+
+fn command<'a>(alloc: Global) -> Result<Command<'a>, AllocError> {
+    drawing(alloc)?.arg(text(alloc))?.arg(file(alloc))
 }
 
 /// What the words behind the first ask for, which is the program's name.
