@@ -51,9 +51,29 @@ fn text<'a>(alloc: Global) -> Result<Arg<'a>, AllocError> {
     .conflicts_with("binary")
 }
 
+/// Adds an argument, if memory was there for the command and for it.
+fn add<'a>(
+    command: Result<Command<'a>, AllocError>,
+    made: Result<Arg<'a>, AllocError>,
+) -> Result<Command<'a>, AllocError> {
+    match command {
+        Ok(command) => match made {
+            Ok(arg) => command.arg(arg),
+            Err(error) => {
+                drop(command);
+                Err(error)
+            }
+        },
+        Err(error) => {
+            drop(made);
+            Err(error)
+        }
+    }
+}
+
 /// The program, and what it prints beside the events.
 fn printing<'a>(alloc: Global) -> Result<Command<'a>, AllocError> {
-    Command::new(alloc, "hidplay")
+    let command = Command::new(alloc, "hidplay")
         .version("0.2.0")
         .about("Plays recordings of USB HID devices: prints the events that a host sees")
         .after_help(CODES)
@@ -61,38 +81,37 @@ fn printing<'a>(alloc: Global) -> Result<Command<'a>, AllocError> {
             alloc,
             "layout",
             "Print the layout of each report descriptor",
-        ))?
-        .arg(flag(alloc, "values", "Print the values of each report"))?
-        .arg(flag(alloc, "names", "Print the name of each event's usage"))
-}
-
-/// Adds an argument, if memory was there for it.
-fn add<'a>(
-    command: Command<'a>,
-    made: Result<Arg<'a>, AllocError>,
-) -> Result<Command<'a>, AllocError> {
-    match made {
-        Ok(arg) => command.arg(arg),
-        Err(error) => {
-            drop(command);
-            Err(error)
-        }
-    }
+        ));
+    let command = add(
+        command,
+        Ok(flag(alloc, "values", "Print the values of each report")),
+    );
+    add(
+        command,
+        Ok(flag(alloc, "names", "Print the name of each event's usage")),
+    )
 }
 
 fn command<'a>(alloc: Global) -> Result<Command<'a>, AllocError> {
-    let command = add(printing(alloc)?, json(alloc))?.arg(flag(
-        alloc,
-        "strict",
-        "End all files at the first line that is refused",
-    ))?;
-    add(command, text(alloc))?
-        .arg(flag(
+    let command = add(printing(alloc), json(alloc));
+    let command = add(
+        command,
+        Ok(flag(
+            alloc,
+            "strict",
+            "End all files at the first line that is refused",
+        )),
+    );
+    let command = add(command, text(alloc));
+    let command = add(
+        command,
+        Ok(flag(
             alloc,
             "binary",
             "Take each file for a binary report descriptor",
-        ))?
-        .arg(files(alloc))
+        )),
+    );
+    add(command, Ok(files(alloc)))
 }
 
 /// What files are taken for; one of the two at most is asked for.
