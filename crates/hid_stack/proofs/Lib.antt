@@ -23,3 +23,4 @@ pub mod StoryLemmas
 pub mod AnswerLemmas
 pub mod NamedLemmas
 mod Vectors
+pub mod ServeLemmas

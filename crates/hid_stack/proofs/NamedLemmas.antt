@@ -54,11 +54,6 @@ named slots members dev i m same number within is =
       here = ap (λ (b : Bool). cond b None (slice_get members (dev - 1))) some ∙ ap (slice_get members) place ∙ read;
     }
 
--- what holds anyway holds where a call succeeds
-pub where_done : (r : Result Told StackFault) (P : Type 0) → P → OnOk r P
-where_done (Ok told) P holds = holds
-where_done (Err fault) P holds = tt
-
 -- where the bus stands behind its step
 pub leaves : (slots members : List Member) (dev i : ℕ) (m n : Member) (x : MemberStep) → slots ≡ members → IsNamed members dev i m → n ≡ member_after m x
     → slice_set slots i n ≡ one_after members dev x
@@ -169,14 +164,6 @@ begin_told (Err fault) = Err fault
 begin_stands : (members : List Member) (dev i : ℕ) (m : Member) (request : Request) → IsNamed members dev i m → refusal members (Begin dev request) ≡ begin_refusal_at m request
 begin_stands members dev i m request at_place =
     ap (λ (o : Option Member). elim o as (λ _. Option StackFault) [ None ↦ Some NoDevice | Some k ↦ begin_refusal_at k request ]) at_place.here
-
-pub begin_tells : (members : List Member) (dev : ℕ) (request : Request) (done : Result (Unit {0}) StackFault) (r : Result Told StackFault) → r ≡ begin_told done → IfOk r (λ told. Tells members (Begin dev request) told)
-begin_tells members dev request (Ok _) r told = subst (λ (o : Result Told StackFault). IfOk o (λ t. Tells members (Begin dev request) t)) (sym told) refl
-begin_tells members dev request (Err fault) r told = subst (λ (o : Result Told StackFault). IfOk o (λ t. Tells members (Begin dev request) t)) (sym told) tt
-
-pub begin_done : (done : Result (Unit {0}) StackFault) (r : Result Told StackFault) (P : Type 0) → r ≡ begin_told done → OnOk done P → OnOk r P
-begin_done (Ok _) r P told holds = subst (λ (o : Result Told StackFault). OnOk o P) (sym told) holds
-begin_done (Err fault) r P told holds = subst (λ (o : Result Told StackFault). OnOk o P) (sym told) tt
 
 pub begin_refused : (members : List Member) (dev i : ℕ) (m : Member) (request : Request) (done : Result (Unit {0}) StackFault) (r : Result Told StackFault) → IsNamed members dev i m → r ≡ begin_told done
     → ((e : StackFault) → begin_refusal_at m request ≡ Some e → done ≡ Err e) → (e : StackFault) → refusal members (Begin dev request) ≡ Some e → r ≡ Err e

@@ -51,10 +51,13 @@ pub tried : (fate : Fate) (m n : Member) (result : Result Progress StackFault) �
 tried fate m n result tries has = tried_by fate m n (running m.transfer) result refl tries has
 
 -- behind a frame, whose slots stand in the memory of the list before
+pub framed : (members new : List Member) (len : ℕ) → length new ≡ len → take len (new ++ drop (length new) members) ≡ new
+framed members new len size = take-append-le len new (drop (length new) members) (omega arith) ∙ take_all len new (omega arith)
+
 pub framed_hold : (members new : List Member) (len cap limit : ℕ) → (length members ≤ limit) × (limit ≤ cap) × AllHaveMotions members → new ≡ map (λ (m : Member). member_after m (Scheduled Frame)) members → length new ≡ len
     → (length (take len (new ++ drop (length new) members)) ≤ limit) × (limit ≤ cap) × AllHaveMotions (take len (new ++ drop (length new) members))
 framed_hold members new len cap limit (within, room, all) is size =
-    let whole : take len (new ++ drop (length new) members) ≡ new = take-append-le len new (drop (length new) members) (omega arith) ∙ take_all len new (omega arith) in
+    let whole = framed members new len size in
     let same : length new ≡ length members = ap (λ (ms : List Member). length ms) is ∙ length-map members (λ (m : Member). member_after m (Scheduled Frame)) in
     subst (λ (ms : List Member). (length ms ≤ limit) × (limit ≤ cap) × AllHaveMotions ms) (sym whole)
     (omega arith, room, subst AllHaveMotions (sym is) (bus_has members FrameStep all))

@@ -7,6 +7,7 @@ pub mod Tells
 pub mod Attaching
 pub mod Showing
 pub mod Sums
+pub mod Steps
 pub mod Headline
 pub mod Transfers
 pub mod Laws

@@ -8,6 +8,7 @@ ghost use Rattle.hid_stack.specs.Headline.{DeliversChanges, DevicesLive, KeepsTo
 ghost use Rattle.hid_stack.specs.Members.{Scheduled, member_after};
 ghost use Rattle.hid_stack.specs.Rig.{AreScheduled, FitsStep, NoneIsRefused, member_at, bus_after, delivered_at, bus_after_all, delivered_in, refusal, refused_after, stopped_after, IsRefusal, StopsAt, HasRoomFor, most_events, most_in, IsIsolated};
 ghost use Rattle.hid_stack.specs.Showing.{GivesOf, ShowsDevice, ShowsHost, ShowsTransfer};
+ghost use Rattle.hid_stack.specs.Steps.{named_by};
 ghost use Rattle.hid_stack.specs.Sums.{ConfiguresBetweenRounds, OnlyHaltsCut, SumsUp};
 ghost use Rattle.hid_stack.specs.Tells.{Tells};
 
@@ -192,43 +193,14 @@ impl Rig {
         ensures few { vec_len out.new ≤ vec_len out.old + most_events self.old step.now }
         ensures capacity { vec_capacity out.old ≤ vec_capacity out.new }
     {
-        match *step {
-            Step::Change { dev, change } => {
-                let i = self.place(dev)?;
-                match self.slots[i].change(change) {
-                    Ok(()) => Ok(Told::Quiet),
-                    Err(fault) => Err(StackFault::Refused(fault)),
-                }
-            }
-            Step::Frame => {
+        match device_of(step) {
+            None => {
                 frame_all(&mut self.slots);
                 Ok(Told::Quiet)
             }
-            Step::Poll { dev, fate } => {
+            Some(dev) => {
                 let i = self.place(dev)?;
-                self.slots[i].poll(dev, fate, out)
-            }
-            Step::Begin { dev, ref request } => {
-                let i = self.place(dev)?;
-                match self.slots[i].begin(request) {
-                    Ok(()) => Ok(Told::Quiet),
-                    Err(fault) => Err(fault),
-                }
-            }
-            Step::Control { dev, fate } => {
-                let i = self.place(dev)?;
-                match self.slots[i].control(dev, fate, out) {
-                    Ok(progress) => Ok(Told::Transfer(progress)),
-                    Err(fault) => Err(fault),
-                }
-            }
-            Step::Halt { dev } => {
-                let i = self.place(dev)?;
-                self.slots[i].halt(dev, out)
-            }
-            Step::Reset { dev } => {
-                let i = self.place(dev)?;
-                self.slots[i].reset(dev, out)
+                self.slots[i].step(step, out)
             }
         }
     }
@@ -312,5 +284,21 @@ fn frame_all(slots: &mut [Slot])
 {
     for slot in slots.iter_mut() {
         slot.frame();
+    }
+}
+
+/// The device that a step names.
+#[inline(always)] // as `Rig::step`
+fn device_of(step: &Step) -> Option<u8>
+    ensures { result ≡ named_by step.now }
+{
+    match *step {
+        Step::Frame => None,
+        Step::Change { dev, .. } => Some(dev),
+        Step::Poll { dev, .. } => Some(dev),
+        Step::Begin { dev, .. } => Some(dev),
+        Step::Control { dev, .. } => Some(dev),
+        Step::Halt { dev } => Some(dev),
+        Step::Reset { dev } => Some(dev),
     }
 }

@@ -4,6 +4,7 @@ ghost use Rattle.std.specs.Prelude.{◌≡◌, ◌≢◌, ◌⊎◌, ◌≤◌, 
 ghost use Rattle.hid_layout.specs.Controls.{items_of, max_events};
 ghost use Rattle.hid_layout.specs.Layout.{Contents};
 ghost use Rattle.hid_cells.specs.Snapshots.{Changes};
+ghost use Rattle.hid_lives.specs.Motion.{HasMotions};
 ghost use Rattle.hid_lives.specs.Rounds.{Polls, Changes as ChangeStep, Frame as FrameStep};
 ghost use Rattle.hid_device.specs.declared.config.Config.{Config as ConfigValue};
 ghost use Rattle.hid_device.specs.Core.{IsSound};
@@ -15,11 +16,12 @@ ghost use Rattle.hid_stack.specs.Attaching.{Suits, IsNoPair, member_at_start};
 ghost use Rattle.hid_host.specs.declared.fault.StackFault.{StackFault as Refusal};
 ghost use Rattle.hid_host.specs.Bringing.{may_cut};
 ghost use Rattle.hid_host.specs.Host.{running};
-ghost use Rattle.hid_stack.specs.Members.{Scheduled, Begins, Controls, Halts, Resets, begin_refusal_at, cold_member, deed_at, events_by, fresh_member, member_after, polls_it};
+ghost use Rattle.hid_stack.specs.Members.{Member, Scheduled, Begins, Controls, Halts, Resets, begin_refusal_at, cold_member, deed_at, events_by, fresh_member, member_after, polls_it};
 ghost use Rattle.hid_host.specs.Knowing.{Knows};
 ghost use Rattle.hid_stack.specs.Slot.{StandTogether, TriesTransfer, joint};
 ghost use Rattle.hid_steps.specs.declared.step.Told.TheVariants as Tellings;
-ghost use Rattle.hid_stack.specs.Rig.{HasRoomToTry, most_tried, poll_refusal, tagged};
+ghost use Rattle.hid_stack.specs.Rig.{HasRoomToTry, member_at, most_tried, poll_refusal, tagged, with_member};
+ghost use Rattle.hid_stack.specs.Steps.{StepsTo, named_by};
 ghost use Rattle.hid_stack.specs.Sums.{CutsByRequest, IsBetween};
 ghost use Rattle.hid_stack.specs.Showing.{ShowsDevice, ShowsHost};
 ghost use Rattle.hid_stack.specs.Tells.{TellsPoll};
@@ -34,7 +36,7 @@ use hid_host::{DescriptorFault, HostDevice, StackFault, Start};
 use hid_layout::laws::{accepted_or_refused, one_reading};
 use hid_layout::{Cause, Layout};
 use hid_requests::Request;
-use hid_steps::{Delivered, Told};
+use hid_steps::{Delivered, Step, Told};
 use std::alloc::Global;
 use std::marker::Model;
 use usb_control::Progress;
@@ -244,6 +246,40 @@ impl Slot {
         ensures { ShowsHost self.now result.now }
     {
         &self.host
+    }
+
+    /// A step of the bus that names this device. In a step that names none a frame passes.
+    #[inline(always)] // as `Rig::step`
+    pub(crate) fn step(&mut self, step: &Step, out: &mut Vec<Delivered>) -> Result<Told, StackFault>
+        ensures steps { (members : List Member) (dev : ℕ)
+            → named_by step.now ≡ Some dev → member_at members dev ≡ Some self.old
+            → StepsTo members (with_member members dev self.new) step.now result
+            out.old.items out.new.items (vec_len out.old) (vec_len out.new)
+            (vec_capacity out.old) (vec_capacity out.new) }
+        ensures motions { HasMotions (items_of self.old.layout) self.old.station
+            → HasMotions (items_of self.new.layout) self.new.station }
+    {
+        match *step {
+            Step::Change { change, .. } => match self.change(change) {
+                Ok(()) => Ok(Told::Quiet),
+                Err(fault) => Err(StackFault::Refused(fault)),
+            },
+            Step::Frame => {
+                self.frame();
+                Ok(Told::Quiet)
+            }
+            Step::Poll { dev, fate } => self.poll(dev, fate, out),
+            Step::Begin { ref request, .. } => match self.begin(request) {
+                Ok(()) => Ok(Told::Quiet),
+                Err(fault) => Err(fault),
+            },
+            Step::Control { dev, fate } => match self.control(dev, fate, out) {
+                Ok(progress) => Ok(Told::Transfer(progress)),
+                Err(fault) => Err(fault),
+            },
+            Step::Halt { dev } => self.halt(dev, out),
+            Step::Reset { dev } => self.reset(dev, out),
+        }
     }
 
     // A step of one sort makes no room for what those of another sort need.

@@ -1,0 +1,39 @@
+-- One step of the bus, whole: what it tells, where it leaves the bus and the events, and when it is refused (our choice).
+use Rattle.std.specs.Prelude.{◌≡◌, ◌≢◌, ◌≤◌, ◌+◌, ◌++◌, ℕ, List, [], ◌∷◌, Option, Some, None, Result, Err, IfOk, IfErr, OnOk, OnErr}
+use Rattle.hid_host.specs.declared.fault.StackFault.{StackFault}
+use Rattle.hid_host.specs.declared.fault.StackFault.TheVariants.{Memory}
+use Rattle.hid_steps.specs.declared.step.Step.{Step}
+use Rattle.hid_steps.specs.declared.step.Step.TheVariants.{Change, Frame, Poll, Begin, Control, Halt, Reset}
+use Rattle.hid_steps.specs.declared.step.Told.{Told}
+use Rattle.hid_steps.specs.declared.step.Delivered.{Delivered}
+use Rattle.hid_stack.specs.Members.{Member}
+use Rattle.hid_stack.specs.Rig.{FitsStep, HasRoomFor, IsRefusal, bus_after, delivered_at, most_events, refusal, refused_after}
+use Rattle.hid_stack.specs.Sums.{ConfiguresBetweenRounds, OnlyHaltsCut}
+use Rattle.hid_stack.specs.Tells.{Tells}
+
+-- the device that a step names: a frame names none
+abbrev pub named_by : Step → Option ℕ
+named_by (Change dev change) = Some dev
+named_by Frame = None
+named_by (Poll dev fate) = Some dev
+named_by (Begin dev request) = Some dev
+named_by (Control dev fate) = Some dev
+named_by (Halt dev) = Some dev
+named_by (Reset dev) = Some dev
+
+-- The step leads from these members to those, and its list of events, so long and with such room, to that one.
+pub record StepsTo (members after_it : List Member) (x : Step) (result : Result Told StackFault)
+    (old new : List Delivered) (len len_then capacity_before capacity_then : ℕ) : Type 0 where
+  pub told : IfOk result (λ told. Tells members x told)
+  pub after : OnOk result (after_it ≡ bus_after members x)
+  pub events : OnOk result (new ≡ old ++ delivered_at members x)
+  pub fits : IfOk result (λ _. FitsStep x)
+  pub refused : (e : StackFault) → refusal members x ≡ Some e → result ≡ Err e
+  pub only : IfErr result (λ e. IsRefusal members x e)
+  pub err : IfErr result (λ e. after_it ≡ refused_after members x e)
+  pub err_events : OnErr result (new ≡ old)
+  pub between : ConfiguresBetweenRounds members (x ∷ [])
+  pub cuts : OnlyHaltsCut members x
+  pub room : HasRoomFor members x len capacity_before → result ≢ Err Memory
+  pub few : len_then ≤ len + most_events members x
+  pub capacity : capacity_before ≤ capacity_then
