@@ -23,17 +23,18 @@ impl fmt::Display for Cause {
     ghost output = { λ cause. Some (cause_text cause) };
 
     fn fmt<W: fmt::Write>(&self, f: &mut fmt::Formatter<W>) -> fmt::Result {
-        match self {
-            Cause::Syntax => write!(f, "X1"),
-            Cause::LineTooLong => write!(f, "X2"),
-            Cause::BadHex => write!(f, "X3"),
-            Cause::Step(fault) => write!(f, "X4 {fault}"),
-            Cause::Read => write!(f, "X5"),
-            Cause::Write => write!(f, "X6"),
-            Cause::Memory => write!(f, "X7"),
-            Cause::TooManyReads => write!(f, "X8"),
-            Cause::NoLayout => write!(f, "X9"),
-        }
+        let code = match self {
+            Cause::Syntax => "X1",
+            Cause::LineTooLong => "X2",
+            Cause::BadHex => "X3",
+            Cause::Step(fault) => return write!(f, "X4 {fault}"),
+            Cause::Read => "X5",
+            Cause::Write => "X6",
+            Cause::Memory => "X7",
+            Cause::TooManyReads => "X8",
+            Cause::NoLayout => "X9",
+        };
+        f.write_str(code)
     }
 }
 
