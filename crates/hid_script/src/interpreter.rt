@@ -232,8 +232,11 @@ impl Interpreter {
     {
         let layout = Layout::parse(self.alloc, descriptor)?;
         self.text.clear();
-        print_layout(&mut self.text, &layout)?;
-        self.layout = Some(layout);
+        if print_layout(&mut self.text, &layout).is_err() {
+            drop(layout);
+            return Err(Cause::Memory);
+        }
+        drop(self.layout.replace(layout));
         write_text(writer, self.text.as_bytes())
     }
 
