@@ -68,7 +68,9 @@ fn run_lines<R: Read, W: Write>(
     match Interpreter::new(alloc, options) {
         Ok(interpreter) => {
             let mut script = Script::new(interpreter);
-            run_pieces(&mut script, reader, writer)
+            let end = run_pieces(&mut script, reader, writer);
+            drop(script);
+            end
         }
         Err(cause) => Err(ScriptFault { line: 1, cause }),
     }
