@@ -1,5 +1,5 @@
-use Rattle.std.proofs.Common.{◌≡◌, ◌++◌, ◌+◌, ◌≤◌, ◌∙◌, [], ◌∷◌, None, ap, arith, refl, sym, take, subst, Err, vec_len, vec_capacity}
-use Rattle.std.proofs.lemmas.Grind.{common_steps}
+use Rattle.std.proofs.Common.{◌≡◌, ◌++◌, ◌+◌, ◌≤◌, ◌∙◌, [], ◌∷◌, List, None, ap, arith, refl, sym, take, subst, Err, vec_len, vec_capacity}
+use Rattle.std.proofs.lemmas.List.{take_all}
 use Rattle.std.proofs.lemmas.List.Elements.{All-more}
 use Rattle.hid_steps.specs.declared.step.Step.{Step}
 use Rattle.std.specs.List.{All}
@@ -28,44 +28,58 @@ loop-at-preserved c =
       capacity = omega (arith, c.loop-at.invariant.capacity, c.step.ensures.capacity);
     }
 
+pub returns-clause-after : goal.returns-clause-after
+returns-clause-after c =
+    let whole : take c.loop-at.at c.args.steps.now ≡ c.args.steps.now = take_all c.loop-at.at c.args.steps.now c.loop-at-test.false in
+    c.loop-at.invariant.now ∙ ap (bus_after_all c.args.self.now) whole
+
+pub returns-clause-events : goal.returns-clause-events
+returns-clause-events c =
+    let whole : take c.loop-at.at c.args.steps.now ≡ c.args.steps.now = take_all c.loop-at.at c.args.steps.now c.loop-at-test.false in
+    c.loop-at.invariant.told ∙ ap (λ (xs : List Step). c.args.out.now.items ++ delivered_in c.args.self.now xs) whole
+
 pub returns-clause-headline : goal.returns-clause-headline
 returns-clause-headline c =
-    let told : c.loop-at.out.items ≡ c.args.out.now.items ++ delivered_in c.args.self.now c.args.steps.now = grind (arith, common_steps) in
+    let whole : take c.loop-at.at c.args.steps.now ≡ c.args.steps.now = take_all c.loop-at.at c.args.steps.now c.loop-at-test.false in
+    let told = c.loop-at.invariant.told ∙ ap (λ (xs : List Step). c.args.out.now.items ++ delivered_in c.args.self.now xs) whole in
     headline c.args.self.now c.args.steps.now c.args.out.now.items c.loop-at.out.items told
 
 pub returns-clause-rounds : goal.returns-clause-rounds
 returns-clause-rounds c =
-    let stands : c.loop-at.self ≡ bus_after_all c.args.self.now c.args.steps.now = grind (arith, common_steps) in
+    let whole : take c.loop-at.at c.args.steps.now ≡ c.args.steps.now = take_all c.loop-at.at c.args.steps.now c.loop-at-test.false in
+    let stands = c.loop-at.invariant.now ∙ ap (bus_after_all c.args.self.now) whole in
     keeps_to_rounds c.args.self.now c.loop-at.self c.args.steps.now stands
 
 pub returns-clause-lives : goal.returns-clause-lives
 returns-clause-lives c =
-    let stands : c.loop-at.self ≡ bus_after_all c.args.self.now c.args.steps.now = grind (arith, common_steps) in
-    let told : c.loop-at.out.items ≡ c.args.out.now.items ++ delivered_in c.args.self.now c.args.steps.now = grind (arith, common_steps) in
+    let whole : take c.loop-at.at c.args.steps.now ≡ c.args.steps.now = take_all c.loop-at.at c.args.steps.now c.loop-at-test.false in
+    let stands = c.loop-at.invariant.now ∙ ap (bus_after_all c.args.self.now) whole in
+    let told = c.loop-at.invariant.told ∙ ap (λ (xs : List Step). c.args.out.now.items ++ delivered_in c.args.self.now xs) whole in
     devices_live c.args.self.now c.loop-at.self c.args.steps.now c.args.out.now.items c.loop-at.out.items stands told
 
 pub returns-clause-isolated : goal.returns-clause-isolated
 returns-clause-isolated c =
-    let stands : c.loop-at.self ≡ bus_after_all c.args.self.now c.args.steps.now = grind (arith, common_steps) in
-    let told : c.loop-at.out.items ≡ c.args.out.now.items ++ delivered_in c.args.self.now c.args.steps.now = grind (arith, common_steps) in
+    let whole : take c.loop-at.at c.args.steps.now ≡ c.args.steps.now = take_all c.loop-at.at c.args.steps.now c.loop-at-test.false in
+    let stands = c.loop-at.invariant.now ∙ ap (bus_after_all c.args.self.now) whole in
+    let told = c.loop-at.invariant.told ∙ ap (λ (xs : List Step). c.args.out.now.items ++ delivered_in c.args.self.now xs) whole in
     isolated c.args.self.now c.loop-at.self c.args.steps.now c.args.out.now.items c.loop-at.out.items stands told
 
 pub returns-clause-conserves : goal.returns-clause-conserves
 returns-clause-conserves c =
-    let stands : c.loop-at.self ≡ bus_after_all c.args.self.now c.args.steps.now = grind (arith, common_steps) in
-    let told : c.loop-at.out.items ≡ c.args.out.now.items ++ delivered_in c.args.self.now c.args.steps.now = grind (arith, common_steps) in
-    let whole : take c.loop-at.at c.args.steps.now ≡ c.args.steps.now = grind (arith, common_steps) in
+    let whole : take c.loop-at.at c.args.steps.now ≡ c.args.steps.now = take_all c.loop-at.at c.args.steps.now c.loop-at-test.false in
+    let stands = c.loop-at.invariant.now ∙ ap (bus_after_all c.args.self.now) whole in
+    let told = c.loop-at.invariant.told ∙ ap (λ (xs : List Step). c.args.out.now.items ++ delivered_in c.args.self.now xs) whole in
     sums_up c.args.self.now c.loop-at.self c.args.steps.now c.args.out.now.items c.loop-at.out.items (subst AllHaveMotions c.self.view_is c.self.invariant.2)
     (subst (ConfiguresBetweenRounds c.args.self.now) whole c.loop-at.invariant.between) stands told
 
 pub returns-clause-goes_on : goal.returns-clause-goes_on
 returns-clause-goes_on c =
-    let whole : take c.loop-at.at c.args.steps.now ≡ c.args.steps.now = grind (arith, common_steps) in
+    let whole : take c.loop-at.at c.args.steps.now ≡ c.args.steps.now = take_all c.loop-at.at c.args.steps.now c.loop-at-test.false in
     subst (NoneIsRefused c.args.self.now) whole c.loop-at.invariant.goes_on
 
 pub returns-clause-fits : goal.returns-clause-fits
 returns-clause-fits c =
-    let whole : take c.loop-at.at c.args.steps.now ≡ c.args.steps.now = grind (arith, common_steps) in
+    let whole : take c.loop-at.at c.args.steps.now ≡ c.args.steps.now = take_all c.loop-at.at c.args.steps.now c.loop-at-test.false in
     subst (All FitsStep) whole c.loop-at.invariant.fits
 
 -- where a step is refused, the steps before it stand
