@@ -1,0 +1,19 @@
+use Rattle.std.proofs.Common.{ap, ◌∙◌, arith}
+use Rattle.hid_layout.specs.Controls.{items_of}
+use Rattle.hid_device.specs.Core.{CoreState, next_of}
+use Rattle.hid_device.proofs.AckLemmas.{next_fits, next_there, none_behind}
+use Rattle.hid_device.proofs.state.Core.next_piece.Goals as goal
+
+pub overflow_add-self-inside : goal.overflow_add-self-inside
+overflow_add-self-inside c =
+    record { fits = next_fits (items_of c.self.inside.layout) c.self.inside.current c.self.inside.piece c.in-Some.report c.pieces_of-pieces.result _ c.self.invariant.sound.piece c.in-Some.is c.pieces_of-pieces.ensures.pieces c.pieces_of-pieces.type_inv }
+
+pub returns-then-self-pieces : goal.returns-then-self-pieces
+returns-then-self-pieces c =
+    next_there (items_of c.self.inside.layout) c.self.inside.current c.self.inside.piece c.in-Some.report c.pieces_of-pieces.result c.in-Some.is c.pieces_of-pieces.ensures.pieces c.if-self-pieces.true
+    ∙ ap next_of c.self.view_is
+
+pub returns-else-self-pieces : goal.returns-else-self-pieces
+returns-else-self-pieces c =
+    none_behind (items_of c.self.inside.layout) c.self.inside.current c.self.inside.piece c.in-Some.report c.pieces_of-pieces.result c.in-Some.is c.pieces_of-pieces.ensures.pieces c.if-self-pieces.false
+    ∙ ap next_of c.self.view_is
