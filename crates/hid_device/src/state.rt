@@ -142,12 +142,14 @@ fn served_layout(alloc: Global, descriptor: &[u8]) -> Result<Layout, DeviceFault
         Err(fault) => return Err(DeviceFault::from(fault)),
     };
     if !has_empty_codes(&layout) {
+        drop(layout);
         return Err(DeviceFault {
             cause: DeviceCause::NoEmptyCode,
             at: 0,
         });
     }
     if !has_zeros(&layout) {
+        drop(layout);
         return Err(DeviceFault {
             cause: DeviceCause::RelativeWithoutZero,
             at: 0,
@@ -174,7 +176,13 @@ impl Core {
             controls,
             counts,
             outputs,
-        } = Room::of(alloc, &layout, descriptor)?;
+        } = match Room::of(alloc, &layout, descriptor) {
+            Ok(room) => room,
+            Err(fault) => {
+                drop(layout);
+                return Err(fault);
+            }
+        };
         Ok(Core {
             layout,
             config: *config,
