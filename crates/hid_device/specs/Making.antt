@@ -4,13 +4,14 @@ use Rattle.hid_descriptor.specs.Faults.{Explains}
 use Rattle.hid_layout.specs.Layout.{Contents}
 use Rattle.hid_layout.specs.Controls.{items_of}
 use Rattle.hid_cells.specs.declared.cell.Cell.{Cell}
-use Rattle.hid_cells.specs.Cells.{blank}
+use Rattle.hid_cells.specs.Cells.{blank, FitsSnapshot, FitsShown}
 use Rattle.hid_cells.specs.Codes.{has_empty_codes}
 use Rattle.hid_cells.specs.Parts.{blank_parts, has_zeros}
 use Rattle.hid_device.specs.declared.config.Config.{Config}
 use Rattle.hid_device.specs.declared.fault.DeviceCause.{DeviceCause}
 use Rattle.hid_device.specs.declared.fault.DeviceCause.TheVariants.{BadConfig, Layout, NoEmptyCode, RelativeWithoutZero, Memory}
 use Rattle.hid_device.specs.declared.fault.DeviceFault.{DeviceFault}
+use Rattle.hid_device.specs.declared.room.Room.{Room}
 use Rattle.hid_device.specs.Config.{is_config}
 use Rattle.hid_device.specs.Inputs.{input_count}
 use Rattle.hid_device.specs.Outputs.{bare_outputs}
@@ -46,6 +47,19 @@ new_core config descriptor layout = record {
   answer = None;
   pending = Nothing;
 }
+
+-- Room for what such a device keeps of its reports: as in a new one, and for the parts that are asked for.
+pub record IsRoom (bytes : List ℕ) (layout : Contents) (room : Room) : Type 0 where
+  pub descriptor : room.descriptor.items ≡ bytes
+  pub snapshot : room.controls.snapshot ≡ blank (items_of layout)
+  pub fixed : room.controls.fixed ≡ blank_parts (items_of layout)
+  pub fits : FitsSnapshot (items_of layout) room.controls.snapshot
+  pub fits_fixed : FitsShown (items_of layout) room.controls.fixed
+  pub fits_still : FitsShown (items_of layout) room.controls.still
+  pub frames : room.counts.frames.items ≡ replicate (input_count layout.reports) 0
+  pub idle : room.counts.idle.items ≡ replicate (input_count layout.reports) 0
+  pub cut : room.counts.cut.items ≡ replicate (input_count layout.reports) false
+  pub outputs : room.outputs.items ≡ bare_outputs layout
 
 -- and such a device at an address, which waits for no ACK, and of which no request is open
 abbrev pub new_device : ℕ → Config → List ℕ → Contents → DeviceState

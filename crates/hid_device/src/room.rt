@@ -4,9 +4,7 @@ ghost use Rattle.std.specs.Prelude.{◌≡◌, replicate, false, IfOk, IfErr};
 ghost use Rattle.hid_layout.specs.Controls.{items_of};
 ghost use Rattle.hid_cells.specs.Cells.{blank, FitsSnapshot, FitsShown};
 ghost use Rattle.hid_cells.specs.Parts.{blank_parts};
-ghost use Rattle.hid_device.specs.Inputs.{input_count};
-ghost use Rattle.hid_device.specs.Outputs.{bare_outputs};
-ghost use Rattle.hid_device.specs.Making.{no_memory};
+ghost use Rattle.hid_device.specs.Making.{no_memory, IsRoom};
 
 use crate::fault::DeviceFault;
 use crate::inputs::input_count;
@@ -75,25 +73,13 @@ pub(crate) struct Room {
 
 impl Room {
     pub(crate) fn of(alloc: Global, layout: &Layout, descriptor: &[u8]) -> Result<Room, DeviceFault>
-        ensures descriptor { IfOk result (λ room. room.descriptor.items ≡ descriptor.now) }
-        ensures snapshot { IfOk result (λ room. room.controls.snapshot ≡ blank (items_of layout.now)) }
-        ensures fixed { IfOk result (λ room. room.controls.fixed ≡ blank_parts (items_of layout.now)) }
-        ensures fits { IfOk result (λ room. FitsSnapshot (items_of layout.now) room.controls.snapshot) }
-        ensures fits_fixed { IfOk result (λ room. FitsShown (items_of layout.now) room.controls.fixed) }
-        ensures fits_still { IfOk result (λ room. FitsShown (items_of layout.now) room.controls.still) }
-        ensures frames { IfOk result
-            (λ room. room.counts.frames.items ≡ replicate (input_count layout.now.reports) 0) }
-        ensures idle { IfOk result
-            (λ room. room.counts.idle.items ≡ replicate (input_count layout.now.reports) 0) }
-        ensures cut { IfOk result
-            (λ room. room.counts.cut.items ≡ replicate (input_count layout.now.reports) false) }
-        ensures outputs { IfOk result (λ room. room.outputs.items ≡ bare_outputs layout.now) }
+        ensures made { IfOk result (λ room. IsRoom descriptor.now layout.now room) }
         ensures wanting { IfErr result (λ fault. fault ≡ no_memory) }
     {
         let descriptor = Vec::from_slice(alloc, descriptor)?;
-        let controls = Controls::blank(alloc, layout)?;
-        let counts = Counts::zeros(alloc, input_count(layout))?;
         let outputs = bare_outputs(alloc, layout)?;
+        let counts = Counts::zeros(alloc, input_count(layout))?;
+        let controls = Controls::blank(alloc, layout)?;
         Ok(Room {
             descriptor,
             controls,

@@ -12,12 +12,12 @@ invariant_of-result c =
     let armed : c.new.result.armed ≡ None = ap (λ (pipe : DevPipeState). pipe.armed) c.new.ensures in
     record {
       sound = record {
-        lays = subst (λ (bytes : List ℕ). Lays bytes c.args.layout) (sym c.in_ok-descriptor.ensures.descriptor) c.requires.lays;
+        lays = subst (λ (bytes : List ℕ). Lays bytes c.args.layout) (sym c.in-Ok.ensures.made.descriptor) c.requires.lays;
         empty_codes = c.requires.empty_codes;
         zeros = c.requires.zeros;
         inputs_first = inputs_first c.args.descriptor.now c.args.layout c.requires.lays;
-        snapshot = c.in_ok-descriptor.ensures.fits;
-        fixed = c.in_ok-descriptor.ensures.fits_fixed;
+        snapshot = c.in-Ok.ensures.made.fits;
+        fixed = c.in-Ok.ensures.made.fits_fixed;
         each_frames = grind (arith, common_steps);
         each_idle = grind (arith, common_steps);
         each_cut = grind (arith, common_steps);
@@ -25,10 +25,10 @@ invariant_of-result c =
         piece = refl;
         sends = tt;
         quiet = tt;
-        outputs = subst (λ (outputs : List (List ℕ)). AreOutputs c.args.layout outputs) (sym c.in_ok-descriptor.ensures.outputs)
+        outputs = subst (λ (outputs : List (List ℕ)). AreOutputs c.args.layout outputs) (sym c.in-Ok.ensures.made.outputs)
             (bare_are c.args.layout);
       };
-      room = c.in_ok-descriptor.ensures.fits_still;
+      room = c.in-Ok.ensures.made.fits_still;
       calm = tt;
       armed = armed;
       round = tt;
