@@ -1,6 +1,6 @@
 //! Requests and descriptors, of no device:
 //! ```text
-//!   asks 80 00 00 00 00 00 02 00  what setup data ask: a variant of `Asked`, or `nothing`
+//!   asks 80 00 00 00 00 00 02 00  what setup data ask: a variant of `Asked` and what it holds, or `nothing`
 //!   spells get-idle 255           what a host sends for a request, where the report descriptor has 306 bytes and the endpoint
 //!                                 is 1: the setup data, the data behind them, and what they ask
 //!   describes 63 1 1 1 10         the configuration of these: length of the report descriptor, endpoint, subclass, protocol,
@@ -14,14 +14,47 @@ use crate::told::Told;
 use crate::words::{request_of, small, spell};
 use arrayvec::ArrayVec;
 use hid_requests::{
-    Asking, Request, configuration, device_descriptor, hid_descriptor, what_is_asked,
+    Asked, Asking, Request, configuration, device_descriptor, hid_descriptor, what_is_asked,
 };
 use usb_control::{ConfigInfo, DeviceInfo, Setup};
+
+/// Tells a row.
+fn tell_row(asked: Asked, told: &mut Told) {
+    match asked {
+        Asked::Status => told.add("Status"),
+        Asked::InterfaceStatus => told.add("InterfaceStatus"),
+        Asked::ControlStatus => told.add("ControlStatus"),
+        Asked::ReportStatus => told.add("ReportStatus"),
+        Asked::DeviceDescriptor => told.add("DeviceDescriptor"),
+        Asked::Configuration => told.add("Configuration"),
+        Asked::HidDescriptor => told.add("HidDescriptor"),
+        Asked::ReportDescriptor => told.add("ReportDescriptor"),
+        Asked::GetConfiguration => told.add("GetConfiguration"),
+        Asked::GetInterface => told.add("GetInterface"),
+        Asked::SetConfiguration => told.add("SetConfiguration"),
+        Asked::ClearFeature => told.add("ClearFeature"),
+        Asked::SetFeature => told.add("SetFeature"),
+        Asked::GetReport { kind, id } => {
+            told.show(format_args!("GetReport {{ kind: {kind:?}, id: {id} }}"));
+        }
+        Asked::GetIdle { id } => told.show(format_args!("GetIdle {{ id: {id} }}")),
+        Asked::GetProtocol => told.add("GetProtocol"),
+        Asked::SetReport { kind, id, length } => told.show(format_args!(
+            "SetReport {{ kind: {kind:?}, id: {id}, length: {length} }}"
+        )),
+        Asked::SetIdle { id, time } => {
+            told.show(format_args!("SetIdle {{ id: {id}, time: {time} }}"));
+        }
+        Asked::SetProtocol { protocol } => {
+            told.show(format_args!("SetProtocol {{ protocol: {protocol:?} }}"));
+        }
+    }
+}
 
 /// Tells what setup data ask.
 fn tell_asked(setup: &Setup, told: &mut Told) {
     match what_is_asked(setup) {
-        Some(asked) => told.show(format_args!("{asked:?}")),
+        Some(asked) => tell_row(asked, told),
         None => told.add("nothing"),
     }
 }

@@ -13,7 +13,7 @@ use hid_descriptor::ReportKind;
 use usb_control::Setup;
 
 /// What a device is asked: a row of the requests that it answers (USB 2.0, 9.4; HID 1.11, 7.1 and 7.2).
-#[derive(Clone, Copy, Debug)]
+#[derive(Clone, Copy)]
 pub enum Asked {
     /// GET_STATUS of the device.
     Status,
