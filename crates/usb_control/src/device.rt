@@ -2,7 +2,7 @@
 ghost use Rattle.std.specs.Prelude.{◌≡◌, ◌≤◌, ◌+◌, None, Some, Option, ℕ, Bool, true, false, length, IfSome};
 ghost use Rattle.usb_packet.specs.Spelling.{Fits};
 ghost use Rattle.usb_control.specs.SetupBytes.{reads};
-ghost use Rattle.usb_control.specs.Device.{Does, acknowledged, asked, begun, data_heard, effect, given, read_piece};
+ghost use Rattle.usb_control.specs.Device.{Answers, Does, acknowledged, asked, begun, data_heard, effect, given, read_piece, write_length};
 
 use crate::pieces::{MAX_PACKET, cut, piece_from};
 use crate::requests::Requests;
@@ -53,6 +53,38 @@ pub enum Stage {
     },
     /// The status of a write that took effect, or of a read of no bytes.
     StatusIn,
+}
+
+impl Stage {
+    // Takes data after an OUT token, and answers them.
+    fn give(&mut self, one: bool, payload: &[u8]) -> Packet
+        requires { write_length self.old ≤ MAX_WRITE }
+        ensures given { given self.old one payload.now ≡ Answers (Some result) self.new Heard.Nothing }
+        ensures short { write_length self.new ≤ MAX_WRITE }
+    {
+        match self {
+            Stage::ReadData { .. } | Stage::StatusOut if one && payload.is_empty() => {
+                *self = Stage::StatusOut;
+                Packet::Ack
+            }
+            Stage::WriteData { one: expected, .. } if one != *expected => Packet::Ack,
+            Stage::WriteData {
+                length,
+                one: expected,
+                bytes,
+                more,
+            } if *more && payload.len() <= MAX_PACKET && bytes.len() + payload.len() <= *length => {
+                bytes.try_extend_from_slice(payload).unwrap();
+                *expected = !one;
+                *more = payload.len() == MAX_PACKET && bytes.len() < *length;
+                Packet::Ack
+            }
+            _ => {
+                *self = Stage::Idle;
+                Packet::Stall
+            }
+        }
+    }
 }
 
 /// What was heard or said last, as far as the next packet depends on it.
@@ -245,28 +277,7 @@ impl<R: Requests> DevControl<R> {
             self.old.requests self.new (Some result) }
     {
         self.heard = Heard::Nothing;
-        match &mut self.stage {
-            Stage::ReadData { .. } | Stage::StatusOut if one && payload.is_empty() => {
-                self.stage = Stage::StatusOut;
-                Packet::Ack
-            }
-            Stage::WriteData { one: expected, .. } if one != *expected => Packet::Ack,
-            Stage::WriteData {
-                length,
-                one: expected,
-                bytes,
-                more,
-            } if *more && payload.len() <= MAX_PACKET && bytes.len() + payload.len() <= *length => {
-                bytes.try_extend_from_slice(payload).unwrap();
-                *expected = !one;
-                *more = payload.len() == MAX_PACKET && bytes.len() < *length;
-                Packet::Ack
-            }
-            _ => {
-                self.stage = Stage::Idle;
-                Packet::Stall
-            }
-        }
+        self.stage.give(one, payload)
     }
 
     // Goes on after an ACK to data.
