@@ -1,10 +1,10 @@
 -- The first number that passes a test, searched from the lowest on.
-use Rattle.std.proofs.Common.{◌≡◌, ℕ, zero, suc, ◌+◌, ◌-◌, ◌<◌, ◌≤◌, Bool, true, false, List, length, Some, None, refl, sym, ◌∙◌, arith}
+use Rattle.std.proofs.Common.{◌≡◌, ℕ, zero, suc, ◌+◌, ◌-◌, ◌<◌, ◌≤◌, Bool, true, false, List, length, Option, Some, None, refl, sym, ◌∙◌, arith}
 use Rattle.std.specs.Prelude.{nat_eq, ◌||◌}
 use Rattle.std.specs.List.{find, range_with_len}
 use Rattle.hid_layout.specs.Controls.{Item}
 use Rattle.hid_cells.specs.Parts.{is_changed}
-use Rattle.hid_device.specs.Standing.{Standing, is_due, due_where}
+use Rattle.hid_device.specs.Standing.{Standing, is_due, due_where, first_due}
 use Rattle.std.proofs.lemmas.Grind.{common_steps}
 
 pub find_next : (p : ℕ → Bool) (n i : ℕ) → i < n → p i ≡ false → find p (range_with_len i (n - i)) ≡ find p (range_with_len (i + 1) (n - (i + 1)))
@@ -42,3 +42,8 @@ neither false b c none = refl
 pub none_changed : (items : List Item) (d : Standing) (halted : Bool) (r : ℕ) → due_where items halted d ≡ None → halted ≡ false → r < length d.frames → is_changed items r d.snapshot d.fixed ≡ false
 none_changed items d true r none going within = absurd (cc)
 none_changed items d false r none going within = neither _ _ _ (none_found (is_due items d) (length d.frames) 0 r none (omega arith) (omega (arith, within)))
+
+-- what is found first is what a token opens, where no halt hides it
+pub due_is : (items : List Item) (d : Standing) (halted : Bool) (found : Option ℕ) → halted ≡ false → first_due items d ≡ found → found ≡ due_where items halted d
+due_is items d true found going is = absurd (cc)
+due_is items d false found going is = sym is
