@@ -1,9 +1,14 @@
 -- A device stays sound behind an acknowledgement, with the next piece of its round or with none.
-use Rattle.std.proofs.Common.{◌≡◌, ℕ, ◌+◌, ◌<◌, ◌≤◌, Bool, List, Option, None, Some, refl, subst, arith}
+use Rattle.std.proofs.Common.{◌≡◌, ◌∙◌, ℕ, ◌+◌, ◌<◌, ◌≤◌, Bool, true, false, List, Option, None, Some, refl, ap, sym, subst, arith}
+use Rattle.std.specs.Prelude.{IfSome, nat_le, unwrap_or, if◌then◌else◌}
 use Rattle.std.proofs.lemmas.Bool.Decides.{nat_tests}
 use Rattle.hid_layout.specs.Controls.{Item, items_of}
-use Rattle.hid_cells.specs.Pieces.{pieces_of}
-use Rattle.hid_device.specs.Core.{CoreState, IsPiece, IsSound, next_piece}
+use Rattle.hid_layout.specs.Layout.{Contents}
+use Rattle.hid_cells.specs.declared.cell.Cell.{Cell}
+use Rattle.hid_cells.specs.Pieces.{piece_of, pieces_of}
+use Rattle.hid_parts.specs.Encoded.{part_bytes}
+use Rattle.usb_transact.specs.Device.{toggle_behind}
+use Rattle.hid_device.specs.Core.{CoreState, IsPiece, IsQuiet, IsSound, closed_core, flipped, left_open, next_of, next_piece, piece_armed}
 
 pub sound_at_piece : (core : CoreState) (toggle : Bool) (piece : ℕ) → IsSound core → IsPiece (items_of core.layout) core.current piece
     → IsSound (record core { toggle = toggle; piece = piece })
@@ -55,3 +60,41 @@ next_there items current piece r pieces sends are more = grind (arith, nat_tests
 -- behind the last one there is none
 pub none_behind : (items : List Item) (current : Option ℕ) (piece r pieces : ℕ) → current ≡ Some r → pieces ≡ pieces_of items r → pieces ≤ piece + 1 → None ≡ next_piece items current piece
 none_behind items current piece r pieces sends are last = grind (arith, nat_tests)
+
+-- what another piece of a round goes by: it is one of its report's, no halt hides it, and its bytes are those of the part
+pub next_is : (items : List Item) (current : Option ℕ) (piece next : ℕ) → next_piece items current piece ≡ Some next → IsPiece items current next
+next_is items None piece next goes_on = absurd (cc)
+next_is items (Some r) piece next goes_on = by_place (nat_le (pieces_of items r) (piece + 1)) refl goes_on
+  where
+    by_place : (b : Bool) → nat_le (pieces_of items r) (piece + 1) ≡ b → (if b then None else Some (piece + 1)) ≡ Some next → next < pieces_of items r
+    by_place true last e = absurd (cc)
+    by_place false more e = grind (arith, nat_tests, more, e)
+
+pub next_quiet : (items : List Item) (current : Option ℕ) (piece next : ℕ) (halted : Bool) → next_piece items current piece ≡ Some next → IsQuiet current halted → halted ≡ false
+next_quiet items None piece next halted goes_on quiet = absurd (cc)
+next_quiet items (Some r) piece next halted goes_on quiet = quiet
+
+pub next_armed : (layout : Contents) (parts : List Cell) (current : Option ℕ) (piece next : ℕ) (bytes : List ℕ) → next_piece (items_of layout) current piece ≡ Some next
+    → IfSome current (λ r. bytes ≡ part_bytes layout r parts) → Some (piece_of bytes next) ≡ piece_armed layout parts current next
+next_armed layout parts None piece next bytes goes_on keeps = absurd (cc)
+next_armed layout parts (Some r) piece next bytes goes_on keeps = ap (λ (l : List ℕ). Some (piece_of l next)) keeps
+
+-- the toggle changes where a round is open, which is where something is armed
+pub flips : (layout : Contents) (parts : List Cell) (current : Option ℕ) (piece : ℕ) (toggle : Bool) → toggle_behind toggle (piece_armed layout parts current piece) ≡ flipped toggle current
+flips layout parts None piece toggle = refl
+flips layout parts (Some r) piece toggle = refl
+
+-- the round stays open with another piece, and is closed with its last one
+pub goes_on_closed : (core : CoreState) (next : ℕ) (toggle halted : Bool) → next_of core ≡ Some next → toggle ≡ flipped core.toggle core.current → halted ≡ core.halted
+    → record core { piece = next; toggle = toggle; halted = halted } ≡ closed_core core
+goes_on_closed core next toggle halted goes_on flip same =
+    ap (λ (t : Bool). let c : CoreState = record core { piece = next; toggle = t; halted = halted } in c) flip
+    ∙ ap (λ (h : Bool). let c : CoreState = record core { piece = next; toggle = flipped core.toggle core.current; halted = h } in c) same
+    ∙ ap (λ (n : Option ℕ). let c : CoreState = record core { toggle = flipped core.toggle core.current; current = left_open core.current n; piece = unwrap_or n 0 } in c) (sym goes_on)
+
+pub ends_closed : (core : CoreState) (toggle halted : Bool) → next_of core ≡ None → toggle ≡ flipped core.toggle core.current → halted ≡ core.halted
+    → record core { current = None; piece = 0; toggle = toggle; halted = halted } ≡ closed_core core
+ends_closed core toggle halted ends flip same =
+    ap (λ (t : Bool). let c : CoreState = record core { current = None; piece = 0; toggle = t; halted = halted } in c) flip
+    ∙ ap (λ (h : Bool). let c : CoreState = record core { current = None; piece = 0; toggle = flipped core.toggle core.current; halted = h } in c) same
+    ∙ ap (λ (n : Option ℕ). let c : CoreState = record core { toggle = flipped core.toggle core.current; current = left_open core.current n; piece = unwrap_or n 0 } in c) (sym ends)
