@@ -1,9 +1,9 @@
 -- What is kept of Output and Feature reports: as many bytes of each as it has.
-use Rattle.std.proofs.Common.{◌≡◌, ℕ, ◌+◌, ◌-◌, ◌<◌, ◌≤◌, Bool, true, false, ◌==◌, ◌&&◌, List, ◌++◌, length, take, drop, get_or, zero, suc, Option, Some, None, refl, ap, sym, ◌∙◌, subst, arith}
+use Rattle.std.proofs.Common.{◌≡◌, ℕ, ◌+◌, ◌-◌, ◌<◌, ◌≤◌, Bool, true, false, ◌==◌, ◌&&◌, List, ◌++◌, length, take, drop, append-nil, get_or, zero, suc, Option, Some, None, refl, ap, sym, ◌∙◌, subst, arith}
 use Rattle.std.specs.Prelude.{slice_get, slice_set, option_map}
 use Rattle.std.specs.List.{range_with_len}
 use Rattle.std.proofs.lemmas.Bool.Decides.{nat_tests}
-use Rattle.std.proofs.lemmas.List.{length-drop, length-replicate, length-set}
+use Rattle.std.proofs.lemmas.List.{drop_all, length-drop, length-replicate, length-set, take_all}
 use Rattle.std.proofs.lemmas.List.FromFn.{length-map-range_with_len}
 use Rattle.std.proofs.lemmas.Option.{slice_get-get_or, slice_get-map, slice_get_within}
 use Rattle.std.proofs.lemmas.List.Quantifiers.{position-Some}
@@ -19,6 +19,7 @@ use Rattle.hid_cells.proofs.ListLemmas.{map_at}
 use Rattle.hid_parts.specs.Encoding.{bare_report}
 use Rattle.hid_requests.specs.declared.class.Protocol.{Protocol}
 use Rattle.hid_device.specs.Core.{CoreState, IsSound}
+use Rattle.hid_device.specs.Deciding.{idle_set}
 use Rattle.hid_device.specs.Inputs.{input_count}
 use Rattle.hid_device.specs.Outputs.{AreOutputs, bare_outputs, in_place_of, is_named, kept, kept_bytes, kept_reports, number_of}
 use Rattle.hid_device.specs.Standing.{with_idle}
@@ -148,3 +149,13 @@ sound_with core is_configured idle protocol outputs before long are = record {
   quiet = before.quiet;
   outputs = are;
 }
+
+pub idle_length : (idle : List ℕ) (report : Option ℕ) (time : ℕ) → length (idle_set idle report time) ≡ length idle
+idle_length idle None time = length-replicate (length idle) time
+idle_length idle (Some r) time = length-set idle r time
+
+-- what is written over a whole vector is what it has then
+pub refilled : {A : Type 0} (new items : List A) (len : ℕ) → len ≡ length items → length new ≡ length items → take len (new ++ drop (length new) items) ≡ new
+refilled {A} new items len long same =
+    ap (λ (rest : List A). take len (new ++ rest)) (drop_all (length new) items (omega (arith, same)))
+    ∙ ap (take len) (append-nil new) ∙ take_all len new (omega (arith, long, same))

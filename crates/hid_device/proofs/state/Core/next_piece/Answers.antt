@@ -1,6 +1,6 @@
-use Rattle.std.proofs.Common.{ap, ◌∙◌, arith}
+use Rattle.std.proofs.Common.{ap, ◌∙◌}
 use Rattle.hid_layout.specs.Controls.{items_of}
-use Rattle.hid_device.specs.Core.{CoreState, next_of}
+use Rattle.hid_device.specs.Core.{next_of}
 use Rattle.hid_device.proofs.AckLemmas.{next_fits, next_there, none_behind}
 use Rattle.hid_device.proofs.state.Core.next_piece.Goals as goal
 

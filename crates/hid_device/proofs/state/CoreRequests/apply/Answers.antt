@@ -1,11 +1,22 @@
-use Rattle.std.proofs.Common.{◌≡◌, ap, sym, ◌∙◌}
+use Rattle.std.proofs.Common.{◌≡◌, ℕ, List, length, take, drop, ◌++◌, ap, sym, ◌∙◌}
 use Rattle.hid_device.specs.declared.decisions.Pending.{Pending}
-use Rattle.hid_device.specs.declared.decisions.Pending.TheVariants.{Nothing, Configure, Keep, Protocol, Halt, Clear}
+use Rattle.hid_device.specs.declared.decisions.Pending.TheVariants.{Nothing, Configure, Keep, Idle, Protocol, Halt, Clear}
 use Rattle.hid_device.specs.Core.{CoreState}
-use Rattle.hid_device.specs.Deciding.{effected}
+use Rattle.hid_device.specs.Deciding.{effected, idle_set}
+use Rattle.hid_device.specs.Standing.{with_idle}
 use Rattle.hid_device.specs.contracts.state.Core.{the_view}
-use Rattle.hid_device.proofs.OutputLemmas.{sound_with}
+use Rattle.hid_device.proofs.OutputLemmas.{idle_length, refilled, sound_with}
 use Rattle.hid_device.proofs.state.CoreRequests.apply.Goals as goal
+
+idle_is : (c : goal.After-self-1) → c.set_idle.new.idle ≡ idle_set c.self.inside.idle.items c.in-Idle.report c.in-Idle.time
+idle_is c = c.set_idle.ensures ∙ ap (λ (idle : List ℕ). idle_set idle c.in-Idle.report c.in-Idle.time) c.deref_mut.ensures.value
+
+same_length : (c : goal.After-self-1) → length c.set_idle.new.idle ≡ length c.self.inside.idle.items
+same_length c = ap (λ (idle : List ℕ). length idle) (idle_is c) ∙ idle_length c.self.inside.idle.items c.in-Idle.report c.in-Idle.time
+
+idle_then : (c : goal.After-self-1)
+    → take c.self.inside.idle.len (c.set_idle.new.idle ++ drop (length c.set_idle.new.idle) c.self.inside.idle.items) ≡ c.set_idle.new.idle
+idle_then c = refilled c.set_idle.new.idle c.self.inside.idle.items c.self.inside.idle.len c.self.inside.idle.ok.0 (same_length c)
 
 pub returns-in-Nothing : goal.returns-in-Nothing
 returns-in-Nothing c =
@@ -48,3 +59,22 @@ invariant_of-self-in-Protocol c =
       round = c.self.invariant.round;
       room = c.self.invariant.room;
     }
+
+pub invariant_of-self : goal.invariant_of-self
+invariant_of-self c =
+    let before = c.self.invariant.sound in
+    record {
+      sound = sound_with (the_view c.self.inside) c.self.inside.is_configured _ c.self.inside.protocol _ before (ap (λ (idle : List ℕ). length idle) (idle_then c) ∙ same_length c ∙ before.each_idle) before.outputs;
+      calm = c.self.invariant.calm;
+      armed = c.self.invariant.armed;
+      round = c.self.invariant.round;
+      room = c.self.invariant.room;
+    }
+
+pub returns-in-Idle : goal.returns-in-Idle
+returns-in-Idle c =
+    let core = the_view c.self.inside in
+    let pending : c.args.self.now.pending ≡ Idle c.in-Idle.report c.in-Idle.time = ap (λ (core : CoreState). core.pending) (sym c.self.view_is) ∙ c.in-Idle.is in
+    ap (λ (idle : List ℕ). let set : CoreState = record core { standing = with_idle idle core.standing } in set) (idle_then c ∙ idle_is c)
+    ∙ ap (λ (core : CoreState). effected core c.args.bytes.now (Idle c.in-Idle.report c.in-Idle.time)) c.self.view_is
+    ∙ ap (λ (pending : Pending). effected c.args.self.now c.args.bytes.now pending) (sym pending)
