@@ -1,6 +1,6 @@
 -- What is kept of Output and Feature reports: as many bytes of each as it has.
 use Rattle.std.proofs.Common.{◌≡◌, ℕ, ◌+◌, ◌-◌, ◌<◌, ◌≤◌, Bool, true, false, ◌==◌, ◌&&◌, List, ◌++◌, length, take, drop, append-nil, get_or, zero, suc, Option, Some, None, refl, ap, sym, ◌∙◌, subst, arith}
-use Rattle.std.specs.Prelude.{slice_get, slice_set, option_map}
+use Rattle.std.specs.Prelude.{nat_le, slice_get, slice_set, option_map}
 use Rattle.std.specs.List.{range_with_len}
 use Rattle.std.proofs.lemmas.Bool.Decides.{nat_tests}
 use Rattle.std.proofs.lemmas.List.{drop_all, length-drop, length-replicate, length-set, take_all}
@@ -17,6 +17,7 @@ use Rattle.hid_cells.proofs.FillLemmas.{fill_next}
 use Rattle.hid_cells.proofs.ItemLemmas.{set_here, set_there}
 use Rattle.hid_cells.proofs.ListLemmas.{map_at}
 use Rattle.hid_parts.specs.Encoding.{bare_report}
+use Rattle.usb_control.specs.declared.device.TheConstants.{MAX_WRITE}
 use Rattle.hid_requests.specs.declared.class.Protocol.{Protocol}
 use Rattle.hid_device.specs.Core.{CoreState, IsSound}
 use Rattle.hid_device.specs.Deciding.{idle_set}
@@ -159,3 +160,16 @@ pub refilled : {A : Type 0} (new items : List A) (len : ℕ) → len ≡ length 
 refilled {A} new items len long same =
     ap (λ (rest : List A). take len (new ++ rest)) (drop_all (length new) items (omega (arith, same)))
     ∙ ap (take len) (append-nil new) ∙ take_all len new (omega (arith, long, same))
+
+-- a report has the place that its kind and ID have, among those that are kept
+pub kept_there : (layout : Contents) (outputs : List (List ℕ)) (i : ℕ) → AreOutputs layout outputs → i < length (kept_reports layout.reports) → i < length outputs
+kept_there layout outputs i are within = subst (λ (n : ℕ). i < n) (sym are.each) within
+
+-- as many bytes as it has are no more than a device takes
+pub suits_is : (layout : Contents) (outputs : List (List ℕ)) (i n len : ℕ) (output : List ℕ) → AreOutputs layout outputs → slice_get outputs i ≡ Some output → n ≡ length output → n ≤ MAX_WRITE
+    → (len == n) ≡ ((len == kept_bytes layout i) && nat_le len MAX_WRITE)
+suits_is layout outputs i n len output are at long short = by_test (len == n) refl ∙ ap (λ (k : ℕ). (len == k) && nat_le len MAX_WRITE) (long ∙ are.whole i output at)
+  where
+    by_test : (b : Bool) → (len == n) ≡ b → b ≡ ((len == n) && nat_le len MAX_WRITE)
+    by_test true same = grind (arith, nat_tests, same, short)
+    by_test false other = sym (ap (λ (b : Bool). b && nat_le len MAX_WRITE) other)
