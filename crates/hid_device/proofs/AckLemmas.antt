@@ -1,5 +1,5 @@
--- A device stays sound behind an acknowledgement, with the next piece of its round or with none.
-use Rattle.std.proofs.Common.{◌≡◌, ◌∙◌, ℕ, ◌+◌, ◌<◌, ◌≤◌, Bool, true, false, List, Option, None, Some, refl, ap, sym, subst, arith}
+-- A device stays sound behind an acknowledgement, with the next piece of its round or with none, and behind a halt.
+use Rattle.std.proofs.Common.{◌≡◌, ◌∙◌, ℕ, ◌+◌, ◌<◌, ◌≤◌, Bool, true, false, List, length, Option, None, Some, refl, ap, sym, subst, arith}
 use Rattle.std.specs.Prelude.{IfSome, nat_le, unwrap_or, if◌then◌else◌}
 use Rattle.std.proofs.lemmas.Bool.Decides.{nat_tests}
 use Rattle.hid_layout.specs.Controls.{Item, items_of}
@@ -8,7 +8,12 @@ use Rattle.hid_cells.specs.declared.cell.Cell.{Cell}
 use Rattle.hid_cells.specs.Pieces.{piece_of, pieces_of}
 use Rattle.hid_parts.specs.Encoded.{part_bytes}
 use Rattle.usb_transact.specs.Device.{toggle_behind}
-use Rattle.hid_device.specs.Core.{CoreState, IsPiece, IsQuiet, IsSound, closed_core, flipped, left_open, next_of, next_piece, piece_armed}
+use Rattle.hid_device.specs.Inputs.{input_count}
+use Rattle.hid_device.specs.Standing.{Standing, cut_at}
+use Rattle.hid_device.specs.Core.{CoreState, IsPiece, IsQuiet, IsSound, closed_core, flipped, halted_core, left_open, next_of, next_piece, piece_armed}
+
+abbrev with_cut : List Bool → Standing → Standing
+with_cut cut d = record d { cut = cut }
 
 pub sound_at_piece : (core : CoreState) (toggle : Bool) (piece : ℕ) → IsSound core → IsPiece (items_of core.layout) core.current piece
     → IsSound (record core { toggle = toggle; piece = piece })
@@ -29,8 +34,10 @@ sound_at_piece core toggle piece before there = record {
   outputs = before.outputs;
 }
 
-pub sound_closed : (core : CoreState) (toggle : Bool) → IsSound core → IsSound (record core { toggle = toggle; current = None; piece = 0 })
-sound_closed core toggle before = record {
+-- and with no round, as many of its reports cut, and another halt
+pub sound_halted : (core : CoreState) (cut : List Bool) (toggle halted : Bool) → IsSound core → length cut ≡ input_count core.layout.reports
+    → IsSound (record core { standing = with_cut cut core.standing; current = None; piece = 0; toggle = toggle; halted = halted })
+sound_halted core cut toggle halted before long = record {
   lays = before.lays;
   empty_codes = before.empty_codes;
   zeros = before.zeros;
@@ -39,13 +46,23 @@ sound_closed core toggle before = record {
   fixed = before.fixed;
   each_frames = before.each_frames;
   each_idle = before.each_idle;
-  each_cut = before.each_cut;
+  each_cut = long;
   of_input = tt;
   piece = refl;
   sends = tt;
   quiet = tt;
   outputs = before.outputs;
 }
+
+pub sound_closed : (core : CoreState) (toggle : Bool) → IsSound core → IsSound (record core { toggle = toggle; current = None; piece = 0 })
+sound_closed core toggle before = sound_halted core core.standing.cut toggle core.halted before before.each_cut
+
+pub halted_is : (core : CoreState) (standing : Standing) (toggle halted : Bool) → standing ≡ cut_at core.current core.standing → toggle ≡ core.toggle → halted ≡ true
+    → record core { standing = standing; current = None; piece = 0; toggle = toggle; halted = halted } ≡ halted_core core
+halted_is core standing toggle halted cut same is =
+    ap (λ (s : Standing). let c : CoreState = record core { standing = s; current = None; piece = 0; toggle = toggle; halted = halted } in c) cut
+    ∙ ap (λ (t : Bool). let c : CoreState = record core { standing = cut_at core.current core.standing; current = None; piece = 0; toggle = t; halted = halted } in c) same
+    ∙ ap (λ (h : Bool). let c : CoreState = record core { standing = cut_at core.current core.standing; current = None; piece = 0; halted = h } in c) is
 
 -- one piece more is no more than there are
 pub next_fits : (items : List Item) (current : Option ℕ) (piece r pieces room : ℕ) → IsPiece items current piece → current ≡ Some r → pieces ≡ pieces_of items r → pieces < room → piece + 1 < room

@@ -23,7 +23,7 @@ use Rattle.hid_device.specs.Core.{CoreState, IsSound}
 use Rattle.hid_device.specs.Deciding.{idle_set}
 use Rattle.hid_device.specs.Inputs.{input_count}
 use Rattle.hid_device.specs.Outputs.{AreOutputs, bare_outputs, in_place_of, is_named, kept, kept_bytes, kept_reports, number_of}
-use Rattle.hid_device.specs.Standing.{with_idle}
+use Rattle.hid_device.specs.Standing.{Standing, with_idle}
 
 bare_length : (layout : Contents) (r : ℕ) → length (bare_report layout r) ≡ report_bytes layout r
 bare_length layout r = by_ids layout.numbered refl
@@ -149,6 +149,26 @@ sound_with core is_configured idle protocol outputs before long are = record {
   sends = before.sends;
   quiet = before.quiet;
   outputs = are;
+}
+
+-- and with other counts of frames, as many
+pub sound_framed : (core : CoreState) (frames : List ℕ) → IsSound core → length frames ≡ input_count core.layout.reports
+    → IsSound (let d : Standing = record core.standing { frames = frames } in record core { standing = d })
+sound_framed core frames before long = record {
+  lays = before.lays;
+  empty_codes = before.empty_codes;
+  zeros = before.zeros;
+  inputs_first = before.inputs_first;
+  snapshot = before.snapshot;
+  fixed = before.fixed;
+  each_frames = long;
+  each_idle = before.each_idle;
+  each_cut = before.each_cut;
+  of_input = before.of_input;
+  piece = before.piece;
+  sends = before.sends;
+  quiet = before.quiet;
+  outputs = before.outputs;
 }
 
 pub idle_length : (idle : List ℕ) (report : Option ℕ) (time : ℕ) → length (idle_set idle report time) ≡ length idle
