@@ -72,9 +72,9 @@ whole_taken known payload bytes layout' result view' collected' out out' are who
     record {
       told = told ∙ ap (λ (l : List ℕ). read_or_fault (report_named known.layout l)) are ∙ ap (λ (b : Bool). if b then read_or_fault (report_named known.layout all) else Ok tt) (sym ends);
       after = ap (λ (l : Contents). let k : Known = record known { layout = l; view = view'; collected = collected' } in k) same
-      ∙ ap (λ (l : List ℕ). let k : Known = record known { view = view'; collected = l } in k) cleared
-      ∙ ap (λ (v : List Cell). let k : Known = record known { view = v; collected = [] } in k) (view ∙ ap (λ (l : List ℕ). view_read known.layout l known.view) are)
-      ∙ ap (λ (b : Bool). let k : Known = record known { view = (if b then view_read known.layout all known.view else known.view); collected = (if b then [] else all) } in k) (sym ends);
+          ∙ ap (λ (l : List ℕ). let k : Known = record known { view = view'; collected = l } in k) cleared
+          ∙ ap (λ (v : List Cell). let k : Known = record known { view = v; collected = [] } in k) (view ∙ ap (λ (l : List ℕ). view_read known.layout l known.view) are)
+          ∙ ap (λ (b : Bool). let k : Known = record known { view = (if b then view_read known.layout all known.view else known.view); collected = (if b then [] else all) } in k) (sym ends);
       events = events ∙ ap (λ (l : List ℕ). out ++ events_read known.layout l known.view) are ∙ ap (λ (b : Bool). out ++ (if b then events_read known.layout all known.view else [])) (sym ends);
     }
 
@@ -87,7 +87,7 @@ part_taken known payload bytes out are part =
     record {
       told = ap (λ (b : Bool). if b then read_or_fault (report_named known.layout all) else Ok tt) (sym goes_on);
       after = ap (λ (l : List ℕ). let k : Known = record known { collected = l } in k) are
-      ∙ ap (λ (b : Bool). let k : Known = record known { view = (if b then view_read known.layout all known.view else known.view); collected = (if b then [] else all) } in k) (sym goes_on);
+          ∙ ap (λ (b : Bool). let k : Known = record known { view = (if b then view_read known.layout all known.view else known.view); collected = (if b then [] else all) } in k) (sym goes_on);
       events = sym (append-nil out) ∙ ap (λ (b : Bool). out ++ (if b then events_read known.layout all known.view else [])) (sym goes_on);
     }
 

@@ -22,10 +22,10 @@ invariant_of-self c =
     let sent : c.piece_of.result.now ≡ piece_of c.self.inside.round.items c.in-Some.piece = c.piece_of.ensures.piece ∙ ap (λ (bytes : List ℕ). piece_of bytes c.in-Some.piece) c.deref.ensures.0 in
     record {
       sound = subst (λ (halted : Bool). IsSound (record core { piece = c.in-Some.piece; toggle = c.arm.new.self.toggle; halted = halted })) (sym same)
-      (sound_at_piece core c.arm.new.self.toggle c.in-Some.piece before (next_is (items_of core.layout) core.current core.piece c.in-Some.piece next));
+          (sound_at_piece core c.arm.new.self.toggle c.in-Some.piece before (next_is (items_of core.layout) core.current core.piece c.in-Some.piece next));
       calm = c.self.invariant.calm;
       armed = ap (λ (pipe : DevPipeState). pipe.armed) c.arm.ensures ∙ ap Some sent
-      ∙ next_armed core.layout core.standing.fixed core.current core.piece c.in-Some.piece c.self.inside.round.items next c.self.invariant.round;
+          ∙ next_armed core.layout core.standing.fixed core.current core.piece c.in-Some.piece c.self.inside.round.items next c.self.invariant.round;
       round = c.self.invariant.round;
       room = c.self.invariant.room;
     }
@@ -35,7 +35,7 @@ invariant_of-self-in-None c =
     let core = the_view c.self.inside in
     record {
       sound = subst (λ (halted : Bool). IsSound (record core { current = None; piece = 0; toggle = c.acknowledged.new.self.toggle; halted = halted }))
-      (sym (ap (λ (pipe : DevPipeState). pipe.halted) c.acknowledged.ensures.closed)) (sound_closed core c.acknowledged.new.self.toggle c.self.invariant.sound);
+          (sym (ap (λ (pipe : DevPipeState). pipe.halted) c.acknowledged.ensures.closed)) (sound_closed core c.acknowledged.new.self.toggle c.self.invariant.sound);
       calm = c.self.invariant.calm;
       armed = ap (λ (pipe : DevPipeState). pipe.armed) c.acknowledged.ensures.closed;
       round = tt;
@@ -49,7 +49,7 @@ returns-in-Some c =
     let next : next_of core ≡ Some c.in-Some.piece = ap next_of c.self.view_is ∙ sym c.next_piece-next.ensures ∙ c.in-Some.is in
     goes_on_closed core c.in-Some.piece c.arm.new.self.toggle c.arm.new.self.halted next
     (ap (λ (p : DevPipeState). p.toggle) pipe ∙ ap (λ (p : DevPipeState). p.toggle) c.acknowledged.ensures.closed ∙ ap (toggle_behind core.toggle) c.self.invariant.armed
-      ∙ flips core.layout core.standing.fixed core.current core.piece core.toggle)
+    ∙ flips core.layout core.standing.fixed core.current core.piece core.toggle)
     (ap (λ (p : DevPipeState). p.halted) pipe ∙ ap (λ (p : DevPipeState). p.halted) c.acknowledged.ensures.closed)
     ∙ ap closed_core c.self.view_is
 

@@ -28,6 +28,7 @@ returns c =
     let all : bytes ≡ c.clear.new.self.items ++ c.bytes.result.now = rw c.unwrap.ensures at c.try_extend_from_slice.ensures.ok in
     let written : bytes ≡ c.index.result.now = all ∙ ap (λ (l : List ℕ). l ++ c.bytes.result.now) c.clear.ensures ∙ c.bytes.ensures.bytes in
     let out : output_of core c.args.kind c.args.id ≡ Some bytes
-    = ap (option_and_then (slice_get core.outputs)) found ∙ ap (λ (core : CoreState). slice_get core.outputs place) (sym forgot) ∙ at ∙ ap Some (sym written) in
-    (ap (λ (o : Option (List ℕ)). is_accepted (reads_any o)) (sym out),
-      ap (λ (core : CoreState). let read : CoreState = record core { answer = Some bytes } in read) forgot ∙ ap (λ (o : Option (List ℕ)). left_by core (reads_any o)) (sym out))
+    = ap (option_and_then (slice_get core.outputs)) found ∙ ap (λ (core : CoreState). slice_get core.outputs place) (sym forgot) ∙ at ∙ ap Some (sym written) in (
+      ap (λ (o : Option (List ℕ)). is_accepted (reads_any o)) (sym out),
+      ap (λ (core : CoreState). let read : CoreState = record core { answer = Some bytes } in read) forgot ∙ ap (λ (o : Option (List ℕ)). left_by core (reads_any o)) (sym out),
+    )

@@ -16,7 +16,7 @@ at_once c =
     = subst (λ (layout : Contents). is_whole layout payload (length payload) ≡ true) c.layout.ensures.layout (sym c.is_whole.ensures.whole ∙ c.if-is_whole.true) in
     subst (λ (k : Known). IsTaken k payload c.read_report.result (record known { layout = c.read_report.new.reader.layout; view = c.read_report.new.reader.view }) c.args.out.now.items c.read_report.new.out.items) c.self.view_is
     (whole_taken known payload payload c.read_report.new.reader.layout c.read_report.result c.read_report.new.reader.view known.collected c.args.out.now.items c.read_report.new.out.items
-      (ap (λ (before : List ℕ). before ++ payload) (sym empty)) whole c.read_report.ensures.layout c.read_report.ensures.told c.read_report.ensures.view empty c.read_report.ensures.events)
+    (ap (λ (before : List ℕ). before ++ payload) (sym empty)) whole c.read_report.ensures.layout c.read_report.ensures.told c.read_report.ensures.view empty c.read_report.ensures.events)
 
 -- one that goes on
 kept : (c : goal.Then-not-is_whole) → IsTaken c.args.self.now c.args.payload.now (Ok tt) (record (the_view c.self.inside) { collected = c.try_extend_from_slice.new.self.items }) c.args.out.now.items c.args.out.now.items
@@ -43,9 +43,9 @@ at_last c =
     = subst (λ (layout : Contents). is_whole layout bytes (length payload) ≡ true) c.layout-2.ensures.layout
     (subst (λ (l : List ℕ). is_whole c.layout-2.result.now l (length payload) ≡ true) (c.deref.ensures.0 ∙ sym c.deref-2.ensures.0) (sym c.is_whole-2.ensures.whole ∙ c.if-not-is_whole.false)) in
     subst (λ (k : Known). IsTaken k payload c.read_report-told.result (record known { layout = c.read_report-told.new.reader.layout; view = c.read_report-told.new.reader.view; collected = c.clear.new.self.items })
-      c.args.out.now.items c.read_report-told.new.out.items) c.self.view_is
+    c.args.out.now.items c.read_report-told.new.out.items) c.self.view_is
     (whole_taken known payload bytes c.read_report-told.new.reader.layout c.read_report-told.result c.read_report-told.new.reader.view c.clear.new.self.items c.args.out.now.items c.read_report-told.new.out.items
-      (c.deref-2.ensures.0 ∙ all) whole c.read_report-told.ensures.layout c.read_report-told.ensures.told c.read_report-told.ensures.view c.clear.ensures c.read_report-told.ensures.events)
+    (c.deref-2.ensures.0 ∙ all) whole c.read_report-told.ensures.layout c.read_report-told.ensures.told c.read_report-told.ensures.view c.clear.ensures c.read_report-told.ensures.events)
 
 pub returns-then-is_whole-clause-told : goal.returns-then-is_whole-clause-told
 returns-then-is_whole-clause-told c = (at_once c).told
