@@ -13,41 +13,57 @@
 use crate::told::Told;
 use crate::words::{request_of, small, spell};
 use arrayvec::ArrayVec;
+use hid_descriptor::ReportKind;
 use hid_requests::{
     Asked, Asking, Request, configuration, device_descriptor, hid_descriptor, what_is_asked,
 };
 use usb_control::{ConfigInfo, DeviceInfo, Setup};
 
-/// Tells a row.
-fn tell_row(asked: Asked, told: &mut Told) {
+/// The name of a row.
+fn name_of(asked: Asked) -> &'static str {
     match asked {
-        Asked::Status => told.add("Status"),
-        Asked::InterfaceStatus => told.add("InterfaceStatus"),
-        Asked::ControlStatus => told.add("ControlStatus"),
-        Asked::ReportStatus => told.add("ReportStatus"),
-        Asked::DeviceDescriptor => told.add("DeviceDescriptor"),
-        Asked::Configuration => told.add("Configuration"),
-        Asked::HidDescriptor => told.add("HidDescriptor"),
-        Asked::ReportDescriptor => told.add("ReportDescriptor"),
-        Asked::GetConfiguration => told.add("GetConfiguration"),
-        Asked::GetInterface => told.add("GetInterface"),
-        Asked::SetConfiguration => told.add("SetConfiguration"),
-        Asked::ClearFeature => told.add("ClearFeature"),
-        Asked::SetFeature => told.add("SetFeature"),
-        Asked::GetReport { kind, id } => {
-            told.show(format_args!("GetReport {{ kind: {kind:?}, id: {id} }}"));
+        Asked::Status => "Status",
+        Asked::InterfaceStatus => "InterfaceStatus",
+        Asked::ControlStatus => "ControlStatus",
+        Asked::ReportStatus => "ReportStatus",
+        Asked::DeviceDescriptor => "DeviceDescriptor",
+        Asked::Configuration => "Configuration",
+        Asked::HidDescriptor => "HidDescriptor",
+        Asked::ReportDescriptor => "ReportDescriptor",
+        Asked::GetConfiguration => "GetConfiguration",
+        Asked::GetInterface => "GetInterface",
+        Asked::SetConfiguration => "SetConfiguration",
+        Asked::ClearFeature => "ClearFeature",
+        Asked::SetFeature => "SetFeature",
+        Asked::GetReport { .. } => "GetReport",
+        Asked::GetIdle { .. } => "GetIdle",
+        Asked::GetProtocol => "GetProtocol",
+        Asked::SetReport { .. } => "SetReport",
+        Asked::SetIdle { .. } => "SetIdle",
+        Asked::SetProtocol { .. } => "SetProtocol",
+    }
+}
+
+fn tell_report(kind: ReportKind, id: u8, told: &mut Told) {
+    told.show(format_args!("{kind:?} {id}"));
+}
+
+/// Tells a row: its name, and what it holds.
+fn tell_row(asked: Asked, told: &mut Told) {
+    told.show(name_of(asked));
+    match asked {
+        Asked::GetReport { kind, id } => tell_report(kind, id, told),
+        Asked::GetIdle { id } => told.show(id),
+        Asked::SetReport { kind, id, length } => {
+            tell_report(kind, id, told);
+            told.show(length);
         }
-        Asked::GetIdle { id } => told.show(format_args!("GetIdle {{ id: {id} }}")),
-        Asked::GetProtocol => told.add("GetProtocol"),
-        Asked::SetReport { kind, id, length } => told.show(format_args!(
-            "SetReport {{ kind: {kind:?}, id: {id}, length: {length} }}"
-        )),
         Asked::SetIdle { id, time } => {
-            told.show(format_args!("SetIdle {{ id: {id}, time: {time} }}"));
+            told.show(id);
+            told.show(time);
         }
-        Asked::SetProtocol { protocol } => {
-            told.show(format_args!("SetProtocol {{ protocol: {protocol:?} }}"));
-        }
+        Asked::SetProtocol { protocol } => told.show(format_args!("{protocol:?}")),
+        _ => {}
     }
 }
 
