@@ -17,3 +17,30 @@ returns-else-field-eq0 c fs k =
     kept_more fs c.args.field.now (map (entry_on_page c.args.page) c.args.entries.now) c.args.path.now c.args.self.now _ k c.requires.some (omega arith) c.requires.short
     c.in_ok-push.ensures.items c.in_ok-push-2.ensures c.in_ok-add.ensures (ap (λ n. c.args.self.now.elements + n) c.elements.ensures)
     (id_there fs c.args.field.now.kind c.args.field.now.id c.args.self.now k (omega arith) (omega (arith, c.requires.place, c.if-field-eq0.false)))
+
+pub push-requires-2 : goal.push-requires-2
+push-requires-2 c = c.requires.few
+
+pub overflow_mul-field : goal.overflow_mul-field
+overflow_mul-field c = record { fits = omega (arith, c.requires.short) }
+
+pub add-requires : goal.add-requires
+add-requires c = omega (arith, c.requires.place, c.requires.short)
+
+pub invariant_of-self : goal.invariant_of-self
+invariant_of-self c = record {
+  bounded = omega (arith, c.push.ensures.len, c.requires.room);
+  counted = omega (arith, c.push.ensures.len, c.args.self.now.counted);
+}
+
+pub invariant_of-self-then-field-eq0 : goal.invariant_of-self-then-field-eq0
+invariant_of-self-then-field-eq0 c = record {
+  bounded = omega (arith, c.in_ok-push.ensures.len, c.requires.room);
+  counted = omega (arith, c.in_ok-push.ensures.len, c.args.self.now.counted, few_elements c.args.field.now c.requires.some c.requires.short, c.elements.ensures);
+}
+
+pub invariant_of-self-else-field-eq0 : goal.invariant_of-self-else-field-eq0
+invariant_of-self-else-field-eq0 c = record {
+  bounded = omega (arith, c.in_ok-push.ensures.len, c.requires.room);
+  counted = omega (arith, c.in_ok-push.ensures.len, c.args.self.now.counted, few_elements c.args.field.now c.requires.some c.requires.short, c.elements.ensures);
+}
