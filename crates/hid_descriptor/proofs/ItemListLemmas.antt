@@ -73,12 +73,20 @@ kept_there entries more starts others paths spans i s l at =
     (starts_kept (slice_range entries s.entries.start s.entries.end) s.starts starts others (l.starts_there i s at))
 
 -- starts that no item has yet
+-- more collections behind those of all paths change none of them
+pub paths_longer : (entries : List Entry) (starts : List ℕ) (paths path : List Collection) (spans : List ItemSpans) → AreListed entries starts paths spans → AreListed entries starts (paths ++ path) spans
+paths_longer entries starts paths path spans l = record {
+  entries_within = l.entries_within;
+  paths_within = λ i span e. let o = l.paths_within i span e in (o.0, omega (arith, o.1, length-append paths path));
+  starts_there = l.starts_there;
+}
+
 pub starts_longer : (entries : List Entry) (es : List Entry) (at : Option ℕ) (starts new : List ℕ) (paths path : List Collection) (spans : List ItemSpans) → AreListed entries starts paths spans → AddsStarts es at starts new → AreListed entries new (paths ++ path) spans
 starts_longer entries es at starts new paths path spans l a =
     let m = starts_more es at starts new a in
     record {
       entries_within = l.entries_within;
-      paths_within = λ i span e. let o = l.paths_within i span e in (o.0, omega (arith, o.1, length-append paths path));
+      paths_within = (paths_longer entries starts paths path spans l).paths_within;
       starts_there = λ i s e. rw m.1 (subst (λ x. AreStarts (slice_range x s.entries.start s.entries.end) s.starts (starts ++ m.0)) (append-nil entries) (kept_there entries [] starts m.0 paths spans i s l e));
     }
 

@@ -4,7 +4,7 @@ use Rattle.hid_descriptor.specs.declared.item_lists.ItemSpans.{ItemSpans}
 use Rattle.hid_descriptor.specs.Usages.{Entry}
 use Rattle.hid_descriptor.specs.Locals.{entry_on_page}
 use Rattle.hid_descriptor.specs.ItemLists.{listed_more, listed_at}
-use Rattle.hid_descriptor.proofs.ItemListLemmas.{IsBehind, listed_added, starts_longer, still_listed}
+use Rattle.hid_descriptor.proofs.ItemListLemmas.{IsBehind, listed_added, paths_longer, starts_longer, still_listed}
 use Rattle.hid_descriptor.proofs.item_lists.ItemLists.push.Goals as goal
 
 pub returns : goal.returns
@@ -25,6 +25,17 @@ returns c =
     ∙ ap (listed_at (c.self.inside.entries.items ++ ranges) (c.self.inside.paths.items ++ c.args.path.now)) ss
     ∙ listed_added c.self.inside.entries.items ranges c.self.inside.starts.items c.self.inside.paths.items c.args.path.now c.self.inside.spans.items s c.self.invariant b
     ∙ ap (λ l. listed_more l ranges c.args.path.now) c.self.view_is
+
+pub invariant_of-self : goal.invariant_of-self
+invariant_of-self c = rw c.in_err-reserve.ensures.items c.self.invariant
+
+pub invariant_of-self-in_err-add_path : goal.invariant_of-self-in_err-add_path
+invariant_of-self-in_err-add_path c = rw (c.in_err-add_path.ensures.kept, c.in_ok-reserve.ensures.items) c.self.invariant
+
+pub invariant_of-self-in_err-starts : goal.invariant_of-self-in_err-starts
+invariant_of-self-in_err-starts c =
+    let ps : c.add_path.new.paths.items ≡ c.self.inside.paths.items ++ c.args.path.now = c.in_ok-add_path.ensures.more in
+    rw (c.in_err-starts.ensures.kept, ps, c.in_ok-reserve.ensures.items) (paths_longer c.self.inside.entries.items c.self.inside.starts.items c.self.inside.paths.items c.args.path.now c.self.inside.spans.items c.self.invariant)
 
 pub invariant_of-self-in_err-add_ranges : goal.invariant_of-self-in_err-add_ranges
 invariant_of-self-in_err-add_ranges c =
