@@ -1,7 +1,10 @@
-use Rattle.std.proofs.Common.{[], ◌∙◌, subst, Some, rules}
+use Rattle.std.proofs.Common.{[], ◌∙◌, refl, subst, Some, rules}
 use Rattle.hid_items.specs.Reading.{GivesNext}
 use Rattle.hid_descriptor.proofs.Taking.{explains_same, next_taken, item_explains, cut_explains, all_taken}
 use Rattle.hid_descriptor.proofs.parse.take_items.Goals as goal
+
+pub returns-then-is_err-clause-err : goal.returns-then-is_err-clause-err
+returns-then-is_err-clause-err c = explains_same _ _ _ _ _ c.fault.ensures.cause c.fault.ensures.at (c.requires.short, refl)
 
 pub loop-next-init : goal.loop-next-init
 loop-next-init c = (
@@ -14,6 +17,12 @@ loop-next-init c = (
     stands = c.make_room.ensures [] c.requires.fresh;
   },
 )
+
+pub take-requires-clause-spelled : goal.take-requires-clause-spelled
+take-requires-clause-spelled c = (subst (λ r. GivesNext c.loop-next.next-iterator (Some r) c.next.new.self) c.in-Ok.is c.in-Some.ensures.steps).spelled
+
+pub take-requires-clause-kind : goal.take-requires-clause-kind
+take-requires-clause-kind c = (subst (λ r. GivesNext c.loop-next.next-iterator (Some r) c.next.new.self) c.in-Ok.is c.in-Some.ensures.steps).kind
 
 pub loop-next-preserved : goal.loop-next-preserved
 loop-next-preserved c =
