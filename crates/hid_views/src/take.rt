@@ -174,9 +174,8 @@ fn take_pattern(listed: &Listed<'_>, pattern: u32, cell: &mut Cell, out: &mut Ve
     ensures told { Appends out.old (element_events listed.now.place
         (usages_in listed.now) cell.old cell.new) out.new }
 {
-    match cell {
-        Cell::Pressed(held) => take_bits(listed.layout, listed.place, pattern, held, out),
-        Cell::Vacant | Cell::Holding(_) | Cell::Moved(_) | Cell::RolledOver(_) => {}
+    if let Cell::Pressed(held) = cell {
+        take_bits(listed.layout, listed.place, pattern, held, out);
     }
 }
 
@@ -245,22 +244,20 @@ fn take_elements<C: FieldCodec>(
 {
     let Listed { layout, place, .. } = *listed;
     match carried.kind {
-        ControlKind::Switch => match cell {
-            Cell::Pressed(held) => {
+        ControlKind::Switch => {
+            if let Cell::Pressed(held) = cell {
                 take_switches::<C>(layout, place, carried.numbers, held, out);
             }
-            Cell::Vacant | Cell::Holding(_) | Cell::Moved(_) | Cell::RolledOver(_) => {}
-        },
-        ControlKind::Value | ControlKind::NullValue => match cell {
-            Cell::Holding(held) => {
+        }
+        ControlKind::Value | ControlKind::NullValue => {
+            if let Cell::Holding(held) = cell {
                 let carriable = Carriable {
                     has_null: carried.kind.has_null(),
                     bounds: carried.bounds,
                 };
                 take_values::<C>(layout, place, &carriable, carried.numbers, held, out);
             }
-            Cell::Vacant | Cell::Pressed(_) | Cell::Moved(_) | Cell::RolledOver(_) => {}
-        },
+        }
         ControlKind::Relative => {
             motions::<C>(layout, place, &carried.bounds, carried.numbers, out);
         }
@@ -293,9 +290,8 @@ fn take_array<C: FieldCodec>(
     ensures told { Appends out.old (key_events listed.now.place
         (usages_in listed.now) cell.old cell.new) out.new }
 {
-    match cell {
-        Cell::Pressed(held) => take_flags::<C>(listed, entries, numbers, held, named, out),
-        Cell::Vacant | Cell::Holding(_) | Cell::Moved(_) | Cell::RolledOver(_) => {}
+    if let Cell::Pressed(held) = cell {
+        take_flags::<C>(listed, entries, numbers, held, named, out);
     }
 }
 
