@@ -1,10 +1,10 @@
-use Rattle.std.proofs.Common.{◌≡◌, ◌*◌, ◌^◌, ◌<◌, ◌∙◌, ℕ, true, List, All, ap, sym, subst, length, arith, rules}
+use Rattle.std.proofs.Common.{◌≡◌, ◌*◌, ◌^◌, ◌<◌, ◌∙◌, ℕ, ℤ, true, List, All, ap, sym, subst, length, arith, rules}
 use Rattle.hid_cells.specs.declared.cell.Cell.{Cell}
 use Rattle.hid_cells.specs.declared.event.Event.{Event}
-use Rattle.hid_views.specs.Appending.{Appends}
+use Rattle.hid_views.specs.Appending.{HasSpace, Appends}
 use Rattle.hid_cells.specs.Events.{usages_at, element_events}
 use Rattle.hid_views.specs.Reading.{FitsFields, item_numbers}
-use Rattle.hid_views.specs.Taking.{read_by_numbers}
+use Rattle.hid_views.specs.Taking.{read_by_numbers, told_by_numbers}
 use Rattle.hid_views.specs.Bits.{are_bits, read_bits}
 use Rattle.hid_views.proofs.BoundLemmas.{numbers_fit}
 use Rattle.hid_views.proofs.BitLemmas.{pattern_in, has_bits, reads_as_bits}
@@ -36,6 +36,28 @@ take_numbers-requires-clause-fits g c =
     let elements = c.requires.layout.elements c.args.listed.now.place item c.requires.data.listed c.requires.data.no_padding in
     let numbers : c.new-numbers.result ≡ item_numbers c.args.listed.now.layout.now c.args.bytes.now item = search rules in
     subst (All (FitsFields item)) (sym numbers) (numbers_fit c.args.bytes.now _ item.size _ item.count elements.some_bits)
+
+pub take_numbers-requires-clause-room : goal.take_numbers-requires-clause-room
+take_numbers-requires-clause-room g c =
+    let layout = c.args.listed.now.layout.now in
+    let place = c.args.listed.now.place in
+    let item = c.args.listed.now.item.now in
+    let numbers : c.new-numbers.result ≡ item_numbers layout c.args.bytes.now item = search rules in
+    subst (λ (ns : List ℤ). HasSpace c.args.out.now (told_by_numbers layout place item c.args.cell.now (read_by_numbers layout place item c.args.cell.now ns) ns)) (sym numbers) c.requires.room
+
+pub returns-else-are_bits-clause-cell : goal.returns-else-are_bits-clause-cell
+returns-else-are_bits-clause-cell g c =
+    let layout = c.args.listed.now.layout.now in
+    let item = c.args.listed.now.item.now in
+    let numbers : c.new-numbers.result ≡ item_numbers layout c.args.bytes.now item = search rules in
+    c.take_numbers.ensures.cell ∙ ap (read_by_numbers layout c.args.listed.now.place item c.args.cell.now) numbers
+
+pub returns-else-are_bits-clause-told : goal.returns-else-are_bits-clause-told
+returns-else-are_bits-clause-told g c =
+    let layout = c.args.listed.now.layout.now in
+    let item = c.args.listed.now.item.now in
+    let numbers : c.new-numbers.result ≡ item_numbers layout c.args.bytes.now item = search rules in
+    subst (λ (ns : List ℤ). Appends c.args.out.now (told_by_numbers layout c.args.listed.now.place item c.args.cell.now c.take_numbers.new.cell ns) c.take_numbers.new.out) numbers c.take_numbers.ensures.told
 
 pub get-requires-clause-some : goal.get-requires-clause-some
 get-requires-clause-some g c = (c.requires.layout.elements c.args.listed.now.place c.args.listed.now.item.now c.requires.data.listed c.requires.data.no_padding).some

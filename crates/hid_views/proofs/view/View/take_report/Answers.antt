@@ -1,4 +1,4 @@
-use Rattle.std.proofs.Common.{◌≡◌, ◌++◌, ◌∙◌, List, take, drop, length, sym, ap, subst, rules, arith}
+use Rattle.std.proofs.Common.{◌≡◌, ◌++◌, ◌∙◌, List, take, drop, length, refl, sym, ap, subst, rules, arith}
 use Rattle.std.proofs.lemmas.Grind.{common_steps}
 use Rattle.hid_layout.specs.Controls.{items_of}
 use Rattle.hid_cells.specs.declared.cell.Cell.{Cell}
@@ -20,6 +20,15 @@ take_items-requires-clause-room g c =
     let same : c.deref_mut.result.now ≡ c.args.self.now = search rules in
     let few = read_events_few c.args.layout.now c.in-Ok.report c.args.bytes.now c.args.self.now c.plan_of-places.ensures.layout input c.requires.fits in
     omega (arith, few, ap (λ (view : List Cell). length (read_events c.args.layout.now c.in-Ok.report c.args.bytes.now view)) same, c.requires.room)
+
+pub returns-in-Ok-clause-taken : goal.returns-in-Ok-clause-taken
+returns-in-Ok-clause-taken g c =
+    let same : c.deref_mut.result.now ≡ c.args.self.now = search rules in
+    let is : take c.self.inside.cells.len (c.take_items.new.cells ++ drop (length c.take_items.new.cells) c.self.inside.cells.items) ≡ read_view c.args.layout.now c.in-Ok.report c.args.bytes.now c.args.self.now = grind (arith, common_steps) in
+    (c.in-Ok.report, sym c.input_report.ensures ∙ c.in-Ok.is, is, c.take_items.ensures.told.items ∙ ap (λ (view : List Cell). c.args.out.now.items ++ read_events c.args.layout.now c.in-Ok.report c.args.bytes.now view) same)
+
+pub returns-in-Err-clause-taken : goal.returns-in-Err-clause-taken
+returns-in-Err-clause-taken g c = (sym c.input_report.ensures ∙ c.in-Err.is, refl, refl)
 
 pub returns-in-Ok-clause-fits : goal.returns-in-Ok-clause-fits
 returns-in-Ok-clause-fits g c =
