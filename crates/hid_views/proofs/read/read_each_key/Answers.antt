@@ -1,7 +1,7 @@
-use Rattle.std.proofs.Common.{◌≡◌, ◌∙◌, [], ◌∷◌, ◌++◌, subst, refl, Some, true, false, not, ℤ, Bool, List, to_z, of_z, w64, take, ap, sym, length, rules}
-use Rattle.std.specs.List.{slice_get}
+use Rattle.std.proofs.Common.{◌≡◌, ◌∙◌, [], ◌∷◌, ◌++◌, subst, refl, Some, true, false, not, ℤ, Bool, List, to_z, of_z, w64, take, take_all, ap, sym, length, arith, rules}
+use Rattle.std.specs.List.{slice_get, list_any}
 use Rattle.std.proofs.lemmas.Int.{to_z-of_z}
-use Rattle.std.proofs.lemmas.List.{take-replicate}
+use Rattle.std.proofs.lemmas.List.{drop_all, take-replicate}
 use Rattle.hid_descriptor.specs.Usages.{usage_list}
 use Rattle.hid_cells.proofs.ListLemmas.{take_at}
 use Rattle.hid_cells.proofs.FillLemmas.{any_from_hit, any_from_miss}
@@ -30,6 +30,12 @@ add_next_key-requires-clause-fits g c =
     let v = to_z w64 (of_z w64 c.number-number.result) in
     let number : v ≡ c.number-number.result = search (rules, to_z-of_z) in
     fits_at c.args.array.now.item.now c.args.numbers.now c.loop-k.k v c.requires.fits (c.number-number.ensures ∙ ap (λ (n : ℤ). Some n) (sym number))
+
+pub add_next_key-requires-clause-few : goal.add_next_key-requires-clause-few
+add_next_key-requires-clause-few g c = c.usage_count-count.ensures.few
+
+pub add_next_key-requires-clause-before : goal.add_next_key-requires-clause-before
+add_next_key-requires-clause-before g c = c.loop-k.invariant.rolls
 
 pub loop-k-preserved : goal.loop-k-preserved
 loop-k-preserved g c =
@@ -61,3 +67,19 @@ returns-then-not-add_next_key-clause-rolls g c =
 
 pub returns-then-not-add_next_key-clause-behind : goal.returns-then-not-add_next_key-clause-behind
 returns-then-not-add_next_key-clause-behind g c = λ i h. c.add_next_key.ensures.behind i h ∙ c.loop-k.invariant.behind i h
+
+pub returns-then-not-add_next_key-clause-len : goal.returns-then-not-add_next_key-clause-len
+returns-then-not-add_next_key-clause-len g c = c.add_next_key.ensures.len ∙ c.loop-k.invariant.len
+
+pub returns-clause-rolls : goal.returns-clause-rolls
+returns-clause-rolls g c =
+    let rolls = names_rollover c.args.array.now.item.now (usage_list c.args.array.now.entries.now) in
+    let none : list_any rolls [] ≡ list_any rolls c.args.numbers.now = ap (list_any rolls) (sym (drop_all c.loop-k.k c.args.numbers.now (omega (arith, c.len-k-end.ensures, c.loop-k-test.false)))) ∙ c.loop-k.invariant.none in
+    ap not none
+
+pub returns-clause-keys : goal.returns-clause-keys
+returns-clause-keys g c = λ e. c.loop-k.invariant.so_far
+    ∙ ap (λ (vs : List ℤ). named_from c.args.array.now.item.now vs 0 (array_keys c.args.array.now.item.now (usage_list c.args.array.now.entries.now))) (take_all c.loop-k.k c.args.numbers.now (omega (arith, c.len-k-end.ensures, c.loop-k-test.false)))
+
+pub returns-clause-behind : goal.returns-clause-behind
+returns-clause-behind g c = c.loop-k.invariant.behind
