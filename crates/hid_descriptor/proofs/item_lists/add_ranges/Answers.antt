@@ -5,7 +5,7 @@ use Rattle.hid_descriptor.proofs.PushLemmas.{mapped_more, mapped_all, room_for_n
 use Rattle.hid_descriptor.proofs.item_lists.add_ranges.Goals as goal
 
 pub loop-entry-init : goal.loop-entry-init
-loop-entry-init c = record { entries_added = c.in_ok-reserve.ensures.items ∙ sym (append-nil c.args.entries.now.items); room = c.in_ok-reserve.ensures.ok; }
+loop-entry-init c = record { entries_added = c.in_ok-reserve.ensures.items ∙ sym (append-nil c.args.entries.now.items); room = c.in_ok-reserve.ensures.ok }
 
 pub push_reserved-requires : goal.push_reserved-requires
 push_reserved-requires c = room_for_next c.args.named.now c.loop-entry.entry-index (vec_len c.loop-entry.entries) _ c.loop-entry-test.true c.loop-entry.invariant.room

@@ -10,7 +10,7 @@ pub returns-then-are_single-clause-added : goal.returns-then-are_single-clause-a
 returns-then-are_single-clause-added c = (single_starts c.args.page c.args.named.now c.if-are_single.ensures, refl)
 
 pub loop-entry-init : goal.loop-entry-init
-loop-entry-init c = record { small = omega arith; added = ap (λ l. l ++ starts_of (map (entry_on_page c.args.page) c.args.named.now)) c.in_ok-reserve.ensures.items; room = c.in_ok-reserve.ensures.ok; }
+loop-entry-init c = record { small = omega arith; added = ap (λ l. l ++ starts_of (map (entry_on_page c.args.page) c.args.named.now)) c.in_ok-reserve.ensures.items; room = c.in_ok-reserve.ensures.ok }
 
 pub overflow_cast-before : goal.overflow_cast-before
 overflow_cast-before c = record { fits = omega (arith, c.requires, c.loop-entry-test.true, c.loop-entry.invariant.small) }
