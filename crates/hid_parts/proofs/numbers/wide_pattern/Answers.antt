@@ -26,3 +26,24 @@ returns-else-width-le32 g c =
 
 pub returns-then-width-le32 : goal.returns-then-width-le32
 returns-then-width-le32 g c = c.from.ensures ∙ c.get.ensures.pattern
+
+pub get-requires-clause-inside : goal.get-requires-clause-inside
+get-requires-clause-inside g c = c.requires.inside
+
+pub overflow_add-at : goal.overflow_add-at
+overflow_add-at g c = record { fits = omega (arith, c.requires.short) }
+
+pub overflow_sub-width : goal.overflow_sub-width
+overflow_sub-width g c = omega (arith, c.if-width-le32.false)
+
+pub overflow_cast-width-else-width-le32 : goal.overflow_cast-width-else-width-le32
+overflow_cast-width-else-width-le32 g c = record { fits = omega (arith, c.requires.width) }
+
+pub get-high-requires-clause-some : goal.get-high-requires-clause-some
+get-high-requires-clause-some g c = omega (arith, c.if-width-le32.false)
+
+pub get-high-requires-clause-width : goal.get-high-requires-clause-width
+get-high-requires-clause-width g c = omega (arith, c.requires.width)
+
+pub get-high-requires-clause-inside : goal.get-high-requires-clause-inside
+get-high-requires-clause-inside g c = omega (arith, c.if-width-le32.false, c.requires.inside)
