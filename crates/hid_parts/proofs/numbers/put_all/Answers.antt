@@ -1,5 +1,5 @@
-use Rattle.std.proofs.Common.{rules, ◌≡◌, ℕ, ◌<◌, ◌+◌, ◌*◌, ◌∙◌, sym, ap, subst, to_z, of_z, w64, length, pos, arith}
-use Rattle.std.proofs.lemmas.List.{take_all}
+use Rattle.std.proofs.Common.{rules, ◌≡◌, ℕ, ◌<◌, ◌+◌, ◌*◌, ◌∙◌, refl, sym, ap, subst, to_z, of_z, w64, length, pos, arith}
+use Rattle.std.proofs.lemmas.List.{take_all, length-drop}
 use Rattle.std.proofs.lemmas.Int.{to_z-of_z}
 use Rattle.hid_fields.specs.Field.{IsOutside}
 use Rattle.hid_fields.specs.Value.{FitsField, FitsEitherSign}
@@ -64,3 +64,27 @@ pub returns-clause-others : goal.returns-clause-others
 returns-clause-others g c = λ n outside.
     let last : c.args.count ≡ c.loop-k.k = omega arith in
     c.loop-k.invariant.others n (subst (λ (m : ℕ). IsOutside c.args.at (c.args.width * m) n) last outside)
+
+pub overflow_cast-count : goal.overflow_cast-count
+overflow_cast-count g c =
+    let it = c.in-Some.ensures in
+    record { fits = omega (arith, c.requires.one_each, pattern_count c.args.numbers c.in-Some.pattern it, it.few) }
+
+pub put-requires-clause-some : goal.put-requires-clause-some
+put-requires-clause-some g c =
+    let it = c.in-Some.ensures in
+    omega (arith, c.requires.one_each, pattern_count c.args.numbers c.in-Some.pattern it, it.some)
+
+pub put-requires-clause-width : goal.put-requires-clause-width
+put-requires-clause-width g c =
+    let it = c.in-Some.ensures in
+    omega (arith, c.requires.one_each, pattern_count c.args.numbers c.in-Some.pattern it, it.few)
+
+pub put-requires-clause-inside : goal.put-requires-clause-inside
+put-requires-clause-inside g c = omega (arith, ap (λ (w : ℕ). w * c.args.count) c.if-width-eq1.true, c.requires.inside)
+
+pub loop-k-init : goal.loop-k-init
+loop-k-init g c = record { so_far = λ signed fits. refl; left = refl; others = λ n outside. refl }
+
+pub next-requires : goal.next-requires
+next-requires g c = omega (arith, ap length c.loop-k.invariant.left, length-drop c.loop-k.k c.args.numbers, c.requires.one_each, c.loop-k-test.true)
