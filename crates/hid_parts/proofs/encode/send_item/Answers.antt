@@ -29,3 +29,15 @@ returns-in-Variable c = c.send_elements.ensures ∙ sym (sent_there c.args.layou
 
 pub returns-in-Array : goal.returns-in-Array
 returns-in-Array c = c.send_array.ensures ∙ sym (sent_there c.args.layout.now c.args.i c.args.item.now c.entries-entries.result.now c.args.cell.now _ c.requires.listed c.entries-entries.ensures c.in-Array.is)
+
+pub entries-entries-requires : goal.entries-entries-requires
+entries-entries-requires c = slice_get_within c.args.layout.now.items c.args.i c.args.item.now c.requires.listed
+
+pub send_elements-requires-clause-elements : goal.send_elements-requires-clause-elements
+send_elements-requires-clause-elements c = c.requires.elements
+
+pub send_array-requires-clause-elements : goal.send_array-requires-clause-elements
+send_array-requires-clause-elements c = c.requires.elements
+
+pub send_array-requires-clause-places : goal.send_array-requires-clause-places
+send_array-requires-clause-places c = c.requires.places
