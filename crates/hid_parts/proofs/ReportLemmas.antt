@@ -1,6 +1,7 @@
 -- The parts of a report can be sent, and one list of bytes alone shows them.
 use Rattle.std.proofs.Common.{◌≡◌, ℕ, zero, suc, ◌+◌, ◌-◌, ◌*◌, ◌/◌, ◌%◌, ◌<◌, ◌≤◌, ◌⊎◌, inl, inr, not, ◌&&◌, ◌==◌, Bool, true, false, cond, List, [], ◌∷◌, ◌++◌, length, replicate, Option, Some, None, get_or, ℤ, refl, sym, ap, ◌∙◌, subst, arith}
 use Rattle.std.specs.List.{slice_get}
+use Rattle.std.proofs.lemmas.List.{get_or_default}
 use Rattle.std.proofs.lemmas.Option.{slice_get_within}
 use Rattle.hid_layout.specs.declared.main_item.MainItem.{MainItem}
 use Rattle.hid_descriptor.specs.Usages.{Entry, usage_list}
@@ -197,6 +198,14 @@ byte_then_zeros id n before one bytes none some is small = rw (is, some, none) a
     at : (k d : ℕ) → (let zeros : List ℕ = id ∷ replicate n 0 in k < length zeros → get_or zeros k d < 256)
     at zero d h = small
     at (suc k) d h = all_zeros n k d (omega arith)
+
+-- and so are zeros alone
+pub zeros_alone : (n : ℕ) (before bytes : List ℕ) → before ≡ [] → bytes ≡ before ++ replicate n 0 → AreBytes bytes
+zeros_alone n before bytes none is = rw (is, none) (all_zeros n)
+
+-- what stands in a slice of bytes
+pub are_bytes : (bytes : List ℕ) → ((i : ℕ) → get_or bytes i 0 < 256) → AreBytes bytes
+are_bytes bytes small = λ k d within. omega (arith, get_or_default bytes k d 0 within, small k)
 
 -- The bytes as a function, bit by bit.
 

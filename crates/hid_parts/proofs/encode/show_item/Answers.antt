@@ -1,6 +1,7 @@
 use Rattle.std.proofs.Common.{◌∙◌, sym, arith}
 use Rattle.hid_parts.specs.Encoding.{IsData, part_numbers}
 use Rattle.hid_parts.proofs.EncodingLemmas.{data_if, no_data_if, place_inside, shows_passed, shows_next, cell_numbers}
+use Rattle.hid_parts.proofs.ReportLemmas.{are_bytes}
 use Rattle.hid_parts.proofs.encode.show_item.Goals as goal
 
 pub write_item-requires-clause-elements : goal.write_item-requires-clause-elements
@@ -38,3 +39,18 @@ write_item-requires-clause-listed g c = c.item_at-item.ensures.item
 
 pub write_item-requires-clause-places : goal.write_item-requires-clause-places
 write_item-requires-clause-places g c = c.requires.part.few_places c.args.i c.cell_at.result.now c.cell_at.ensures
+
+pub item_at-item-requires : goal.item_at-item-requires
+item_at-item-requires g c = c.requires.listed
+
+pub write_item-requires-clause-layout : goal.write_item-requires-clause-layout
+write_item-requires-clause-layout g c = c.requires.layout
+
+pub write_item-requires-clause-short : goal.write_item-requires-clause-short
+write_item-requires-clause-short g c = omega (arith, c.requires.whole, c.requires.layout.short c.args.report)
+
+pub returns-then-is_data-clause-bytes : goal.returns-then-is_data-clause-bytes
+returns-then-is_data-clause-bytes g c = are_bytes c.write_item.new.bytes (λ i. omega (arith, c.type_inv.bytes i))
+
+pub returns-else-is_data-clause-bytes : goal.returns-else-is_data-clause-bytes
+returns-else-is_data-clause-bytes g c = are_bytes c.args.bytes.now (λ i. omega (arith, c.type_inv.bytes i))
