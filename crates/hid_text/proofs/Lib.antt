@@ -1,4 +1,5 @@
 pub mod ValueLemmas
+pub mod LayoutLemmas
 pub mod PollLemmas
 pub mod PlainLemmas
 pub mod EventLineLemmas

@@ -1,9 +1,9 @@
 -- Where the elements of a report lie.
-use Rattle.std.proofs.Common.{◌≡◌, ℕ, ◌+◌, ◌*◌, ◌<◌, ◌≤◌, Bool, true, false, nat_lt, not, cond, Option, None, Some, Result, OnOk, ℤ, List, ◌++◌, length, get_or, arith, refl, sym, ap, ◌∙◌, subst, IfSome}
+use Rattle.std.proofs.Common.{◌≡◌, ℕ, ◌+◌, ◌*◌, ◌<◌, ◌≤◌, Bool, true, false, nat_lt, not, cond, Option, None, Some, Result, OnOk, ℤ, List, [], ◌++◌, length, get_or, arith, refl, sym, ap, ◌∙◌, subst, IfSome}
 use Rattle.std.specs.Prelude.{slice_get, is_some, ◌&&◌, IsSomeAnd}
 use Rattle.std.specs.Option.{option_and_then}
 use Rattle.std.proofs.Math.Nat.{mul-le-mul_left}
-use Rattle.std.proofs.lemmas.Bool.{and_parts, ltb-true, not-true}
+use Rattle.std.proofs.lemmas.Bool.{and_parts, ltb-true, not-true, cond-true, cond-false, eq-eqb, ne_eqb}
 use Rattle.std.proofs.lemmas.Option.{slice_get-get_or}
 use Rattle.std.specs.declared.alloc.AllocError.{AllocError}
 use Rattle.hid_descriptor.specs.declared.usage.Usage.{Usage}
@@ -13,8 +13,13 @@ use Rattle.hid_descriptor.specs.Fields.{is_padding}
 use Rattle.hid_layout.specs.Layout.{Contents}
 use Rattle.hid_descriptor.specs.Usages.{Entry, usage_list}
 use Rattle.hid_views.specs.Reading.{IsInside, element_number}
-use Rattle.hid_text.specs.ValuesText.{usage_shown, value_line, value_at, element_line}
+use Rattle.hid_notation.specs.Text.{joined_below}
+use Rattle.hid_text.specs.ValuesText.{usage_shown, value_line, value_at, element_line, values_in, values_at}
 use Rattle.hid_layout.specs.Reports.{IsLayout, report_bytes, field_at, element_in, element_of}
+
+-- what stands in a list that is the same
+pub same_stands : {A : Type 0} (xs ys : List A) (i : ℕ) (d : A) → ys ≡ xs → i < length xs → slice_get xs i ≡ Some (get_or ys i d)
+same_stands xs ys i d is below = slice_get-get_or xs i d below ∙ ap (λ l. Some (get_or l i d)) (sym is)
 
 end_of_field : (offset size count j : ℕ) → j < count → offset + j * size + size ≤ offset + size * count
 end_of_field offset size count j below = omega (arith, mul-le-mul_left size (let more : j + 1 ≤ count = omega arith in more))
@@ -49,7 +54,7 @@ pub value_found : (layout : Contents) (bytes : List ℕ) (i j : ℕ) (items : Li
     → element_of layout i j ≡ Some element → value_at layout bytes i j ≡ element_line layout bytes i j (get_or items i d) (usage_list entries) (Some element)
 unfolding value_at
 value_found layout bytes i j items d entries element is below stands e =
-    let at : slice_get layout.items i ≡ Some (get_or items i d) = slice_get-get_or layout.items i d below ∙ ap (λ l. Some (get_or l i d)) (sym is) in
+    let at = same_stands layout.items items i d is below in
     let found : element_in (get_or items i d) j ≡ Some element = sym (ap (option_and_then (λ x. element_in x j)) at) ∙ e in
     rw (at, stands, found) refl
 
@@ -61,3 +66,21 @@ pub value_printed : (layout : Contents) (bytes : List ℕ) (i j : ℕ) (items : 
 value_printed layout bytes i j items d entries None number usage r old new is below stands e some number-is usage-is h = absurd (cc)
 value_printed layout bytes i j items d entries (Some element) number usage r old new is below stands e some number-is usage-is h =
     rw (value_found layout bytes i j items d entries element is below stands e) (rw (usage-is, number-is) at h)
+
+-- of an item that stands in the report the bytes are long enough
+pub item_whole : (layout : Contents) (bytes : List ℕ) (r i : ℕ) (items : List MainItem) (d : MainItem) → items ≡ layout.items → i < length layout.items → (get_or items i d).report ≡ r → report_bytes layout r ≤ length bytes
+    → IfSome (slice_get layout.items i) (λ item. report_bytes layout item.report ≤ length bytes)
+item_whole layout bytes r i items d is below in_it enough = rw (same_stands layout.items items i d is below, in_it) enough
+
+-- its lines, and none of an item that stands elsewhere
+pub values_found : (layout : Contents) (bytes : List ℕ) (r i : ℕ) (items : List MainItem) (d : MainItem) → items ≡ layout.items → i < length layout.items → (get_or items i d).report ≡ r
+    → values_at layout r bytes i ≡ joined_below (get_or items i d).count (value_at layout bytes i)
+unfolding values_at
+values_found layout bytes r i items d is below in_it =
+    ap (values_in layout r bytes i) (same_stands layout.items items i d is below) ∙ cond-true _ _ _ (eq-eqb (get_or items i d).report r in_it)
+
+pub values_elsewhere : (layout : Contents) (bytes : List ℕ) (r i : ℕ) (items : List MainItem) (d : MainItem) → items ≡ layout.items → i < length layout.items → ((get_or items i d).report ≡ r → ⊥)
+    → values_at layout r bytes i ≡ []
+unfolding values_at
+values_elsewhere layout bytes r i items d is below other =
+    ap (values_in layout r bytes i) (same_stands layout.items items i d is below) ∙ cond-false _ _ _ (ne_eqb (get_or items i d).report r other)

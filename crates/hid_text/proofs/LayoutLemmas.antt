@@ -1,0 +1,31 @@
+-- The lines of a report and of an item that are there.
+use Rattle.std.proofs.Common.{◌≡◌, ℕ, ◌<◌, Some, Result, OnOk, List, ◌++◌, length, get_or}
+use Rattle.std.specs.Prelude.{slice_get}
+use Rattle.std.specs.declared.alloc.AllocError.{AllocError}
+use Rattle.hid_descriptor.specs.declared.collection.Collection.{Collection}
+use Rattle.hid_descriptor.specs.declared.report.Report.{Report}
+use Rattle.hid_descriptor.specs.Usages.{Entry}
+use Rattle.hid_layout.specs.declared.main_item.MainItem.{MainItem}
+use Rattle.hid_layout.specs.Layout.{Contents}
+use Rattle.hid_layout.specs.Reports.{IsLayout, report_bytes}
+use Rattle.hid_text.specs.LayoutText.{report_line, report_at, item_line, item_at}
+use Rattle.hid_text.proofs.ValueLemmas.{same_stands}
+
+-- what was added is the report's line
+pub report_printed : (layout : Contents) (i size : ℕ) (reports : List Report) (e : Report) (r : Result (Unit {0}) AllocError) (old new : List ℕ) → reports ≡ layout.reports → i < length layout.reports → size ≡ report_bytes layout i
+    → OnOk r (new ≡ old ++ report_line (get_or reports i e) size) → OnOk r (new ≡ old ++ report_at layout i (slice_get layout.reports i))
+report_printed layout i size reports e r old new same below is h = rw (same_stands layout.reports reports i e same below, ← is) h
+
+-- an item's report is there
+pub report_of_item : (layout : Contents) (i : ℕ) (items : List MainItem) (d : MainItem) → IsLayout layout → items ≡ layout.items → i < length layout.items → (get_or items i d).report < length layout.reports
+report_of_item layout i items d laid is below = laid.report_there i (get_or items i d) (same_stands layout.items items i d is below)
+
+-- what was added is the item's line
+pub item_printed : (layout : Contents) (i : ℕ) (items : List MainItem) (d : MainItem) (reports : List Report) (e : Report) (entries : List Entry) (path : List Collection) (r : Result (Unit {0}) AllocError) (old new : List ℕ)
+    → IsLayout layout → items ≡ layout.items → reports ≡ layout.reports → i < length layout.items → slice_get layout.entries i ≡ Some entries → slice_get layout.paths i ≡ Some path
+    → OnOk r (new ≡ old ++ item_line i (get_or reports (get_or items i d).report e) (get_or items i d) entries path)
+    → OnOk r (new ≡ old ++ item_at layout i (slice_get layout.items i))
+item_printed layout i items d reports e entries path r old new laid is same below stands ends h =
+    let at = same_stands layout.items items i d is below in
+    let in_report = same_stands layout.reports reports (get_or items i d).report e same (report_of_item layout i items d laid is below) in
+    rw (at, in_report, stands, ends) h
