@@ -1,5 +1,5 @@
--- The lines of a report and of an item that are there.
-use Rattle.std.proofs.Common.{◌≡◌, ℕ, ◌<◌, Some, Result, OnOk, List, ◌++◌, length, get_or}
+-- The lines of a layout, one behind the other, and those of the reports and items that are there.
+use Rattle.std.proofs.Common.{◌≡◌, ℕ, ◌+◌, ◌<◌, Some, Result, OnOk, List, ◌++◌, length, get_or, add-one, append_assoc, refl, ap, ◌∙◌}
 use Rattle.std.specs.Prelude.{slice_get}
 use Rattle.std.specs.declared.alloc.AllocError.{AllocError}
 use Rattle.hid_descriptor.specs.declared.collection.Collection.{Collection}
@@ -8,8 +8,20 @@ use Rattle.hid_descriptor.specs.Usages.{Entry}
 use Rattle.hid_layout.specs.declared.main_item.MainItem.{MainItem}
 use Rattle.hid_layout.specs.Layout.{Contents}
 use Rattle.hid_layout.specs.Reports.{IsLayout, report_bytes}
-use Rattle.hid_text.specs.LayoutText.{report_line, report_at, item_line, item_at}
+use Rattle.hid_notation.specs.Text.{joined_below}
+use Rattle.hid_text.specs.LayoutText.{report_line, report_at, item_line, item_at, layout_lines}
 use Rattle.hid_text.proofs.ValueLemmas.{same_stands}
+
+-- one line more behind those that stand
+pub joined_next : (text : ℕ → List ℕ) (n : ℕ) (start old new : List ℕ) → old ≡ start ++ joined_below n text → new ≡ old ++ text n → new ≡ start ++ joined_below (n + 1) text
+joined_next text n start old new so_far more = more ∙ ap (λ l. l ++ text n) so_far ∙ append_assoc start (joined_below n text) (text n) ∙ rw add-one refl
+
+-- a layout's lines are those of its reports and of its items
+pub lines_whole : (layout : Contents) (n : ℕ) (old new : List ℕ) → n ≡ length layout.items
+    → new ≡ (old ++ joined_below (length layout.reports) (λ r. report_at layout r (slice_get layout.reports r))) ++ joined_below n (λ i. item_at layout i (slice_get layout.items i))
+    → new ≡ old ++ layout_lines layout
+unfolding layout_lines
+lines_whole layout n old new all is = is ∙ rw all (append_assoc old _ _)
 
 -- what was added is the report's line
 pub report_printed : (layout : Contents) (i size : ℕ) (reports : List Report) (e : Report) (r : Result (Unit {0}) AllocError) (old new : List ℕ) → reports ≡ layout.reports → i < length layout.reports → size ≡ report_bytes layout i
