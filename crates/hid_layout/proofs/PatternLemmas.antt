@@ -111,6 +111,13 @@ greatest_from_zero min w = by_sign (int_lt min (pos 0)) (pow_pos (w - 1)) (pow_p
     by_sign true h k = omega (arith, ints, h)
     by_sign false h k = omega (arith, ints, k)
 
+pub least_to_zero : (min : ℤ) (w : ℕ) → least_value min w ≤ℤ pos 0
+least_to_zero min w = by_sign (int_lt min (pos 0))
+  where
+    by_sign : (b : Bool) → cond b (neg_ℤ (pos (2 ^ (w - 1)))) (pos 0) ≤ℤ pos 0
+    by_sign true = omega (arith, ints)
+    by_sign false = omega (arith, ints)
+
 pub negative : (min : ℤ) → min <ℤ pos 0 → is_negative min ≡ true
 negative (pos n) h = absurd (omega (arith, ints, h))
 negative (negsuc n) h = refl
