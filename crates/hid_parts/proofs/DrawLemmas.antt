@@ -1,6 +1,7 @@
 -- Numbers that are drawn one after another.
 use Rattle.std.proofs.Common.{◌≡◌, ℕ, zero, suc, ◌+◌, ◌<◌, ◌≤◌, List, [], ◌∷◌, ◌++◌, length, map, drop, get_or, Bool, false, Some, ℤ, pos, ◌+ℤ◌, sym, ap, ◌∙◌, arith}
 use Rattle.std.specs.List.{slice_get}
+use Rattle.std.proofs.lemmas.List.{length-drop}
 use Rattle.hid_cells.specs.Words.{is_on, IsFirst}
 use Rattle.hid_parts.specs.Sending.{placed_from}
 use Rattle.hid_cells.proofs.ListLemmas.{drop_at}
@@ -8,6 +9,10 @@ use Rattle.hid_parts.proofs.PlaceLemmas.{placed_next, placed_none}
 
 front : (k : ℕ) → suc k + 1 ≡ suc (k + 1)
 front k = omega arith
+
+-- where some are left, the next one is there
+pub left_within : {A : Type 0} (xs : List A) (k n : ℕ) → n ≡ length (drop k xs) → 0 < n → k < length xs
+left_within xs k n is some = omega (arith, is, some, length-drop k xs)
 
 -- what is drawn from a list's rest
 pub drawn_at : {A : Type 0} (xs rest : List A) (k : ℕ) (x d : A) → drop k xs ≡ x ∷ rest → (get_or xs k d ≡ x) × (rest ≡ drop (k + 1) xs)

@@ -1,11 +1,22 @@
 use Rattle.std.proofs.Common.{◌≡◌, ◌∷◌, ◌∙◌, sym, ap, to_z, of_z, w64, ◌+◌, length, map, drop, unwrap_or, ℤ, pos, ◌+ℤ◌, rules, arith}
 use Rattle.std.proofs.lemmas.Int.{to_z-of_z}
-use Rattle.std.proofs.lemmas.List.{length-replicate}
+use Rattle.std.proofs.lemmas.List.{length-map, length-replicate}
 use Rattle.hid_parts.specs.Sending.{switch_number}
 use Rattle.hid_parts.specs.Sources.{numbers_of, repeats}
-use Rattle.hid_parts.proofs.DrawLemmas.{map_drawn, key_drawn, keys_drawn}
+use Rattle.hid_parts.proofs.DrawLemmas.{left_within, map_drawn, key_drawn, keys_drawn}
 use Rattle.hid_cells.proofs.ListLemmas.{drop_at}
 use Rattle.hid_parts.proofs.send.Sending.next.Goals as goal
+
+pub get-requires : goal.get-requires
+get-requires c =
+    left_within c.in-Switches.flags.now c.in-Switches.index _ (ap length (sym c.self.view_is ∙ ap numbers_of c.in-Switches.is) ∙ length-map (drop c.in-Switches.index c.in-Switches.flags.now) _) c.requires
+
+pub get-requires-in-Values : goal.get-requires-in-Values
+get-requires-in-Values c =
+    left_within c.in-Values.values.now c.in-Values.index _ (ap length (sym c.self.view_is ∙ ap numbers_of c.in-Values.is) ∙ length-map (drop c.in-Values.index c.in-Values.values.now) _) c.requires
+
+pub get-requires-in-Motions : goal.get-requires-in-Motions
+get-requires-in-Motions c = left_within c.in-Motions.motions.now c.in-Motions.index _ (ap length (sym c.self.view_is ∙ ap numbers_of c.in-Motions.is)) c.requires
 
 pub one_fewer-requires : goal.one_fewer-requires
 one_fewer-requires c =
