@@ -1,5 +1,5 @@
 -- Numbers that are drawn one after another.
-use Rattle.std.proofs.Common.{◌≡◌, ℕ, zero, suc, ◌+◌, ◌<◌, ◌≤◌, List, [], ◌∷◌, ◌++◌, length, map, drop, get_or, Bool, false, Some, ℤ, pos, ◌+ℤ◌, sym, ap, ◌∙◌, arith}
+use Rattle.std.proofs.Common.{◌≡◌, ℕ, zero, suc, ◌+◌, ◌<◌, ◌≤◌, List, [], ◌∷◌, ◌++◌, length, map, drop, get_or, Bool, false, Some, ℤ, pos, ◌+ℤ◌, Fits, w64, sym, ap, ◌∙◌, arith}
 use Rattle.std.specs.List.{slice_get}
 use Rattle.std.proofs.lemmas.List.{length-drop}
 use Rattle.hid_cells.specs.Words.{is_on, IsFirst}
@@ -13,6 +13,10 @@ front k = omega arith
 -- where some are left, the next one is there
 pub left_within : {A : Type 0} (xs : List A) (k n : ℕ) → n ≡ length (drop k xs) → 0 < n → k < length xs
 left_within xs k n is some = omega (arith, is, some, length-drop k xs)
+
+-- and the place behind it is one that a program can count
+pub next_fits : (k n : ℕ) → k < n → n ≤ 2048 → Fits w64 (k + 1)
+next_fits k n within few = omega arith
 
 -- what is drawn from a list's rest
 pub drawn_at : {A : Type 0} (xs rest : List A) (k : ℕ) (x d : A) → drop k xs ≡ x ∷ rest → (get_or xs k d ≡ x) × (rest ≡ drop (k + 1) xs)

@@ -1,8 +1,10 @@
 -- A change leaves a snapshot that suits its layout.
-use Rattle.std.proofs.Common.{◌≡◌, ℕ, zero, suc, ◌+◌, ◌<◌, ◌≤◌, inl, inr, not, ◌&&◌, Bool, true, false, cond, nat_le, List, [], ◌∷◌, length, Option, Some, None, Ok, Err, unwrap_or, ℤ, pos, negsuc, ◌+ℤ◌, get_or, refl, sym, ap, ◌∙◌, subst, arith}
+use Rattle.std.proofs.Common.{◌≡◌, ℕ, zero, suc, ◌+◌, ◌<◌, ◌≤◌, inl, inr, not, ◌&&◌, Bool, true, false, cond, nat_le, List, [], ◌∷◌, ◌++◌, length, take, drop, Option, Some, None, Ok, Err, unwrap_or, ℤ, pos, negsuc, ◌+ℤ◌, int_le, SFits, w64, get_or, refl, sym, ap, ◌∙◌, subst, arith}
 use Rattle.std.specs.List.{slice_get, slice_set}
 use Rattle.std.specs.Option.{option_map}
+use Rattle.std.proofs.Math.Seq.{take-append_seam}
 use Rattle.std.proofs.lemmas.Option.{slice_get_within, slice_get_read}
+use Rattle.std.proofs.lemmas.Int.{ints}
 use Rattle.std.proofs.lemmas.Bool.{cases_eq}
 use Rattle.std.proofs.lemmas.Bool.Decides.{nat_tests}
 use Rattle.hid_descriptor.specs.declared.usage.Usage.{Usage}
@@ -19,6 +21,7 @@ use Rattle.hid_cells.specs.declared.change.Change.TheVariants.{Press, Release, S
 use Rattle.hid_cells.specs.declared.change.ChangeFault.{ChangeFault}
 use Rattle.hid_cells.specs.Cells.{is_in, has_null, is_i32, pressed_count, HasRoom, is_value, are_values, are_motions, are_pressable, InSnapshot, Suits}
 use Rattle.hid_cells.specs.Snapshots.{OrFault, unless, is_pressed, motion_in, with_pressed, with_value, with_motion, is_full, can_hold, has_direction, changed_cell, target, changed, changed_at, with_cell, cell_at, Changes, ChangesCell, HasIndex}
+use Rattle.hid_cells.proofs.CodeLemmas.{both_true}
 use Rattle.hid_cells.proofs.ListLemmas.{cons_count}
 use Rattle.hid_cells.proofs.FillLemmas.{set_length}
 use Rattle.hid_layout.specs.declared.control.ControlId.{ControlId}
@@ -388,3 +391,22 @@ change_done items cells now id change control controls cell new result is named 
     rw view (subst P (sym is)
     (λ n d t. (changes_cell items now change control controls cell new result n d t h, changes_fit items now change control controls cell new result (control_found items (target change) control n) d t h was))
     named heads (control_cell items cells now id control cell named view was value))
+
+-- what a motion leaves of a cell, by the two tests of it
+pub moved_by : (controls : Controls) (cell : Cell) (c : ControlId) (by total : ℤ) (toward small : Bool) → has_direction controls by ≡ toward → motion_in cell c.index +ℤ by ≡ total → is_i32 total ≡ small
+    → changed_cell Relative controls cell (Change.Move c by) ≡ unless (not toward) ChangeFault_.NoDirection (unless (not small) ChangeFault_.MotionFull (Ok (with_motion cell c.index total)))
+moved_by controls cell c by total toward small direction sum fits = rw (direction, sum, fits) refl
+
+-- a motion that takes more than 64 bits takes more than 32
+pub wide_motion : (total : ℤ) → (SFits w64 total → ⊥) → is_i32 total ≡ false
+wide_motion total wide = of_test (is_i32 total) refl
+  where
+    of_test : (b : Bool) → is_i32 total ≡ b → b ≡ false
+    of_test false e = refl
+    of_test true e =
+        let ends = both_true (int_le (negsuc 0x7FFF_FFFF) total) (int_le total (pos 0x7FFF_FFFF)) e in
+        absurd (wide (omega (arith, ints, ends.0, ends.1)))
+
+-- what stands in a Vec once the slice that it lent is filled with as many
+pub written_back : {A : Type 0} (new old : List A) (n : ℕ) → n ≡ length new → take n (new ++ drop (length new) old) ≡ new
+written_back new old n is = ap (λ (k : ℕ). take k (new ++ drop (length new) old)) is ∙ take-append_seam new (drop (length new) old)

@@ -16,7 +16,7 @@ use Rattle.hid_cells.specs.declared.cell.Cell.{Cell}
 use Rattle.hid_cells.specs.declared.cell.Cell.TheVariants.{Vacant, Pressed, Holding, Moved, RolledOver}
 use Rattle.hid_cells.specs.Cells.{HasRoom}
 pub use Rattle.hid_cells.proofs.ListLemmas.{drop_at, zip_at}
-use Rattle.hid_views.specs.Appending.{Appends}
+use Rattle.hid_views.specs.Appending.{HasSpace, Appends}
 use Rattle.hid_cells.specs.Events.{at, switch_event, up_event, down_event, each, usages_of, element_events, key_events, change_events, HasPlaces}
 
 -- the events from one element on
@@ -48,6 +48,17 @@ appends before after events h room = record {
 
 pub nothing_appended : {Z : Type 0} (out : Vec Event Z) (events : List Event) → events ≡ [] → Appends out events out
 nothing_appended out events none = appends out out events (nothing_told out.items events none) refl
+
+-- Of two lots of events, one behind the other, there is room for each, and both are appended.
+pub space_first : {Z : Type 0} (out : Vec Event Z) (first second : List Event) → HasSpace out (first ++ second) → HasSpace out first
+space_first out first second room = omega (arith, room, length-append first second)
+
+pub space_second : {Z : Type 0} (out mid : Vec Event Z) (first second : List Event) → HasSpace out (first ++ second) → Appends out first mid → HasSpace mid second
+space_second out mid first second room told = omega (arith, room, told.len, told.room, length-append first second)
+
+pub both_appended : {Z : Type 0} (out mid end : Vec Event Z) (first second : List Event) → Appends out first mid → Appends mid second end → Appends out (first ++ second) end
+both_appended out mid end first second told behind =
+    appends out end (first ++ second) (behind.items ∙ ap (λ (t : List Event). t ++ second) told.items ∙ append_assoc out.items first second) (behind.room ∙ told.room)
 
 -- A loop is done where nothing is left.
 pub all_appended : {Z : Type 0} (before after : Vec Event Z) (left all : List Event) → left ≡ [] → after.items ++ left ≡ before.items ++ all → vec_capacity after ≡ vec_capacity before → Appends before all after

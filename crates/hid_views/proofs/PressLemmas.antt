@@ -1,26 +1,34 @@
 -- The keys of an array, by its usage list.
-use Rattle.std.proofs.Common.{◌≡◌, ℕ, ◌<◌, ◌&&◌, nat_lt, not, inl, inr, Bool, true, false, List, [], ◌∷◌, ◌++◌, length, map, Option, Some, None, ℤ, pos, ◌+ℤ◌, int_le, refl, ap, ◌∙◌, arith}
+use Rattle.std.proofs.Common.{◌≡◌, ℕ, ◌<◌, ◌&&◌, ◌==◌, nat_lt, not, inl, inr, Bool, true, false, List, [], ◌∷◌, ◌++◌, append-nil, length, map, Option, Some, None, ℤ, pos, ◌+ℤ◌, int_le, refl, sym, ap, ◌∙◌, subst, arith}
 use Rattle.std.specs.List.{list_any, slice_get, slice_set}
 use Rattle.std.specs.Option.{option_map}
 use Rattle.std.proofs.lemmas.Option.{slice_get_within}
 use Rattle.std.proofs.lemmas.Bool.{cases_lt}
 use Rattle.std.proofs.lemmas.Int.{ints}
+use Rattle.std.proofs.lemmas.List.{length-map}
 use Rattle.std.proofs.lemmas.Bool.Decides.{nat_tests}
 use Rattle.hid_layout.specs.declared.main_item.MainItem.{MainItem}
 use Rattle.hid_descriptor.specs.declared.usage.Usage.{Usage}
 use Rattle.hid_descriptor.specs.declared.shape.Shape.{Shape}
 use Rattle.hid_descriptor.specs.declared.shape.Shape.TheVariants.{Padding, Variable, Array}
 use Rattle.hid_layout.specs.declared.control.Controls.TheVariants as head
-use Rattle.hid_descriptor.specs.Usages.{Entry, usage_list, is_rollover}
-use Rattle.hid_views.specs.Taking.{list_at, IsFormOf}
+use Rattle.hid_descriptor.specs.Usages.{Entry, usage_list, is_rollover, tells_error}
+use Rattle.hid_views.specs.Taking.{list_at, IsFormOf, read_by_numbers, told_by_numbers}
 use Rattle.hid_views.proofs.TakeLemmas.{list_at-is}
 use Rattle.hid_layout.specs.Layout.{Contents}
-use Rattle.hid_layout.specs.Controls.{Key, head_of, form_of, form_at, items_of, is_key, is_encodable}
+use Rattle.hid_layout.specs.Controls.{Form, Keys, Key, head_of, form_of, form_at, items_of, has_place, rollover_from, is_key, is_encodable}
 use Rattle.hid_layout.proofs.FormLemmas.{key-get, keys-length}
+use Rattle.hid_layout.proofs.CodeLemmas.{inside}
 use Rattle.hid_cells.proofs.CodeLemmas.{both_true}
 use Rattle.hid_cells.proofs.ListLemmas.{map_at}
+use Rattle.hid_cells.specs.declared.cell.Cell.{Cell}
 use Rattle.hid_cells.specs.declared.cell.Cell.TheVariants.{Pressed}
-use Rattle.hid_views.specs.Reading.{array_keys, keys_of, keys_at, named_from, names_rollover, read_keys}
+use Rattle.hid_cells.specs.Cells.{HasRoom}
+use Rattle.hid_cells.specs.Events.{change_events, key_events, key_usages, usages_at, usages_of, HasPlaces}
+use Rattle.hid_cells.specs.Views.{motions_told}
+use Rattle.hid_views.proofs.EventLemmas.{has_places}
+use Rattle.hid_views.specs.Reading.{FitsFields, motion_cell, read_cell, array_keys, keys_of, keys_at, named_from, names_rollover, read_keys}
+use Rattle.hid_views.proofs.BoundLemmas.{in_range}
 use Rattle.hid_views.proofs.KeyLemmas.{key_added, no_key_added, no_place_added, rollover_named}
 
 -- no key stands behind the last place that a key can have
@@ -88,3 +96,43 @@ keys_are layout i m es elements rolls n form there heads = ap keys_of form ∙ o
     of_shape us Padding h = absurd (cc)
     of_shape us Variable h = absurd (cc)
     of_shape us Array h = refl
+
+-- a number that names a place and fits its field is one that an element can carry if it is no greater than the greatest
+place_encodable : (m : MainItem) (v : ℤ) (p : ℕ) → FitsFields m v → v ≡ m.min +ℤ pos p → is_encodable m (m.min +ℤ pos p) ≡ int_le v m.max
+place_encodable m v p fits is =
+    let least = (both_true (int_le m.min v) (int_le v v) (inside m.min v v (omega (arith, ints)) (omega (arith, ints)))).0 in
+    ap (is_encodable m) (sym is) ∙ sym (in_range m m.min m.max refl refl v fits) ∙ ap (λ (b : Bool). b && int_le v m.max) least
+
+-- whether a place is a key that a number can press, by the tests of it
+pub key_tested : (m : MainItem) (v : ℤ) (p : ℕ) (u : Usage) (few low none : Bool) → FitsFields m v → v ≡ m.min +ℤ pos p → int_le v m.max ≡ few → nat_lt p 65536 ≡ low → (u.id == 0) ≡ none
+    → is_key m p u ≡ (few && (low && (not none && not (tells_error u))))
+key_tested m v p u few low none fits is at_most before zero = rw (place_encodable m v p fits is, at_most, before, zero) refl
+
+-- What the numbers of an array's elements make of its cell, and tell, is what they do by its usage list.
+pub record ReadsKeys (layout : Contents) (i : ℕ) (m : MainItem) (us : List Usage) (cell : Cell) (vs : List ℤ) : Type 0 where
+  pub keys : keys_at layout i ≡ array_keys m us
+  pub usages : length (usages_at layout i) ≡ length (keys_at layout i)
+  pub places : HasPlaces cell (length (keys_at layout i))
+  pub read : read_keys m us (keys_at layout i) cell vs ≡ read_by_numbers layout i m cell vs
+  pub told : (after : Cell) → key_events i (usages_at layout i) cell after ≡ told_by_numbers layout i m cell after vs
+
+pub reads_keys : (layout : Contents) (i : ℕ) (m : MainItem) (es : List Entry) (cell : Cell) (vs : List ℤ) → IsFormOf layout i m → m.shape ≡ Array → slice_get layout.entries i ≡ Some es → HasRoom (head_of (form_at (items_of layout) i)) cell
+    → ReadsKeys layout i m (usage_list es) cell vs
+reads_keys layout i m es cell vs form shape there room =
+    let listed = list_at-is layout i es there in
+    let us = usage_list es in
+    let rolls = has_place (rollover_from m 0 us) in
+    let is : form_at (items_of layout) i ≡ Keys m.count rolls (array_keys m us) = form ∙ ap (form_of m (list_at layout i)) shape ∙ ap (λ (l : List Usage). form_of m l Array) listed in
+    let same : length (usages_at layout i) ≡ length (keys_at layout i) =
+    ap (λ (f : Form). length (usages_of f)) is ∙ length-map (array_keys m us) (λ (key : Key). key.usage) ∙ sym (ap (λ (f : Form). length (keys_of f)) is) in
+    record {
+      keys = ap keys_of is;
+      usages = same;
+      places = subst (HasPlaces cell) same (has_places (form_at (items_of layout) i) cell room);
+      read =
+          ap (λ (ks : List Key). read_keys m us ks cell vs) (ap keys_of is) ∙ ap (λ (l : List Usage). read_keys m l (array_keys m us) cell vs) (sym listed)
+          ∙ ap (λ (f : Form). read_cell m (list_at layout i) f cell vs) (sym is);
+      told = λ after.
+          ap (λ (f : Form). key_events i (usages_of f) cell after) is ∙ sym (append-nil (key_events i (key_usages (array_keys m us)) cell after))
+          ∙ ap (λ (f : Form). change_events i f cell after ++ motions_told i f (motion_cell f vs)) (sym is);
+    }

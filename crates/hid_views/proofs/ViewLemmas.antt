@@ -1,6 +1,7 @@
 -- What changes between two views, item by item, and how much of it there is at most.
-use Rattle.std.proofs.Common.{◌≡◌, ℕ, suc, ◌+◌, ◌*◌, ◌<◌, ◌≤◌, Bool, true, false, cond, List, [], ◌∷◌, ◌++◌, length, length-append, drop, Option, Some, None, ℤ, pos, zero-add, refl, sym, ap, ◌∙◌, subst, arith}
+use Rattle.std.proofs.Common.{◌≡◌, ℕ, suc, ◌+◌, ◌*◌, ◌<◌, ◌≤◌, Bool, true, false, cond, List, [], ◌∷◌, ◌++◌, get_or, length, length-append, drop, Option, Some, None, ℤ, pos, zero-add, refl, sym, ap, ◌∙◌, subst, arith}
 use Rattle.std.specs.List.{slice_get, zip}
+use Rattle.std.proofs.lemmas.Option.{unwrap_or-slice_get}
 use Rattle.hid_descriptor.specs.declared.usage.Usage.{Usage}
 use Rattle.hid_layout.specs.Controls.{Form, NoControls, Elements, Keys, Key, Item, form_at, head_of, events_in, max_events}
 use Rattle.hid_cells.specs.declared.cell.Cell.{Cell}
@@ -11,6 +12,7 @@ use Rattle.std.specs.Ordering.{int_eq}
 use Rattle.std.proofs.lemmas.List.Sums.{sum_by-append}
 use Rattle.hid_cells.specs.Cells.{pressed_count, HasRoom, InView, Suits}
 use Rattle.hid_cells.specs.Events.{at, each, switch_event, value_event, motion_event, up_event, down_event, motion_events, ups, downs, key_usages, element_events, key_events, change_events}
+use Rattle.hid_cells.specs.Snapshots.{cell_at}
 use Rattle.hid_cells.specs.Views.{changes_from}
 use Rattle.hid_views.proofs.EventLemmas.{drop_at}
 use Rattle.hid_cells.proofs.ItemLemmas.{got, form_at-is}
@@ -162,3 +164,7 @@ same_keys i us Vacant = refl
 same_keys i us (Holding bs) = refl
 same_keys i us (Moved bs) = refl
 same_keys i us (RolledOver bs) = refl
+
+-- what stands at a place of a view, where its cells were looked up
+pub cell_there : (view cells : List Cell) (i : ℕ) (cell : Cell) → cells ≡ view → cell ≡ get_or cells i Vacant → cell_at view i ≡ cell
+cell_there view cells i cell same is = unwrap_or-slice_get view i Vacant ∙ sym (is ∙ ap (λ (l : List Cell). get_or l i Vacant) same)

@@ -4,9 +4,10 @@ use Rattle.std.proofs.lemmas.Option.{slice_get_within}
 use Rattle.hid_layout.specs.Controls.{element_kind, least_of, greatest_of}
 use Rattle.hid_views.proofs.TakeLemmas.{usages_count, variable_controls, variable_elements}
 use Rattle.hid_views.proofs.BoundLemmas.{in_range, reads_within}
+use Rattle.hid_views.proofs.PressLemmas.{reads_keys}
 use Rattle.hid_cells.specs.declared.event.Event.{Event}
 use Rattle.hid_cells.specs.declared.cell.Cell.{Cell}
-use Rattle.hid_cells.specs.Events.{element_events, usages_at}
+use Rattle.hid_cells.specs.Events.{element_events, key_events, usages_at}
 use Rattle.hid_cells.specs.Views.{motions_of}
 use Rattle.hid_views.specs.Appending.{HasSpace, Appends}
 use Rattle.hid_views.specs.Reading.{motion_elements}
@@ -58,3 +59,26 @@ entries-entries-requires g c = slice_get_within c.args.listed.now.layout.now.ite
 
 pub take_array-requires-clause-entries : goal.take_array-requires-clause-entries
 take_array-requires-clause-entries g c = c.requires.layout.few_entries c.args.listed.now.place c.entries-entries.result.now c.entries-entries.ensures
+
+pub take_array-requires-clause-keys : goal.take_array-requires-clause-keys
+take_array-requires-clause-keys g c = (reads_keys c.args.listed.now.layout.now c.args.listed.now.place c.args.listed.now.item.now c.entries-entries.result.now c.args.cell.now c.args.numbers.now c.requires.input c.in-Array.is c.entries-entries.ensures c.requires.held).keys
+
+pub take_array-requires-clause-usages : goal.take_array-requires-clause-usages
+take_array-requires-clause-usages g c = (reads_keys c.args.listed.now.layout.now c.args.listed.now.place c.args.listed.now.item.now c.entries-entries.result.now c.args.cell.now c.args.numbers.now c.requires.input c.in-Array.is c.entries-entries.ensures c.requires.held).usages
+
+pub take_array-requires-clause-held : goal.take_array-requires-clause-held
+take_array-requires-clause-held g c = (reads_keys c.args.listed.now.layout.now c.args.listed.now.place c.args.listed.now.item.now c.entries-entries.result.now c.args.cell.now c.args.numbers.now c.requires.input c.in-Array.is c.entries-entries.ensures c.requires.held).places
+
+pub take_array-requires-clause-room : goal.take_array-requires-clause-room
+take_array-requires-clause-room g c =
+    let reads = reads_keys c.args.listed.now.layout.now c.args.listed.now.place c.args.listed.now.item.now c.entries-entries.result.now c.args.cell.now c.args.numbers.now c.requires.input c.in-Array.is c.entries-entries.ensures c.requires.held in
+    let told = ap (key_events c.args.listed.now.place (usages_at c.args.listed.now.layout.now c.args.listed.now.place) c.args.cell.now) reads.read ∙ reads.told (read_by_numbers c.args.listed.now.layout.now c.args.listed.now.place c.args.listed.now.item.now c.args.cell.now c.args.numbers.now) in
+    subst (HasSpace c.args.out.now) (sym told) c.requires.room
+
+pub returns-in-Array-clause-cell : goal.returns-in-Array-clause-cell
+returns-in-Array-clause-cell g c = c.take_array.ensures.cell ∙ (reads_keys c.args.listed.now.layout.now c.args.listed.now.place c.args.listed.now.item.now c.entries-entries.result.now c.args.cell.now c.args.numbers.now c.requires.input c.in-Array.is c.entries-entries.ensures c.requires.held).read
+
+pub returns-in-Array-clause-told : goal.returns-in-Array-clause-told
+returns-in-Array-clause-told g c =
+    let reads = reads_keys c.args.listed.now.layout.now c.args.listed.now.place c.args.listed.now.item.now c.entries-entries.result.now c.args.cell.now c.args.numbers.now c.requires.input c.in-Array.is c.entries-entries.ensures c.requires.held in
+    subst (λ (es : List Event). Appends c.args.out.now es c.take_array.new.out) (reads.told c.take_array.new.cell) c.take_array.ensures.told

@@ -1,9 +1,10 @@
-use Rattle.std.proofs.Common.{◌≡◌, ◌∷◌, ◌∙◌, sym, ap, to_z, of_z, w64, ◌+◌, length, map, drop, unwrap_or, ℤ, pos, ◌+ℤ◌, rules, arith}
+use Rattle.std.proofs.Common.{◌≡◌, ◌∷◌, ◌∙◌, sym, ap, subst, to_z, of_z, w64, ◌+◌, length, map, drop, unwrap_or, ℤ, pos, ◌+ℤ◌, rules, arith}
 use Rattle.std.proofs.lemmas.Int.{to_z-of_z}
 use Rattle.std.proofs.lemmas.List.{length-map, length-replicate}
+use Rattle.hid_parts.specs.declared.send.Source.TheVariants.{Keys}
 use Rattle.hid_parts.specs.Sending.{switch_number}
-use Rattle.hid_parts.specs.Sources.{numbers_of, repeats}
-use Rattle.hid_parts.proofs.DrawLemmas.{left_within, map_drawn, key_drawn, keys_drawn}
+use Rattle.hid_parts.specs.Sources.{numbers_of, repeats, IsSource}
+use Rattle.hid_parts.proofs.DrawLemmas.{left_within, next_fits, map_drawn, key_drawn, keys_drawn}
 use Rattle.hid_cells.proofs.ListLemmas.{drop_at}
 use Rattle.hid_parts.proofs.send.Sending.next.Goals as goal
 
@@ -53,3 +54,32 @@ returns-in-None c =
     let number : to_z w64 (of_z w64 c.in-Keys.then.number) ≡ c.in-Keys.then.number = search (rules, to_z-of_z) in
     sym c.self.view_is ∙ ap numbers_of c.in-Keys.is ∙ keys_drawn c.in-Keys.min c.in-Keys.flags.now c.in-Keys.from (repeats c.in-Keys.then) c.in-None.ensures.first
     ∙ c.one_fewer.ensures ∙ ap (λ (n : ℤ). n ∷ repeats c.one_fewer.result) (sym number)
+
+pub overflow_add-self : goal.overflow_add-self
+overflow_add-self c =
+    next_fits c.in-Switches.index (length c.in-Switches.flags.now) (left_within c.in-Switches.flags.now c.in-Switches.index _ (ap length (sym c.self.view_is ∙ ap numbers_of c.in-Switches.is) ∙ length-map (drop c.in-Switches.index c.in-Switches.flags.now) _) c.requires)
+    (subst IsSource c.in-Switches.is c.self.invariant)
+
+pub invariant_of-self : goal.invariant_of-self
+invariant_of-self c = subst IsSource c.in-Switches.is c.self.invariant
+
+pub overflow_add-self-in-Values : goal.overflow_add-self-in-Values
+overflow_add-self-in-Values c =
+    next_fits c.in-Values.index (length c.in-Values.values.now) (left_within c.in-Values.values.now c.in-Values.index _ (ap length (sym c.self.view_is ∙ ap numbers_of c.in-Values.is) ∙ length-map (drop c.in-Values.index c.in-Values.values.now) _) c.requires)
+    (subst IsSource c.in-Values.is c.self.invariant)
+
+pub invariant_of-self-in-Values : goal.invariant_of-self-in-Values
+invariant_of-self-in-Values c = subst IsSource c.in-Values.is c.self.invariant
+
+pub overflow_add-self-in-Motions : goal.overflow_add-self-in-Motions
+overflow_add-self-in-Motions c =
+    next_fits c.in-Motions.index (length c.in-Motions.motions.now) (left_within c.in-Motions.motions.now c.in-Motions.index _ (ap length (sym c.self.view_is ∙ ap numbers_of c.in-Motions.is)) c.requires)
+    (subst IsSource c.in-Motions.is c.self.invariant)
+
+pub invariant_of-self-in-Motions : goal.invariant_of-self-in-Motions
+invariant_of-self-in-Motions c = subst IsSource c.in-Motions.is c.self.invariant
+
+pub invariant_of-self-in-Some : goal.invariant_of-self-in-Some
+invariant_of-self-in-Some c =
+    let min : to_z w64 (of_z w64 c.in-Keys.min) ≡ c.in-Keys.min = search (rules, to_z-of_z) in
+    subst (λ (least : ℤ). IsSource (Keys c.in-Keys.flags c.in-Keys.from least c.in-Keys.then)) (sym min) (subst IsSource c.in-Keys.is c.self.invariant)

@@ -1,4 +1,4 @@
-use Rattle.std.proofs.Common.{◌≡◌, ℕ, ◌∙◌, List, get_or, to_z, of_z, w64, sym, ap, arith}
+use Rattle.std.proofs.Common.{◌≡◌, ℕ, ◌∙◌, List, get_or, pos, to_z, of_z, w64, sym, ap, rules, arith}
 use Rattle.std.proofs.lemmas.Int.{to_z-of_z}
 use Rattle.std.proofs.lemmas.Option.{unwrap_or-slice_get}
 use Rattle.hid_cells.specs.declared.cell.Cell.{Cell}
@@ -16,3 +16,14 @@ returns-in-Some-Moved c =
     number ∙ c.get_or_zero.ensures
     ∙ motion_there c.args.self.now c.deref.result.now c.args.control.item c.args.control.index _ (c.deref.ensures.value ∙ c.self.view_is)
     (sym c.in-Some-Moved.field-0-is ∙ c.in-Some-Moved.ensures.lookup.4 (omega arith) Vacant)
+
+pub returns-in_default : goal.returns-in_default
+returns-in_default c =
+    let told = rw c.in_default.is at c.get.ensures.lookup in
+    let none : pos 0 ≡ motion_in c.in_default.field-0.now c.args.control.index = search rules in
+    none ∙ motion_there c.args.self.now c.deref.result.now c.args.control.item c.args.control.index c.in_default.field-0.now (c.deref.ensures.value ∙ c.self.view_is) (told.4 (omega arith) Vacant)
+
+pub returns-in_default-2 : goal.returns-in_default-2
+returns-in_default-2 c =
+    let told = rw c.in_default.is at c.get.ensures.lookup in
+    motion_there c.args.self.now c.deref.result.now c.args.control.item c.args.control.index Vacant (c.deref.ensures.value ∙ c.self.view_is) (told.4 (omega arith) Vacant)

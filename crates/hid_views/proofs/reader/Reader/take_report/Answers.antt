@@ -1,11 +1,15 @@
-use Rattle.std.proofs.Common.{◌+◌, ◌≤◌, Ok, Err, sym, ap, subst, rules}
+use Rattle.std.proofs.Common.{ℕ, ◌+◌, ◌≤◌, List, Ok, Err, refl, sym, ap, subst, rules, arith}
 use Rattle.std.specs.Vec.{vec_len, vec_capacity}
 use Rattle.hid_layout.specs.Controls.{items_of, max_events}
+use Rattle.hid_cells.specs.declared.cell.Cell.{Cell}
 use Rattle.hid_cells.specs.Cells.{FitsView}
 use Rattle.hid_views.specs.Taking.{TakesReport}
-use Rattle.hid_views.specs.Reader.{Seen}
+use Rattle.hid_views.specs.Reader.{Seen, IsReader}
 use Rattle.hid_views.proofs.ReaderLemmas.{still_taken, reader_after}
 use Rattle.hid_views.proofs.reader.Reader.take_report.Goals as goal
+
+none_more : (n most : ℕ) → n ≤ n + most
+none_more n most = omega arith
 
 pub returns-then-is_kept-clause-taken : goal.returns-then-is_kept-clause-taken
 returns-then-is_kept-clause-taken g c =
@@ -48,3 +52,21 @@ returns-in-Err-clause-fits g c = c.in-Err.ensures.fits
 
 pub returns-in-Err-clause-few : goal.returns-in-Err-clause-few
 returns-in-Err-clause-few g c = subst (λ (seen : Seen). vec_len c.take_report.new.out ≤ vec_len c.args.out.now + max_events (items_of seen.layout)) c.self.view_is c.in-Err.ensures.few
+
+pub invariant_of-self-in-Err : goal.invariant_of-self-in-Err
+invariant_of-self-in-Err g c = subst (λ (view : List Cell). IsReader c.self.inside.layout view c.self.inside.still.items) (sym c.in-Err.ensures.taken.1) c.self.invariant
+
+pub returns-then-is_kept-clause-layout : goal.returns-then-is_kept-clause-layout
+returns-then-is_kept-clause-layout g c = refl
+
+pub returns-then-is_kept-clause-few : goal.returns-then-is_kept-clause-few
+returns-then-is_kept-clause-few g c = none_more (vec_len c.args.out.now) (max_events (items_of c.args.self.now.layout))
+
+pub returns-then-is_kept-clause-room : goal.returns-then-is_kept-clause-room
+returns-then-is_kept-clause-room g c = refl
+
+pub returns-in-Ok-clause-room : goal.returns-in-Ok-clause-room
+returns-in-Ok-clause-room g c = c.in-Ok.ensures.room
+
+pub returns-in-Err-clause-room : goal.returns-in-Err-clause-room
+returns-in-Err-clause-room g c = c.in-Err.ensures.room
