@@ -110,10 +110,12 @@ fn configured(alloc: Global, addr: u8, phase: &mut HostPhase) -> Result<(), Stac
     };
     let endpoint = info.endpoint;
     let view = View::initial(alloc, layout)?;
-    let HostPhase::Parsed(_, layout) = mem::replace(phase, HostPhase::Cold) else {
-        unreachable!()
-    };
-    phase.go_on(HostPhase::Ready(ReadyHost::new(addr, endpoint, layout, view)));
+    match mem::replace(phase, HostPhase::Cold) {
+        HostPhase::Parsed(_, layout) => {
+            phase.go_on(HostPhase::Ready(ReadyHost::new(addr, endpoint, layout, view)));
+        }
+        _ => unreachable!(),
+    }
     Ok(())
 }
 
@@ -144,15 +146,6 @@ pub(crate) fn conclude(
             }
             Ok(())
         }
-        Request::Status
-        | Request::GetConfiguration
-        | Request::Idle { .. }
-        | Request::GetIdle { .. }
-        | Request::Protocol { .. }
-        | Request::GetProtocol
-        | Request::GetReport { .. }
-        | Request::SetReport { .. }
-        | Request::Halt
-        | Request::EndpointStatus => Ok(()),
+        _ => Ok(()), // it leads nowhere
     }
 }

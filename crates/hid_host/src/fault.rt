@@ -29,7 +29,7 @@ impl fmt::Display for DescriptorFault {
     fn fmt<W: fmt::Write>(&self, f: &mut fmt::Formatter<W>) -> fmt::Result {
         match self {
             DescriptorFault::Info(fault) => write!(f, "{fault}"),
-            DescriptorFault::ReportLength => write!(f, "B6"),
+            DescriptorFault::ReportLength => f.write_str("B6"),
             DescriptorFault::Layout(fault) => write!(f, "{fault}"),
             DescriptorFault::Device(fault) => write!(f, "{fault}"),
         }
@@ -63,14 +63,14 @@ impl fmt::Display for StackFault {
 
     fn fmt<W: fmt::Write>(&self, f: &mut fmt::Formatter<W>) -> fmt::Result {
         match self {
-            StackFault::NoDevice => write!(f, "S1"),
-            StackFault::NotReady => write!(f, "S2"),
+            StackFault::NoDevice => f.write_str("S1"),
+            StackFault::NotReady => f.write_str("S2"),
             StackFault::Refused(fault) => write!(f, "S3 {fault}"),
             StackFault::Control(fault) => write!(f, "S4 {fault}"),
             StackFault::BadDescriptor(fault) => write!(f, "S5 {fault}"),
             StackFault::Report(fault) => write!(f, "S6 {fault}"),
-            StackFault::TooManyDevices => write!(f, "S7"),
-            StackFault::Memory => write!(f, "S8"),
+            StackFault::TooManyDevices => f.write_str("S7"),
+            StackFault::Memory => f.write_str("S8"),
         }
     }
 }

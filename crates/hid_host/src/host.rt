@@ -99,7 +99,10 @@ impl HostDevice {
         ensures refused { IfErr result (λ fault. IsNoLayout descriptor.now fault) }
     {
         let layout = layout_of(alloc, descriptor)?;
-        let view = View::initial(alloc, &layout)?;
+        let Ok(view) = View::initial(alloc, &layout) else {
+            drop(layout);
+            return Err(StackFault::Memory);
+        };
         let host = ReadyHost::new(addr, REPORT_ENDPOINT, layout, view);
         Ok(HostDevice {
             alloc,
@@ -122,10 +125,10 @@ impl HostDevice {
         requires { IsReady self.now.phase }
         ensures { IfReady self.now.phase (λ host. result ≡ max_events (items_of host.layout)) }
     {
-        match &self.phase {
-            HostPhase::Cold | HostPhase::Described(_) | HostPhase::Parsed(..) => unreachable!(),
-            HostPhase::Ready(host) => host.max_events(),
-        }
+        let HostPhase::Ready(host) = &self.phase else {
+            unreachable!()
+        };
+        host.max_events()
     }
 
     /// Whether the host polls: it has configured its device, and no `Clear` is pending (USB 2.0, 9.4.5).
@@ -187,10 +190,11 @@ impl HostDevice {
         ensures room { vec_capacity out.new ≡ vec_capacity out.old }
         ensures is_ready { IsReady self.new.phase }
     {
-        match packet {
-            Some(packet) => self.reply_lent(Some(packet.lent()), out),
-            None => self.reply_lent(None, out),
-        }
+        let lent = match packet {
+            Some(packet) => Some(packet.lent()),
+            None => None,
+        };
+        self.reply_lent(lent, out)
     }
 
     /// Takes a packet whose payload, of at most 64 bytes, stands elsewhere: as [`HostDevice::reply`] does.
@@ -219,10 +223,10 @@ impl HostDevice {
         ensures room { vec_capacity out.new ≡ vec_capacity out.old }
         ensures is_ready { IsReady self.new.phase }
     {
-        match &mut self.phase {
-            HostPhase::Cold | HostPhase::Described(_) | HostPhase::Parsed(..) => unreachable!(),
-            HostPhase::Ready(host) => host.reply(packet, out),
-        }
+        let HostPhase::Ready(host) = &mut self.phase else {
+            unreachable!()
+        };
+        host.reply(packet, out)
     }
 
     /// The bus was reset: the host forgets its device and its transfer, and is cold. A ready host tells what changes until its
@@ -247,9 +251,8 @@ impl HostDevice {
             ≤ length out.old.items + max_events (items_of host.layout)) }
         ensures room { vec_capacity out.new ≡ vec_capacity out.old }
     {
-        match &mut self.phase {
-            HostPhase::Cold | HostPhase::Described(_) | HostPhase::Parsed(..) => {} // it has told nothing
-            HostPhase::Ready(host) => host.tell_back(round, piece, fixed, out),
+        if let HostPhase::Ready(host) = &self.phase {
+            host.tell_back(round, piece, fixed, out); // any other has told nothing
         }
         self.forget();
     }
@@ -293,10 +296,10 @@ impl HostDevice {
         requires { IsReady self.now.phase }
         ensures { IfReady self.now.phase (λ host. result.now ≡ host.pipe) }
     {
-        match &self.phase {
-            HostPhase::Cold | HostPhase::Described(_) | HostPhase::Parsed(..) => unreachable!(),
-            HostPhase::Ready(host) => host.pipe(),
-        }
+        let HostPhase::Ready(host) = &self.phase else {
+            unreachable!()
+        };
+        host.pipe()
     }
 
     /// The host's view of the controls.
@@ -304,10 +307,10 @@ impl HostDevice {
         requires { IsReady self.now.phase }
         ensures { IfReady self.now.phase (λ host. result.now ≡ host.view) }
     {
-        match &self.phase {
-            HostPhase::Cold | HostPhase::Described(_) | HostPhase::Parsed(..) => unreachable!(),
-            HostPhase::Ready(host) => host.view(),
-        }
+        let HostPhase::Ready(host) = &self.phase else {
+            unreachable!()
+        };
+        host.view()
     }
 }
 

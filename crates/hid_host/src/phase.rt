@@ -5,6 +5,7 @@ ghost use Rattle.hid_host.specs.Phase.{asking_at, may_begin, may_poll, state_of}
 use crate::ready::ReadyHost;
 use hid_layout::Layout;
 use hid_requests::{Asking, Request};
+use std::mem;
 use usb_control::ConfigInfo;
 
 /// How far a host has come with its device (USB 2.0, 9.1.1; the states are our choice).
@@ -58,7 +59,7 @@ impl HostPhase {
     pub(crate) fn go_on(&mut self, next: HostPhase)
         ensures { self.new ≡ next }
     {
-        *self = next;
+        drop(mem::replace(self, next));
     }
 
     /// What a request is asked with.

@@ -225,20 +225,19 @@ impl ReadyHost {
     /// Tells what changes until the view is the initial one again, and drops the motion of the round that is open at the
     /// device, where its data haven't all come. There is reserved room for `max_events` more.
     pub(crate) fn tell_back(
-        &mut self,
+        &self,
         round: Option<(usize, bool)>,
         piece: Option<usize>,
         fixed: &Shown,
         out: &mut Vec<Event>,
     )
-        requires suits { SuitsRound self.old.layout round fixed.now }
-        requires room { vec_len out.old + max_events (items_of self.old.layout)
+        requires suits { SuitsRound self.now.layout round fixed.now }
+        requires room { vec_len out.old + max_events (items_of self.now.layout)
             ≤ vec_capacity out.old }
-        ensures host { self.new ≡ self.old }
         ensures events { out.new.items
-            ≡ out.old.items ++ known_told_back self.old round piece fixed.now }
+            ≡ out.old.items ++ known_told_back self.now round piece fixed.now }
         ensures few { length out.new.items
-            ≤ length out.old.items + max_events (items_of self.old.layout) }
+            ≤ length out.old.items + max_events (items_of self.now.layout) }
         ensures room { vec_capacity out.new ≡ vec_capacity out.old }
     {
         let (layout, view) = (self.reader.layout(), self.reader.view());

@@ -318,11 +318,11 @@ impl HostTransfer {
             ≡ acknowledges_at self.old.stage (option_copied packet.entry) self.new.stage }
     {
         match packet {
-            Some(Packet::Data { one: false, .. }) => {
-                self.tries = 0;
-                true
-            }
-            Some(Packet::Data { payload, .. }) => {
+            Some(Packet::Data { one, payload }) => {
+                if !*one {
+                    self.tries = 0;
+                    return true;
+                }
                 if !payload.is_empty() {
                     self.stage = HostStage::Failed(ControlFault::Overrun);
                     return false;
