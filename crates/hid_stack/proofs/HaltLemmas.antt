@@ -1,5 +1,5 @@
 -- What a halt of a device, or the end of one, tells: as the station of the device and its host says.
-use Rattle.std.proofs.Common.{◌≡◌, ◌∙◌, ℕ, Bool, true, false, List, [], Option, Some, None, refl, ap, sym, subst, not}
+use Rattle.std.proofs.Common.{◌≡◌, ◌∙◌, ℕ, Bool, true, false, List, [], Option, Some, None, refl, ap, sym, subst, not, ◌≤◌, length, arith}
 use Rattle.std.specs.Prelude.{if◌then◌else◌, is_some, Result, ◌&&◌, ◌||◌}
 use Rattle.std.specs.Bool.{beq}
 use Rattle.hid_layout.specs.Controls.{Item, items_of}
@@ -240,3 +240,9 @@ shown_open core = by_current core.current
     by_current : (current : Option ℕ) → is_some (round_of (record core { current = current })) ≡ is_some current
     by_current None = refl
     by_current (Some r) = refl
+
+-- what is kept of what was told is no more than that
+pub kept_few : (may is_open : Bool) (events : List Event) (most : ℕ) → length events ≤ most → length (kept_if may is_open events) ≤ most
+kept_few true false events most few = few
+kept_few true true events most few = omega arith
+kept_few false is_open events most few = omega arith

@@ -1,5 +1,6 @@
 -- A poll over any bus is what its packets make it, each as the bytes that are sent and those that arrive (USB 2.0, 8.5.4).
-use Rattle.std.proofs.Common.{◌≡◌, ◌∙◌, ◌++◌, ℕ, Bool, true, false, cond, List, Option, Some, None, Result, Ok, ap, sym, subst}
+use Rattle.std.proofs.Common.{◌≡◌, ◌∙◌, ◌≤◌, ◌+◌, ◌++◌, ℕ, Bool, true, false, cond, List, length, Option, Some, None, Result, Ok, Err, refl, ap, sym, subst, arith}
+use Rattle.std.specs.Result.{IsErrAnd}
 use Rattle.arrayvec.specs.declared.array_vec.ArrayVec.{ArrayVec}
 use Rattle.hid_cells.specs.declared.event.Event.{Event}
 use Rattle.usb_packet.specs.declared.packet.Packet.{Packet}
@@ -12,13 +13,16 @@ use Rattle.usb_transact.specs.Host.{token_to}
 use Rattle.usb_transact.specs.Taken.{taken}
 use Rattle.hid_device.specs.Device.{DeviceState}
 use Rattle.hid_host.specs.declared.fault.StackFault.{StackFault}
+use Rattle.hid_host.specs.declared.fault.StackFault.TheVariants.{NotReady}
 use Rattle.hid_host.specs.declared.phase.HostPhase.{HostPhase}
 use Rattle.hid_host.specs.declared.phase.HostPhase.TheVariants.{Cold, Described, Parsed, Ready}
 use Rattle.hid_host.specs.Host.{HostEnd, polls_at, ready_after}
 use Rattle.hid_host.specs.Phase.{IfReady, IsReady}
 use Rattle.hid_host.specs.Ready.{Known, told_of, events_behind}
+use Rattle.hid_layout.specs.Controls.{items_of, max_events}
+use Rattle.hid_steps.specs.declared.step.Told.{Told}
 use Rattle.hid_steps.specs.declared.step.Told.TheVariants.{Polled}
-use Rattle.hid_stack.specs.Polls.{Acknowledges, Asks, Ends, GoesByPackets, IsAnswer, spelled, told_with}
+use Rattle.hid_stack.specs.Polls.{Acknowledges, Asks, Ends, GoesByPackets, IsAnswer, PollsOver, SendsNothing, spelled, told_with}
 
 -- what is read of the bytes that arrive is what is read of the packet
 pub carries_over : (arrivals : Arrivals) (phase : Phase) (packet : Packet) (bytes after : List ℕ) (has_come : Bool) (came : Option Packet)
@@ -61,6 +65,28 @@ takes_all Cold host host_then reply result before events told after delivers = t
 takes_all (Described info) host host_then reply result before events told after delivers = tt
 takes_all (Parsed info layout) host host_then reply result before events told after delivers = tt
 
+-- The poll, of a ready host that sends this token.
+over : (arrivals : Arrivals) (device between device_then : DeviceState) (host host_then : HostEnd) (known : Known) (token : Packet)
+    (answers : Bool) (bytes back : List ℕ) (is_back : Bool) (reply : Option Packet) (result : Result Took StackFault) (told : Result Told StackFault) (before events : List Event)
+    → token ≡ token_to known.pipe → (asks : Asks arrivals token device answers bytes between)
+    → arrived is_back back ≡ cond answers (arrivals Reply bytes) None → IsRead (arrived is_back back) reply
+    → Takes known host host_then reply result before events → told ≡ told_with asks.responds.answer result → Ends arrivals result between device_then
+    → PollsOver arrivals device host known told device_then host_then before events
+over arrivals device between device_then host host_then known token answers bytes back is_back reply result told before events is asks back_is back_read takes told_is ends = record {
+  token = asks.came;
+  answer = asks.responds.answer;
+  between = between;
+  reply = reply;
+  polled = subst (λ (p : Packet). Carries arrivals Token p asks.came) is asks.carried;
+  heard = asks.responds.heard;
+  bytes = asks.responds.of_bytes;
+  replied = replies_over arrivals asks.responds.answer answers bytes back is_back reply asks.responds.written back_is back_read;
+  told = told_is ∙ ap (told_with asks.responds.answer) takes.told;
+  host_moved = takes.after;
+  delivers = takes.delivers;
+  ended = subst (λ (r : Result Took StackFault). Ends arrivals r between device_then) takes.told ends;
+}
+
 -- The poll, of a host that polls.
 pub plays_over : (arrivals : Arrivals) (device between device_then : DeviceState) (host host_then : HostEnd) (clearing : Bool) (phase : HostPhase)
     (token : Packet)
@@ -78,20 +104,50 @@ plays_over arrivals device between device_then host host_then clearing (Describe
 plays_over arrivals device between device_then host host_then clearing (Parsed info layout) token answers bytes back is_back reply said result took before events ready polls asks back_is back_read said_is takes ok acks = absurd ready.0
 plays_over arrivals device between device_then host host_then true (Ready known) token answers bytes back is_back reply said result took before events ready polls asks back_is back_read said_is takes ok acks = absurd (let e = ready.1 in cc)
 plays_over arrivals device between device_then host host_then false (Ready known) token answers bytes back is_back reply said result took before events ready polls asks back_is back_read said_is takes ok acks =
-    let is : token ≡ token_to known.pipe = cc in
-    let told : told_of known (taken known.pipe.expects reply) ≡ Ok took = sym takes.told ∙ ok in
-    record {
-      token = asks.came;
-      answer = asks.responds.answer;
-      between = between;
-      reply = reply;
-      polled = subst (λ (p : Packet). Carries arrivals Token p asks.came) is asks.carried;
-      heard = asks.responds.heard;
-      bytes = asks.responds.of_bytes;
-      replied = replies_over arrivals asks.responds.answer answers bytes.items back is_back reply asks.responds.written back_is back_read;
-      told = ap (λ (o : Option (ArrayVec ℕ 65 (Unit {0}))). Ok (Polled o took)) (spelled_over asks.responds.answer answers bytes said asks.responds.written said_is)
-          ∙ ap (told_with asks.responds.answer) (sym told);
-      host_moved = takes.after;
-      delivers = takes.delivers;
-      ended = subst (λ (r : Result Took StackFault). Ends arrivals r between device_then) (sym told) acks;
-    }
+    over arrivals device between device_then host host_then known token answers bytes.items back is_back reply result (Ok (Polled said took)) before events (cc) asks back_is back_read takes
+    (ap (λ (o : Option (ArrayVec ℕ 65 (Unit {0}))). Ok (Polled o took)) (spelled_over asks.responds.answer answers bytes said asks.responds.written said_is) ∙ ap (told_with asks.responds.answer) (sym ok))
+    (subst (λ (r : Result Took StackFault). Ends arrivals r between device_then) (sym ok) acks)
+
+-- what a `?` answers
+told_err : (r : Result Told StackFault) (fault : StackFault) → IsErrAnd r (λ e. e ≡ fault) → r ≡ Err fault
+told_err (Ok told) fault is = absurd is
+told_err (Err e) fault is = ap (λ (f : StackFault). Err f) is
+
+-- of one that refuses the data that it reads
+pub refuses_over : (arrivals : Arrivals) (device between : DeviceState) (host host_then : HostEnd) (clearing : Bool) (phase : HostPhase) (token : Packet)
+    (answers : Bool) (bytes back : List ℕ) (is_back : Bool) (reply : Option Packet) (result : Result Took StackFault) (r : Result Told StackFault) (fault : StackFault) (before events : List Event)
+    → IsReady phase × (clearing ≡ false) → (let it : Result Packet StackFault = Ok token in it ≡ polls_at phase clearing)
+    → Asks arrivals token device answers bytes between
+    → arrived is_back back ≡ cond answers (arrivals Reply bytes) None → IsRead (arrived is_back back) reply
+    → IfReady phase (λ known. Takes known host host_then reply result before events) → result ≡ Err fault → IsErrAnd r (λ e. e ≡ fault)
+    → GoesByPackets arrivals device host clearing phase r between host_then before events
+refuses_over arrivals device between host host_then clearing Cold token answers bytes back is_back reply result r fault before events ready polls asks back_is back_read takes err is = absurd ready.0
+refuses_over arrivals device between host host_then clearing (Described info) token answers bytes back is_back reply result r fault before events ready polls asks back_is back_read takes err is = absurd ready.0
+refuses_over arrivals device between host host_then clearing (Parsed info layout) token answers bytes back is_back reply result r fault before events ready polls asks back_is back_read takes err is = absurd ready.0
+refuses_over arrivals device between host host_then true (Ready known) token answers bytes back is_back reply result r fault before events ready polls asks back_is back_read takes err is = absurd (let e = ready.1 in cc)
+refuses_over arrivals device between host host_then false (Ready known) token answers bytes back is_back reply result r fault before events ready polls asks back_is back_read takes err is =
+    over arrivals device between between host host_then known token answers bytes back is_back reply result r before events (cc) asks back_is back_read takes
+    (told_err r fault is ∙ ap (told_with asks.responds.answer) (sym err)) (subst (λ (r : Result Took StackFault). Ends arrivals r between between) (sym err) refl)
+
+-- and of one that doesn't poll
+nothing_sent : (device : DeviceState) (host : HostEnd) (r : Result Told StackFault) (fault : StackFault) (before : List Event)
+    → IsErrAnd r (λ e. e ≡ fault) → fault ≡ NotReady → SendsNothing device host r device host before before
+nothing_sent device host r fault before is why = record { told = told_err r fault is ∙ ap (λ (e : StackFault). Err e) why; device_stays = refl; host_stays = refl; delivers = refl }
+
+pub sends_nothing : (arrivals : Arrivals) (device : DeviceState) (host : HostEnd) (clearing : Bool) (phase : HostPhase) (r : Result Told StackFault) (fault : StackFault) (before : List Event)
+    → IsErrAnd r (λ e. e ≡ fault) → (let it : Result Packet StackFault = Err fault in it ≡ polls_at phase clearing) → GoesByPackets arrivals device host clearing phase r device host before before
+sends_nothing arrivals device host false (Ready known) r fault before is polls = absurd (cc)
+sends_nothing arrivals device host true (Ready known) r fault before is polls = nothing_sent device host r fault before is (cc)
+sends_nothing arrivals device host false Cold r fault before is polls = nothing_sent device host r fault before is (cc)
+sends_nothing arrivals device host true Cold r fault before is polls = nothing_sent device host r fault before is (cc)
+sends_nothing arrivals device host false (Described info) r fault before is polls = nothing_sent device host r fault before is (cc)
+sends_nothing arrivals device host true (Described info) r fault before is polls = nothing_sent device host r fault before is (cc)
+sends_nothing arrivals device host false (Parsed info layout) r fault before is polls = nothing_sent device host r fault before is (cc)
+sends_nothing arrivals device host true (Parsed info layout) r fault before is polls = nothing_sent device host r fault before is (cc)
+
+-- which delivers nothing, and so no more than a poll may
+pub few_of_none : (phase : HostPhase) (before : List Event) → IfReady phase (λ known. length before ≤ length before + max_events (items_of known.layout))
+few_of_none (Ready known) before = omega arith
+few_of_none Cold before = tt
+few_of_none (Described info) before = tt
+few_of_none (Parsed info layout) before = tt

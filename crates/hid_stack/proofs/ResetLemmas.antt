@@ -1,5 +1,5 @@
 -- What a reset of a device and its host tells: as the station of the two says.
-use Rattle.std.proofs.Common.{◌≡◌, ◌∙◌, ◌+◌, ◌++◌, ℕ, Bool, true, false, List, [], ◌∷◌, Option, Some, None, refl, ap, sym, not}
+use Rattle.std.proofs.Common.{◌≡◌, ◌∙◌, ◌+◌, ◌++◌, ℕ, Bool, true, false, List, [], ◌∷◌, Option, Some, None, refl, ap, sym, subst, not}
 use Rattle.std.specs.Prelude.{if◌then◌else◌, ◌&&◌, ◌||◌}
 use Rattle.std.specs.Bool.{beq}
 use Rattle.hid_layout.specs.Controls.{Item, items_of}
@@ -8,14 +8,19 @@ use Rattle.hid_cells.specs.declared.cell.Cell.{Cell}
 use Rattle.hid_cells.specs.declared.event.Event.{Event}
 use Rattle.hid_cells.specs.Views.{changes_between, changes_from, drops_between}
 use Rattle.hid_views.proofs.CrossingLemmas.{same_cell}
-use Rattle.hid_lives.specs.Lives.{reset_events}
-use Rattle.hid_lives.specs.Stations.{is_whole}
-use Rattle.hid_device.specs.Core.{CoreState, is_last_piece, piece_at, round_of}
-use Rattle.hid_device.specs.Device.{DeviceState, core_of}
+use Rattle.hid_lives.specs.Lives.{befallen, reset_events}
+use Rattle.hid_lives.specs.Lives as lives
+use Rattle.hid_lives.specs.Stations.{Station, is_whole}
+use Rattle.hid_device.specs.Core.{CoreState, IsSound, is_last_piece, piece_at, reset_core, round_of}
+use Rattle.hid_device.specs.Device.{DeviceState, core_of, reset_device}
 use Rattle.hid_host.specs.declared.phase.HostPhase.{HostPhase}
 use Rattle.hid_host.specs.declared.phase.HostPhase.TheVariants.{Cold, Described, Parsed, Ready}
+use Rattle.hid_host.specs.Host.{HostEnd, cold_host}
+use Rattle.hid_host.specs.Knowing.{Knows}
 use Rattle.hid_host.specs.Resetting.{awaited, reset_told, told_back}
-use Rattle.hid_stack.specs.Slot.{IsUntouched, StandTogether, round_between, station_of}
+use Rattle.usb_control.specs.Device.{DevControlState}
+use Rattle.hid_stack.specs.Members.{Resets, member_after}
+use Rattle.hid_stack.specs.Slot.{IsUntouched, StandTogether, joint, round_between, station_of}
 
 -- a view that stays tells nothing
 same_view : (i : ℕ) (items : List Item) (cells : List Cell) → changes_from i items cells cells ≡ []
@@ -60,3 +65,30 @@ told_at_reset device clearing (Ready known) together =
     let core = core_of device in
     ap (λ l. told_back (items_of l) known.view core.standing.fixed (awaited (items_of l) known.pipe.expects (round_of core) (piece_at core))) together.layout
     ∙ by_round (items_of core.layout) known.view core.standing.fixed core.toggle known.pipe.expects core.current core.piece
+
+-- the station is reset, however far the host had come
+reset_station : (core : CoreState) (phase : HostPhase) → station_of (reset_core core) Cold ≡ befallen (items_of core.layout) (station_of core phase) lives.Resets
+reset_station core Cold = refl
+reset_station core (Described info) = refl
+reset_station core (Parsed info layout) = refl
+reset_station core (Ready known) = refl
+
+-- what a reset of the two comes to
+pub record ResetsPair (device device_then : DeviceState) (host host_then : HostEnd) : Type 0 where
+  pub after : joint device_then host_then ≡ member_after (joint device host) Resets
+  pub together : StandTogether device_then host_then.clearing host_then.phase
+  pub knows : Knows host_then device_then.control
+  pub home : (host_then.addr ≡ host.addr) × (device_then.addr ≡ device.addr)
+  pub layout : (core_of device_then).layout ≡ (core_of device).layout
+
+pub resets_so : (device device_then : DeviceState) (host host_then : HostEnd) → ((addr : ℕ) (control : DevControlState CoreState) → Knows (cold_host addr) control)
+    → device_then ≡ reset_device device → host_then ≡ cold_host host.addr → IsSound (core_of device_then) → ResetsPair device device_then host host_then
+resets_so device device_then host host_then begins device_is host_is sound =
+    let both : ResetsPair device (reset_device device) host (cold_host host.addr) = record {
+      after = ap (λ (s : Station). record (member_after (joint device host) Resets) { station = s }) (reset_station (core_of device) host.phase);
+      together = record { sound = subst (λ (d : DeviceState). IsSound (core_of d)) device_is sound; no_round = refl; even = refl };
+      knows = begins host.addr (reset_device device).control;
+      home = (refl, refl);
+      layout = refl;
+    } in
+    subst (λ (d : DeviceState). ResetsPair device d host host_then) (sym device_is) (subst (λ (h : HostEnd). ResetsPair device (reset_device device) host h) (sym host_is) both)

@@ -1,7 +1,7 @@
 -- A device and its host as one slot of the bus.
-use Rattle.std.proofs.Common.{◌≡◌, ◌∙◌, ◌≤◌, ◌++◌, ℕ, Bool, true, false, ◌||◌, List, length, map, Option, Some, None, Result, Ok, Err, inl, refl, ap, sym, subst}
+use Rattle.std.proofs.Common.{◌≡◌, ◌∙◌, ◌<◌, ◌≤◌, ◌+◌, ◌++◌, ℕ, Bool, true, false, ◌||◌, List, [], ◌∷◌, length, get_or, map, take, append_assoc, Option, Some, None, Result, Ok, Err, inl, refl, ap, sym, subst, arith}
 use Rattle.std.specs.Prelude.{IfOk, OnErr, if◌then◌else◌}
-use Rattle.std.proofs.lemmas.List.{append-nil, nil_from_length}
+use Rattle.std.proofs.lemmas.List.{append-nil, map-append, nil_from_length, take_more}
 use Rattle.usb_transact.specs.declared.transaction.Fate.{Fate}
 use Rattle.usb_control.specs.declared.host.Progress.{Progress}
 use Rattle.hid_requests.specs.declared.request.Request.{Request}
@@ -207,6 +207,23 @@ holds_on device device_then host capacity most others transfers l (together, kno
   subst (λ (x : Contents). most ≡ max_events (items_of x)) (sym l.layout) events,
 )
 
+-- and what the two come to together
+pub holds_by : (device device_then : DeviceState) (host host_then : HostEnd) (capacity capacity_then most : ℕ)
+    → StandTogether device_then host_then.clearing host_then.phase → Knows host_then device_then.control → host_then.addr ≡ host.addr → device_then.addr ≡ device.addr
+    → (core_of device_then).layout ≡ (core_of device).layout → capacity_then ≡ capacity → Holds device host capacity most → Holds device_then host_then capacity_then most
+holds_by device device_then host host_then capacity capacity_then most together knows home addr layout same (_, _, at_home, room, events) = (
+  together,
+  knows,
+  home ∙ at_home ∙ sym addr,
+  subst (λ (x : Contents). max_events (items_of x) ≤ capacity_then) (sym layout) (subst (λ (n : ℕ). max_events (items_of (core_of device).layout) ≤ n) (sym same) room),
+  subst (λ (x : Contents). most ≡ max_events (items_of x)) (sym layout) events,
+)
+
+-- what is handed on of a step is no more than its member gives
+pub few_handed : (m n : Member) (len reserved now events : ℕ) → m ≡ n → reserved ≡ len → now ≡ reserved + events → events ≤ max_events (items_of m.layout) → now ≤ len + max_events (items_of n.layout)
+few_handed m n len reserved now events same kept handed few =
+    let most = ap (λ (k : Member). max_events (items_of k.layout)) same in omega (arith, most)
+
 -- a change leaves the part that was fixed
 pub fixed_stays : (items : List Item) (d : Standing) (change : Change) → (after_change items d change).fixed ≡ d.fixed
 fixed_stays items d change =
@@ -280,3 +297,11 @@ pub never_wanting : (fate : Fate) (m : Member) (o : Option Transfer) (result : R
 never_wanting fate m None result new used capacity tries room wants = let is = tries.0 in absurd (cc)
 never_wanting fate m (Some t) (Ok progress) new used capacity tries room wants = absurd (cc)
 never_wanting fate m (Some t) (Err fault) new used capacity (is, more, to) room wants = room.1 more
+
+-- one more event is handed on
+pub handed_more : (dev : ℕ) (events : List Event) (i : ℕ) (d : Event) (out before now : List Delivered) → i < length events → before ≡ out ++ map (tagged dev) (take i events)
+    → now ≡ before ++ tagged dev (get_or events i d) ∷ [] → now ≡ out ++ map (tagged dev) (take (i + 1) events)
+handed_more dev events i d out before now within copied pushed =
+    let one = tagged dev (get_or events i d) ∷ [] in
+    let more : map (tagged dev) (take (i + 1) events) ≡ map (tagged dev) (take i events) ++ one = ap (map (tagged dev)) (take_more events i d within) ∙ map-append (tagged dev) (take i events) (get_or events i d ∷ []) in
+    pushed ∙ ap (λ (ds : List Delivered). ds ++ one) copied ∙ append_assoc out (map (tagged dev) (take i events)) one ∙ ap (λ (ds : List Delivered). out ++ ds) (sym more)

@@ -1,13 +1,14 @@
-use Rattle.std.proofs.Common.{◌≡◌, ◌∙◌, Bool, ap}
+use Rattle.std.proofs.Common.{◌≡◌, ◌∙◌, ◌≤◌, Bool, List, length, ap, refl, subst, sym}
 use Rattle.std.specs.Prelude.{is_some}
-use Rattle.hid_layout.specs.Controls.{items_of}
+use Rattle.hid_cells.specs.declared.event.Event.{Event}
+use Rattle.hid_layout.specs.Controls.{items_of, max_events}
 use Rattle.hid_host.specs.Bringing.{may_cut}
 use Rattle.hid_host.specs.Host.{running}
 use Rattle.hid_lives.specs.Lives.{cut_events}
 use Rattle.hid_device.specs.Device.{core_of}
 use Rattle.hid_stack.specs.Slot.{station_of}
 use Rattle.hid_stack.specs.Tells.{kept_if}
-use Rattle.hid_stack.proofs.HaltLemmas.{kept_at_try, shown_open}
+use Rattle.hid_stack.proofs.HaltLemmas.{kept_at_try, kept_few, shown_open}
 use Rattle.hid_stack.proofs.TryLemmas.{knows_so, steps_so}
 use Rattle.hid_stack.proofs.halts.control_pair.Goals as goal
 
@@ -57,3 +58,18 @@ returns-clause-events c =
     ∙ ap (λ (b : Bool). kept_if b c.is_some-is_open.result told) c.may_cut-may_cut.ensures
     ∙ ap (λ (b : Bool). kept_if (may_cut (running c.args.host.now.transfer)) b told) is_open
     ∙ kept_at_try c.args.fate c.args.device.now c.control_step-result.new.control c.args.host.now c.control_step-result.new.self (running c.args.host.now.transfer) c.control_step-result.result step c.requires.together
+
+pub returns-clause-home : goal.returns-clause-home
+returns-clause-home c =
+    let step = steps_so c.args.fate c.args.device.now c.control.result.now c.control_step-result.new.control c.args.host.now c.control_step-result.new.self c.control_step-result.result
+    c.hosts_know_their_devices.ensures.steps c.control_steps_are_computed.ensures c.control.ensures.now c.control_step-result.ensures c.requires.together c.requires.knows c.requires.home c.is_sound.ensures in
+    (step.home, refl)
+
+pub returns-clause-none : goal.returns-clause-none
+returns-clause-none c uncut =
+    ap (λ (es : List Event). length es) (c.keep_if_cut.ensures.events ∙ ap (λ (b : Bool). kept_if b c.is_some-is_open.result c.tell_cut_if.new.events.items) (c.may_cut-may_cut.ensures ∙ uncut))
+
+pub returns-clause-few : goal.returns-clause-few
+returns-clause-few c =
+    subst (λ (es : List Event). length es ≤ max_events (items_of (core_of c.args.device.now).layout)) (sym c.keep_if_cut.ensures.events)
+    (kept_few c.may_cut-may_cut.result c.is_some-is_open.result c.tell_cut_if.new.events.items _ c.tell_cut_if.ensures.few)

@@ -2,7 +2,7 @@ use Rattle.std.proofs.Common.{◌≡◌, cond, List, ℕ, Some, None, subst, rul
 use Rattle.std.specs.Option.{option_map}
 use Rattle.usb_packet.specs.Lent.{owned}
 use Rattle.usb_transact.specs.Bus.{arrived, IsRead}
-use Rattle.hid_stack.proofs.OverLemmas.{plays_over, takes_all}
+use Rattle.hid_stack.proofs.OverLemmas.{few_of_none, plays_over, refuses_over, sends_nothing, takes_all}
 use Rattle.hid_stack.proofs.polls.poll.Goals as goal
 use Rattle.hid_stack.proofs.polls.poll.Goals.{then-answers, else-answers}
 
@@ -18,8 +18,31 @@ returns-clause-packets g c =
     c.in_ok-token.token
     c.send_token-answers.result c.send_token-answers.new.bytes c.hand_on_answer-is_back.new.bytes.items c.hand_on_answer-is_back.result reply c.if-answers.result
     c.reply_lent.result c.in_ok-took.took c.args.out.now.items c.reply_lent.new.out.items
-    c.in_ok-token.ensures.is_ready (search rules)
+    c.in_ok-token.ensures.is_ready c.in_ok-token.ensures.token
     c.send_token-answers.ensures (search rules) back_read said
     (takes_all c.args.host.now.phase c.args.host.now c.reply_lent.new.self reply c.reply_lent.result c.args.out.now.items c.reply_lent.new.out.items
     c.reply_lent.ensures.told c.reply_lent.ensures.after c.reply_lent.ensures.events)
-    (search rules) c.acknowledge.ensures
+    c.in_ok-took.was c.acknowledge.ensures
+
+pub returns-in_err-token-clause-packets : goal.returns-in_err-token-clause-packets
+returns-in_err-token-clause-packets g c =
+    sends_nothing (g.B.Bus.arrives c.args.bus.now) c.args.device.now c.args.host.now c.args.host.now.clearing c.args.host.now.phase c.from_residual.result _ c.args.out.now.items
+    c.from_residual.ensures.1 c.in_err-token.ensures.token
+
+pub returns-in_err-token-clause-few : goal.returns-in_err-token-clause-few
+returns-in_err-token-clause-few g c = few_of_none c.args.host.now.phase c.args.out.now.items
+
+pub returns-in_err-took-clause-packets : goal.returns-in_err-took-clause-packets
+returns-in_err-took-clause-packets g c =
+    let reply = option_map owned c.read_arrived.result in
+    let back_read : IsRead (arrived c.hand_on_answer-is_back.result c.hand_on_answer-is_back.new.bytes.items) reply
+    = subst (λ (bs : List ℕ). IsRead (arrived c.hand_on_answer-is_back.result bs) reply) c.deref-2.ensures.0 c.read_arrived.ensures.read in
+    refuses_over (g.B.Bus.arrives c.args.bus.now) c.args.device.now c.send_token-answers.new.device c.args.host.now c.reply_lent.new.self c.args.host.now.clearing c.args.host.now.phase
+    c.in_ok-token.token
+    c.send_token-answers.result c.send_token-answers.new.bytes.items c.hand_on_answer-is_back.new.bytes.items c.hand_on_answer-is_back.result reply
+    c.reply_lent.result c.from_residual-in_err-took.result _ c.args.out.now.items c.reply_lent.new.out.items
+    c.in_ok-token.ensures.is_ready c.in_ok-token.ensures.token
+    c.send_token-answers.ensures (search rules) back_read
+    (takes_all c.args.host.now.phase c.args.host.now c.reply_lent.new.self reply c.reply_lent.result c.args.out.now.items c.reply_lent.new.out.items
+    c.reply_lent.ensures.told c.reply_lent.ensures.after c.reply_lent.ensures.events)
+    c.in_err-took.was c.from_residual-in_err-took.ensures.1

@@ -1,10 +1,21 @@
-use Rattle.std.proofs.Common.{◌++◌, ◌∙◌, List, map, ap}
+use Rattle.std.proofs.Common.{◌+◌, ◌++◌, ◌∙◌, List, length, map, ap, vec_len}
 use Rattle.hid_layout.specs.Controls.{items_of}
 use Rattle.hid_cells.specs.declared.event.Event.{Event}
 use Rattle.hid_steps.specs.declared.step.Delivered.{Delivered}
 use Rattle.hid_stack.specs.Members.{Member, Resets, deed_at, events_by, member_after}
 use Rattle.hid_stack.specs.Rig.{tagged}
+use Rattle.hid_stack.specs.Slot.{joint}
+use Rattle.hid_stack.proofs.SlotLemmas.{few_handed, holds_by}
 use Rattle.hid_stack.proofs.slot.Slot.reset.Goals as goal
+
+pub invariant_of-self : goal.invariant_of-self
+invariant_of-self c =
+    holds_by c.self.inside.device c.reset_pair.new.device c.self.inside.host c.reset_pair.new.host _ _ _ c.reset_pair.ensures.together c.reset_pair.ensures.knows c.reset_pair.ensures.home.0 c.reset_pair.ensures.home.1 c.reset_pair.ensures.layout c.reset_pair.ensures.capacity c.self.invariant
+
+pub returns-clause-few : goal.returns-clause-few
+returns-clause-few c =
+    few_handed (joint c.self.inside.device c.self.inside.host) c.args.self.now _ _ _ (length c.reset_pair.new.events.items) c.self.view_is c.reserve.ensures.len
+    (c.hand_over.ensures.len ∙ ap (λ (events : List Event). vec_len c.reserve.new.self + length events) c.deref.ensures.value) c.reset_pair.ensures.few
 
 pub returns-clause-after : goal.returns-clause-after
 returns-clause-after c = c.reset_pair.ensures.after ∙ ap (λ (m : Member). member_after m Resets) c.self.view_is

@@ -1,0 +1,16 @@
+use Rattle.std.proofs.Common.{◌≡◌, Some, rules}
+use Rattle.hid_stack.specs.Rig.{member_at}
+use Rattle.hid_stack.proofs.NamedLemmas.{named}
+use Rattle.hid_stack.proofs.rig.Rig.find.Goals as goal
+
+pub returns-in-Some : goal.returns-in-Some
+returns-in-Some c =
+    let here : member_at c.args.self.now c.args.dev ≡ Some c.index.result.now
+    = (named c.self.inside.slots.items c.args.self.now c.args.dev c.in_ok-i.i c.index.result.now c.self.view_is c.in_ok-i.ensures.place.0 c.in_ok-i.ensures.place.1 c.index.ensures).here in
+    search rules
+
+pub returns-in-None : goal.returns-in-None
+returns-in-None c =
+    let here : member_at c.args.self.now c.args.dev ≡ Some c.index.result.now
+    = (named c.self.inside.slots.items c.args.self.now c.args.dev c.in_ok-i.i c.index.result.now c.self.view_is c.in_ok-i.ensures.place.0 c.in_ok-i.ensures.place.1 c.index.ensures).here in
+    search rules
