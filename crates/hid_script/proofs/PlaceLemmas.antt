@@ -1,6 +1,8 @@
 -- Lines of a script that comes in pieces, and what a run of them wrote.
 use Rattle.std.proofs.Common.{◌≡◌, ℕ, ◌+◌, ◌-◌, ◌<◌, ◌≤◌, Bool, true, false, List, [], ◌∷◌, ◌++◌, length, length-append, take, drop, take-append-drop, refl, sym, ap, ◌∙◌, arith, append-nil, append_assoc, subst, Result, Ok, Err, Option, None, Some, IfSome, IsErrAnd, cond, nat_eq, nat_lt, get_or}
+use Rattle.std.specs.Prelude.{OnOk, OnErr}
 use Rattle.std.specs.List.{slice_split, onto_first, All}
+use Rattle.arrayvec.specs.declared.array_vec.ArrayVec.{ArrayVec}
 use Rattle.std.specs.Str.Lines.{lines, lines_of_parts, strip_carriage_return}
 use Rattle.std.specs.Io.KnownBytes.{Appends, Consumes, IsAtEnd}
 use Rattle.std.proofs.lemmas.List.Splits.{slice_split_none, slice_split-cons_no}
@@ -335,3 +337,9 @@ no_line_run options script fault at is = record {
 pub never_begun : (options : Options) (a c : Option (List ℕ)) (fault : ScriptFault) → fault.line ≡ 1 → fault.cause ≡ causes.Memory → AppendsScript options a c c (Err fault)
 never_begun options None c fault at is = tt
 never_begun options (Some script) c fault at is = ([], Appends-nil c, no_line_run options script fault at is)
+
+-- what is kept of a line has no line feed, whether more of it was taken or not
+pub stays_unbroken : {E : Type 0} (n : ℕ) (old new : ArrayVec ℕ n (Unit {0})) (bytes : List ℕ) (r : Result (Unit {0}) E) → IsUnbroken old.items → IsUnbroken bytes
+    → OnOk r (new.items ≡ old.items ++ bytes) → OnErr r (new ≡ old) → IsUnbroken new.items
+stays_unbroken {E} n old new bytes (Ok _) whole more ok err = subst IsUnbroken (sym ok) (All-append (λ b. nat_eq b 10 ≡ false) old.items bytes whole more)
+stays_unbroken {E} n old new bytes (Err e) whole more ok err = subst (λ (v : ArrayVec ℕ n (Unit {0})). IsUnbroken v.items) (sym err) whole

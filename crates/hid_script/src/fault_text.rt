@@ -12,9 +12,9 @@ impl fmt::Display for StepFault {
 
     fn fmt<W: fmt::Write>(&self, f: &mut fmt::Formatter<W>) -> fmt::Result {
         match self {
-            StepFault::Layout(fault) => write!(f, "{fault}"),
-            StepFault::Report(fault) => write!(f, "{fault}"),
-            StepFault::Stack(fault) => write!(f, "{fault}"),
+            StepFault::Layout(fault) => fmt::Display::fmt(fault, f),
+            StepFault::Report(fault) => fmt::Display::fmt(fault, f),
+            StepFault::Stack(fault) => fmt::Display::fmt(fault, f),
         }
     }
 }
