@@ -1,15 +1,19 @@
--- Numbers that are read digit by digit.
-use Rattle.std.proofs.Common.{◌≡◌, ℕ, zero, suc, ◌+◌, ◌-◌, ◌*◌, ◌^◌, ◌<◌, ◌≤◌, min, Bool, true, false, List, [], ◌∷◌, length, take, get_or, refl, sym, ap, ◌∙◌, arith, ⊎_elim, nat_lt, cond, Option, None, Some, subst, lt_of_lt_of_le}
+-- Numbers that are read digit by digit, and usages.
+use Rattle.std.proofs.Common.{◌≡◌, ℕ, zero, suc, ◌+◌, ◌-◌, ◌*◌, ◌^◌, ◌<◌, ◌≤◌, min, Bool, true, false, List, [], ◌∷◌, length, take, get_or, refl, sym, ap, ◌∙◌, arith, ⊎_elim, nat_lt, cond, Option, None, Some, subst, lt_of_lt_of_le, drop, pos, neg_ℤ, ◌-ℤ◌, to_z, of_z, SFits, w64, nat_eq}
 use Rattle.std.proofs.Math.Nat.{pow-le-pow_right}
+use Rattle.std.proofs.Math.IntN.{+ℤ_idl}
+use Rattle.std.specs.Prelude.{position}
 use Rattle.std.specs.Option.{option_map}
 use Rattle.std.specs.List.{list_all}
 use Rattle.std.specs.Str.Parse.{digits_value, AllDigits}
 use Rattle.std.specs.Char.{digit_value}
 use Rattle.std.proofs.lemmas.List.Folds.{list_all_more}
 use Rattle.std.proofs.lemmas.Int.Digits.{digits_value_more, digits_value-lt}
-use Rattle.std.proofs.lemmas.Bool.{cases_lt, and_from, and_parts, lt-ltb, ltb-true}
+use Rattle.std.proofs.lemmas.List.{take_all, length-drop}
+use Rattle.std.proofs.lemmas.Int.{to_z_pos, to_z-of_z}
+use Rattle.std.proofs.lemmas.Bool.{cases_lt, and_from, and_parts, lt-ltb, ltb-true, cond-true, cond-false, eq-eqb, ne_eqb}
 use native.Mathlib.Nat.{mul-suc}
-use Rattle.hid_lines.specs.Numbers.{number_of}
+use Rattle.hid_lines.specs.Numbers.{number_of, hex_number_of, is_colon, usage_from, usage_at, usage_of, short_number_of, signed_of}
 
 grows : (n b : ℕ) → 1 ≤ b → n ≤ n * b
 grows n zero some = absurd (omega arith)
@@ -59,3 +63,48 @@ pub short_number : (base k : ℕ) (word : List ℕ) (r : Option ℕ) (value : �
 short_number base k word r value some short small is e =
     cut_number (number_of base word) (2 ^ 64 - 1) (base ^ k) value
     (λ n found. lt_of_lt_of_le (number_below base word n found) (pow-le-pow_right some short)) small (sym is ∙ e)
+
+-- ---- a number with a minus before it, and one without
+
+-- a number of 18 digits is read as itself where it is signed
+pub short_value : (n : ℕ) → n < 10 ^ 18 → to_z w64 n ≡ pos n
+short_value n small = to_z_pos w64 n (omega (arith, small))
+
+-- and so is its negative
+minus_fits : (n : ℕ) → n < 10 ^ 18 → SFits w64 (neg_ℤ (pos n))
+minus_fits zero small = omega arith
+minus_fits (suc n) small = omega (arith, small)
+
+-- taken from zero it is its negative
+pub short_minus : (n : ℕ) → n < 10 ^ 18 → to_z w64 (of_z w64 (pos 0 -ℤ to_z w64 n)) ≡ neg_ℤ (pos n)
+short_minus n small =
+    let is : pos 0 -ℤ to_z w64 n ≡ neg_ℤ (pos n) = ap (λ z. pos 0 -ℤ z) (short_value n small) ∙ +ℤ_idl (neg_ℤ (pos n)) in
+    ap (λ z. to_z w64 (of_z w64 z)) is ∙ to_z-of_z w64 (neg_ℤ (pos n)) (minus_fits n small)
+
+-- the digits behind a minus
+pub minus_number : (word : List ℕ) (digits : Option ℕ) → 1 ≤ length word → get_or word 0 0 ≡ 45 → digits ≡ short_number_of (take (length word - 1) (drop 1 word)) → option_map (λ n. neg_ℤ (pos n)) digits ≡ signed_of word
+unfolding signed_of
+minus_number [] digits some first is = absurd (omega arith)
+minus_number (c ∷ word) digits some first is =
+    ap (option_map (λ n. neg_ℤ (pos n))) (is ∙ ap short_number_of (take_all (length (c ∷ word) - 1) word (omega arith))) ∙ sym (cond-true (nat_eq c 45) _ _ (eq-eqb c 45 first))
+
+-- digits without one
+pub plain_number : (word : List ℕ) (digits : Option ℕ) → 1 ≤ length word → (get_or word 0 0 ≡ 45 → ⊥) → digits ≡ short_number_of word → option_map pos digits ≡ signed_of word
+unfolding signed_of
+plain_number [] digits some other is = absurd (omega arith)
+plain_number (c ∷ word) digits some other is = ap (option_map pos) is ∙ sym (cond-false (nat_eq c 45) _ _ (ne_eqb c 45 other))
+
+-- ---- a usage
+
+-- what stands on the two sides of a colon
+pub usage_parts : (word : List ℕ) (colon : ℕ) (page id : Option ℕ) → position is_colon word ≡ Some colon → page ≡ hex_number_of (take colon word)
+    → id ≡ hex_number_of (take (length word - (colon + 1)) (drop (colon + 1) word)) → usage_from page id ≡ usage_of word
+unfolding usage_of
+usage_parts word colon page id at before behind =
+    ap (usage_from page) (behind ∙ ap hex_number_of (take_all (length word - (colon + 1)) (drop (colon + 1) word) (omega (arith, length-drop (colon + 1) word))))
+    ∙ ap (λ p. usage_from p (hex_number_of (drop (colon + 1) word))) before ∙ sym (ap (usage_at word) at)
+
+-- no number before it
+pub no_page : (word : List ℕ) (colon : ℕ) → position is_colon word ≡ Some colon → None ≡ hex_number_of (take colon word) → None ≡ usage_of word
+unfolding usage_of
+no_page word colon at none = ap (λ p. usage_from p (hex_number_of (drop (colon + 1) word))) none ∙ sym (ap (usage_at word) at)

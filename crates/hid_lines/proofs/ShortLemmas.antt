@@ -1,12 +1,15 @@
 -- Short lines are lines.
-use Rattle.std.proofs.Common.{◌≡◌, false, List, Option, Some, None, Ok, refl, sym, ap, ◌∙◌}
+use Rattle.std.proofs.Common.{◌≡◌, false, List, ◌∷◌, Option, Some, None, Ok, IfSome, refl, sym, ap, ◌∙◌, nat_eq}
+use Rattle.std.proofs.lemmas.Bool.{cond-false, ne_eqb}
 use Rattle.std.specs.Option.{option_map}
+use Rattle.std.specs.List.{slice_index}
 use Rattle.hid_lines.specs.declared.line.Keyword.{Keyword}
 use Rattle.hid_lines.specs.declared.line.Keyword.TheVariants as keywords
+use Rattle.hid_lines.specs.declared.line.Line.TheVariants.{Nothing}
 use Rattle.hid_lines.specs.declared.short.ShortLine.{ShortLine}
 use Rattle.hid_lines.specs.Words.{Word}
 use Rattle.hid_lines.specs.Arguments.{or_syntax, control_said, set_said, move_said, frame_said, poll_said, one_device_said}
-use Rattle.hid_lines.specs.Line.{said_by}
+use Rattle.hid_lines.specs.Line.{said_by, keyword_of, keyword_said, words_said}
 use Rattle.hid_lines.specs.Short.{line_of, may_be_long, short_said}
 
 -- what is made of words and then of a line is made of the words
@@ -51,3 +54,14 @@ short_keyword keywords.Reset words short is = short_is_said keywords.Reset words
 short_keyword keywords.Halt words short is = short_is_said keywords.Halt words refl ∙ ap (or_syntax line_of) is
 
 pub ruleset short_lines = (short_keyword, short_is_said)
+
+-- a line says what stands behind its keyword
+pub keyword_first : (words : List Word) (first : Word) (rest : List Word) (keyword : Keyword) → words ≡ first ∷ rest → (slice_index first 0 ≡ 35 → ⊥) → keyword_of first ≡ Some keyword → words_said words ≡ said_by keyword rest
+unfolding words_said
+keyword_first words first rest keyword is other key = ap words_said is ∙ cond-false (nat_eq (slice_index first 0) 35) (Ok Nothing) _ (ne_eqb (slice_index first 0) 35 other) ∙ ap (λ k. keyword_said k rest) key
+
+-- also where that is short
+pub short_first : (words : List Word) (first : Word) (rest : List Word) (keyword : Keyword) (short : Option ShortLine) → words ≡ first ∷ rest → (slice_index first 0 ≡ 35 → ⊥) → keyword_of first ≡ Some keyword
+    → short ≡ short_said keyword rest → IfSome short (λ line. words_said words ≡ Ok (line_of line))
+short_first words first rest keyword None is other key said = tt
+short_first words first rest keyword (Some line) is other key said = keyword_first words first rest keyword is other key ∙ short_keyword keyword rest line (sym said)

@@ -198,7 +198,7 @@ fn read_words(text: &[u8]) -> Result<Line, LineFault>
     let Some((first, rest)) = first_word(text) else {
         return Ok(Line::Nothing);
     };
-    if let [b'#', ..] = first {
+    if first[0] == b'#' {
         return Ok(Line::Nothing);
     }
     match read_keyword(first) {

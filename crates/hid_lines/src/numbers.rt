@@ -68,8 +68,8 @@ pub fn read_usage(word: &[u8]) -> Option<Usage>
 pub fn read_count(word: &[u8]) -> Option<u16>
     ensures { result ≡ count_of word.now }
 {
-    match read_number(10, word)? {
-        count @ 1..=10_000 => Some(count as u16),
+    match read_number(10, word) {
+        Some(count @ 1..=10_000) => Some(count as u16),
         _ => None,
     }
 }
@@ -79,8 +79,8 @@ pub fn read_count(word: &[u8]) -> Option<u16>
 pub fn read_byte(word: &[u8]) -> Option<u8>
     ensures { result ≡ byte_of word.now }
 {
-    match read_number(10, word)? {
-        byte @ 0..=0xFF => Some(byte as u8),
+    match read_number(10, word) {
+        Some(byte @ 0..=0xFF) => Some(byte as u8),
         _ => None,
     }
 }
@@ -120,8 +120,8 @@ pub fn read_signed(word: &[u8]) -> Option<i64>
 pub fn read_amount(word: &[u8]) -> Option<i32>
     ensures { result ≡ amount_of word.now }
 {
-    match read_signed(word)? {
-        by @ -0x8000_0000..=0x7FFF_FFFF => Some(by as i32),
+    match read_signed(word) {
+        Some(by @ -0x8000_0000..=0x7FFF_FFFF) => Some(by as i32),
         _ => None,
     }
 }

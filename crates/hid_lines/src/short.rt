@@ -88,12 +88,11 @@ pub(super) fn read_short_words(keyword: Keyword, text: &[u8]) -> Option<ShortLin
 }
 
 /// The same of all words of a line.
-#[tactic(auto, using(crate::proofs::ShortLemmas::short_keyword), unfolding(crate::specs::Line::words_said))]
 fn read_words(text: &[u8]) -> Option<ShortLine>
     ensures { IfSome result (λ short. words_said (words_of text.now) ≡ Ok (line_of short)) }
 {
     let (first, rest) = first_word(text)?;
-    if let [b'#', ..] = first {
+    if first[0] == b'#' {
         return None;
     }
     read_short_words(read_keyword(first)?, rest)

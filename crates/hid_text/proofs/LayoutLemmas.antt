@@ -1,6 +1,8 @@
 -- The lines of a layout, one behind the other, and those of the reports and items that are there.
-use Rattle.std.proofs.Common.{◌≡◌, ℕ, ◌+◌, ◌<◌, Some, Result, OnOk, List, ◌++◌, length, get_or, add-one, append_assoc, refl, ap, ◌∙◌}
-use Rattle.std.specs.Prelude.{slice_get}
+use Rattle.std.proofs.Common.{◌≡◌, ℕ, ◌+◌, ◌<◌, ◌≤◌, false, Some, Result, OnOk, List, [], ◌∷◌, ◌++◌, length, get_or, take, add-one, append_assoc, refl, sym, ap, ◌∙◌}
+use Rattle.std.specs.Prelude.{◌==◌, slice_get, codes}
+use Rattle.std.specs.List.{flat_map}
+use Rattle.std.proofs.lemmas.List.{flat_map_more, take_more, take_all}
 use Rattle.std.specs.declared.alloc.AllocError.{AllocError}
 use Rattle.hid_descriptor.specs.declared.collection.Collection.{Collection}
 use Rattle.hid_descriptor.specs.declared.report.Report.{Report}
@@ -9,12 +11,26 @@ use Rattle.hid_layout.specs.declared.main_item.MainItem.{MainItem}
 use Rattle.hid_layout.specs.Layout.{Contents}
 use Rattle.hid_layout.specs.Reports.{IsLayout, report_bytes}
 use Rattle.hid_notation.specs.Text.{joined_below}
-use Rattle.hid_text.specs.LayoutText.{report_line, report_at, item_line, item_at, layout_lines}
+use Rattle.hid_text.specs.LayoutText.{report_line, report_at, item_line, item_at, collection_text, path_text, layout_lines}
 use Rattle.hid_text.proofs.ValueLemmas.{same_stands}
 
 -- one line more behind those that stand
 pub joined_next : (text : ℕ → List ℕ) (n : ℕ) (start old new : List ℕ) → old ≡ start ++ joined_below n text → new ≡ old ++ text n → new ≡ start ++ joined_below (n + 1) text
 joined_next text n start old new so_far more = more ∙ ap (λ l. l ++ text n) so_far ∙ append_assoc start (joined_below n text) (text n) ∙ rw add-one refl
+
+-- one word more, behind a space
+pub word_next : {A : Type 0} (text : A → List ℕ) (xs : List A) (i : ℕ) (d : A) (start old spaced new : List ℕ) → i < length xs → old ≡ start ++ flat_map (λ x. 32 ∷ text x) (take i xs) → spaced ≡ old ++ 32 ∷ []
+    → new ≡ spaced ++ text (get_or xs i d) → new ≡ start ++ flat_map (λ x. 32 ∷ text x) (take (i + 1) xs)
+word_next text xs i d start old spaced new below so_far space more =
+    let word = text (get_or xs i d) in
+    more ∙ ap (λ l. l ++ word) space ∙ append_assoc old (32 ∷ []) word ∙ ap (λ l. l ++ 32 ∷ word) so_far ∙ flat_map_more (λ x. 32 ∷ text x) start (take i xs) (get_or xs i d)
+    ∙ ap (λ l. start ++ flat_map (λ x. 32 ∷ text x) l) (sym (take_more xs i d below))
+
+-- a path is its collections, where there are some
+pub path_whole : (path : List Collection) (i : ℕ) (old new : List ℕ) → (length path == 0) ≡ false → length path ≤ i → new ≡ (old ++ codes " in") ++ flat_map (λ c. 32 ∷ collection_text c) (take i path) → new ≡ old ++ path_text path
+path_whole [] i old new some all is = absurd (cc)
+path_whole (collection ∷ inner) i old new some all is =
+    is ∙ ap (λ cs. (old ++ codes " in") ++ flat_map (λ c. 32 ∷ collection_text c) cs) (take_all i (collection ∷ inner) all) ∙ append_assoc old (codes " in") _
 
 -- a layout's lines are those of its reports and of its items
 pub lines_whole : (layout : Contents) (n : ℕ) (old new : List ℕ) → n ≡ length layout.items
