@@ -283,6 +283,35 @@ found_along s t from end end' None same less within none = λ i a b. sym (same i
 found_along s t from end end' (Some p) same less within first =
     record { low = first.low; high = within p (sym (same p) ∙ first.hit); before = λ i a b. sym (same i) ∙ first.before i a b; hit = sym (same p) ∙ first.hit }
 
+-- where none before a word passes, nor any of its bits, none before the next word does
+pub none_in_word : (s t : ℕ → Bool) (from start k : ℕ) → start ≡ from - 64 * k → ((b : ℕ) → b < 64 → s b ≡ t (64 * k + b)) → ((i : ℕ) → from ≤ i → i < 64 * k → t i ≡ false)
+    → ((b : ℕ) → start ≤ b → b < 64 → s b ≡ false) → (i : ℕ) → from ≤ i → i < 64 * (k + 1) → t i ≡ false
+none_in_word s t from start k e same before none i a b =
+    elim (cases_lt i (64 * k)) [
+      | inl lt ↦ before i a lt
+      | inr ge ↦
+          let at : 64 * k + (i - 64 * k) ≡ i = omega (arith, ge) in
+          ap t (sym at) ∙ sym (same (i - 64 * k) (omega (arith, b, ge))) ∙ none (i - 64 * k) (omega (arith, e, a)) (omega (arith, b, ge))
+    ]
+
+-- and the first of its bits that passes is the first that does
+pub found_in_word : (s t : ℕ → Bool) (from start k n bit : ℕ) → start ≡ from - 64 * k → k < n → ((b : ℕ) → b < 64 → s b ≡ t (64 * k + b)) → ((i : ℕ) → from ≤ i → i < 64 * k → t i ≡ false)
+    → IsFirst s start 64 bit → IsFirst t from (64 * n) (64 * k + bit)
+found_in_word s t from start k n bit e lt same before first =
+    let low : start ≤ bit = first.low in
+    let high : bit < 64 = first.high in
+    record {
+      low = omega (arith, e);
+      high = omega (arith, lt);
+      before = λ i a b. elim (cases_lt i (64 * k)) [
+        | inl lt ↦ before i a lt
+        | inr ge ↦
+            let at : 64 * k + (i - 64 * k) ≡ i = omega (arith, ge) in
+            ap t (sym at) ∙ sym (same (i - 64 * k) (omega (arith, b, ge))) ∙ first.before (i - 64 * k) (omega (arith, e, a)) (omega (arith, b, ge))
+      ];
+      hit = sym (same bit high) ∙ first.hit;
+    }
+
 both_on : (a b : Bool) → (a && b) ≡ true → a ≡ true
 both_on true b h = refl
 both_on false b h = absurd (cc)

@@ -43,12 +43,10 @@ pub fn blank_cell(alloc: Global, controls: &Controls) -> Result<Cell, AllocError
             count,
         } => match kind {
             ControlKind::Switch => Ok(Cell::Pressed(Flags::clear(alloc, *count)?)),
-            ControlKind::Value => Ok(Cell::Holding(Values::new(
-                alloc,
-                *count,
-                first_value(ControlKind::Value, least, greatest),
-            )?)),
-            ControlKind::NullValue => Ok(Cell::Holding(Values::new(alloc, *count, None)?)),
+            ControlKind::Value | ControlKind::NullValue => {
+                let value = first_value(*kind, least, greatest);
+                Ok(Cell::Holding(Values::new(alloc, *count, value)?))
+            }
             ControlKind::Relative => Ok(Cell::Moved(Motions::new(alloc, *count)?)),
         },
         Controls::Keys { count, .. } => Ok(Cell::Pressed(Flags::clear(alloc, *count)?)),

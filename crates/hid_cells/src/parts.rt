@@ -19,13 +19,13 @@ fn copy_to_rolled(from: &Flags, to: &mut Cell)
     requires { HasRoomOf (Cell.Pressed from.now) to.old }
     ensures { to.new ≡ Cell.Pressed from.now }
 {
-    match mem::replace(to, Cell::Vacant) {
+    *to = match mem::replace(to, Cell::Vacant) {
         Cell::Pressed(mut flags) | Cell::RolledOver(mut flags) => {
             flags.copy_from(from);
-            *to = Cell::Pressed(flags);
+            Cell::Pressed(flags)
         }
-        Cell::Vacant | Cell::Holding(_) | Cell::Moved(_) => {}
-    }
+        other => other,
+    };
 }
 
 fn copy_flags(from: &Flags, to: &mut Cell)
@@ -46,14 +46,16 @@ fn copy_cell(from: &Cell, to: &mut Cell)
 {
     match from {
         Cell::Pressed(flags) => copy_flags(flags, to),
-        Cell::Holding(values) => match to {
-            Cell::Holding(room) => room.copy_from(values),
-            Cell::Vacant | Cell::Pressed(_) | Cell::Moved(_) | Cell::RolledOver(_) => {}
-        },
-        Cell::Moved(motions) => match to {
-            Cell::Moved(room) => room.copy_from(motions),
-            Cell::Vacant | Cell::Pressed(_) | Cell::Holding(_) | Cell::RolledOver(_) => {}
-        },
+        Cell::Holding(values) => {
+            if let Cell::Holding(room) = to {
+                room.copy_from(values);
+            }
+        }
+        Cell::Moved(motions) => {
+            if let Cell::Moved(room) = to {
+                room.copy_from(motions);
+            }
+        }
         Cell::Vacant | Cell::RolledOver(_) => {}
     }
 }
@@ -67,10 +69,10 @@ fn roll_over(cell: &mut Cell, elements: usize)
         Cell::Vacant | Cell::Holding(_) | Cell::Moved(_) | Cell::RolledOver(_) => false,
     };
     if rolls {
-        match mem::replace(cell, Cell::Vacant) {
-            Cell::Pressed(flags) => *cell = Cell::RolledOver(flags),
-            other => *cell = other,
-        }
+        *cell = match mem::replace(cell, Cell::Vacant) {
+            Cell::Pressed(flags) => Cell::RolledOver(flags),
+            other => other,
+        };
     }
 }
 
@@ -84,10 +86,11 @@ pub fn show_cell(cell: &mut Cell, controls: &Controls)
             least,
             greatest,
             ..
-        } => match cell {
-            Cell::Moved(motions) => motions.clamp(least, greatest),
-            Cell::Vacant | Cell::Pressed(_) | Cell::Holding(_) | Cell::RolledOver(_) => {}
-        },
+        } => {
+            if let Cell::Moved(motions) = cell {
+                motions.clamp(least, greatest);
+            }
+        }
         Controls::Keys { elements, .. } => roll_over(cell, *elements),
     }
 }
@@ -99,12 +102,10 @@ fn take_motion(cell: &mut Cell, part: &Cell)
     requires others { AreMotions part.now }
     ensures { cell.new ≡ minus_motion cell.old part.now }
 {
-    match cell {
-        Cell::Moved(motions) => match part {
-            Cell::Moved(others) => motions.subtract(others),
-            Cell::Vacant | Cell::Pressed(_) | Cell::Holding(_) | Cell::RolledOver(_) => {}
-        },
-        Cell::Vacant | Cell::Pressed(_) | Cell::Holding(_) | Cell::RolledOver(_) => {}
+    if let Cell::Moved(motions) = cell {
+        if let Cell::Moved(others) = part {
+            motions.subtract(others);
+        }
     }
 }
 
@@ -127,18 +128,9 @@ fn is_shown(cell: &Cell, controls: &Controls, part: &Cell) -> bool
             Cell::Holding(others) => values.is_same(others),
             Cell::Vacant | Cell::Pressed(_) | Cell::Moved(_) | Cell::RolledOver(_) => false,
         },
-        Cell::Moved(_) => match part {
-            Cell::Moved(_) => true,
-            Cell::Vacant | Cell::Pressed(_) | Cell::Holding(_) | Cell::RolledOver(_) => false,
-        },
-        Cell::Vacant => match part {
-            Cell::Vacant => true,
-            Cell::Pressed(_) | Cell::Holding(_) | Cell::Moved(_) | Cell::RolledOver(_) => false,
-        },
-        Cell::RolledOver(_) => match part {
-            Cell::RolledOver(_) => true,
-            Cell::Vacant | Cell::Pressed(_) | Cell::Holding(_) | Cell::Moved(_) => false,
-        },
+        Cell::Moved(_) => matches!(part, Cell::Moved(_)),
+        Cell::Vacant => matches!(part, Cell::Vacant),
+        Cell::RolledOver(_) => matches!(part, Cell::RolledOver(_)),
     }
 }
 
@@ -182,9 +174,8 @@ pub fn cell_at(cells: &[Cell], i: usize) -> &Cell
 fn stop(part: &mut Cell)
     ensures { part.new ≡ without_motion part.old }
 {
-    match part {
-        Cell::Moved(motions) => reset_motions(motions),
-        Cell::Vacant | Cell::Pressed(_) | Cell::Holding(_) | Cell::RolledOver(_) => {}
+    if let Cell::Moved(motions) = part {
+        reset_motions(motions);
     }
 }
 

@@ -50,13 +50,13 @@ fn release_all(cell: &mut Cell)
     ensures { (ps : List Bool) → cell.old ≡ Cell.RolledOver ps
         → cell.new ≡ Cell.Pressed (replicate (length ps) false) }
 {
-    match mem::replace(cell, Cell::Vacant) {
+    *cell = match mem::replace(cell, Cell::Vacant) {
         Cell::RolledOver(mut flags) => {
             flags.release_all();
-            *cell = Cell::Pressed(flags);
+            Cell::Pressed(flags)
         }
-        Cell::Vacant | Cell::Pressed(_) | Cell::Holding(_) | Cell::Moved(_) => {}
-    }
+        other => other,
+    };
 }
 
 /// Makes what is kept of a listed item what it was at first. The controls are looked up where it has values.

@@ -1,5 +1,5 @@
-use Rattle.std.proofs.Common.{◌≡◌, ◌+◌, ◌≤◌, length}
-use Rattle.std.specs.Vec.{vec_len, vec_capacity}
+use Rattle.std.proofs.Common.{◌≡◌, ◌≤◌, length}
+use Rattle.std.specs.Vec.{vec_capacity}
 use Rattle.hid_layout.specs.Index.{FitArrays}
 use Rattle.hid_layout.proofs.index.all_codes.Given as goal
 

@@ -1,4 +1,7 @@
-use Rattle.std.proofs.Common.{◌<◌, length, arith}
+use Rattle.std.proofs.Common.{◌<◌, length, map, ap, subst, ◌∙◌, arith}
+use Rattle.std.proofs.lemmas.List.{take_all}
+use Rattle.hid_descriptor.specs.Faults.{upward}
+use Rattle.hid_layout.specs.Plans.{end_of, ArePut}
 use Rattle.hid_layout.proofs.PlanLemmas.{item_there, end_room, ends_none, ends_more, put_none, put_more}
 use Rattle.hid_layout.proofs.plans.put_places.Goals as goal
 
@@ -34,3 +37,18 @@ offset_bounds-places-end c =
 
 pub offset_bounds-ends-item-in-loop-i : goal.offset_bounds-ends-item-in-loop-i
 offset_bounds-ends-item-in-loop-i c = record { fits = omega (arith, item_there c.args.items.now (length c.args.ends.now) c.loop-i.i c.requires.there (omega (arith, c.loop-i-test.true))) }
+
+pub bounds-items-i : goal.bounds-items-i
+bounds-items-i c = c.loop-i-test.true
+
+pub bounds-ends-item : goal.bounds-ends-item
+bounds-ends-item c = omega (arith, item_there c.args.items.now (length c.args.ends.now) c.loop-i.i c.requires.there (omega (arith, c.loop-i-test.true)))
+
+pub offset_bounds-ends-item : goal.offset_bounds-ends-item
+offset_bounds-ends-item c = record { fits = omega (arith, item_there c.args.items.now (length c.args.ends.now) c.loop-i.i c.requires.there (omega (arith, c.loop-i-test.true))) }
+
+pub returns-clause-ends : goal.returns-clause-ends
+returns-clause-ends c = c.loop-i.invariant.ends ∙ ap (λ l. map (end_of c.args.items.now l) (upward 0 (length c.args.ends.now))) (take_all c.loop-i.i c.args.items.now (omega arith))
+
+pub returns-clause-places : goal.returns-clause-places
+returns-clause-places c = subst (λ l. ArePut (length c.args.ends.now) c.args.items.now l c.loop-i.places) (take_all c.loop-i.i c.args.items.now (omega arith)) c.loop-i.invariant.places
