@@ -72,7 +72,6 @@ kept_there entries more starts others paths spans i s l at =
     subst (λ es. AreStarts es s.starts (starts ++ others)) (sym (range_kept entries more s.entries.start s.entries.end w.0 w.1))
     (starts_kept (slice_range entries s.entries.start s.entries.end) s.starts starts others (l.starts_there i s at))
 
--- starts that no item has yet
 -- more collections behind those of all paths change none of them
 pub paths_longer : (entries : List Entry) (starts : List ℕ) (paths path : List Collection) (spans : List ItemSpans) → AreListed entries starts paths spans → AreListed entries starts (paths ++ path) spans
 paths_longer entries starts paths path spans l = record {
@@ -81,6 +80,7 @@ paths_longer entries starts paths path spans l = record {
   starts_there = l.starts_there;
 }
 
+-- starts that no item has yet, and more collections, change none of them
 pub starts_longer : (entries : List Entry) (es : List Entry) (at : Option ℕ) (starts new : List ℕ) (paths path : List Collection) (spans : List ItemSpans) → AreListed entries starts paths spans → AddsStarts es at starts new → AreListed entries new (paths ++ path) spans
 starts_longer entries es at starts new paths path spans l a =
     let m = starts_more es at starts new a in

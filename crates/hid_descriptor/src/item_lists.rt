@@ -72,9 +72,9 @@ impl ItemLists {
     {
         Ok(ItemLists {
             entries: Vec::with_capacity(alloc, FIRST_ENTRIES)?,
-            starts: Vec::new(alloc),
             paths: Vec::with_capacity(alloc, FIRST_COLLECTIONS)?,
             spans: Vec::with_capacity(alloc, FIRST_ITEMS)?,
+            starts: Vec::new(alloc),
         })
     }
 
@@ -118,8 +118,7 @@ impl ItemLists {
         ensures { self.new ≡ self.old }
     {
         self.spans.reserve(items)?;
-        self.entries.reserve(items.saturating_mul(2))?;
-        Ok(())
+        self.entries.reserve(items.saturating_mul(2))
     }
 
     /// Adds the lists of one more item, at which this page is in force.

@@ -101,8 +101,7 @@ impl Locals {
         if let Some(high) = self.maxima.get(self.minima.len()) {
             self.entries.push((low, high))?;
         }
-        self.minima.push(low)?;
-        Ok(())
+        self.minima.push(low)
     }
 
     fn add_maximum(&mut self, high: NamedUsage) -> Result<(), AllocError>
@@ -116,8 +115,7 @@ impl Locals {
         if let Some(low) = self.minima.get(self.maxima.len()) {
             self.entries.push((low, high))?;
         }
-        self.maxima.push(high)?;
-        Ok(())
+        self.maxima.push(high)
     }
 
     /// Adds the usage that a local item names; another item has none that is read.
@@ -125,14 +123,14 @@ impl Locals {
         requires { IsShort item.now }
         ensures { OnOk result (AddsLocal prefix (named item.now.bytes.now) self.old self.new) }
     {
+        let usage = NamedUsage::of(item);
         match prefix {
             prefix::USAGE => {
-                let usage = NamedUsage::of(item);
                 self.entries.push((usage, usage))?;
                 Ok(())
             }
-            prefix::USAGE_MINIMUM => self.add_minimum(NamedUsage::of(item)),
-            prefix::USAGE_MAXIMUM => self.add_maximum(NamedUsage::of(item)),
+            prefix::USAGE_MINIMUM => self.add_minimum(usage),
+            prefix::USAGE_MAXIMUM => self.add_maximum(usage),
             _ => Ok(()),
         }
     }

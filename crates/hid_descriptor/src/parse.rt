@@ -42,14 +42,13 @@ fn take_items(parser: &mut Parser, descriptor: &[u8]) -> Result<(), LayoutFault>
         return Err(fault(Cause::Memory, 0));
     }
     for next in Items::new(descriptor) {
-        match next {
-            Ok(item) => {
-                match parser.take(&item) {
-                    Ok(()) => {}
-                    Err(cause) => return Err(fault(cause, item.at)),
-                }
-            }
+        let item = match next {
+            Ok(item) => item,
             Err(e) => return Err(fault(Cause::Truncated, truncated_at(e))),
+        };
+        match parser.take(&item) {
+            Ok(()) => {}
+            Err(cause) => return Err(fault(cause, item.at)),
         }
     }
     Ok(())
@@ -73,6 +72,9 @@ pub(crate) fn parse_items(alloc: Global, descriptor: &[u8]) -> Result<Parser, La
     };
     match take_items(&mut parser, descriptor) {
         Ok(()) => Ok(parser),
-        Err(f) => Err(f),
+        Err(f) => {
+            drop(parser);
+            Err(f)
+        }
     }
 }
