@@ -11,6 +11,7 @@ use Rattle.hid_descriptor.specs.Fields.{Field, fields, report_bits}
 use Rattle.hid_descriptor.specs.Faults.{upward}
 use Rattle.hid_layout.specs.Layout.{Contents}
 use Rattle.hid_descriptor.specs.Reporting.{report_if_any, reports_of_kind, reports_of}
+use Rattle.hid_device.specs.Core.{CoreState, IsSound}
 use Rattle.hid_device.specs.Inputs.{input_count, AreInputsFirst}
 use Rattle.hid_device.specs.Making.{Lays}
 
@@ -75,3 +76,12 @@ reports_split fs =
 pub inputs_first : (descriptor : List ℕ) (layout : Contents) → Lays descriptor layout → AreInputsFirst layout.reports
 inputs_first descriptor layout lays =
     subst (λ (l : Contents). AreInputsFirst l.reports) (sym lays.laid) (reports_split (fields lays.items))
+
+-- a report whose frames are counted has a number below that of the Input reports
+pub counted : (inside core : CoreState) (r : ℕ) → IsSound inside → inside ≡ core → r < length core.standing.frames → r < input_count inside.layout.reports
+counted inside core r sound same within =
+    subst (λ (n : ℕ). r < n) sound.each_frames (subst (λ (c : CoreState). r < length c.standing.frames) (sym same) within)
+
+-- and is one of them
+pub counted_input : (inside core : CoreState) (r : ℕ) → IsSound inside → inside ≡ core → r < length core.standing.frames → is_input inside.layout.reports r ≡ true
+counted_input inside core r sound same within = sound.inputs_first.first r (counted inside core r sound same within)

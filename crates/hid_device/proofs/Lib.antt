@@ -1,5 +1,6 @@
 pub mod AckLemmas
 pub mod ApartLemmas
+pub mod DeviceLemmas
 pub mod DueLemmas
 pub mod InputLemmas
 pub mod OutputLemmas

@@ -82,7 +82,7 @@ impl fmt::Display for DeviceFault {
                 Cause::Memory => f.write_str("V17"),
                 _ => write!(f, "{cause} at {at}"),
             },
-            _ => write!(f, "{cause}"),
+            _ => fmt::Display::fmt(&cause, f),
         }
     }
 }

@@ -1,8 +1,14 @@
-use Rattle.std.proofs.Common.{ℕ, Option, ap, sym, ◌∙◌}
+use Rattle.std.proofs.Common.{ℕ, Option, ap, subst, sym, ◌∙◌}
 use Rattle.hid_layout.specs.Controls.{items_of}
-use Rattle.hid_device.specs.Core.{next_of, next_piece}
+use Rattle.hid_device.specs.Core.{IsBelow, next_of, next_piece}
+use Rattle.hid_device.specs.Inputs.{input_count}
 use Rattle.hid_device.proofs.AckLemmas.{next_fits, next_there, none_behind}
 use Rattle.hid_device.proofs.state.Core.next_piece.Goals as goal
+
+pub pieces_of-pieces-requires : goal.pieces_of-pieces-requires
+pieces_of-pieces-requires c =
+    let sound = c.self.invariant.sound in
+    sound.inputs_first.first c.in-Some.report (subst (IsBelow (input_count c.self.inside.layout.reports)) c.in-Some.is sound.of_input)
 
 pub overflow_add-self-inside : goal.overflow_add-self-inside
 overflow_add-self-inside c =

@@ -1,4 +1,5 @@
-use Rattle.std.proofs.Common.{◌≡◌, ℕ, List, length, false, Some, ap, ◌∙◌, subst, arith}
+use Rattle.std.proofs.Common.{◌≡◌, ◌<◌, ℕ, List, length, false, Option, None, Some, refl, ap, ◌∙◌, subst, sym, arith}
+use Rattle.std.specs.Prelude.{IsNone}
 use Rattle.std.proofs.lemmas.List.{length-set}
 use Rattle.hid_layout.specs.Controls.{items_of}
 use Rattle.hid_cells.specs.Pieces.{piece_of}
@@ -6,8 +7,38 @@ use Rattle.hid_cells.proofs.PieceLemmas.{some_piece}
 use Rattle.hid_parts.specs.Encoded.{part_bytes}
 use Rattle.hid_parts.specs.Encoding.{AreBytes}
 use Rattle.usb_transact.specs.Device.{DevPipeState}
-use Rattle.hid_device.specs.Core.{AreBytesOf, CoreState}
+use Rattle.hid_device.specs.Core.{AreBytesOf, CoreState, piece_armed}
+use Rattle.hid_device.specs.contracts.state.Core.{the_view}
+use Rattle.hid_device.proofs.InputLemmas.{counted, counted_input}
 use Rattle.hid_device.proofs.state.Core.open.Goals as goal
+
+pub shown-requires-clause-input : goal.shown-requires-clause-input
+shown-requires-clause-input c = counted_input (the_view c.self.inside) _ c.args.report c.self.invariant.sound c.self.view_is c.requires.input
+
+pub take_motion-requires-clause-input : goal.take_motion-requires-clause-input
+take_motion-requires-clause-input c = counted_input (the_view c.self.inside) _ c.args.report c.self.invariant.sound c.self.view_is c.requires.input
+
+pub index_mut-requires : goal.index_mut-requires
+index_mut-requires c =
+    let sound = c.self.invariant.sound in
+    subst (λ (n : ℕ). c.args.report < n) (sym (c.self.inside.frames.ok.0 ∙ sound.each_frames)) (counted (the_view c.self.inside) _ c.args.report sound c.self.view_is c.requires.input)
+
+pub index_mut-requires-2 : goal.index_mut-requires-2
+index_mut-requires-2 c =
+    let sound = c.self.invariant.sound in
+    subst (λ (n : ℕ). c.args.report < n) (sym (c.self.inside.cut.ok.0 ∙ sound.each_cut)) (counted (the_view c.self.inside) _ c.args.report sound c.self.view_is c.requires.input)
+
+pub encode_report-requires-clause-input : goal.encode_report-requires-clause-input
+encode_report-requires-clause-input c = counted_input (the_view c.self.inside) _ c.args.report c.self.invariant.sound c.self.view_is c.requires.input
+
+pub arm-requires-clause-idle : goal.arm-requires-clause-idle
+arm-requires-clause-idle c =
+    let inside = c.self.inside in
+    let none : inside.current ≡ None = ap (λ (core : CoreState). core.current) c.self.view_is ∙ c.requires.none in
+    subst IsNone (sym (c.self.invariant.armed ∙ ap (λ (current : Option ℕ). piece_armed inside.layout inside.fixed current inside.piece) none)) refl
+
+pub arm-requires-clause-going : goal.arm-requires-clause-going
+arm-requires-clause-going c = ap (λ (core : CoreState). core.halted) c.self.view_is ∙ c.requires.going
 
 pub invariant_of-self : goal.invariant_of-self
 invariant_of-self c =

@@ -1,0 +1,47 @@
+-- What a device makes of a token to endpoint 0, and of an ACK directly behind the data of a poll.
+use Rattle.std.proofs.Common.{◌≡◌, ◌∙◌, ℕ, Bool, true, false, ◌==◌, ◌&&◌, None, Some, refl, ap, arith}
+use Rattle.std.specs.Prelude.{if◌then◌else◌, not}
+use Rattle.std.proofs.lemmas.Bool.Decides.{nat_tests}
+use Rattle.usb_packet.specs.declared.packet.Packet.{Packet}
+use Rattle.usb_packet.specs.declared.packet.Packet.TheVariants.{Token, Ack}
+use Rattle.usb_packet.specs.declared.packet.TokenKind.{TokenKind}
+use Rattle.usb_packet.specs.declared.packet.TokenKind.TheVariants.{Out, In, Setup}
+use Rattle.usb_control.specs.Computed.{answer_to}
+use Rattle.hid_device.specs.Core.{closed_core, opening_of, poll_answer}
+use Rattle.hid_device.specs.Device.{DeviceState, control_answer, controlled, core_of, device_after, device_answer, effect_of, heard, is_control, is_poll, passed, polled_device, unheard}
+
+-- a test that fails last fails
+never : (a b : Bool) → a && (b && false) ≡ false
+never true true = refl
+never true false = refl
+never false b = refl
+
+-- a token to endpoint 0 is no poll
+no_poll : (d : DeviceState) (kind : TokenKind) (addr endp : ℕ) → endp ≡ 0 → is_poll d (Token kind addr endp) ≡ false
+no_poll d Out addr endp zero = refl
+no_poll d Setup addr endp zero = refl
+no_poll d In addr endp zero = rw zero (never (core_of d).is_configured (addr == d.addr))
+
+-- and endpoint 0 is given it
+given : (d : DeviceState) (kind : TokenKind) (addr endp : ℕ) → addr ≡ d.addr → endp ≡ 0 → is_control d (Token kind addr endp) ≡ true
+given d kind addr endp here zero = grind (arith, nat_tests, here, zero)
+
+-- so endpoint 0 hears it, and answers
+pub token_after : (d : DeviceState) (packet : Packet) (kind : TokenKind) (addr endp : ℕ) → packet ≡ Token kind addr endp → addr ≡ d.addr → endp ≡ 0
+    → device_after d packet ≡ controlled d (effect_of d packet)
+token_after d packet kind addr endp is here zero =
+    ap (λ (b : Bool). if b then polled_device d (opening_of (core_of d)) else heard d packet) (ap (is_poll d) is ∙ no_poll d kind addr endp zero)
+    ∙ ap (λ (b : Bool). if b then controlled d (effect_of d packet) else unheard d packet) (ap (is_control d) is ∙ given d kind addr endp here zero)
+
+pub token_answer : (d : DeviceState) (packet : Packet) (kind : TokenKind) (addr endp : ℕ) → packet ≡ Token kind addr endp → addr ≡ d.addr → endp ≡ 0
+    → device_answer d packet ≡ answer_to (effect_of d packet)
+token_answer d packet kind addr endp is here zero =
+    ap (λ (b : Bool). if b then Some (poll_answer (opening_of (core_of d))) else control_answer d packet) (ap (is_poll d) is ∙ no_poll d kind addr endp zero)
+    ∙ ap (λ (b : Bool). if b then answer_to (effect_of d packet) else None) (ap (is_control d) is ∙ given d kind addr endp here zero)
+
+-- an ACK directly behind the data of a poll closes the piece that they are, and isn't answered
+pub ack_after : (d : DeviceState) → d.waits ≡ true → device_after d Ack ≡ passed d (closed_core (core_of d)) false
+ack_after d waits = ap (λ (w : Bool). if not w then controlled d (effect_of d Ack) else unheard d Ack) waits
+
+pub ack_answer : (d : DeviceState) → d.waits ≡ true → device_answer d Ack ≡ None
+ack_answer d waits = ap (λ (w : Bool). if not w then answer_to (effect_of d Ack) else None) waits
