@@ -60,17 +60,16 @@ impl Globals {
         ensures { (before : List Spelled) → self.old ≡ globals_at before
             → self.new ≡ globals_at (item.now.bytes.now ∷ before) }
     {
-        let number = item.unsigned();
         match prefix {
-            prefix::USAGE_PAGE => self.page = (number % 0x1_0000) as u16,
+            prefix::USAGE_PAGE => self.page = (item.unsigned() % 0x1_0000) as u16,
             prefix::LOGICAL_MINIMUM => self.minimum = item.signed(),
             prefix::LOGICAL_MAXIMUM => {
                 self.maximum_signed = item.signed();
-                self.maximum_unsigned = number as u32;
+                self.maximum_unsigned = item.unsigned() as u32;
             }
-            prefix::REPORT_SIZE => self.size = number as u32,
-            prefix::REPORT_ID => self.id = number as u8,
-            prefix::REPORT_COUNT => self.count = number as u32,
+            prefix::REPORT_SIZE => self.size = item.unsigned() as u32,
+            prefix::REPORT_ID => self.id = item.unsigned() as u8,
+            prefix::REPORT_COUNT => self.count = item.unsigned() as u32,
             _ => {}
         }
     }

@@ -72,9 +72,9 @@ impl ItemLists {
     {
         Ok(ItemLists {
             entries: Vec::with_capacity(alloc, FIRST_ENTRIES)?,
+            starts: Vec::new(alloc),
             paths: Vec::with_capacity(alloc, FIRST_COLLECTIONS)?,
             spans: Vec::with_capacity(alloc, FIRST_ITEMS)?,
-            starts: Vec::new(alloc),
         })
     }
 
@@ -118,7 +118,8 @@ impl ItemLists {
         ensures { self.new ≡ self.old }
     {
         self.spans.reserve(items)?;
-        self.entries.reserve(items.saturating_mul(2))
+        self.entries.reserve(items.saturating_mul(2))?;
+        Ok(())
     }
 
     /// Adds the lists of one more item, at which this page is in force.

@@ -45,8 +45,8 @@ impl KeptFields {
     {
         Ok(KeptFields {
             list: Vec::with_capacity(alloc, FIRST_ITEMS)?,
-            reports: ReportTotals::new(alloc)?,
             lists: ItemLists::new(alloc)?,
+            reports: ReportTotals::new(alloc)?,
             elements: 0,
             ids: ReportIds::new(alloc),
         })
@@ -58,7 +58,8 @@ impl KeptFields {
         ensures { (fs : List Field) → AreKept fs self.old → AreKept fs self.new }
     {
         self.list.reserve(length / BYTES_OF_ITEM)?;
-        self.lists.reserve(length / BYTES_OF_ITEM)
+        self.lists.reserve(length / BYTES_OF_ITEM)?;
+        Ok(())
     }
 
     /// Whether some fields have no report ID.
@@ -101,7 +102,7 @@ impl KeptFields {
             .add(field.kind, field.id, field.size * field.count)?;
         // The ID of a report that had bits is there already.
         if field.offset == 0 {
-            return self.ids.add(field.id);
+            self.ids.add(field.id)?;
         }
         Ok(())
     }

@@ -34,8 +34,6 @@ fn listed_by(parser: Parser) -> ListedFields
     ensures { (before : List Spelled) → StandsAt before parser → ListsFields before result }
 {
     let Parser {
-        globals,
-        locals,
         fields,
         numbered,
         ..
@@ -44,12 +42,8 @@ fn listed_by(parser: Parser) -> ListedFields
         list,
         lists,
         reports,
-        ids,
         ..
     } = fields;
-    drop(globals);
-    drop(locals);
-    drop(ids);
     ListedFields {
         reports: reports.list,
         fields: list,
@@ -99,9 +93,6 @@ pub fn list_fields(alloc: Global, descriptor: &[u8]) -> Result<ListedFields, Lay
     let parser = parse_items(alloc, descriptor)?;
     match check_end(&parser, descriptor) {
         Ok(()) => Ok(listed_by(parser)),
-        Err(f) => {
-            drop(parser);
-            Err(f)
-        }
+        Err(f) => Err(f),
     }
 }

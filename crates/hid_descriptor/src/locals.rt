@@ -101,7 +101,8 @@ impl Locals {
         if let Some(high) = self.maxima.get(self.minima.len()) {
             self.entries.push((low, high))?;
         }
-        self.minima.push(low)
+        self.minima.push(low)?;
+        Ok(())
     }
 
     fn add_maximum(&mut self, high: NamedUsage) -> Result<(), AllocError>
@@ -115,7 +116,8 @@ impl Locals {
         if let Some(low) = self.minima.get(self.maxima.len()) {
             self.entries.push((low, high))?;
         }
-        self.maxima.push(high)
+        self.maxima.push(high)?;
+        Ok(())
     }
 
     /// Adds the usage that a local item names; another item has none that is read.
@@ -123,14 +125,14 @@ impl Locals {
         requires { IsShort item.now }
         ensures { OnOk result (AddsLocal prefix (named item.now.bytes.now) self.old self.new) }
     {
-        let usage = NamedUsage::of(item);
         match prefix {
             prefix::USAGE => {
+                let usage = NamedUsage::of(item);
                 self.entries.push((usage, usage))?;
                 Ok(())
             }
-            prefix::USAGE_MINIMUM => self.add_minimum(usage),
-            prefix::USAGE_MAXIMUM => self.add_maximum(usage),
+            prefix::USAGE_MINIMUM => self.add_minimum(NamedUsage::of(item)),
+            prefix::USAGE_MAXIMUM => self.add_maximum(NamedUsage::of(item)),
             _ => Ok(()),
         }
     }

@@ -42,13 +42,14 @@ fn take_items(parser: &mut Parser, descriptor: &[u8]) -> Result<(), LayoutFault>
         return Err(fault(Cause::Memory, 0));
     }
     for next in Items::new(descriptor) {
-        let item = match next {
-            Ok(item) => item,
+        match next {
+            Ok(item) => {
+                match parser.take(&item) {
+                    Ok(()) => {}
+                    Err(cause) => return Err(fault(cause, item.at)),
+                }
+            }
             Err(e) => return Err(fault(Cause::Truncated, truncated_at(e))),
-        };
-        match parser.take(&item) {
-            Ok(()) => {}
-            Err(cause) => return Err(fault(cause, item.at)),
         }
     }
     Ok(())
@@ -72,9 +73,6 @@ pub(crate) fn parse_items(alloc: Global, descriptor: &[u8]) -> Result<Parser, La
     };
     match take_items(&mut parser, descriptor) {
         Ok(()) => Ok(parser),
-        Err(f) => {
-            drop(parser);
-            Err(f)
-        }
+        Err(f) => Err(f),
     }
 }

@@ -39,16 +39,11 @@ impl Parser {
     pub(crate) fn new(alloc: Global) -> Result<Parser, AllocError>
         ensures { IfOk result (StandsAt []) }
     {
-        let locals = Locals::new(alloc)?;
-        let Ok(fields) = KeptFields::new(alloc) else {
-            drop(locals);
-            return Err(AllocError);
-        };
         Ok(Parser {
-            locals,
-            fields,
             globals: SavedGlobals::new(alloc),
+            locals: Locals::new(alloc)?,
             collections: OpenCollections::new(),
+            fields: KeptFields::new(alloc)?,
             numbered: false,
         })
     }
@@ -261,7 +256,7 @@ impl Parser {
         ensures { (before : List Spelled) → StandsAt before self.old → StandsAt before self.new }
     {
         if length > SHORT_DESCRIPTOR {
-            return self.fields.reserve(length);
+            self.fields.reserve(length)?;
         }
         Ok(())
     }

@@ -1,5 +1,4 @@
 use Rattle.std.proofs.Common.{arith, ap, ◌+◌, map}
-use Rattle.std.proofs.lemmas.Result.{on_ok_weaker}
 use Rattle.hid_descriptor.specs.Locals.{entry_on_page}
 use Rattle.hid_descriptor.proofs.KeptLemmas.{kept_more, id_there, few_elements}
 use Rattle.hid_descriptor.proofs.kept.KeptFields.add.Goals as goal
@@ -8,13 +7,13 @@ pub overflow_add-self : goal.overflow_add-self
 overflow_add-self c =
     record { fits = omega (arith, c.args.self.now.bounded, c.args.self.now.counted, few_elements c.args.field.now c.requires.some c.requires.short, c.elements.ensures) }
 
-pub returns-then-field-eq0 : goal.returns-then-field-eq0
-returns-then-field-eq0 c = on_ok_weaker c.add-then-field-eq0.result (λ added fs k.
+pub returns-in_ok-add-2 : goal.returns-in_ok-add-2
+returns-in_ok-add-2 c fs k =
     kept_more fs c.args.field.now (map (entry_on_page c.args.page) c.args.entries.now) c.args.path.now c.args.self.now _ k c.requires.some (omega arith) c.requires.short
-    c.in_ok-push.ensures.items c.in_ok-push-2.ensures c.in_ok-add.ensures (ap (λ n. c.args.self.now.elements + n) c.elements.ensures) added) c.add-then-field-eq0.ensures
+    c.in_ok-push.ensures.items c.in_ok-push-2.ensures c.in_ok-add.ensures (ap (λ n. c.args.self.now.elements + n) c.elements.ensures) c.in_ok-add-2.ensures
 
-pub returns : goal.returns
-returns c fs k =
+pub returns-else-field-eq0 : goal.returns-else-field-eq0
+returns-else-field-eq0 c fs k =
     kept_more fs c.args.field.now (map (entry_on_page c.args.page) c.args.entries.now) c.args.path.now c.args.self.now _ k c.requires.some (omega arith) c.requires.short
     c.in_ok-push.ensures.items c.in_ok-push-2.ensures c.in_ok-add.ensures (ap (λ n. c.args.self.now.elements + n) c.elements.ensures)
     (id_there fs c.args.field.now.kind c.args.field.now.id c.args.self.now k (omega arith) (omega (arith, c.requires.place, c.if-field-eq0.false)))
