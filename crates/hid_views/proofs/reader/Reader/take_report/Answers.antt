@@ -8,6 +8,7 @@ use Rattle.hid_views.specs.Reader.{Seen, IsReader}
 use Rattle.hid_views.proofs.ReaderLemmas.{still_taken, reader_after}
 use Rattle.hid_views.proofs.reader.Reader.take_report.Goals as goal
 
+-- no event more is at most so many more
 none_more : (n most : ℕ) → n ≤ n + most
 none_more n most = omega arith
 
