@@ -1,13 +1,13 @@
 -- What a contract sees of a device's inside, and what befalls it (USB 2.0, 8.5.4, 8.6, 9.1.1.3, 9.2, 9.4.5 and 9.4.7;
 -- HID 1.11, 7.2.4 and 7.2.6).
-use Rattle.std.specs.Prelude.{◌≡◌, ℕ, ◌+◌, ◌<◌, Bool, true, false, not, nat_le, if◌then◌else◌, List, length, unwrap_or, Option, Some, None, IfSome}
+use Rattle.std.specs.Prelude.{◌≡◌, ℕ, ◌+◌, ◌<◌, Bool, true, false, not, if◌then◌else◌, List, length, unwrap_or, Option, Some, None, IfSome}
 use Rattle.hid_layout.specs.Layout.{Contents}
 use Rattle.hid_layout.specs.Controls.{Item, items_of}
 use Rattle.hid_cells.specs.declared.cell.Cell.{Cell}
 use Rattle.hid_cells.specs.declared.change.Change.{Change}
 use Rattle.hid_cells.specs.Cells.{FitsSnapshot, FitsShown}
 use Rattle.hid_cells.specs.Codes.{has_empty_codes}
-use Rattle.hid_cells.specs.Pieces.{piece_of, pieces_of}
+use Rattle.hid_cells.specs.Pieces.{is_last_piece, piece_of, pieces_of}
 use Rattle.hid_parts.specs.Encoded.{part_bytes}
 use Rattle.hid_parts.specs.Encoding.{IsEncoding, AreBytes, part_numbers}
 use Rattle.hid_cells.specs.Parts.{has_zeros, is_changed}
@@ -18,7 +18,7 @@ use Rattle.hid_requests.specs.declared.class.Protocol.{Protocol}
 use Rattle.hid_requests.specs.declared.class.Protocol.TheVariants as protocols
 use Rattle.hid_device.specs.declared.decisions.Pending.{Pending}
 use Rattle.hid_device.specs.declared.decisions.Pending.TheVariants.{Nothing}
-use Rattle.hid_device.specs.Laying.{Lays}
+use Rattle.hid_layout.specs.Laying.{Lays}
 use Rattle.hid_device.specs.Inputs.{input_count, AreInputsFirst}
 use Rattle.hid_device.specs.Outputs.{AreOutputs, bare_outputs}
 use Rattle.hid_device.specs.Standing.{Standing, configured, cut_at, due_where, after_change, after_frame, after_opening, no_idle}
@@ -66,10 +66,6 @@ opening_of core = opened_core_where core core.current
 abbrev pub flipped : Bool → Option ℕ → Bool
 flipped toggle None = toggle
 flipped toggle (Some r) = not toggle
-
--- the piece at this place is the last one of the report
-abbrev pub is_last_piece : List Item → ℕ → ℕ → Bool
-is_last_piece items r piece = nat_le (pieces_of items r) (piece + 1)
 
 -- the piece behind the one that goes out, where there is one
 abbrev pub next_piece : List Item → Option ℕ → ℕ → Option ℕ

@@ -1,8 +1,6 @@
 pub use Rattle.hid_lives.specs.Standing
 pub mod Config
-pub mod Fault
 pub mod Inputs
-pub mod Laying
 pub mod Outputs
 pub mod Decisions
 pub mod Core

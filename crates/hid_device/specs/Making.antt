@@ -8,9 +8,9 @@ use Rattle.hid_cells.specs.Cells.{blank, FitsSnapshot, FitsShown}
 use Rattle.hid_cells.specs.Codes.{has_empty_codes}
 use Rattle.hid_cells.specs.Parts.{blank_parts, has_zeros}
 use Rattle.hid_device.specs.declared.config.Config.{Config}
-use Rattle.hid_device.specs.declared.fault.DeviceCause.{DeviceCause}
-use Rattle.hid_device.specs.declared.fault.DeviceCause.TheVariants.{BadConfig, Layout, NoEmptyCode, RelativeWithoutZero, Memory}
-use Rattle.hid_device.specs.declared.fault.DeviceFault.{DeviceFault}
+use Rattle.hid_requests.specs.declared.fault.DeviceCause.{DeviceCause}
+use Rattle.hid_requests.specs.declared.fault.DeviceCause.TheVariants.{BadConfig, Layout, NoEmptyCode, RelativeWithoutZero, Memory}
+use Rattle.hid_requests.specs.declared.fault.DeviceFault.{DeviceFault}
 use Rattle.hid_device.specs.declared.room.Room.{Room}
 use Rattle.hid_device.specs.Config.{is_config}
 use Rattle.hid_device.specs.Inputs.{input_count}
@@ -18,7 +18,7 @@ use Rattle.hid_device.specs.Outputs.{bare_outputs}
 use Rattle.hid_requests.specs.declared.class.Protocol.TheVariants as protocols
 use Rattle.usb_control.specs.Device.{idle}
 use Rattle.hid_device.specs.declared.decisions.Pending.TheVariants.{Nothing}
-pub use Rattle.hid_device.specs.Laying.{Lays}
+pub use Rattle.hid_layout.specs.Laying.{Lays}
 use Rattle.hid_device.specs.Core.{CoreState}
 use Rattle.hid_device.specs.Standing.{Standing}
 use Rattle.hid_device.specs.Device.{DeviceState, with_core}

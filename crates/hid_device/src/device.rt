@@ -12,11 +12,11 @@ ghost use Rattle.hid_device.specs.Deciding.{output_of};
 ghost use Rattle.hid_device.specs.Making.{MakesDevice};
 
 use crate::config::{Config, is_config};
-use crate::fault::{DeviceCause, DeviceFault};
 use crate::state::Core;
 use hid_cells::{Change, ChangeFault};
 use hid_layout::{Layout, ReportKind};
 use hid_parts::Shown;
+use hid_requests::{DeviceCause, DeviceFault};
 use std::alloc::Global;
 use std::marker::Model;
 use std::mem;

@@ -46,7 +46,6 @@
 mod config;
 mod decisions;
 mod device;
-mod fault;
 mod frames;
 mod inputs;
 pub mod laws;
@@ -56,7 +55,6 @@ mod state;
 
 pub use config::Config;
 pub use device::{Device, ENDPOINT};
-pub use fault::{DeviceCause, DeviceFault};
 pub use hid_layout::boot::{KEYBOARD, MOUSE};
-pub use hid_requests::Boot;
+pub use hid_requests::{Boot, DeviceCause, DeviceFault};
 pub use state::Core;

@@ -6,12 +6,12 @@ ghost use Rattle.hid_cells.specs.Cells.{blank, FitsSnapshot, FitsShown};
 ghost use Rattle.hid_cells.specs.Parts.{blank_parts};
 ghost use Rattle.hid_device.specs.Making.{no_memory, IsRoom};
 
-use crate::fault::DeviceFault;
 use crate::inputs::input_count;
 use crate::outputs::{KeptReport, bare_outputs};
 use hid_cells::MemoryFault;
 use hid_layout::Layout;
 use hid_parts::{Shown, Snapshot};
+use hid_requests::{DeviceCause, DeviceFault};
 use std::alloc::{AllocError, Global};
 
 /// The controls of a device, and room for the parts that its reports show of them.
@@ -79,7 +79,12 @@ impl Room {
         let descriptor = Vec::from_slice(alloc, descriptor)?;
         let outputs = bare_outputs(alloc, layout)?;
         let counts = Counts::zeros(alloc, input_count(layout))?;
-        let controls = Controls::blank(alloc, layout)?;
+        let Ok(controls) = Controls::blank(alloc, layout) else {
+            return Err(DeviceFault {
+                cause: DeviceCause::Memory,
+                at: 0,
+            });
+        };
         Ok(Room {
             descriptor,
             controls,

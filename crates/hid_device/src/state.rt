@@ -19,7 +19,6 @@ ghost use Rattle.hid_device.specs.Making.{no_memory, new_core, CanServe, Refuses
 
 use crate::config::Config;
 use crate::decisions::{Answer, Pending};
-use crate::fault::{DeviceCause, DeviceFault};
 use crate::frames::{count_frame, is_idle_over, set_idle};
 use crate::outputs::{KeptReport, input_with, kept_place, reset_outputs};
 use crate::room::Room;
@@ -29,7 +28,8 @@ use hid_fields::WordCodec;
 use hid_layout::{Layout, ReportKind};
 use hid_parts::{Shown, Snapshot, encode_report};
 use hid_requests::{
-    Asked, Protocol, configuration, device_descriptor, hid_descriptor, what_is_asked,
+    Asked, DeviceCause, DeviceFault, Protocol, configuration, device_descriptor, hid_descriptor,
+    what_is_asked,
 };
 use std::alloc::Global;
 use std::marker::Model;

@@ -9,7 +9,7 @@ use Rattle.usb_control.specs.declared.fault.InfoFault.TheVariants.{TooShort, Wro
 use Rattle.usb_control.specs.Descriptors.{IsDevice, ReadsConfig}
 use Rattle.hid_requests.specs.declared.request.Request.{Request}
 use Rattle.hid_requests.specs.declared.request.Request.TheVariants as requests
-use Rattle.hid_device.specs.Laying.{Lays}
+use Rattle.hid_layout.specs.Laying.{Lays}
 use Rattle.hid_host.specs.declared.fault.StackFault.{StackFault}
 use Rattle.hid_host.specs.declared.fault.StackFault.TheVariants.{BadDescriptor, Memory}
 use Rattle.hid_host.specs.declared.fault.DescriptorFault.TheVariants.{Info, ReportLength, Layout}

@@ -161,3 +161,14 @@ abbrev pub ShowsLast : Option Transfer → Result Outcome StackFault → Type 0
 ShowsLast None result = result ≡ Err (Control NoTransfer)
 ShowsLast (Some transfer) (Ok outcome) = Shows outcome transfer.ends.stage (bytes_got transfer.ends)
 ShowsLast (Some transfer) (Err fault) = ⊥
+
+-- a request may end a round that is open: a halt, and the end of one
+abbrev pub cuts_round : Request → Bool
+cuts_round requests.Halt = true
+cuts_round requests.Clear = true
+cuts_round _ = false
+
+-- a transfer that runs may
+abbrev pub may_cut : Option Transfer → Bool
+may_cut None = false
+may_cut (Some transfer) = cuts_round transfer.request

@@ -4,5 +4,3 @@ pub mod Phase
 pub mod Conclusions
 pub mod Host
 pub mod Resetting
-pub mod Knowing
-pub mod Bringing

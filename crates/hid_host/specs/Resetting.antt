@@ -9,7 +9,7 @@ use Rattle.hid_cells.specs.declared.event.Event.{Event}
 use Rattle.hid_cells.specs.Cells.{blank, FitsShown}
 use Rattle.hid_cells.specs.Parts.{IsInput}
 use Rattle.hid_cells.specs.Views.{changes_between, drops_between}
-use Rattle.hid_device.specs.Core.{is_last_piece}
+use Rattle.hid_cells.specs.Pieces.{is_last_piece}
 use Rattle.hid_host.specs.declared.phase.HostPhase.{HostPhase}
 use Rattle.hid_host.specs.declared.phase.HostPhase.TheVariants.{Ready}
 use Rattle.hid_host.specs.Ready.{Known}

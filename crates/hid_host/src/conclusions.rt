@@ -2,7 +2,7 @@
 ghost use Rattle.std.specs.Prelude.{◌≡◌, ◌≤◌, ℕ, List, [], Ok, Err, IfOk, IfErr, OnOk, OnErr};
 ghost use Rattle.hid_descriptor.specs.Faults.{Explains};
 ghost use Rattle.usb_packet.specs.declared.packet.TheConstants.{MAX_ENDPOINT};
-ghost use Rattle.hid_device.specs.Laying.{Lays};
+ghost use Rattle.hid_layout.specs.Laying.{Lays};
 ghost use Rattle.hid_requests.specs.declared.request.Request.TheVariants.{Config, Configure, Report};
 ghost use Rattle.hid_host.specs.Conclusions.{ConfigRead, DeviceRead, IsNoLayout, Makes, ReportRead};
 ghost use Rattle.hid_host.specs.Phase.{HasEndpoint};

@@ -5,8 +5,8 @@ ghost use Rattle.hid_host.specs.declared.fault.DescriptorFault.TheVariants.{Info
 ghost use Rattle.hid_host.specs.declared.fault.StackFault.TheVariants.{BadDescriptor, Memory as NoMemory};
 
 use hid_cells::{ChangeFault, MemoryFault, ReportFault};
-use hid_device::DeviceFault;
 use hid_layout::LayoutFault;
+use hid_requests::DeviceFault;
 use std::fmt;
 use usb_control::{ControlFault, InfoFault};
 

@@ -19,8 +19,8 @@
 //!
 //! The promise: a request begins exactly where none runs and its state is the one of the table (`refused` and `only` on
 //! [`begin`](HostDevice::begin)), each try goes packet by packet, and the state moves by the table where the request is
-//! done and never else ([`control_step`](HostDevice::control_step)). With a virtual device the host is ready only while
-//! that is configured, and has its layout, whatever is lost ([`laws::hosts_know_their_devices`]). Of polls `told`, `after`
+//! done and never else ([`control_step`](HostDevice::control_step)), with any device; with a virtual one the host is ready
+//! only while that is configured, and has its layout, as laws of `hid_stack` say. Of polls `told`, `after`
 //! and `events` on [`reply`](HostDevice::reply), of resets of the bus `events` on [`reset`](HostDevice::reset), and of a round
 //! that a halt or its end cuts `events` on [`tell_cut`](HostDevice::tell_cut). Only `ready`, `begin`, and a `control_step`
 //! that ends `Report` or `Configure` take memory.
@@ -29,7 +29,6 @@
 mod conclusions;
 mod fault;
 mod host;
-pub mod laws;
 mod phase;
 mod ready;
 

@@ -12,7 +12,7 @@ ghost use Rattle.usb_packet.specs.Lent.{owned, IsShort};
 ghost use Rattle.usb_packet.specs.Spelling.{Fits};
 ghost use Rattle.usb_transact.specs.Taken.{taken};
 ghost use Rattle.usb_transact.specs.Host.{token_to};
-ghost use Rattle.hid_device.specs.Core.{is_last_piece};
+ghost use Rattle.hid_cells.specs.Pieces.{is_last_piece};
 ghost use Rattle.hid_host.specs.Ready.{collected_with, data_read, events_behind, events_read, events_with, is_whole, known_at_start, known_behind, known_cleared, read_or_fault, told_of, view_read, view_with};
 ghost use Rattle.hid_host.specs.Resetting.{SuitsRound, awaited, known_cut, known_told_back};
 

@@ -7,3 +7,4 @@ pub mod Index
 pub mod Finding
 pub mod ControlKinds
 pub mod Plans
+pub mod Laying

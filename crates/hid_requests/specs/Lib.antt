@@ -3,3 +3,4 @@ pub mod Asked
 pub mod Asking
 pub mod Descriptors
 pub mod Boot
+pub mod Fault

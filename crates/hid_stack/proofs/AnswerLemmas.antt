@@ -14,10 +14,10 @@ use Rattle.usb_transact.specs.declared.transaction.Fate.TheVariants.{Clean, Toke
 use Rattle.hid_cells.specs.Codes.{has_empty_codes}
 use Rattle.hid_cells.specs.Parts.{has_zeros}
 use Rattle.hid_device.specs.declared.config.Config.{Config}
-use Rattle.hid_device.specs.declared.fault.DeviceCause.{DeviceCause}
-use Rattle.hid_device.specs.declared.fault.DeviceCause.TheVariants as causes
-use Rattle.hid_device.specs.declared.fault.DeviceFault.{DeviceFault}
-use Rattle.hid_device.specs.Fault.{is_memory}
+use Rattle.hid_requests.specs.declared.fault.DeviceCause.{DeviceCause}
+use Rattle.hid_requests.specs.declared.fault.DeviceCause.TheVariants as causes
+use Rattle.hid_requests.specs.declared.fault.DeviceFault.{DeviceFault}
+use Rattle.hid_requests.specs.Fault.{is_memory}
 use Rattle.hid_device.specs.Making.{Lays}
 use Rattle.hid_device.specs.Making as making
 use Rattle.hid_host.specs.declared.fault.StackFault.{StackFault}

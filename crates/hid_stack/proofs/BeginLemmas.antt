@@ -11,7 +11,7 @@ use Rattle.hid_device.specs.Device.{DeviceState, core_of}
 use Rattle.hid_host.specs.declared.fault.StackFault.{StackFault}
 use Rattle.hid_host.specs.declared.host.Transfer.{Transfer}
 use Rattle.hid_host.specs.Host.{HostEnd, begin_refusal, begun, clearing_with, transfer_of}
-use Rattle.hid_host.specs.Knowing.{Knows, asking_of}
+use Rattle.hid_stack.specs.Knowing.{Knows, asking_of}
 use Rattle.hid_host.specs.Phase.{asking_at, state_of}
 use Rattle.hid_stack.specs.Members.{Begins, begun_unless, expects_of, held_at, member_after}
 use Rattle.hid_stack.specs.Slot.{StandTogether, joint}

@@ -28,20 +28,20 @@ use Rattle.hid_device.specs.declared.decisions.Pending.{Pending}
 use Rattle.hid_device.specs.declared.decisions.Pending.TheVariants as pendings
 use Rattle.hid_device.specs.Core.{CoreState}
 use Rattle.hid_device.specs.Deciding.{core_table, effected}
-use Rattle.hid_device.specs.Laying.{Lays}
+use Rattle.hid_layout.specs.Laying.{Lays}
 use Rattle.hid_host.specs.declared.fault.StackFault.{StackFault}
 use Rattle.hid_host.specs.declared.host.Transfer.{Transfer}
 use Rattle.hid_host.specs.declared.phase.HostPhase.{HostPhase}
 use Rattle.hid_host.specs.declared.phase.HostPhase.TheVariants.{Ready}
 use Rattle.hid_host.specs.declared.phase.HostState.{HostState}
 use Rattle.hid_host.specs.declared.phase.HostState.TheVariants as states
-use Rattle.hid_host.specs.Bringing.{brought_about, carried_out}
+use Rattle.hid_stack.specs.Bringing.{brought_about, carried_out}
 use Rattle.hid_host.specs.Host.{clearing_behind, transfer_of}
-use Rattle.hid_host.specs.Knowing.{BeginsAnew, Carries, HasEffect, LeavesTransfers, asking_of}
+use Rattle.hid_stack.specs.Knowing.{BeginsAnew, Carries, HasEffect, LeavesTransfers, asking_of}
 use Rattle.hid_host.specs.Phase.{may_poll}
 use Rattle.hid_host.specs.Ready.{known_at_start}
-use Rattle.hid_host.proofs.LawLemmas.{carried, carries_on, done_effect, short_so}
-use Rattle.hid_host.proofs.RoundLemmas.{tried_rounds}
+use Rattle.hid_stack.proofs.LawLemmas.{carried, carries_on, done_effect, short_so}
+use Rattle.hid_stack.proofs.RoundLemmas.{tried_rounds}
 use Rattle.hid_stack.specs.Members.{Member, MemberStep, Scheduled, Begins, Controls, Halts, Resets, befallen_by, begin_refusal_at, begun_unless, brought_deed, control_at, core_at, effect_deed, ends_tried_at, expects_behind, expects_of, halted_if, held_at, member_after, member_after_all, polled_deed, polls_it, tried_deed, tried_of, written_deed}
 use Rattle.hid_stack.specs.Transfers.{BeginsNone, IsClearing, IsEvenAgain, IsOver, IsUndone, ends_at, setup_at}
 use Rattle.hid_stack.proofs.CountLemmas.{halted_transfer, runs_as}

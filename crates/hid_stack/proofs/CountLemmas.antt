@@ -27,12 +27,12 @@ use Rattle.hid_device.specs.Deciding.{core_table}
 use Rattle.hid_host.specs.declared.host.Transfer.{Transfer}
 use Rattle.hid_host.specs.declared.phase.HostState.{HostState}
 use Rattle.hid_requests.specs.Asking.{FitsRequest, sends_of}
-use Rattle.hid_host.specs.Bringing.{is_configure}
+use Rattle.hid_stack.specs.Bringing.{is_configure}
 use Rattle.hid_host.specs.Host.{running, running_at}
 use Rattle.hid_requests.proofs.AskedLemmas.{of_reports}
-use Rattle.hid_host.specs.Knowing.{IsBehindSetup, IsDecided, asking_of}
-use Rattle.hid_host.proofs.KnowingLemmas.{acts_go, decided_behind, decided_stays}
-use Rattle.hid_host.proofs.RoundLemmas.{is_configuring, pends_so}
+use Rattle.hid_stack.specs.Knowing.{IsBehindSetup, IsDecided, asking_of}
+use Rattle.hid_stack.proofs.KnowingLemmas.{acts_go, decided_behind, decided_stays}
+use Rattle.hid_stack.proofs.RoundLemmas.{is_configuring, pends_so}
 use Rattle.hid_stack.specs.Members.{Member, MemberStep, Scheduled, Begins, Controls, Halts, Resets, brought_deed, control_at, core_at, deeds_in, effect_deed, ends_tried_at, halted_deed, halted_if, member_after, polls_it, scheduled_deed, tried_deed, tried_of, tried_to, written_deed}
 use Rattle.hid_stack.specs.Transfers.{BeginsNone, configurations, effects_in, ends_at, more_if, setup_at, takes_effect_at, tries_of, try_at}
 

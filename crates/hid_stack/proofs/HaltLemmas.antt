@@ -10,7 +10,8 @@ use Rattle.hid_cells.specs.Views.{drops_between}
 use Rattle.hid_lives.specs.Lives.{Deed, Own, Idles, Configures, cut_events}
 use Rattle.hid_lives.specs.Lives as lives
 use Rattle.hid_lives.specs.Stations.{Station, is_whole}
-use Rattle.hid_device.specs.Core.{CoreState, IsSound, halted_core, is_last_piece, piece_at, round_of}
+use Rattle.hid_cells.specs.Pieces.{is_last_piece}
+use Rattle.hid_device.specs.Core.{CoreState, IsSound, halted_core, piece_at, round_of}
 use Rattle.hid_device.specs.Device.{DeviceState, core_of, halted_device}
 use Rattle.usb_transact.specs.declared.transaction.Fate.{Fate}
 use Rattle.usb_control.specs.declared.host.Progress.{Progress}
@@ -19,10 +20,9 @@ use Rattle.hid_host.specs.declared.fault.StackFault.{StackFault}
 use Rattle.hid_host.specs.declared.phase.HostPhase.{HostPhase}
 use Rattle.hid_host.specs.declared.phase.HostPhase.TheVariants.{Cold, Described, Parsed, Ready}
 use Rattle.hid_host.specs.declared.host.Transfer.{Transfer}
-use Rattle.hid_host.specs.Bringing.{may_cut}
-use Rattle.hid_host.specs.Host.{HostEnd}
+use Rattle.hid_host.specs.Host.{HostEnd, may_cut}
 use Rattle.hid_host.specs.Phase.{state_of}
-use Rattle.hid_host.specs.Knowing.{Knows, LeavesTransfers, with_core}
+use Rattle.hid_stack.specs.Knowing.{Knows, LeavesTransfers, with_core}
 use Rattle.hid_host.specs.Resetting.{awaited, cut_told, told_cut}
 use Rattle.hid_stack.specs.Members.{Halts, Member, control_at, events_by, expects_of, halted_deed, halted_if, held_at, held_if, member_after, tried_deed}
 use Rattle.hid_stack.specs.Slot.{IsUntouched, StandTogether, held_of, joint, round_between, station_of}

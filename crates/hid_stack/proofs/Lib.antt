@@ -24,3 +24,10 @@ pub mod AnswerLemmas
 pub mod NamedLemmas
 mod Vectors
 pub mod ServeLemmas
+pub mod PlacesLemmas
+pub mod KnowingLemmas
+pub mod HostLemmas
+pub mod LawLemmas
+pub mod SuitLemmas
+pub mod RoundLemmas
+pub mod BringingLemmas

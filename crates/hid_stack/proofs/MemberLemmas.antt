@@ -16,8 +16,7 @@ use Rattle.hid_lives.specs.Rounds.{OwnStep, Changes, Frame, Polls}
 use Rattle.hid_lives.specs.Stations.{Station, after_all}
 use Rattle.hid_host.specs.declared.fault.StackFault.{StackFault}
 use Rattle.hid_host.specs.declared.host.Transfer.{Transfer}
-use Rattle.hid_host.specs.Bringing.{cuts_round}
-use Rattle.hid_host.specs.Host.{running}
+use Rattle.hid_host.specs.Host.{cuts_round, running}
 use Rattle.hid_stack.specs.Members.{Member, MemberStep, Scheduled, Begins, Controls, Halts, Resets, befallen_by, begin_refusal_at, begun_unless, brought_deed, deed_at, deeds_in, effect_deed, events_by, halted_deed, halted_if, member_after, member_after_all, polls_it, scheduled_deed, tried_deed, tried_of, tried_to, unconcluded_of, written_deed}
 use Rattle.hid_layout.specs.Layout.{Contents}
 use Rattle.hid_device.specs.declared.config.Config.{Config}

@@ -21,8 +21,7 @@ use Rattle.hid_host.specs.declared.fault.StackFault.{StackFault}
 use Rattle.hid_host.specs.declared.fault.StackFault.TheVariants.{NoDevice, Refused, Memory}
 use Rattle.hid_host.specs.declared.fault.StackFault.TheVariants as faults
 use Rattle.hid_host.specs.declared.host.Transfer.{Transfer}
-use Rattle.hid_host.specs.Bringing.{may_cut}
-use Rattle.hid_host.specs.Host.{running}
+use Rattle.hid_host.specs.Host.{may_cut, running}
 use Rattle.hid_steps.specs.declared.step.Delivered.{Delivered}
 use Rattle.hid_steps.specs.declared.step.Step.{Step}
 use Rattle.hid_steps.specs.declared.step.Step.TheVariants.{Change as ChangeStep, Poll, Begin, Control}

@@ -19,7 +19,7 @@ use Rattle.hid_views.specs.Reading.{bytes_awaited, first_byte, is_input_with, re
 use Rattle.hid_views.specs.Taking.{read_view, read_events}
 use Rattle.hid_cells.specs.Views.{seen}
 use Rattle.usb_transact.specs.declared.host.Took.TheVariants.{Fresh}
-use Rattle.hid_device.specs.Core.{is_last_piece}
+use Rattle.hid_cells.specs.Pieces.{is_last_piece}
 use Rattle.hid_lives.specs.Rounds.{part_events}
 use Rattle.hid_host.specs.Ready.{Known, bytes_with, collected_with, data_read, ends_with, events_behind, events_read, is_whole, known_behind, read_or_fault, told_of, told_read, view_read, view_with}
 

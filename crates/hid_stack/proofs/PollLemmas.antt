@@ -6,7 +6,7 @@ use Rattle.hid_layout.specs.Controls.{items_of}
 use Rattle.hid_layout.specs.Reports.{IsLayout}
 use Rattle.hid_cells.specs.declared.cell.Cell.{Cell}
 use Rattle.hid_cells.specs.declared.event.Event.{Event}
-use Rattle.hid_cells.specs.Pieces.{piece_of, pieces_of}
+use Rattle.hid_cells.specs.Pieces.{is_last_piece, piece_of, pieces_of}
 use Rattle.hid_parts.specs.Encoded.{part_bytes}
 use Rattle.hid_cells.specs.Cells.{FitsView}
 use Rattle.hid_cells.specs.Views.{seen}
@@ -28,7 +28,7 @@ use Rattle.usb_transact.proofs.TableLemmas.{read_whole, read_lost, took_answer}
 use Rattle.hid_device.specs.declared.device.TheConstants.{ENDPOINT}
 use Rattle.hid_lives.specs.Standing.{due_where}
 use Rattle.std.specs.Prelude.{unwrap_or}
-use Rattle.hid_device.specs.Core.{CoreState, IsSound, opened_core_if, opening_of, closed_core, is_last_piece, left_open, piece_armed}
+use Rattle.hid_device.specs.Core.{CoreState, IsSound, opened_core_if, opening_of, closed_core, left_open, piece_armed}
 use Rattle.hid_device.specs.Device.{DeviceState, passed, polled_device}
 use Rattle.hid_device.proofs.AckLemmas.{sound_at_piece, sound_closed}
 use Rattle.hid_host.specs.declared.fault.StackFault.{StackFault}

@@ -11,12 +11,13 @@ use Rattle.hid_views.proofs.CrossingLemmas.{same_cell}
 use Rattle.hid_lives.specs.Lives.{befallen, reset_events}
 use Rattle.hid_lives.specs.Lives as lives
 use Rattle.hid_lives.specs.Stations.{Station, is_whole}
-use Rattle.hid_device.specs.Core.{CoreState, IsSound, is_last_piece, piece_at, reset_core, round_of}
+use Rattle.hid_cells.specs.Pieces.{is_last_piece}
+use Rattle.hid_device.specs.Core.{CoreState, IsSound, piece_at, reset_core, round_of}
 use Rattle.hid_device.specs.Device.{DeviceState, core_of, reset_device}
 use Rattle.hid_host.specs.declared.phase.HostPhase.{HostPhase}
 use Rattle.hid_host.specs.declared.phase.HostPhase.TheVariants.{Cold, Described, Parsed, Ready}
 use Rattle.hid_host.specs.Host.{HostEnd, cold_host}
-use Rattle.hid_host.specs.Knowing.{Knows}
+use Rattle.hid_stack.specs.Knowing.{Knows}
 use Rattle.hid_host.specs.Resetting.{awaited, reset_told, told_back}
 use Rattle.usb_control.specs.Device.{DevControlState}
 use Rattle.hid_stack.specs.Members.{Resets, member_after}

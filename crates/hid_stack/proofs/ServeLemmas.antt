@@ -13,8 +13,7 @@ use Rattle.hid_requests.specs.Asking.{FitsRequest}
 use Rattle.hid_lives.specs.Rounds.{Changes, Polls, Frame as Frames}
 use Rattle.hid_host.specs.declared.fault.StackFault.{StackFault}
 use Rattle.hid_host.specs.declared.fault.StackFault.TheVariants.{NoDevice, Memory}
-use Rattle.hid_host.specs.Bringing.{may_cut}
-use Rattle.hid_host.specs.Host.{running}
+use Rattle.hid_host.specs.Host.{may_cut, running}
 use Rattle.hid_steps.specs.declared.step.Delivered.{Delivered}
 use Rattle.hid_steps.specs.declared.step.Step.{Step}
 use Rattle.hid_steps.specs.declared.step.Step.TheVariants.{Change as ChangeStep, Frame, Poll, Begin, Control, Halt, Reset}

@@ -13,7 +13,7 @@ use Rattle.hid_host.specs.declared.host.Transfer.{Transfer}
 use Rattle.hid_host.specs.declared.phase.HostPhase.{HostPhase}
 use Rattle.hid_host.specs.declared.phase.HostPhase.TheVariants.{Cold, Described, Parsed, Ready}
 use Rattle.hid_host.specs.Host.{HostEnd}
-use Rattle.hid_host.specs.Knowing.{Knows, KnowsAt}
+use Rattle.hid_stack.specs.Knowing.{Knows, KnowsAt}
 use Rattle.hid_host.specs.Ready.{Known}
 use Rattle.hid_stack.specs.Members.{got_of, held_if}
 use Rattle.hid_stack.specs.Showing.{ShowsDevice, ShowsHost, ShowsKnown}

@@ -22,7 +22,7 @@ use Rattle.hid_layout.proofs.WellFormed.{layout_of_accepted}
 use Rattle.hid_cells.proofs.BlankLemmas.{initial_fits}
 use Rattle.hid_device.specs.declared.config.Config.{Config}
 use Rattle.hid_device.specs.Core.{CoreState, IsSound}
-use Rattle.hid_device.specs.Laying.{Lays}
+use Rattle.hid_layout.specs.Laying.{Lays}
 use Rattle.hid_device.specs.Device.{DeviceState, configured_device, core_of}
 use Rattle.hid_device.specs.Making.{MakesDevice, new_device}
 use Rattle.hid_host.specs.declared.fault.StackFault.{StackFault}
@@ -30,13 +30,13 @@ use Rattle.hid_host.specs.declared.fault.StackFault.TheVariants as faults
 use Rattle.hid_host.specs.declared.fault.DescriptorFault.TheVariants.{Info, ReportLength, Layout, Device}
 use Rattle.usb_control.specs.Device.{DevControlState}
 use Rattle.hid_host.specs.declared.host.Transfer.{Transfer}
-use Rattle.hid_host.specs.Bringing.{TakesMemory, cuts_round, may_cut}
-use Rattle.hid_host.specs.Knowing.{Knows, LeavesTransfers}
+use Rattle.hid_stack.specs.Bringing.{TakesMemory}
+use Rattle.hid_stack.specs.Knowing.{Knows, LeavesTransfers}
 use Rattle.hid_host.specs.Phase.{may_poll, state_of}
 use Rattle.hid_host.specs.Ready.{Known}
 use Rattle.hid_stack.specs.Attaching.{Suits, IsNoPair, member_at_start}
 use Rattle.hid_host.specs.Conclusions.{IsNoLayout}
-use Rattle.hid_host.specs.Host.{HostEnd, cold_host, ready_host}
+use Rattle.hid_host.specs.Host.{HostEnd, cold_host, cuts_round, may_cut, ready_host}
 use Rattle.hid_host.specs.declared.phase.HostPhase.{HostPhase}
 use Rattle.hid_host.specs.declared.phase.HostPhase.TheVariants.{Cold, Described, Parsed, Ready}
 use Rattle.hid_steps.specs.declared.step.Delivered.{Delivered}

@@ -45,7 +45,7 @@ use Rattle.hid_lives.specs.Stations.{Station, opened, answered, round_events, af
 use Rattle.hid_stack.specs.Laws.{PacketsMakePolls}
 use Rattle.usb_control.specs.Device.{DevControlState}
 use Rattle.hid_host.specs.declared.host.Transfer.{Transfer}
-use Rattle.hid_host.specs.Knowing.{Knows, LeavesTransfers}
+use Rattle.hid_stack.specs.Knowing.{Knows, LeavesTransfers}
 use Rattle.hid_stack.specs.Members.{Member, Scheduled, held_if, member_after}
 use Rattle.hid_stack.specs.Tells.{TellsPoll, piece_shown, told_by}
 use Rattle.hid_stack.proofs.PieceLemmas.{Reads}

@@ -33,14 +33,14 @@ use Rattle.hid_device.specs.Core.{CoreState, IsPiece, IsSound, cleared_core, con
 use Rattle.hid_device.specs.Outputs.{kept}
 use Rattle.hid_device.specs.Deciding.{core_table, effected, idle_set}
 use Rattle.hid_device.specs.Device.{DeviceState, core_of}
-use Rattle.hid_device.specs.Laying.{Lays}
+use Rattle.hid_layout.specs.Laying.{Lays}
 use Rattle.hid_host.specs.declared.host.Transfer.{Transfer}
 use Rattle.hid_host.specs.declared.phase.HostPhase.{HostPhase}
 use Rattle.hid_host.specs.declared.phase.HostPhase.TheVariants.{Cold, Described, Parsed, Ready}
 use Rattle.hid_host.specs.declared.phase.HostState.TheVariants as states
-use Rattle.hid_host.specs.Bringing.{TakesMemory, answering, brought, brought_about, brought_at, carried_out, clears, clears_in, configures, cuts_in, ends_after}
+use Rattle.hid_stack.specs.Bringing.{TakesMemory, answering, brought, brought_about, brought_at, carried_out, clears, clears_in, configures, cuts_in, ends_after}
 use Rattle.hid_host.specs.Host.{HostEnd, clearing_behind, is_clear}
-use Rattle.hid_host.specs.Knowing.{BeginsAnew, KnowsAt}
+use Rattle.hid_stack.specs.Knowing.{BeginsAnew, KnowsAt}
 use Rattle.hid_host.specs.Phase.{may_begin, state_of}
 use Rattle.hid_host.specs.Ready.{Known, known_at_start, known_cleared}
 use Rattle.hid_stack.specs.Members.{befallen_by, brought_deed, control_at, core_at, effect_deed, endpoint_of, ends_tried_at, got_of, piece_open, state_at, state_behind, written_deed}

@@ -30,9 +30,9 @@ use Rattle.hid_host.specs.declared.phase.HostPhase.{HostPhase}
 use Rattle.hid_host.specs.declared.phase.HostPhase.TheVariants.{Cold, Described, Parsed, Ready}
 use Rattle.hid_host.specs.declared.phase.HostState.{HostState}
 use Rattle.hid_host.specs.declared.phase.HostState.TheVariants as states
-use Rattle.hid_host.specs.Bringing.{IsComputed, TakesMemory, answering, brought, brought_about, brought_at, carried_out, configures, cuts_in, cuts_round, ends_after, host_after}
-use Rattle.hid_host.specs.Host.{ControlSteps, HostEnd, TriesOnce, clearing_behind, is_clear, running, running_at}
-use Rattle.hid_host.specs.Knowing.{IsNoRefusal, IsPending, Knows, KnowsAt}
+use Rattle.hid_stack.specs.Bringing.{IsComputed, TakesMemory, answering, brought, brought_about, brought_at, carried_out, configures, cuts_in, ends_after, host_after}
+use Rattle.hid_host.specs.Host.{ControlSteps, HostEnd, TriesOnce, clearing_behind, cuts_round, is_clear, running, running_at}
+use Rattle.hid_stack.specs.Knowing.{IsNoRefusal, IsPending, Knows, KnowsAt}
 use Rattle.hid_host.specs.Phase.{may_begin, state_of}
 use Rattle.hid_host.specs.Ready.{Known}
 use Rattle.hid_device.specs.declared.config.Config.{Config}

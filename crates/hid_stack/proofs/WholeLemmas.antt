@@ -12,21 +12,21 @@ use Rattle.usb_control.proofs.LawLemmas.{begins, done_is, read_is}
 use Rattle.usb_control.proofs.MeanwhileLemmas.{places_are_run, setup_stays}
 use Rattle.usb_control.proofs.RunLemmas.{is_once}
 use Rattle.hid_requests.specs.declared.request.Asking.{Asking}
-use Rattle.hid_device.specs.Laying.{Lays}
+use Rattle.hid_layout.specs.Laying.{Lays}
 use Rattle.hid_host.specs.declared.fault.StackFault.{StackFault}
 use Rattle.hid_requests.specs.Asking.{FitsRequest, sends_of}
 use Rattle.hid_requests.proofs.AskedLemmas.{sends_so, spelled_so}
-use Rattle.hid_host.proofs.LawLemmas.{short_so}
+use Rattle.hid_stack.proofs.LawLemmas.{short_so}
 use Rattle.hid_requests.specs.declared.request.Request.{Request}
 use Rattle.hid_device.specs.Core.{CoreState}
 use Rattle.hid_device.specs.Deciding.{core_table}
 use Rattle.hid_host.specs.declared.host.Transfer.{Transfer}
-use Rattle.hid_host.specs.Bringing.{answering, cuts_round, is_configure, may_cut}
+use Rattle.hid_stack.specs.Bringing.{answering, is_configure}
 use Rattle.usb_control.specs.declared.host.HostStage.{HostStage}
 use Rattle.usb_control.specs.declared.host.HostStage.TheVariants as stages
 use Rattle.hid_requests.specs.declared.request.Request.TheVariants.{Configure}
-use Rattle.hid_host.specs.Host.{running, running_at, transfer_of}
-use Rattle.hid_host.specs.Knowing.{asking_of}
+use Rattle.hid_host.specs.Host.{cuts_round, may_cut, running, running_at, transfer_of}
+use Rattle.hid_stack.specs.Knowing.{asking_of}
 use Rattle.hid_stack.specs.Members.{Member, MemberStep, Scheduled, Begins, Controls, Halts, Resets, begin_refusal_at, begun_unless, control_at, core_at, ends_tried_at, halted_if, member_after, member_after_all, tried_of, tried_to, unconcluded_of}
 use Rattle.hid_stack.specs.Transfers.{BeginsNone, IsEndedByReset, IsUnconcludedOnce, IsWhole, IsWholeFrom, effects_in, ends_at, more_if, takes_effect_at, setup_at, tries_of, try_at}
 use Rattle.hid_stack.proofs.CountLemmas.{Stood, counted, halted_transfer, runs_as}

@@ -8,10 +8,10 @@ use Rattle.hid_layout.specs.Finding.{shown_at}
 use Rattle.hid_layout.specs.Layout.{Contents}
 use Rattle.hid_cells.specs.declared.change.ChangeFault.TheVariants.{NoSuchControl}
 use Rattle.hid_device.specs.declared.config.Config.{Config}
-use Rattle.hid_device.specs.declared.fault.DeviceCause.{DeviceCause}
-use Rattle.hid_device.specs.declared.fault.DeviceCause.TheVariants as causes
+use Rattle.hid_requests.specs.declared.fault.DeviceCause.{DeviceCause}
+use Rattle.hid_requests.specs.declared.fault.DeviceCause.TheVariants as causes
 use Rattle.hid_device.specs.Config.{is_config}
-use Rattle.hid_device.specs.Fault.{is_memory}
+use Rattle.hid_requests.specs.Fault.{is_memory}
 use Rattle.hid_device.specs.Making.{CanServe}
 use Rattle.hid_device.specs.Making as making
 use Rattle.hid_host.specs.declared.fault.StackFault.{StackFault}

@@ -13,3 +13,5 @@ pub mod Transfers
 pub mod Laws
 pub mod Reports
 pub mod Stories
+pub mod Knowing
+pub mod Bringing

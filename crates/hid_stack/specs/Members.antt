@@ -37,9 +37,9 @@ use Rattle.hid_host.specs.declared.fault.StackFault.{StackFault}
 use Rattle.hid_host.specs.declared.host.Transfer.{Transfer}
 use Rattle.hid_host.specs.declared.phase.HostState.{HostState}
 use Rattle.hid_host.specs.declared.phase.HostState.TheVariants as states
-use Rattle.hid_host.specs.Bringing.{cuts_round, ends_after}
-use Rattle.hid_host.specs.Host.{begin_refusal_in, clearing_behind, clearing_with, running, transfer_of}
-use Rattle.hid_host.specs.Knowing.{asking_of}
+use Rattle.hid_stack.specs.Bringing.{ends_after}
+use Rattle.hid_host.specs.Host.{begin_refusal_in, clearing_behind, clearing_with, cuts_round, running, transfer_of}
+use Rattle.hid_stack.specs.Knowing.{asking_of}
 use Rattle.hid_host.specs.Phase.{may_poll}
 
 -- What endpoint 0 of a device keeps: whether SET_CONFIGURATION took effect; its protocol, and the Output and Feature

@@ -18,8 +18,8 @@ use Rattle.hid_host.specs.declared.fault.StackFault.{StackFault}
 use Rattle.hid_host.specs.declared.fault.StackFault.TheVariants.{NoDevice, NotReady, Refused, Memory}
 use Rattle.hid_host.specs.declared.fault.StackFault.TheVariants as faults
 use Rattle.hid_host.specs.declared.host.Transfer.{Transfer}
-use Rattle.hid_host.specs.Bringing.{TakesMemory as TakesMemoryFor, may_cut}
-use Rattle.hid_host.specs.Host.{running}
+use Rattle.hid_stack.specs.Bringing.{TakesMemory as TakesMemoryFor}
+use Rattle.hid_host.specs.Host.{may_cut, running}
 use Rattle.hid_steps.specs.declared.step.Step.{Step}
 use Rattle.hid_steps.specs.declared.step.Step.TheVariants.{Change, Frame, Poll, Begin, Control, Halt, Reset}
 use Rattle.hid_steps.specs.declared.step.Delivered.{Delivered}

@@ -8,8 +8,7 @@ use Rattle.hid_lives.specs.Motion.{AreBetweenRounds, IsBetweenRounds, given_moti
 use Rattle.hid_lives.specs.Lives.{Deed}
 use Rattle.hid_lives.specs.Lives as lives
 use Rattle.hid_host.specs.declared.host.Transfer.{Transfer}
-use Rattle.hid_host.specs.Bringing.{cuts_round}
-use Rattle.hid_host.specs.Host.{running}
+use Rattle.hid_host.specs.Host.{cuts_round, running}
 use Rattle.usb_transact.specs.declared.transaction.Fate.{Fate}
 use Rattle.hid_lives.specs.Stations.{Station}
 use Rattle.hid_steps.specs.declared.step.Step.{Step}

@@ -15,9 +15,9 @@ use Rattle.hid_lives.specs.Lives as lives
 use Rattle.hid_device.specs.Core.{CoreState}
 use Rattle.hid_device.specs.Deciding.{core_table}
 use Rattle.hid_host.specs.declared.host.Transfer.{Transfer}
-use Rattle.hid_host.specs.Bringing.{is_configure}
+use Rattle.hid_stack.specs.Bringing.{is_configure}
 use Rattle.hid_host.specs.Host.{running}
-use Rattle.hid_host.specs.Knowing.{asking_of}
+use Rattle.hid_stack.specs.Knowing.{asking_of}
 use Rattle.hid_stack.specs.Members.{Member, MemberStep, Scheduled, Begins, Controls, Halts, Resets, control_at, core_at, deeds_in, expects_of, member_after, member_after_all, polls_it, unconcluded_of}
 
 -- the setup of a request of a member

@@ -4,21 +4,20 @@ ghost use Rattle.std.specs.Prelude.{◌≡◌, ◌≤◌, Bool, false, length, v
 ghost use Rattle.hid_layout.specs.Controls.{items_of, max_events};
 ghost use Rattle.hid_lives.specs.Lives.{cut_events};
 ghost use Rattle.hid_device.specs.Device.{core_of};
-ghost use Rattle.hid_host.specs.Bringing.{may_cut};
-ghost use Rattle.hid_host.specs.Host.{running};
-ghost use Rattle.hid_host.specs.Knowing.{Knows};
+ghost use Rattle.hid_host.specs.Host.{may_cut, running};
+ghost use Rattle.hid_stack.specs.Knowing.{Knows};
 ghost use Rattle.hid_stack.specs.Members.{Halts, events_by, halted_deed, member_after, tried_deed};
 ghost use Rattle.hid_stack.specs.Slot.{StandTogether, TriesOnPair, joint, station_of};
 ghost use Rattle.hid_stack.specs.Tells.{kept_if};
 ghost use Rattle.hid_stack.specs.Sums.{CutsByRequest, IsBetween};
 
-use crate::slot::is_sound;
-use hid_cells::Event;
-use hid_device::Device;
-use hid_host::laws::{
+use crate::laws::{
     control_steps_are_computed, devices_leave_transfers, hosts_know_their_devices,
     rounds_suit_their_hosts,
 };
+use crate::slot::is_sound;
+use hid_cells::Event;
+use hid_device::Device;
 use hid_host::{HostDevice, StackFault};
 use usb_control::Progress;
 use usb_transact::Fate;

@@ -3,15 +3,15 @@ ghost use Rattle.std.specs.Prelude.{◌≡◌, ◌≤◌, length, vec_capacity};
 ghost use Rattle.hid_layout.specs.Controls.{items_of, max_events};
 ghost use Rattle.hid_lives.specs.Lives.{reset_events};
 ghost use Rattle.hid_device.specs.Device.{core_of};
-ghost use Rattle.hid_host.specs.Knowing.{Knows};
+ghost use Rattle.hid_stack.specs.Knowing.{Knows};
 ghost use Rattle.hid_stack.specs.Members.{Resets, member_after};
 ghost use Rattle.hid_stack.specs.Slot.{StandTogether, joint, station_of};
 
+use crate::laws::{hosts_know_their_devices, rounds_suit_their_hosts};
 use crate::slot::is_sound;
 use hid_cells::Event;
 use hid_device::Device;
 use hid_host::HostDevice;
-use hid_host::laws::{hosts_know_their_devices, rounds_suit_their_hosts};
 
 /// Resets a device and its own host. What changes for the host is told, until its view is the initial one again, and the
 /// motion of an open round that hasn't crossed, which is dropped.

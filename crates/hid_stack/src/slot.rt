@@ -8,16 +8,15 @@ ghost use Rattle.hid_lives.specs.Motion.{HasMotions};
 ghost use Rattle.hid_lives.specs.Rounds.{Polls, Changes as ChangeStep, Frame as FrameStep};
 ghost use Rattle.hid_device.specs.declared.config.Config.{Config as ConfigValue};
 ghost use Rattle.hid_device.specs.Core.{IsSound};
-ghost use Rattle.hid_device.specs.Fault.{is_memory};
+ghost use Rattle.hid_requests.specs.Fault.{is_memory};
 ghost use Rattle.hid_device.specs.Making.{MakesDevice, Refuses};
 ghost use Rattle.usb_packet.specs.declared.packet.TheConstants.{MAX_ADDRESS as GREATEST};
 ghost use Rattle.hid_requests.specs.Asking.{FitsRequest};
 ghost use Rattle.hid_stack.specs.Attaching.{Suits, IsNoPair, member_at_start};
 ghost use Rattle.hid_host.specs.declared.fault.StackFault.{StackFault as Refusal};
-ghost use Rattle.hid_host.specs.Bringing.{may_cut};
-ghost use Rattle.hid_host.specs.Host.{running};
+ghost use Rattle.hid_host.specs.Host.{may_cut, running};
 ghost use Rattle.hid_stack.specs.Members.{Member, Scheduled, Begins, Controls, Halts, Resets, begin_refusal_at, cold_member, deed_at, events_by, fresh_member, member_after, polls_it};
-ghost use Rattle.hid_host.specs.Knowing.{Knows};
+ghost use Rattle.hid_stack.specs.Knowing.{Knows};
 ghost use Rattle.hid_stack.specs.Slot.{StandTogether, TriesTransfer, joint};
 ghost use Rattle.hid_steps.specs.declared.step.Told.TheVariants as Tellings;
 ghost use Rattle.hid_stack.specs.Rig.{HasRoomToTry, member_at, most_tried, poll_refusal, tagged, with_member};
@@ -27,11 +26,11 @@ ghost use Rattle.hid_stack.specs.Showing.{ShowsDevice, ShowsHost};
 ghost use Rattle.hid_stack.specs.Tells.{TellsPoll};
 
 use crate::halts::{control_pair, halt_pair};
+use crate::laws::{devices_leave_transfers, hosts_know_their_devices};
 use crate::polls::poll_pair;
 use crate::resets::reset_pair;
 use hid_cells::{Change, ChangeFault, Event};
 use hid_device::{Config, Device, DeviceCause, DeviceFault};
-use hid_host::laws::{devices_leave_transfers, hosts_know_their_devices};
 use hid_host::{DescriptorFault, HostDevice, StackFault, Start};
 use hid_layout::laws::{accepted_or_refused, one_reading};
 use hid_layout::{Cause, Layout};
@@ -56,7 +55,7 @@ pub struct Slot {
 impl Model for Slot {
     ghost use Rattle.std.specs.Prelude.{◌≡◌, ◌≤◌, vec_capacity};
     ghost use Rattle.hid_layout.specs.Controls.{items_of, max_events};
-    ghost use Rattle.hid_host.specs.Knowing.{Knows};
+    ghost use Rattle.hid_stack.specs.Knowing.{Knows};
     ghost use Rattle.hid_stack.specs.Members.{Member};
     ghost use Rattle.hid_stack.specs.Slot.{StandTogether, joint};
 

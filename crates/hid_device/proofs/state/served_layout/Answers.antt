@@ -2,7 +2,7 @@ use Rattle.std.proofs.Common.{◌≡◌, ℕ, List, refl, sym, ◌∙◌, subst}
 use Rattle.hid_descriptor.specs.Faults.{Accepts}
 use Rattle.hid_descriptor.specs.Items.{Spelled}
 use Rattle.hid_layout.specs.Layout.{Contents, layout_of}
-use Rattle.hid_device.specs.declared.fault.DeviceFault.{DeviceFault}
+use Rattle.hid_requests.specs.declared.fault.DeviceFault.{DeviceFault}
 use Rattle.hid_device.specs.Making.{Lays, RefusesDescriptor}
 use Rattle.hid_device.proofs.state.served_layout.Goals as goal
 

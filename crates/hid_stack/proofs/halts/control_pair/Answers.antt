@@ -2,8 +2,7 @@ use Rattle.std.proofs.Common.{◌≡◌, ◌∙◌, ◌≤◌, Bool, List, lengt
 use Rattle.std.specs.Prelude.{is_some}
 use Rattle.hid_cells.specs.declared.event.Event.{Event}
 use Rattle.hid_layout.specs.Controls.{items_of, max_events}
-use Rattle.hid_host.specs.Bringing.{may_cut}
-use Rattle.hid_host.specs.Host.{running}
+use Rattle.hid_host.specs.Host.{may_cut, running}
 use Rattle.hid_lives.specs.Lives.{cut_events}
 use Rattle.hid_device.specs.Device.{core_of}
 use Rattle.hid_stack.specs.Slot.{station_of}

@@ -1,7 +1,7 @@
 use Rattle.std.proofs.Common.{◌≡◌, ℕ, List, None, refl, sym, ap, subst, arith}
 use Rattle.std.proofs.lemmas.Grind.{common_steps}
 use Rattle.usb_transact.specs.Device.{DevPipeState}
-use Rattle.hid_device.specs.Laying.{Lays}
+use Rattle.hid_layout.specs.Laying.{Lays}
 use Rattle.hid_device.specs.Outputs.{AreOutputs}
 use Rattle.hid_device.proofs.InputLemmas.{inputs_first}
 use Rattle.hid_device.proofs.OutputLemmas.{bare_are}

@@ -16,8 +16,8 @@ use Rattle.hid_device.specs.declared.decisions.Pending.TheVariants as pendings
 use Rattle.hid_device.specs.Core.{CoreState}
 use Rattle.hid_device.specs.Decisions.{Decided, Refuses, Reads, Writes, is_accepted, writes_if}
 use Rattle.hid_device.specs.Deciding.{core_table, decide, decided_on, decided_row, effected, left_by}
-use Rattle.hid_host.specs.Knowing.{BeginsAnew, IsBehindSetup, IsDecided, IsDecidedBy}
-use Rattle.hid_host.proofs.PlacesLemmas.{accepted_reaches, piece_decision, refused_applied, silent_host, silent_stays}
+use Rattle.hid_stack.specs.Knowing.{BeginsAnew, IsBehindSetup, IsDecided, IsDecidedBy}
+use Rattle.hid_stack.proofs.PlacesLemmas.{accepted_reaches, piece_decision, refused_applied, silent_host, silent_stays}
 
 -- what a device was made with stays, and so does its configuration
 pub record Goes (old new : CoreState) : Type 0 where

@@ -9,7 +9,7 @@ use Rattle.hid_device.specs.Core.{CoreState, IsBelow, IsSound, round_of}
 use Rattle.hid_host.specs.declared.phase.HostPhase.{HostPhase}
 use Rattle.hid_host.specs.declared.phase.HostPhase.TheVariants.{Cold, Described, Parsed, Ready}
 use Rattle.hid_host.specs.Host.{HostEnd}
-use Rattle.hid_host.specs.Knowing.{Knows, KnowsAt}
+use Rattle.hid_stack.specs.Knowing.{Knows, KnowsAt}
 use Rattle.hid_host.specs.Phase.{IfReady}
 use Rattle.hid_host.specs.Resetting.{SuitsRound}
 

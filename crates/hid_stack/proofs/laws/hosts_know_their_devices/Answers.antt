@@ -1,6 +1,6 @@
 use Rattle.std.proofs.Common.{refl}
-use Rattle.hid_host.proofs.LawLemmas.{begins_know, leaves_know, replies_know, short_so, steps_know}
-use Rattle.hid_host.proofs.laws.hosts_know_their_devices.Goals as goal
+use Rattle.hid_stack.proofs.LawLemmas.{begins_know, leaves_know, replies_know, short_so, steps_know}
+use Rattle.hid_stack.proofs.laws.hosts_know_their_devices.Goals as goal
 
 pub returns-clause-ready : goal.returns-clause-ready
 returns-clause-ready c = λ addr control configured. record { phase = (refl, configured, refl, refl); transfer = tt; clears = tt }

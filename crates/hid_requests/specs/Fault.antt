@@ -3,8 +3,8 @@ use Rattle.std.specs.Prelude.{ℕ, Bool, true, false, if◌then◌else◌, List,
 use Rattle.std.specs.Fmt.{decimal}
 use Rattle.hid_descriptor.specs.declared.fault.Cause.{Cause}
 use Rattle.hid_descriptor.specs.declared.fault.Cause.TheVariants as cause
-use Rattle.hid_device.specs.declared.fault.DeviceCause.{DeviceCause}
-use Rattle.hid_device.specs.declared.fault.DeviceCause.TheVariants.{BadConfig, Layout, NoEmptyCode, RelativeWithoutZero, Memory}
+use Rattle.hid_requests.specs.declared.fault.DeviceCause.{DeviceCause}
+use Rattle.hid_requests.specs.declared.fault.DeviceCause.TheVariants.{BadConfig, Layout, NoEmptyCode, RelativeWithoutZero, Memory}
 
 -- the causes of the layout, by their own numbers
 abbrev pub layout_code : Cause → List ℕ

@@ -1,6 +1,6 @@
-use Rattle.hid_host.proofs.BringingLemmas.{steps_computed}
-use Rattle.hid_host.proofs.LawLemmas.{short_so}
-use Rattle.hid_host.proofs.laws.control_steps_are_computed.Goals as goal
+use Rattle.hid_stack.proofs.BringingLemmas.{steps_computed}
+use Rattle.hid_stack.proofs.LawLemmas.{short_so}
+use Rattle.hid_stack.proofs.laws.control_steps_are_computed.Goals as goal
 
 pub returns : goal.returns
 returns c = λ fate host after transfer old new result sound knows is steps.

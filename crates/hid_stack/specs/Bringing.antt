@@ -1,5 +1,5 @@
 -- A control step with a virtual device, as a function of both ends, memory aside (USB 2.0, 8.5.3, 9.1.1.5 and 9.4.5).
-use Rattle.std.specs.Prelude.{◌≡◌, ◌⊎◌, ℕ, Bool, true, false, Option, Some, None, Result, Ok, Err}
+use Rattle.std.specs.Prelude.{◌≡◌, ◌⊎◌, ℕ, Bool, true, false, Some, Result, Ok, Err}
 use Rattle.usb_transact.specs.declared.transaction.Fate.{Fate}
 use Rattle.usb_control.specs.declared.host.HostStage.{HostStage}
 use Rattle.usb_control.specs.declared.host.HostStage.TheVariants.{Done}
@@ -9,7 +9,7 @@ use Rattle.usb_control.specs.Computed.{control_tried, effect_reached, host_tried
 use Rattle.usb_control.specs.Device.{DevControlState, Effect, Applies}
 use Rattle.usb_control.specs.Host.{HostTransferState, progress_of}
 use Rattle.hid_requests.specs.declared.request.Request.{Request}
-use Rattle.hid_requests.specs.declared.request.Request.TheVariants.{Config, Report, Configure, Halt, Clear}
+use Rattle.hid_requests.specs.declared.request.Request.TheVariants.{Config, Report, Configure, Clear}
 use Rattle.hid_device.specs.declared.decisions.Pending.{Pending}
 use Rattle.hid_device.specs.declared.decisions.Pending.TheVariants as pendings
 use Rattle.hid_device.specs.declared.device.TheConstants.{ENDPOINT}
@@ -22,8 +22,8 @@ use Rattle.hid_host.specs.declared.host.Transfer.{Transfer}
 use Rattle.hid_host.specs.declared.phase.HostPhase.{HostPhase}
 use Rattle.hid_host.specs.declared.phase.HostPhase.TheVariants.{Described, Parsed, Ready}
 use Rattle.hid_host.specs.declared.phase.HostState.TheVariants as states
-use Rattle.hid_host.specs.Host.{HostEnd, clearing_behind}
-use Rattle.hid_host.specs.Knowing.{BeginsAnew, info_of}
+use Rattle.hid_host.specs.Host.{HostEnd, clearing_behind, cuts_round}
+use Rattle.hid_stack.specs.Knowing.{BeginsAnew, info_of}
 use Rattle.hid_host.specs.Phase.{cleared_phase, may_begin, state_of}
 use Rattle.hid_host.specs.Ready.{known_at_start}
 
@@ -67,17 +67,6 @@ is_configure _ = false
 abbrev pub configures : Fate → HostTransferState → DevControlState CoreState → Bool
 configures TokenLost ends control = false
 configures fate ends control = carries_out (effect_reached core_table ends control) control.requests.pending
-
--- a request may end a round that is open: a halt, and the end of one
-abbrev pub cuts_round : Request → Bool
-cuts_round Halt = true
-cuts_round Clear = true
-cuts_round _ = false
-
--- a transfer that runs may
-abbrev pub may_cut : Option Transfer → Bool
-may_cut None = false
-may_cut (Some transfer) = cuts_round transfer.request
 
 -- whether a halt, or the end of one, takes effect in a try
 abbrev pub cuts_in : Fate → HostTransferState → DevControlState CoreState → Bool

@@ -1,11 +1,10 @@
 //! Why there is no device.
 
 ghost use Rattle.std.specs.Prelude.{◌≡◌, Some};
-ghost use Rattle.hid_device.specs.declared.fault.DeviceCause.TheVariants.{Layout, Memory};
-ghost use Rattle.hid_device.specs.Fault.{layout_code, code_of, device_fault_text};
+ghost use Rattle.hid_requests.specs.declared.fault.DeviceCause.TheVariants.{Layout, Memory};
+ghost use Rattle.hid_requests.specs.Fault.{layout_code, code_of, device_fault_text};
 
-use hid_cells::MemoryFault;
-use hid_layout::{Cause, LayoutFault};
+use hid_descriptor::{Cause, LayoutFault};
 use std::alloc::AllocError;
 use std::fmt;
 
@@ -94,17 +93,6 @@ impl From<LayoutFault> for DeviceFault {
         DeviceFault {
             cause: DeviceCause::Layout(found.cause),
             at: found.at,
-        }
-    }
-}
-
-impl From<MemoryFault> for DeviceFault {
-    ghost from_gives = { λ _ fault. fault ≡ record { cause = Memory; at = 0 } };
-
-    fn from(_: MemoryFault) -> DeviceFault {
-        DeviceFault {
-            cause: DeviceCause::Memory,
-            at: 0,
         }
     }
 }

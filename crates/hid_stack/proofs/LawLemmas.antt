@@ -29,7 +29,7 @@ use Rattle.hid_requests.specs.Descriptors.{configuration_bytes, device_bytes}
 use Rattle.hid_device.specs.declared.device.TheConstants.{ENDPOINT}
 use Rattle.hid_device.specs.Core.{CoreState}
 use Rattle.hid_device.specs.Deciding.{config_info, core_table, device_info}
-use Rattle.hid_device.specs.Laying.{Lays}
+use Rattle.hid_layout.specs.Laying.{Lays}
 use Rattle.hid_host.specs.declared.fault.StackFault.{StackFault}
 use Rattle.hid_host.specs.declared.fault.StackFault.TheVariants.{NotReady, Control}
 use Rattle.hid_host.specs.declared.host.Transfer.{Transfer}
@@ -37,13 +37,13 @@ use Rattle.hid_host.specs.declared.phase.HostPhase.{HostPhase}
 use Rattle.hid_host.specs.declared.phase.HostPhase.TheVariants.{Cold, Described, Parsed, Ready}
 use Rattle.hid_host.specs.Conclusions.{Makes, phase_made}
 use Rattle.hid_host.specs.Host.{ConcludesAt, ControlSteps, HostEnd, TriesOnce, begin_refusal, begun, bytes_got, clearing_behind, clearing_with, ready_after, running, running_at, told_made}
-use Rattle.hid_host.specs.Knowing.{Carries, HasEffect, IsBehindSetup, IsDecided, IsNoRefusal, IsPending, Knows, KnowsAt, LeavesTransfers, asking_of, info_of}
+use Rattle.hid_stack.specs.Knowing.{Carries, HasEffect, IsBehindSetup, IsDecided, IsNoRefusal, IsPending, Knows, KnowsAt, LeavesTransfers, asking_of, info_of}
 use Rattle.hid_host.specs.Phase.{IfReady, asking_at, has_endpoint, may_begin, state_of}
 use Rattle.hid_host.specs.Ready.{Known, known_behind}
 use Rattle.hid_requests.proofs.AskedLemmas.{of_reports, sends_so, spelled_so}
-use Rattle.hid_host.proofs.HostLemmas.{IsAnswer, learned}
-use Rattle.hid_host.proofs.KnowingLemmas.{ActsOn, Goes, acts_go, clear_brings, clear_pends, configure_brings, decided_behind, decided_stays, effect_at}
-use Rattle.hid_host.proofs.PlacesLemmas.{open_place, past_applied}
+use Rattle.hid_stack.proofs.HostLemmas.{IsAnswer, learned}
+use Rattle.hid_stack.proofs.KnowingLemmas.{ActsOn, Goes, acts_go, clear_brings, clear_pends, configure_brings, decided_behind, decided_stays, effect_at}
+use Rattle.hid_stack.proofs.PlacesLemmas.{open_place, past_applied}
 
 -- ---- the setups of requests
 

@@ -36,8 +36,9 @@ use Rattle.hid_host.specs.declared.phase.HostPhase.TheVariants.{Cold, Described,
 use Rattle.hid_host.specs.declared.phase.HostState.TheVariants as states
 use Rattle.hid_requests.specs.Asking.{protocol_of, row_of, sends_of}
 use Rattle.hid_requests.specs.Boot.{is_boot}
-use Rattle.hid_host.specs.Bringing.{answering, brought_about, carried_out, clears, clears_in, configures, cuts_in, cuts_round, is_configure}
-use Rattle.hid_host.specs.Knowing.{Carries, IsBehindSetup, IsDecided, IsDecidedBy}
+use Rattle.hid_host.specs.Host.{cuts_round}
+use Rattle.hid_stack.specs.Bringing.{answering, brought_about, carried_out, clears, clears_in, configures, cuts_in, is_configure}
+use Rattle.hid_stack.specs.Knowing.{Carries, IsBehindSetup, IsDecided, IsDecidedBy}
 use Rattle.hid_host.specs.Phase.{may_begin, state_of}
 
 -- ---- what a packet leaves

@@ -16,7 +16,7 @@ use Rattle.hid_requests.specs.Descriptors.{FitsConfig, configuration_bytes, devi
 use Rattle.hid_requests.proofs.DescriptorLemmas.{configuration_read}
 use Rattle.hid_device.specs.Core.{CoreState}
 use Rattle.hid_device.specs.Deciding.{device_info}
-use Rattle.hid_device.specs.Laying.{Lays}
+use Rattle.hid_layout.specs.Laying.{Lays}
 use Rattle.hid_host.specs.declared.fault.StackFault.{StackFault}
 use Rattle.hid_host.specs.declared.fault.StackFault.TheVariants.{NoDevice, NotReady, Refused, Control, BadDescriptor, Report, TooManyDevices, Memory}
 use Rattle.hid_host.specs.declared.fault.DescriptorFault.TheVariants.{Info, ReportLength, Layout, Device}
@@ -24,7 +24,7 @@ use Rattle.hid_host.specs.declared.phase.HostPhase.{HostPhase}
 use Rattle.hid_host.specs.declared.phase.HostPhase.TheVariants.{Cold, Described, Parsed, Ready}
 use Rattle.hid_host.specs.Conclusions.{ConfigRead, Configured, DeviceRead, Makes, ReportRead, leads_to, phase_made}
 use Rattle.hid_host.specs.Host.{told_made}
-use Rattle.hid_host.specs.Knowing.{HasEffect, IsNoRefusal, KnowsAt, info_of}
+use Rattle.hid_stack.specs.Knowing.{HasEffect, IsNoRefusal, KnowsAt, info_of}
 use Rattle.hid_host.specs.Phase.{cleared_phase, may_begin, state_of}
 
 -- ---- a configuration is read in one way

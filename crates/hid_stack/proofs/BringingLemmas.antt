@@ -24,21 +24,21 @@ use Rattle.hid_requests.proofs.DescriptorLemmas.{configuration_read}
 use Rattle.hid_device.specs.declared.device.TheConstants.{ENDPOINT}
 use Rattle.hid_device.specs.Core.{CoreState}
 use Rattle.hid_device.specs.Deciding.{core_table, device_info}
-use Rattle.hid_device.specs.Laying.{Lays}
+use Rattle.hid_layout.specs.Laying.{Lays}
 use Rattle.hid_host.specs.declared.fault.StackFault.{StackFault}
 use Rattle.hid_host.specs.declared.fault.StackFault.TheVariants.{Control, Memory}
 use Rattle.hid_host.specs.declared.host.Transfer.{Transfer}
 use Rattle.hid_host.specs.declared.phase.HostPhase.{HostPhase}
 use Rattle.hid_host.specs.declared.phase.HostPhase.TheVariants.{Cold, Described, Parsed, Ready}
-use Rattle.hid_host.specs.Bringing.{IsComputed, TakesMemory, answering, brought, brought_about, brought_at, ends_after}
+use Rattle.hid_stack.specs.Bringing.{IsComputed, TakesMemory, answering, brought, brought_about, brought_at, ends_after}
 use Rattle.hid_host.specs.Conclusions.{Configured, Makes, leads_to, phase_made}
 use Rattle.hid_host.specs.Host.{ConcludesAt, ControlSteps, HostEnd, TriesOnce, bytes_got, clearing_behind, running, told_made}
-use Rattle.hid_host.specs.Knowing.{BeginsAnew, Carries, HasEffect, IsBehindSetup, Knows, KnowsAt, asking_of, info_of}
+use Rattle.hid_stack.specs.Knowing.{BeginsAnew, Carries, HasEffect, IsBehindSetup, Knows, KnowsAt, asking_of, info_of}
 use Rattle.hid_host.specs.Phase.{may_begin, state_of}
 use Rattle.hid_host.specs.Ready.{known_at_start}
-use Rattle.hid_host.proofs.HostLemmas.{IsAnswer, config_is, device_is, fits_info, report_is}
-use Rattle.hid_host.proofs.LawLemmas.{answer_is, carried, done_effect, got_so, knows_on, runs_so}
-use Rattle.hid_host.proofs.RoundLemmas.{cleared_by, cut_by, parsed_by, tried_rounds}
+use Rattle.hid_stack.proofs.HostLemmas.{IsAnswer, config_is, device_is, fits_info, report_is}
+use Rattle.hid_stack.proofs.LawLemmas.{answer_is, carried, done_effect, got_so, knows_on, runs_so}
+use Rattle.hid_stack.proofs.RoundLemmas.{cleared_by, cut_by, parsed_by, tried_rounds}
 
 -- what is made of an answer: the phase to which its request leads, or nothing for want of memory
 abbrev MadeBy : Request → ℕ → CoreState → HostPhase → Result HostPhase StackFault → Type 0
