@@ -1,3 +1,4 @@
+pub mod Full
 pub mod Faults
 pub mod Words
 pub mod Cells

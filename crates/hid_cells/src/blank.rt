@@ -3,6 +3,7 @@
 ghost use Rattle.std.specs.Prelude.{◌≡◌, IfOk};
 ghost use Rattle.hid_layout.specs.Controls.{items_of};
 ghost use Rattle.hid_layout.specs.Reports.{IsLayout};
+ghost use Rattle.hid_cells.specs.Full.{IsFull};
 ghost use Rattle.hid_cells.specs.Cells.{FitsView, blank, blank_cell, first_value};
 ghost use Rattle.hid_cells.specs.Parts.{shown_cell, blank_parts};
 
@@ -30,6 +31,9 @@ pub fn first_value(kind: ControlKind, least: &i64, greatest: &i64) -> Option<i64
 }
 
 /// What is kept of an item's controls at first.
+///
+/// # Errors
+/// Want of memory.
 #[inline(always)] // it stands where its caller wants it
 pub fn blank_cell(alloc: Global, controls: &Controls) -> Result<Cell, AllocError>
     ensures { IfOk result (λ cell. cell ≡ blank_cell controls.now) }
@@ -54,9 +58,13 @@ pub fn blank_cell(alloc: Global, controls: &Controls) -> Result<Cell, AllocError
 }
 
 /// What is kept of each item's controls at first.
+///
+/// # Errors
+/// Want of memory.
 pub fn blank_cells(alloc: Global, layout: &Layout) -> Result<Vec<Cell>, AllocError>
     ensures blank { IfOk result (λ cells. cells.items ≡ blank (items_of layout.now)) }
     ensures fits { IfOk result (λ cells. FitsView (items_of layout.now) cells.items) }
+    ensures full { IfOk result (λ cells. IsFull cells) }
     ensures layout { IsLayout layout.now }
 {
     let count = item_count(layout);
@@ -78,14 +86,19 @@ fn blank_part(alloc: Global, controls: &Controls) -> Result<Cell, AllocError>
 }
 
 /// What is shown of each item's controls at first.
+///
+/// # Errors
+/// Want of memory.
 pub fn blank_parts(alloc: Global, layout: &Layout) -> Result<Vec<Cell>, AllocError>
     ensures blank { IfOk result (λ cells. cells.items ≡ blank_parts (items_of layout.now)) }
+    ensures full { IfOk result (λ cells. IsFull cells) }
     ensures layout { IsLayout layout.now }
 {
-    let mut cells = Vec::with_capacity(alloc, item_count(layout))?;
-    for i in 0..item_count(layout) {
+    let count = item_count(layout);
+    let mut cells = Vec::with_capacity(alloc, count)?;
+    for i in 0..count {
         let controls = layout.controls(i);
-        cells.push(blank_part(alloc, &controls)?)?;
+        cells.push_reserved(blank_part(alloc, &controls)?);
     }
     Ok(cells)
 }

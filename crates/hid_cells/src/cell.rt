@@ -7,6 +7,7 @@ ghost use Rattle.hid_cells.specs.Cells.{is_i32, are_motions};
 ghost use Rattle.hid_cells.specs.Parts.{clamp, differences, same_values};
 
 use crate::flags::Flags;
+use crate::full::full_of;
 use std::alloc::{AllocError, Global};
 use std::marker::Model;
 
@@ -18,19 +19,25 @@ pub struct Values {
 
 impl Model for Values {
     ghost use Rattle.std.specs.Prelude.{List, Option, ℤ};
+    ghost use Rattle.hid_cells.specs.Full.{IsFull};
 
     ghost Value = { List (Option ℤ) };
 
     ghost view = { λ v. v.values.items };
+
+    ghost invariant = { λ v. IsFull v.values };
 }
 
 impl Values {
     /// The same value, or null, for each of so many.
+    ///
+    /// # Errors
+    /// Want of memory.
     pub fn new(alloc: Global, count: usize, first: Option<i64>) -> Result<Self, AllocError>
         ensures { IfOk result (λ v. v ≡ replicate count first) }
     {
         Ok(Values {
-            values: vec![in alloc; first; count]?,
+            values: full_of(alloc, first, count)?,
         })
     }
 
@@ -65,7 +72,7 @@ impl Values {
     }
 
     /// Makes these those of the other, which has as many.
-    pub fn copy_from(&mut self, other: &Values)
+    pub(crate) fn copy_from(&mut self, other: &Values)
         requires { length self.old ≡ length other.now }
         ensures { self.new ≡ other.now }
     {
@@ -73,7 +80,7 @@ impl Values {
     }
 
     /// Whether each is the same, of as many.
-    pub fn is_same(&self, other: &Values) -> bool
+    pub(crate) fn is_same(&self, other: &Values) -> bool
         ensures { result ≡ same_values self.now other.now }
     {
         self.values.as_slice() == other.values.as_slice()
@@ -88,19 +95,25 @@ pub struct Motions {
 
 impl Model for Motions {
     ghost use Rattle.std.specs.Prelude.{List, ℤ};
+    ghost use Rattle.hid_cells.specs.Full.{IsFull};
 
     ghost Value = { List ℤ };
 
     ghost view = { λ m. m.amounts.items };
+
+    ghost invariant = { λ m. IsFull m.amounts };
 }
 
 impl Motions {
     /// So many, of which none has moved.
+    ///
+    /// # Errors
+    /// Want of memory.
     pub fn new(alloc: Global, count: usize) -> Result<Self, AllocError>
         ensures { IfOk result (λ m. m ≡ replicate count (pos 0)) }
     {
         Ok(Motions {
-            amounts: vec![in alloc; 0; count]?,
+            amounts: full_of(alloc, 0, count)?,
         })
     }
 
@@ -135,21 +148,22 @@ impl Motions {
     }
 
     /// Whether something has moved.
-    pub fn any(&self) -> bool
+    pub(crate) fn any(&self) -> bool
         ensures { result ≡ list_any (λ m. not (int_eq m (pos 0))) self.now }
     {
         self.amounts.iter().any(|amount| *amount != 0)
     }
 
-    /// Each amount, or what an element can carry of it.
-    pub fn clamp(&mut self, least: &i64, greatest: &i64)
+    /// Makes each amount what an element can carry of it: the least number where it is below that, the greatest where it is
+    /// above.
+    pub(crate) fn clamp(&mut self, least: &i64, greatest: &i64)
         ensures { self.new ≡ map (clamp least.now greatest.now) self.old }
     {
         clamp_all(&mut self.amounts, least, greatest);
     }
 
     /// Makes these those of the other, which has as many.
-    pub fn copy_from(&mut self, other: &Motions)
+    pub(crate) fn copy_from(&mut self, other: &Motions)
         requires { length self.old ≡ length other.now }
         ensures { self.new ≡ other.now }
     {
@@ -157,7 +171,7 @@ impl Motions {
     }
 
     /// Takes the amounts of the other from these.
-    pub fn subtract(&mut self, other: &Motions)
+    pub(crate) fn subtract(&mut self, other: &Motions)
         requires len { length self.old ≡ length other.now }
         requires amounts { are_motions (negsuc 0x7FFF_FFFF) (pos 0x7FFF_FFFF) self.old }
         requires others { are_motions (negsuc 0x7FFF_FFFF) (pos 0x7FFF_FFFF) other.now }

@@ -2,10 +2,10 @@
 
 ghost use Rattle.std.specs.Prelude.{◌≡◌, ◌≢◌, ◌+◌, ◌++◌, ◌<◌, ◌*◌, ◌/◌, ◌^◌, ◌==◌, ◌≤◌, ℕ, Bool, List, true, false, length, slice_get, slice_set, take, drop, replicate, Some, IfOk, IfSome, unwrap_or, if◌then◌else◌};
 ghost use Rattle.std.specs.Int.{bit_at};
-ghost use Rattle.hid_cells.specs.Cells.{pressed_count};
-ghost use Rattle.hid_cells.specs.Parts.{same_flags};
+ghost use Rattle.hid_cells.specs.Full.{IsFull};
 ghost use Rattle.hid_cells.specs.Words.{bits_in, words_of, is_on, is_alone, is_unlike, is_bit, are_alone, FindsFirst};
 
+use crate::full::full_of;
 use std::alloc::{AllocError, Global};
 use std::marker::Model;
 
@@ -14,6 +14,7 @@ use std::marker::Model;
 pub struct Flags {
     words: Vec<u64>,
     len: usize,
+    ghost full: { IsFull words },
 }
 
 impl Model for Flags {
@@ -28,12 +29,18 @@ impl Model for Flags {
 }
 
 impl Flags {
+    ghost use Rattle.hid_cells.specs.Cells.{pressed_count};
+    ghost use Rattle.hid_cells.specs.Parts.{same_flags};
+
     /// So many, of which none is pressed.
+    ///
+    /// # Errors
+    /// Want of memory.
     pub fn clear(alloc: Global, count: usize) -> Result<Self, AllocError>
         ensures { IfOk result (λ f. f ≡ replicate count false) }
     {
         Ok(Flags {
-            words: vec![in alloc; 0; count.div_ceil(64)]?,
+            words: full_of(alloc, 0, count.div_ceil(64))?,
             len: count,
         })
     }
@@ -81,8 +88,8 @@ impl Flags {
         }
     }
 
-    /// None is pressed.
-    pub fn release_all(&mut self)
+    /// Releases all of them.
+    pub(crate) fn release_all(&mut self)
         ensures { self.new ≡ replicate (length self.old) false }
     {
         self.words.fill(0);
@@ -100,7 +107,7 @@ impl Flags {
     }
 
     /// Makes these those of the other, which has as many places.
-    pub fn copy_from(&mut self, other: &Flags)
+    pub(crate) fn copy_from(&mut self, other: &Flags)
         requires { length self.old ≡ length other.now }
         ensures { self.new ≡ other.now }
     {
@@ -127,7 +134,7 @@ impl Flags {
         self.words.as_slice() == &other.words[..count]
     }
 
-    /// None is pressed, where none is behind the first ones: their words alone are written.
+    /// Releases all of them, where none is pressed behind the first ones, so many: the words of these alone are written.
     pub fn release_first(&mut self, count: usize)
         requires places { count ≤ length self.old }
         requires none { (i : ℕ) → count ≤ i → is_on self.old i ≡ false }
@@ -137,7 +144,7 @@ impl Flags {
     }
 
     /// Whether the same are pressed, of as many places.
-    pub fn is_same(&self, other: &Flags) -> bool
+    pub(crate) fn is_same(&self, other: &Flags) -> bool
         ensures { result ≡ same_flags self.now other.now }
     {
         self.len == other.len && self.words.as_slice() == other.words.as_slice()

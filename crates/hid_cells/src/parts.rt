@@ -77,7 +77,7 @@ fn roll_over(cell: &mut Cell, elements: usize)
 }
 
 /// Makes a cell what its report shows of it.
-pub fn show_cell(cell: &mut Cell, controls: &Controls)
+pub(crate) fn show_cell(cell: &mut Cell, controls: &Controls)
     ensures { cell.new ≡ shown_cell controls.now cell.old }
 {
     match controls {

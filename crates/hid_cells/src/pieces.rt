@@ -7,9 +7,9 @@ ghost use Rattle.hid_cells.specs.Pieces.{piece_of, pieces_of};
 use hid_layout::Layout;
 
 /// In bytes, the longest piece: what a packet of an interrupt endpoint carries (our choice, of 1 to 64).
-pub const MAX_PIECE: usize = 64;
+pub(crate) const MAX_PIECE: usize = 64;
 
-/// In how many pieces an Input report goes: each but the last has [`MAX_PIECE`] bytes, and there is one at least.
+/// In how many pieces an Input report goes: each but the last has 64 bytes, and there is one at least.
 #[tactic(auto, using(crate::proofs::PieceLemmas::pieces_are))]
 pub fn pieces_of(layout: &Layout, report: usize) -> usize
     requires { IsInput layout.now report }
@@ -29,7 +29,7 @@ fn piece_from(bytes: &[u8], start: usize) -> &[u8]
     &rest[..rest.len().min(MAX_PIECE)]
 }
 
-/// The piece at a place, from 0, of these bytes.
+/// The piece at a place, from 0, of these bytes: at most 64 bytes, none behind the last.
 #[tactic(auto, using(crate::proofs::PieceLemmas::drop_min))]
 pub fn piece_of(bytes: &[u8], piece: usize) -> &[u8]
     ensures piece { result.now ≡ piece_of bytes.now piece }

@@ -95,6 +95,7 @@ impl fmt::Display for Cause {
 /// A refusal of a descriptor. It is printed as its cause and its place, as in `L10 at 12`.
 #[derive(Clone, Copy, Debug, PartialEq, Eq)]
 pub struct LayoutFault {
+    /// What is wrong.
     pub cause: Cause,
     /// The byte at which the refused item begins; 4,096 for TooLong, the descriptor's length for Unclosed and
     /// MixedReportId, 0 for Memory.

@@ -29,11 +29,13 @@ pub struct KeptField {
     pub size: u32,
     /// Report Count: the number of fields.
     pub count: u32,
+    /// The flags of the item.
     pub flags: MainFlags,
     /// Logical Minimum. Where it is negative, fields are in two's complement.
     pub min: i64,
     /// Logical Maximum, read without sign where the minimum isn't negative.
     pub max: i64,
+    /// Whether the fields are padding, controls of their own or an array.
     pub shape: Shape,
 }
 

@@ -8,7 +8,7 @@ ghost use Rattle.hid_items.specs.Reading.{IsShort};
 use bitflags::{Flag, Flags, bitflag_items};
 use hid_items::Item;
 
-/// The flags of a main item: bits 0 to 8 of its data. Higher bits are dropped.
+/// The flags of a main item: bits 0 to 8 of its data. Higher bits are dropped, so that no item of a layout has them.
 #[derive(Clone, Copy, Debug, PartialEq, Eq)]
 pub struct MainFlags(pub u16);
 
@@ -60,14 +60,14 @@ impl MainFlags {
     }
 
     /// Whether the fields are padding, or else data.
-    pub fn is_constant(self) -> bool
+    pub(crate) fn is_constant(self) -> bool
         ensures { result ≡ has_flag CONSTANT self.0 }
     {
         self.contains(MainFlags::CONSTANT)
     }
 
     /// Whether each field is a control of its own, or else the fields are an array.
-    pub fn is_variable(self) -> bool
+    pub(crate) fn is_variable(self) -> bool
         ensures { result ≡ has_flag VARIABLE self.0 }
     {
         self.contains(MainFlags::VARIABLE)

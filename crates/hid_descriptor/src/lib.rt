@@ -55,7 +55,6 @@ pub use limits::{
 pub use listing::{ListedFields, list_fields};
 pub use report::{Report, ReportKind};
 pub use shape::Shape;
-pub use span::Span;
 pub use totals::find_report;
 pub use usage::{ERROR_ROLL_OVER, FIRST_KEY, KEYBOARD, Usage, entry_count};
 pub use values::{greatest_value, least_value};

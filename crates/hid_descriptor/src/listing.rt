@@ -75,8 +75,12 @@ fn check_end(parser: &Parser, descriptor: &[u8]) -> Result<(), LayoutFault>
     Ok(())
 }
 
-/// The fields that a report descriptor lists. A refusal has the first cause in the order of [`Cause`]; where memory is
-/// wanting the cause is Memory, at 0.
+/// The fields that a report descriptor lists.
+///
+/// # Errors
+/// A descriptor that is too long is refused before its items are looked at. Otherwise the first item with a cause decides,
+/// by the first of its causes in the order in which an item is looked at ([`Cause`]); behind the last item Unclosed comes
+/// before MixedReportId. Where memory is wanting the cause is Memory, at 0.
 pub fn list_fields(alloc: Global, descriptor: &[u8]) -> Result<ListedFields, LayoutFault>
     // The descriptor's items are accepted, and the fields are theirs.
     ensures ok { IfOk result (λ listed. (before : List Spelled) × Accepts descriptor.now before

@@ -42,6 +42,7 @@ impl ReportKind {
 /// A report that has at least one bit.
 #[derive(Clone, Copy, Debug, PartialEq, Eq)]
 pub struct Report {
+    /// Which way it goes, and what for.
     pub kind: ReportKind,
     /// The Report ID in force at its items, 0 where none is.
     pub id: u8,

@@ -2,7 +2,7 @@
 
 /// The place of a list among all values: from the start to before the end.
 #[derive(Clone, Copy, Debug)]
-pub struct Span {
-    pub start: usize,
-    pub end: usize,
+pub(crate) struct Span {
+    pub(crate) start: usize,
+    pub(crate) end: usize,
 }

@@ -15,7 +15,9 @@ pub const FIRST_KEY: u16 = 0x04;
 /// What a control is for: a page of the usage tables, and the number on that page.
 #[derive(Clone, Copy, Debug, PartialEq, Eq)]
 pub struct Usage {
+    /// The Usage Page.
     pub page: u16,
+    /// The Usage ID, its number on that page.
     pub id: u16,
 }
 

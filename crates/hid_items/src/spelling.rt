@@ -24,6 +24,7 @@ pub enum ItemKind {
 pub struct Item<'a> {
     /// The place of its first byte in the descriptor, from 0.
     pub at: usize,
+    /// Short, with its prefix, or long, with its tag.
     pub kind: ItemKind,
     /// The whole spelling, from the first byte to the last byte of its data.
     pub bytes: &'a [u8],

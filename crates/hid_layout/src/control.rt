@@ -14,6 +14,7 @@ pub struct ControlId {
     pub index: usize,
 }
 
+/// What a control tells.
 #[derive(Clone, Copy, Debug, PartialEq, Eq)]
 pub enum ControlKind {
     /// Pressed or not: a variable element with range 0 to 1 that is absolute and has no null state, or a key of an array.
@@ -51,7 +52,9 @@ impl ControlKind {
 /// What a control is and means.
 #[derive(Clone, Copy, Debug, PartialEq, Eq)]
 pub struct Control {
+    /// What it tells.
     pub kind: ControlKind,
+    /// What it is for.
     pub usage: Usage,
 }
 
@@ -60,15 +63,20 @@ pub struct Control {
 pub enum Controls {
     /// Padding, and items of Output and Feature reports.
     None,
-    /// One for each element, with the least and the greatest number that one can be sent as.
+    /// One for each element of a variable item.
     Elements {
+        /// What each of them tells.
         kind: ControlKind,
+        /// The least number that an element can carry.
         least: i64,
+        /// The greatest number that an element can carry.
         greatest: i64,
+        /// The number of elements.
         count: usize,
     },
-    /// The keys of an array with so many elements.
+    /// The keys of an array.
     Keys {
+        /// The number of elements.
         elements: usize,
         /// Whether it can tell that more keys are pressed than it has elements.
         rolls_over: bool,

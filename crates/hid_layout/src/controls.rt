@@ -45,7 +45,7 @@ pub fn usage_at(entries: &[(Usage, Usage)], index: usize) -> Option<Usage>
 
 impl MainItem {
     /// The least value that an element can carry.
-    pub fn least(&self) -> i64
+    pub(crate) fn least(&self) -> i64
         requires some { 0 < self.now.size }
         requires narrow { self.now.size ≤ MAX_WIDTH }
         ensures { result ≡ least_of self.now }
@@ -54,7 +54,7 @@ impl MainItem {
     }
 
     /// The greatest value that an element can carry.
-    pub fn greatest(&self) -> i64
+    pub(crate) fn greatest(&self) -> i64
         requires some { 0 < self.now.size }
         requires narrow { self.now.size ≤ MAX_WIDTH }
         ensures { result ≡ greatest_of self.now }

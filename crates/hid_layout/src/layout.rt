@@ -307,7 +307,7 @@ fn items_of(
     for field in fields {
         items.push_reserved(MainItem {
             report: place_of(reports, field.kind, field.id),
-            offset: field.offset,
+            offset: field.offset as usize,
             size: field.size,
             count: field.count,
             flags: field.flags,
@@ -345,8 +345,12 @@ fn lay_out(alloc: Global, listed: ListedFields) -> Result<Layout, AllocError>
 }
 
 impl Layout {
-    /// The layout that a report descriptor gives. A refusal has the first cause in the order of [`Cause`]; where
-    /// memory is wanting the cause is Memory, at 0.
+    /// The layout that a report descriptor gives.
+    ///
+    /// # Errors
+    /// A descriptor that is too long is refused before its items are looked at. Otherwise the first item with a cause
+    /// decides, by the first of its causes in the order in which an item is looked at ([`Cause`]); behind the last item
+    /// Unclosed comes before MixedReportId. Where memory is wanting the cause is Memory, at 0.
     pub fn parse(alloc: Global, descriptor: &[u8]) -> Result<Layout, LayoutFault>
         // The descriptor's items are accepted, and the layout is theirs.
         ensures ok { IfOk result (λ layout. (before : List Spelled) × Accepts descriptor.now before

@@ -11,16 +11,18 @@ pub struct MainItem {
     /// The place of its report among the layout's reports.
     pub report: usize,
     /// Where its first field begins in the report, in bits after the ID byte.
-    pub offset: u32,
+    pub offset: usize,
     /// Report Size: the bits of a field.
     pub size: u32,
     /// Report Count: the number of fields.
     pub count: u32,
+    /// The flags of the item.
     pub flags: MainFlags,
     /// Logical Minimum. Where it is negative, fields are in two's complement.
     pub min: i64,
     /// Logical Maximum, read without sign where the minimum isn't negative.
     pub max: i64,
+    /// Whether its fields are padding, controls of their own or an array.
     pub shape: Shape,
 }
 
@@ -28,7 +30,7 @@ pub struct MainItem {
 #[derive(Clone, Copy, Debug, PartialEq, Eq)]
 pub struct Element {
     /// Where it begins in its report, in bits after the ID byte.
-    pub bit: u32,
+    pub bit: usize,
     /// In bits, 1 to 32.
     pub width: u32,
     /// Whether its pattern is read in two's complement.
@@ -41,12 +43,12 @@ pub struct Element {
 
 impl MainItem {
     /// The field at a place.
-    fn field(&self, j: u32) -> Element
+    fn field(&self, j: usize) -> Element
         requires { self.now.offset + (j + 1) * self.now.size ≤ 8 * MAX_REPORT_BYTES }
         ensures { result ≡ field_at self.now j }
     {
         Element {
-            bit: self.offset + j * self.size,
+            bit: self.offset + j * self.size as usize,
             width: self.size,
             signed: self.min < 0,
             min: self.min,
@@ -64,7 +66,7 @@ impl MainItem {
         }
         match self.shape {
             Shape::Padding => None,
-            Shape::Variable | Shape::Array => Some(self.field(j as u32)),
+            Shape::Variable | Shape::Array => Some(self.field(j)),
         }
     }
 }

@@ -12,7 +12,7 @@ use hid_items::Item;
 use hid_layout::{Collection, Layout, MainItem, Shape, Usage};
 use hid_picture::push_escaped;
 use hid_pieces::{
-    InForce, first_bit, in_force, is_input_item, item_at, main_at, makes, place_of, print_bit,
+    InForce, first_bit_of, in_force, is_input_item, item_at, main_at, makes, place_of, print_bit,
     print_collection, print_count, print_entry, print_flags,
 };
 use std::alloc::{AllocError, Global};
@@ -270,7 +270,7 @@ fn print_place_cells(
         ≡ string_bytes text.old ++ place_cells layout.now i item.now) }
 {
     print_number_cell(text, i)?;
-    print_bit(text, first_bit(layout) + item.offset)?;
+    print_bit(text, first_bit_of(layout, item))?;
     text.push_str(NEXT)?;
     print_size_cell(text, item)?;
     text.push_str(NEXT)

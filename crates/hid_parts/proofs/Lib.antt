@@ -6,3 +6,4 @@ pub mod NumberLemmas
 pub mod SwitchLemmas
 pub mod EncodingLemmas
 pub mod ReportLemmas
+mod Vectors

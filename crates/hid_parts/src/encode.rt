@@ -60,7 +60,7 @@ pub fn bare_report(layout: &Layout, report: usize, bytes: &mut ArrayVec<u8, 256>
 }
 
 /// Whether an item has data elements in the report.
-pub fn is_data(item: &MainItem, report: usize) -> bool
+fn is_data(item: &MainItem, report: usize) -> bool
     ensures { result ≡ is_data_in report item.now }
 {
     let padding = match item.shape {
@@ -104,7 +104,7 @@ fn write_item<C: FieldCodec>(
     let numbers = send_item(layout, i, item, cell);
     put_all::<C>(
         bytes,
-        first_bit(layout) + item.offset as usize,
+        first_bit(layout) + item.offset,
         item.size,
         item.count as usize,
         numbers,
@@ -141,10 +141,35 @@ fn show_item<C: FieldCodec>(
     }
 }
 
-/// Gives the bytes of a report that show its part, in the place of other bytes: the report's ID first where there are IDs,
-/// then each element with its number, and 0 in every bit that no data element covers (HID 1.11, 5.6, 5.8, 5.10 and 8).
-#[tactic(auto, using(crate::proofs::EncodingLemmas::whole_report))]
+/// The bytes of an Input report that show its part: the report's ID first where there are IDs, then each element with its
+/// number, and 0 in every bit that no data element covers (HID 1.11, 5.6, 5.8, 5.10 and 8). They are as many as the report
+/// has, at most 256. The parts suit the layout, every array of an Input report has a code for an empty element, and every
+/// relative control can send 0. No memory is taken.
 pub fn encode_report<C: FieldCodec>(
+    layout: &Layout,
+    report: usize,
+    shown: &Shown,
+) -> ArrayVec<u8, 256>
+    requires input { IsInput layout.now report }
+    requires fits { FitsShown (items_of layout.now) shown.now }
+    requires empty_codes { has_empty_codes layout.now ≡ true }
+    requires zeros { has_zeros (items_of layout.now) ≡ true }
+    // These bytes, and no others, show the part.
+    ensures shows { IsEncoding layout.now report (part_numbers layout.now shown.now) result.items }
+    ensures only { (other : List ℕ) → AreBytes other
+        → IsEncoding layout.now report (part_numbers layout.now shown.now) other
+        → other ≡ result.items }
+    ensures bytes { result.items ≡ part_bytes layout.now report shown.now }
+{
+    let mut bytes = ArrayVec::new();
+    write_report::<C>(layout, report, shown, &mut bytes);
+    bytes
+}
+
+/// Writes the bytes of [`encode_report`], under its conditions, in the place of other bytes: a caller that keeps the room
+/// copies no report.
+#[tactic(auto, using(crate::proofs::EncodingLemmas::whole_report))]
+pub fn write_report<C: FieldCodec>(
     layout: &Layout,
     report: usize,
     shown: &Shown,

@@ -9,7 +9,7 @@ use hid_fields::{FieldCodec, to_pattern, to_value};
 use std::marker::Model;
 
 /// The most numbers of one item: each has a bit at least, and a report has 256 bytes at most.
-pub const MAX_NUMBERS: usize = 2048;
+pub(crate) const MAX_NUMBERS: usize = 2048;
 
 /// The fields of an item's elements, one behind the other in the bytes of a report. A contract sees the numbers that
 /// stand in them.

@@ -2,6 +2,7 @@
 
 ghost use Rattle.std.specs.Prelude.{◌≡◌, IfOk};
 ghost use Rattle.hid_layout.specs.Controls.{items_of};
+ghost use Rattle.hid_cells.specs.Full.{IsFull};
 ghost use Rattle.hid_cells.specs.Cells.{FitsShown};
 ghost use Rattle.hid_cells.specs.Parts.{blank_parts, motion_of};
 
@@ -15,6 +16,8 @@ use std::marker::Model;
 #[derive(Drop)]
 pub struct Shown {
     pub(crate) cells: Vec<Cell>,
+    // There is room for these cells alone.
+    ghost full: { IsFull cells },
 }
 
 impl Model for Shown {
@@ -28,6 +31,9 @@ impl Model for Shown {
 
 impl Shown {
     /// The parts of a blank snapshot.
+    ///
+    /// # Errors
+    /// [`MemoryFault`], U10, for want of memory.
     #[tactic(auto, using(hid_cells::proofs::ShownLemmas::blank_parts_fit))]
     pub fn blank(alloc: Global, layout: &Layout) -> Result<Self, MemoryFault>
         ensures blank { IfOk result (λ shown. shown ≡ blank_parts (items_of layout.now)) }

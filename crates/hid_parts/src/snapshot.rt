@@ -2,6 +2,7 @@
 
 ghost use Rattle.std.specs.Prelude.{◌≡◌, true, length, IfOk};
 ghost use Rattle.hid_layout.specs.Controls.{items_of};
+ghost use Rattle.hid_cells.specs.Full.{IsFull};
 ghost use Rattle.hid_cells.specs.Cells.{is_i32, FitsSnapshot, FitsShown, blank};
 ghost use Rattle.hid_cells.specs.Parts.{IsInput, is_changed, shown, still, taken, has_zeros};
 ghost use Rattle.hid_cells.specs.Snapshots.{is_pressed, motion_in, with_pressed, with_value, with_motion, is_full, can_hold, has_direction, target, cell_at, Changes, ChangesCell, HasIndex};
@@ -243,6 +244,8 @@ fn target(change: &Change) -> ControlId
 #[derive(Drop)]
 pub struct Snapshot {
     pub(crate) cells: Vec<Cell>,
+    // There is room for these cells alone.
+    ghost full: { IsFull cells },
 }
 
 impl Model for Snapshot {
@@ -255,8 +258,11 @@ impl Model for Snapshot {
 }
 
 impl Snapshot {
-    /// Nothing is pressed and nothing has moved; each value is null where it has null, else 0 where 0 can be sent, else
-    /// the least value that can be sent.
+    /// Makes the snapshot of a device whose controls nobody has touched: nothing is pressed and nothing has moved; each
+    /// value is null where it has null (HID 1.11, 5.10), else 0 where 0 can be sent, else the least value that can be sent.
+    ///
+    /// # Errors
+    /// [`MemoryFault`], U10, for want of memory.
     #[tactic(auto, using(hid_cells::proofs::BlankLemmas::blank_fits))]
     pub fn blank(alloc: Global, layout: &Layout) -> Result<Self, MemoryFault>
         ensures blank { IfOk result (λ snapshot. snapshot ≡ blank (items_of layout.now)) }
@@ -268,7 +274,12 @@ impl Snapshot {
         }
     }
 
-    /// Presses a switch; one that is pressed stays so.
+    /// Presses a switch, or a key of an array; one that is pressed stays so.
+    ///
+    /// # Errors
+    /// The first of these that stands, which leaves the snapshot as it was: [`ChangeFault::NoSuchControl`] (U1) where the
+    /// layout has no such control, [`ChangeFault::WrongKind`] (U2) where it isn't a switch, [`ChangeFault::ArrayFull`] (U7)
+    /// where every element of its array is taken and the array has no code to tell that more keys are pressed.
     pub fn press(&mut self, layout: &Layout, control: ControlId) -> Result<(), ChangeFault>
         requires { FitsSnapshot (items_of layout.now) self.old }
         ensures changes { Changes (items_of layout.now) self.old
@@ -278,7 +289,11 @@ impl Snapshot {
         self.change(layout, &Change::Press(control))
     }
 
-    /// Releases a switch; one that isn't pressed stays so.
+    /// Releases a switch, or a key of an array; one that isn't pressed stays so.
+    ///
+    /// # Errors
+    /// The first of these that stands, which leaves the snapshot as it was: [`ChangeFault::NoSuchControl`] (U1) where the
+    /// layout has no such control, [`ChangeFault::WrongKind`] (U2) where it isn't a switch.
     pub fn release(&mut self, layout: &Layout, control: ControlId) -> Result<(), ChangeFault>
         requires { FitsSnapshot (items_of layout.now) self.old }
         ensures changes { Changes (items_of layout.now) self.old
@@ -288,7 +303,12 @@ impl Snapshot {
         self.change(layout, &Change::Release(control))
     }
 
-    /// Sets a value.
+    /// Sets an absolute value, in the units of its item.
+    ///
+    /// # Errors
+    /// The first of these that stands, which leaves the snapshot as it was: [`ChangeFault::NoSuchControl`] (U1) where the
+    /// layout has no such control, [`ChangeFault::WrongKind`] (U2) where it has no value, [`ChangeFault::OutOfRange`] (U3)
+    /// where the value is out of the logical range, or no pattern of the element stands for it (HID 1.11, 5.8).
     pub fn set(
         &mut self,
         layout: &Layout,
@@ -303,7 +323,12 @@ impl Snapshot {
         self.change(layout, &Change::Set(control, value))
     }
 
-    /// Sets a value to null.
+    /// Sets a value to null (HID 1.11, 5.10).
+    ///
+    /// # Errors
+    /// The first of these that stands, which leaves the snapshot as it was: [`ChangeFault::NoSuchControl`] (U1) where the
+    /// layout has no such control, [`ChangeFault::WrongKind`] (U2) where it has no value, [`ChangeFault::NoNull`] (U4) where
+    /// its value has no null.
     pub fn set_null(&mut self, layout: &Layout, control: ControlId) -> Result<(), ChangeFault>
         requires { FitsSnapshot (items_of layout.now) self.old }
         ensures changes { Changes (items_of layout.now) self.old
@@ -313,7 +338,13 @@ impl Snapshot {
         self.change(layout, &Change::Null(control))
     }
 
-    /// Moves a relative control: the amount is added to the motion that isn't reported yet.
+    /// Moves a relative control by an amount in the units of its item, which is added to the motion that isn't reported yet.
+    ///
+    /// # Errors
+    /// The first of these that stands, which leaves the snapshot as it was: [`ChangeFault::NoSuchControl`] (U1) where the
+    /// layout has no such control, [`ChangeFault::WrongKind`] (U2) where it isn't relative, [`ChangeFault::NoDirection`]
+    /// (U5) where no number that its element can send has the sign of the amount, [`ChangeFault::MotionFull`] (U6) where
+    /// the sum is no `i32`.
     pub fn shift(&mut self, layout: &Layout, control: ControlId, by: i32) -> Result<(), ChangeFault>
         requires { FitsSnapshot (items_of layout.now) self.old }
         ensures changes { Changes (items_of layout.now) self.old

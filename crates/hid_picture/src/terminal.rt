@@ -15,7 +15,7 @@ use crate::lines::{byte_at, columns_of, line_of, row_lines};
 use crate::words::print_frame_name;
 use hid_layout::{Layout, MainItem, Report, Usage};
 use hid_pieces::{
-    Frame, Piece, deepest, first_bit, is_input_item, item_at, piece_at, print_bit, print_count,
+    Frame, Piece, deepest, first_bit_of, is_input_item, item_at, piece_at, print_bit, print_count,
     print_entry, print_flags, print_part_details, print_piece_name, print_report_name, report_at,
 };
 use std::alloc::{AllocError, Global};
@@ -444,7 +444,7 @@ fn print_item_lines(
         ≡ string_bytes text.old ++ item_lines layout.now i item.now entries.now) }
 {
     write!(text, "field {i}: ")?;
-    print_bit(text, first_bit(layout) + item.offset)?;
+    print_bit(text, first_bit_of(layout, item))?;
     text.push_str("\n  ")?;
     print_flags(text, is_input_item(layout, item), item.flags)?;
     text.push_str("\n")?;

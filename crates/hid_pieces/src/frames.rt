@@ -5,7 +5,7 @@ ghost use Rattle.hid_pieces.specs.Pieces.{LiesIn};
 ghost use Rattle.hid_pieces.specs.Frames.{first_byte, last_byte, main_at, reaching, frame_with, frame_below, open_below, round_at, frame_at, frames_of, deepest};
 
 use crate::items::spelled_at;
-use crate::listed::{first_bit, item_at};
+use crate::listed::{first_bit_of, item_at};
 use crate::makers::{collections_after, ends_collection, lies_in};
 use hid_items::Item;
 use hid_layout::{Layout, MainItem};
@@ -37,7 +37,7 @@ fn first_byte(layout: &Layout, item: &MainItem) -> u32
     requires { LiesIn layout.now item.now }
     ensures { result ≡ first_byte layout.now item.now }
 {
-    (first_bit(layout) + item.offset) / 8
+    first_bit_of(layout, item) / 8
 }
 
 /// The last one.
@@ -45,7 +45,7 @@ fn last_byte(layout: &Layout, item: &MainItem) -> u32
     requires { LiesIn layout.now item.now }
     ensures { result ≡ last_byte layout.now item.now }
 {
-    (first_bit(layout) + (item.offset + item.size * item.count)).saturating_sub(1) / 8
+    (first_bit_of(layout, item) + item.size * item.count).saturating_sub(1) / 8
 }
 
 /// The place of the main item of a listed item.

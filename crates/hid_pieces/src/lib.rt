@@ -23,7 +23,7 @@ mod words;
 pub use frames::{Drawn, Frame, deepest, main_at, round_at};
 pub use items::{place_of, prefix_of, read_items};
 pub use label::UsageLabel;
-pub use listed::{first_bit, item_at, report_at};
+pub use listed::{first_bit_of, item_at, report_at};
 pub use makers::{
     COLLECTION, InForce, global_place, in_force, is_field, is_main, listed_places, makes,
 };

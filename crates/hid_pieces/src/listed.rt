@@ -1,6 +1,6 @@
 //! Items and reports of a layout by their places.
 
-ghost use Rattle.std.specs.Prelude.{◌≡◌, ◌*◌, ◌<◌, ◌≤◌, length, slice_get, Some};
+ghost use Rattle.std.specs.Prelude.{◌≡◌, ◌+◌, ◌*◌, ◌<◌, ◌≤◌, length, slice_get, Some};
 ghost use Rattle.hid_layout.specs.Reports.{first_bit, report_bytes};
 ghost use Rattle.hid_pieces.specs.Pieces.{LiesIn};
 ghost use Rattle.hid_descriptor.specs.declared.limits.TheConstants.{MAX_REPORT_BYTES};
@@ -28,8 +28,16 @@ pub fn report_at(layout: &Layout, r: usize) -> &Report
 }
 
 /// The first bit behind the ID.
-pub fn first_bit(layout: &Layout) -> u32
+pub(crate) fn first_bit(layout: &Layout) -> u32
     ensures { result ≡ first_bit layout.now }
 {
     if layout.numbered() { 8 } else { 0 }
+}
+
+/// Where an item begins, in bits of its report with the ID (HID 1.11, 5.6 and 8).
+pub fn first_bit_of(layout: &Layout, item: &MainItem) -> u32
+    requires { LiesIn layout.now item.now }
+    ensures { result ≡ first_bit layout.now + item.now.offset }
+{
+    first_bit(layout) + item.offset as u32
 }

@@ -4,7 +4,7 @@ ghost use Rattle.std.specs.Prelude.{◌≡◌, ◌++◌, ◌+◌, ◌<◌, ◌�
 ghost use Rattle.hid_layout.specs.Reports.{first_bit, element_of};
 ghost use Rattle.hid_pieces.specs.Pieces.{LiesIn, gathered, piece_of, stretch_pieces, element_pieces, shape_pieces, item_pieces, id_pieces, filler_pieces, pieces_of};
 
-use crate::listed::{first_bit, item_at, report_at};
+use crate::listed::{first_bit, first_bit_of, item_at, report_at};
 use hid_layout::{Layout, MainItem, Shape};
 use std::alloc::{AllocError, Global};
 
@@ -96,7 +96,7 @@ fn push_element(
                     item: i,
                     element: j,
                 },
-                bit: first_bit(layout) + element.bit,
+                bit: first_bit(layout) + element.bit as u32,
                 width: element.width,
             },
         ),
@@ -121,7 +121,7 @@ fn push_padding(
                 item: i,
                 element: 0,
             },
-            bit: first_bit(layout) + item.offset,
+            bit: first_bit_of(layout, item),
             width: item.size * item.count,
         },
     )

@@ -4,6 +4,7 @@ use Rattle.std.proofs.Common.{◌≡◌, [], ◌∷◌, true, Some, None, refl}
 use Rattle.hid_descriptor.specs.declared.report.ReportKind.TheVariants.{Feature}
 use Rattle.usb_control.specs.SetupBytes.{setup_bytes, setup_of}
 use Rattle.hid_requests.specs.declared.asked.Asked.TheVariants.{ReportDescriptor}
+use Rattle.hid_requests.specs.declared.codes.TheConstants.{REPORT_ENDPOINT}
 use Rattle.hid_requests.specs.declared.asked.Asked.TheVariants as rows
 use Rattle.hid_requests.specs.declared.class.Protocol.TheVariants.{Boot}
 use Rattle.hid_requests.specs.declared.request.Request.TheVariants.{Report, Idle, GetReport, Protocol, Halt, Clear, EndpointStatus}
@@ -52,6 +53,10 @@ boot_bytes = refl
 boot_row : asked_of (setup_of (0x21 ∷ 0x0B ∷ 0x00 ∷ 0x00 ∷ 0x00 ∷ 0x00 ∷ 0x00 ∷ 0x00 ∷ [])) ≡ Some (rows.SetProtocol Boot)
 unfolding asked_of
 boot_row = refl
+
+-- Input reports come from endpoint 1
+endpoint_of_reports : REPORT_ENDPOINT ≡ 1
+endpoint_of_reports = refl
 
 -- endpoint 1, to the host, is halted, its halt is ended, and its status is asked for (9.4.9, 9.4.1 and 9.4.5)
 halt_bytes : setup_bytes (setup_for Halt (record { report_length = 63; endpoint = 1 }))

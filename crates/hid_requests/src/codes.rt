@@ -78,6 +78,9 @@ pub const HID: u8 = 0x21;
 /// The type of a report descriptor.
 pub const REPORT: u8 = 0x22;
 
+/// The number of the interrupt-IN endpoint of a virtual device, out of which its Input reports come (our choice).
+pub const REPORT_ENDPOINT: u8 = 1;
+
 /// wValue of SET_FEATURE and CLEAR_FEATURE: the halt of an endpoint (table 9-6).
 pub const ENDPOINT_HALT: u16 = 0;
 

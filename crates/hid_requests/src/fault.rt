@@ -66,6 +66,7 @@ impl fmt::Display for DeviceCause {
 /// A refusal of a device. It is printed as its code, and behind V1 to V16 with the place, as in `V3 at 0`.
 #[derive(Clone, Copy, Debug, PartialEq, Eq)]
 pub struct DeviceFault {
+    /// Of the causes that stand, the first in the order of [`DeviceCause`].
     pub cause: DeviceCause,
     /// Of V1 to V16 the layout's place in the descriptor, else 0.
     pub at: usize,

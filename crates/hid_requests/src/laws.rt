@@ -19,7 +19,8 @@ pub fn rows_are_sorted()
     ensures { (setup : Setup) (asked : Asked) → asked_of setup ≡ Some asked → IsSorted setup asked }
 {}
 
-/// What a host asks is of the row that it means; what it asks of an endpoint, where that is the one of Input reports.
+/// The setup data of a host's request are of the row that the request means. Those of a request for an endpoint are so where
+/// that is the endpoint of Input reports.
 #[tactic(auto, using(crate::proofs::AskedLemmas::asked_so))]
 pub fn requests_have_rows()
     ensures { (request : Request) (asking : Asking) → FitsRequest request → IsOfReports request asking

@@ -21,7 +21,8 @@
 //! none is refused.
 //!
 //! Both ends, and the lines of a script, speak of the kind of a device ([`Boot`]), of how it begins with its host
-//! ([`Start`]), and of why there is none ([`DeviceFault`]).
+//! ([`Start`]), and of why there is none ([`DeviceFault`]); and they agree on the endpoint out of which a device's reports come
+//! ([`REPORT_ENDPOINT`]).
 //! ```text
 //!   let setup = Request::Configure.setup(&Asking { report_length: 63, endpoint: 1 });    // 00 09 01 00 00 00 00 00
 //!   what_is_asked(&setup)                                                                // Some(Asked::SetConfiguration)
@@ -41,6 +42,7 @@ mod start;
 pub use asked::{Asked, what_is_asked};
 pub use boot::Boot;
 pub use class::Protocol;
+pub use codes::REPORT_ENDPOINT;
 pub use descriptors::{configuration, device_descriptor, hid_descriptor};
 pub use fault::{DeviceCause, DeviceFault};
 pub use request::{Asking, Request};

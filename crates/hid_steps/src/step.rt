@@ -13,6 +13,7 @@ pub enum Step {
     Change {
         /// The device, from 1.
         dev: u8,
+        /// What is pressed, let go, set or moved.
         change: Change,
     },
     /// A frame passes, for every device (USB 2.0, 8.4.3).
@@ -28,6 +29,7 @@ pub enum Step {
     Begin {
         /// The device, from 1.
         dev: u8,
+        /// What is asked of the device, with the data that go with it.
         request: Request,
     },
     /// The host of a device makes one try of its transfer (USB 2.0, 8.5.3).
@@ -71,5 +73,6 @@ pub enum Told {
 pub struct Delivered {
     /// The device, from 1.
     pub dev: u8,
+    /// What its host was told.
     pub event: Event,
 }

@@ -139,7 +139,7 @@ fn print_place(text: &mut String, item: &MainItem) -> Result<(), AllocError>
         ++ 32 ∷ decimal item.now.size ++ 120 ∷ decimal item.now.count) }
 {
     text.push_str(" at ")?;
-    print_number(text, u64::from(item.offset))?;
+    print_number(text, item.offset as u64)?;
     text.push(' ')?;
     print_number(text, u64::from(item.size))?;
     text.push('x')?;

@@ -1,7 +1,5 @@
 -- Values of the definitions, worked out by hand.
-use Rattle.std.specs.Prelude.{◌≡◌, ℕ, ◌*◌, Bool, true, false, List, [], ◌∷◌, None, Ok, Err, pos, negsuc, refl}
-use Rattle.hid_descriptor.specs.declared.limits.TheConstants.{MAX_REPORT_BYTES}
-use Rattle.hid_parts.specs.declared.numbers.TheConstants.{MAX_NUMBERS}
+use Rattle.std.specs.Prelude.{◌≡◌, ℕ, Bool, true, false, List, [], ◌∷◌, None, Ok, Err, pos, negsuc, refl}
 use Rattle.hid_layout.specs.Controls.{Item}
 use Rattle.hid_cells.specs.declared.cell.Cell.{Cell}
 use Rattle.hid_cells.specs.declared.cell.Cell.TheVariants.{Vacant, Pressed, Holding, Moved}
@@ -123,7 +121,3 @@ keys_in_words = refl
 second_set : is_changed keyboard 0 (kept (changes_of keyboard (change.Press (at 4 11) ∷ seven_keys))) (shown keyboard 0 (kept (changes_of keyboard seven_keys)) (blank_parts keyboard)) ≡ false
 unfolding seven_keys
 second_set = refl
-
--- an item has at most one element for each bit of the longest report
-most_numbers : MAX_NUMBERS ≡ 8 * MAX_REPORT_BYTES
-most_numbers = refl

@@ -23,7 +23,10 @@ pub struct KeyboardReport {
 }
 
 impl KeyboardReport {
-    /// The report in these bytes: modifiers in byte 0, keys in bytes 2 to 7. Under 8 bytes are Short.
+    /// The report in these bytes: modifiers in byte 0, keys in bytes 2 to 7. More than 8 bytes are ignored.
+    ///
+    /// # Errors
+    /// [`ReportFault::Short`] (U8) under 8 bytes.
     pub fn read(bytes: &[u8]) -> Result<KeyboardReport, ReportFault>
         ensures { result ≡ keyboard_in bytes.now }
     {
@@ -76,8 +79,11 @@ pub struct MouseReport {
 }
 
 impl MouseReport {
-    /// The report in these bytes: buttons in the low three bits of byte 0, x and y in bytes 1 and 2. Under 3 bytes are
-    /// Short. -128 is out of the range of a motion and reads as 0.
+    /// The report in these bytes: buttons in the low three bits of byte 0, x and y in bytes 1 and 2. -128 is out of the range
+    /// of a motion and reads as 0. More than 3 bytes are ignored.
+    ///
+    /// # Errors
+    /// [`ReportFault::Short`] (U8) under 3 bytes.
     pub fn read(bytes: &[u8]) -> Result<MouseReport, ReportFault>
         ensures { result ≡ mouse_in bytes.now }
     {

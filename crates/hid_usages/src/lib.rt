@@ -8,7 +8,7 @@
 //!   an element of 07:01 in an array    the keys of that array stay as they were
 //!   a number out of its range          null where the control has null, else nothing changes
 //! ```
-//! Each of the three keeps one [`Cell`] for each listed item of its layout, so a control's ID addresses its state.
+//! Each of the three keeps one cell for each listed item of its layout, so a control's ID addresses its state.
 //! The rule to know: a call with a layout is given the one with which its other values were made, which the conditions
 //! `FitsSnapshot`, `FitsShown` and `FitsView` say; `blank` and `initial` make them, and every call keeps them.
 //! Pressed and held keys are kept as words of 64 bits: `key_words` of a [`Snapshot`] and of a [`View`].
@@ -23,8 +23,8 @@
 pub mod boot;
 
 pub use hid_cells::{
-    Cell, Change, ChangeFault, Event, Flags, MemoryFault, Motions, ReportFault, Values,
-    has_empty_codes, has_keys, has_zeros, is_input,
+    Change, ChangeFault, Event, MemoryFault, ReportFault, has_empty_codes, has_keys, has_zeros,
+    is_input,
 };
 pub use hid_parts::{Shown, Snapshot, encode_report};
 pub use hid_views::{

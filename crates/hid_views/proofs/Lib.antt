@@ -13,6 +13,7 @@ pub mod CrossingLemmas
 pub mod OneReportLemmas
 pub mod CrossingVectors
 pub mod ElementLemmas
+pub mod PlaceLemmas
 pub mod DropLemmas
 pub mod RoomLemmas
 pub mod BackLemmas

@@ -1,6 +1,6 @@
 //! Which Input report bytes are, and the number of one of its elements.
 
-ghost use Rattle.std.specs.Prelude.{◌≡◌, ◌<◌, ◌≤◌, false, length, Option, Some, None, position, IsSomeAnd, IfSome};
+ghost use Rattle.std.specs.Prelude.{◌≡◌, ◌*◌, ◌<◌, ◌≤◌, false, length, Option, Some, None, position, IsSomeAnd, IfSome};
 ghost use Rattle.hid_layout.specs.Reports.{element_of, report_bytes};
 ghost use Rattle.hid_views.specs.Reading.{is_input_with, whole_report, report_named, report_begun, bytes_awaited, element_number, IsInside};
 
@@ -43,8 +43,12 @@ fn whole_report(layout: &Layout, bytes: &[u8], id: u8) -> Result<usize, ReportFa
     }
 }
 
-/// The number of the Input report that the bytes are, by their first byte where reports are numbered (HID 1.11, 5.6).
-/// More bytes than the report has are ignored.
+/// The place, in the layout's list of reports, of the Input report that the bytes are, by their first byte where reports are
+/// numbered (HID 1.11, 5.6). More bytes than the report has are ignored.
+///
+/// # Errors
+/// [`ReportFault::Short`] (U8) where reports are numbered and there is no byte; else [`ReportFault::UnknownReport`] (U9)
+/// where no Input report has the number, or the layout has no Input report; else U8 under the bytes of the report.
 pub fn input_report(layout: &Layout, bytes: &[u8]) -> Result<usize, ReportFault>
     ensures { result ≡ report_named layout.now bytes.now }
 {
@@ -72,8 +76,8 @@ fn report_begun(layout: &Layout, bytes: &[u8]) -> Option<usize>
     }
 }
 
-/// In bytes, the Input report that begins with these, by the first of them where reports are numbered (HID 1.11, 5.6); where
-/// they begin none, the longest that there may be.
+/// How many bytes the Input report has that begins with these, its ID byte included, by the first of them where reports are
+/// numbered (HID 1.11, 5.6): at most 256. Where they begin none it is [`MAX_REPORT_BYTES`], as many as the longest report has.
 pub fn bytes_awaited(layout: &Layout, bytes: &[u8]) -> usize
     ensures awaited { result ≡ bytes_awaited layout.now bytes.now }
     ensures short { result ≤ MAX_REPORT_BYTES }
@@ -85,7 +89,8 @@ pub fn bytes_awaited(layout: &Layout, bytes: &[u8]) -> usize
     }
 }
 
-/// The number of a data element in the bytes of its report (HID 1.11, 5.8). The element lies in the bytes.
+/// The number of a data element, of the item at this place and at this index of its elements, in the bytes of its report
+/// (HID 1.11, 5.8), its ID byte included. The item is listed, it has the element, and the element lies in the bytes.
 pub fn element_value<C: FieldCodec>(layout: &Layout, bytes: &[u8], item: usize, j: usize) -> i64
     requires listed { item < length layout.now.items }
     requires element { IsSomeAnd (element_of layout.now item j)
@@ -93,6 +98,7 @@ pub fn element_value<C: FieldCodec>(layout: &Layout, bytes: &[u8], item: usize, 
     ensures { IfSome (element_of layout.now item j) (λ element. result
         ≡ element_number layout.now bytes.now element) }
 {
+    let _items = layout.items(); // with what holds of every layout, as that its reports are short
     match layout.element(item, j) {
         Some(element) => element_number::<C>(layout, bytes, &element),
         None => 0,
@@ -100,10 +106,11 @@ pub fn element_value<C: FieldCodec>(layout: &Layout, bytes: &[u8], item: usize, 
 }
 
 fn element_number<C: FieldCodec>(layout: &Layout, bytes: &[u8], element: &Element) -> i64
-    requires { IsInside layout.now bytes.now element.now }
+    requires inside { IsInside layout.now bytes.now element.now }
+    requires short { element.now.bit ≤ 8 * MAX_REPORT_BYTES }
     ensures { result ≡ element_number layout.now bytes.now element.now }
 {
     let first = if layout.numbered() { 8 } else { 0 };
-    let pattern = C::get(bytes, first + element.bit as usize, element.width);
+    let pattern = C::get(bytes, first + element.bit, element.width);
     to_value(pattern, element.width, element.signed)
 }

@@ -153,7 +153,7 @@ fn take_fields<C: FieldCodec>(
         (item_numbers listed.now.layout.now bytes.now listed.now.item.now)) out.new }
 {
     let item = listed.item;
-    let at = first_bit(listed.layout) + item.offset as usize;
+    let at = first_bit(listed.layout) + item.offset;
     if are_bits(item) {
         take_pattern(listed, C::get(bytes, at, item.count), cell, out);
     } else {

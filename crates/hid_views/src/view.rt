@@ -3,6 +3,7 @@
 ghost use Rattle.std.specs.Prelude.{◌≡◌, ◌≤◌, ◌+◌, ◌++◌, ℕ, true, length, slice_get, Some, IfOk, vec_len, vec_capacity};
 ghost use Rattle.hid_layout.specs.Controls.{items_of, max_events};
 ghost use Rattle.hid_cells.specs.declared.cell.Cell.{Cell as CellValue};
+ghost use Rattle.hid_cells.specs.Full.{IsFull};
 ghost use Rattle.hid_cells.specs.Cells.{blank, FitsShown, FitsView};
 ghost use Rattle.hid_cells.specs.Parts.{IsInput};
 ghost use Rattle.hid_cells.specs.Snapshots.{is_pressed, cell_at};
@@ -33,6 +34,8 @@ pub struct View {
     /// Flags for the keys that a report names, as many as the most switches or keys of one item. Between two calls none is
     /// set.
     named: Flags,
+    // There is room for these cells alone.
+    ghost full: { IsFull cells },
 }
 
 impl Model for View {
@@ -49,7 +52,10 @@ impl Model for View {
 }
 
 impl View {
-    /// Nothing is held; values are those of a blank snapshot.
+    /// What a host holds before the first report: nothing is held; values are those of a blank snapshot.
+    ///
+    /// # Errors
+    /// [`MemoryFault`], U10, for want of memory.
     pub fn initial(alloc: Global, layout: &Layout) -> Result<Self, MemoryFault>
         ensures initial { IfOk result (λ view. view ≡ blank (items_of layout.now)) }
         ensures fits { IfOk result (λ view. FitsView (items_of layout.now) view) }
@@ -63,8 +69,12 @@ impl View {
         }
     }
 
-    /// Takes the bytes of an Input report, and appends what changes and what moves. More bytes than the report has are
-    /// ignored. There is reserved room for `max_events` more; no memory is taken. A refusal leaves the view as it was.
+    /// Takes the bytes of an Input report, and appends what changes and what moves (HID 1.11, 5.6 and 8), item by item in
+    /// layout order: what changes in the order of [`changes`], and of a relative item each motion by rising index. More bytes
+    /// than the report has are ignored. There is reserved room for `max_events` more; no memory is taken.
+    ///
+    /// # Errors
+    /// Those of [`input_report`], U8 and U9, which leave the view as it was.
     pub fn take_report<C: FieldCodec>(
         &mut self,
         layout: &Layout,
@@ -110,7 +120,8 @@ impl View {
         all_changes_back(layout, &self.cells, &self.named, out);
     }
 
-    /// The same, and the motion of an Input report's part as dropped, as [`changes_and_drops`] does.
+    /// Appends what [`View::changes_back`] does, and the motion of an Input report's part as dropped, as
+    /// [`changes_and_drops`] does. There is reserved room for `max_events` more; no memory is taken.
     #[tactic(auto, using(crate::proofs::BackLemmas::drops_back))]
     pub fn changes_back_and_drops(
         &self,
@@ -144,13 +155,6 @@ impl View {
             Some(Cell::Pressed(flags)) => flags.get_or_false(control.index),
             _ => false,
         }
-    }
-
-    /// What it has of each listed item.
-    pub fn cells(&self) -> &[Cell]
-        ensures { result.now ≡ self.now }
-    {
-        &self.cells
     }
 
     /// The held keys of an Input array, by place in its usage list: bit i mod 64 of word i div 64 is 1 exactly where the
@@ -207,10 +211,11 @@ fn most_places(cells: &[Cell]) -> usize
     most
 }
 
-/// Appends what changes from the cells of one view to those of another: of a variable item by rising index, of an array
-/// each release by rising index and then each press. There is reserved room for `max_events` more; no memory is taken.
+/// Appends what changes from one view to another, item by item in layout order: of a variable item by rising index, of an
+/// array each release by rising index and then each press. Both views suit the layout. There is reserved room for
+/// `max_events` more; no memory is taken.
 #[tactic(auto, using(crate::proofs::ViewLemmas::few_changes))]
-pub fn changes(layout: &Layout, before: &[Cell], after: &[Cell], out: &mut Vec<Event>)
+pub fn changes(layout: &Layout, before: &View, after: &View, out: &mut Vec<Event>)
     requires before { FitsView (items_of layout.now) before.now }
     requires after { FitsView (items_of layout.now) after.now }
     requires room { vec_len out.old + max_events (items_of layout.now) ≤ vec_capacity out.old }
@@ -220,17 +225,17 @@ pub fn changes(layout: &Layout, before: &[Cell], after: &[Cell], out: &mut Vec<E
     ensures few { vec_len out.new ≤ vec_len out.old + max_events (items_of layout.now) }
     ensures room { vec_capacity out.new ≡ vec_capacity out.old }
 {
-    all_changes(layout, before, after, out);
+    all_changes(layout, &before.cells, &after.cells, out);
 }
 
-/// Appends what changes from the cells of one view to those of another, and the motion of an Input report's part as
-/// dropped: what a host tells that forgets its device, where the report was sent and didn't reach it. There is reserved
-/// room for `max_events` more; no memory is taken.
+/// Appends what [`changes`] does, and the motion of an Input report's part as dropped: what a host tells that forgets its
+/// device, where the report was sent and didn't reach it. Views and parts suit the layout. There is reserved room for
+/// `max_events` more; no memory is taken.
 #[tactic(auto, using(crate::proofs::DropLemmas::drops))]
 pub fn changes_and_drops(
     layout: &Layout,
-    before: &[Cell],
-    after: &[Cell],
+    before: &View,
+    after: &View,
     report: usize,
     shown: &Shown,
     out: &mut Vec<Event>,
@@ -251,5 +256,5 @@ pub fn changes_and_drops(
         report,
         shown,
     };
-    all_changes_and_drops(&dropped, before, after, out);
+    all_changes_and_drops(&dropped, &before.cells, &after.cells, out);
 }

@@ -1,4 +1,4 @@
-use Rattle.std.proofs.Common.{◌≡◌, ◌≤◌, take, length, vec_capacity}
+use Rattle.std.proofs.Common.{◌≡◌, take, length, vec_capacity}
 use Rattle.hid_layout.specs.Controls.{items_of}
 use Rattle.hid_cells.specs.Cells.{blank}
 use Rattle.hid_cells.proofs.blank.blank_cells.Given as goal
@@ -8,5 +8,5 @@ invariant-loop-i l = record {
   cells : l.cells.items ≡ blank (take l.i (items_of l.layout));
   count_is : l.count ≡ length (items_of l.layout);
   long : length l.cells.items ≡ l.i;
-  room : l.count ≤ vec_capacity l.cells;
+  room : vec_capacity l.cells ≡ l.count;
 }

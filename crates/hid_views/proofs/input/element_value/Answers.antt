@@ -3,10 +3,15 @@ use Rattle.std.proofs.lemmas.Int.{to_z-of_z}
 use Rattle.std.specs.Option.{IsSomeAnd}
 use Rattle.hid_layout.specs.declared.main_item.Element.{Element}
 use Rattle.hid_views.specs.Reading.{element_number, IsInside}
+use Rattle.hid_views.proofs.PlaceLemmas.{bit_short}
 use Rattle.hid_views.proofs.input.element_value.Goals as goal
 
-pub element_number-requires : goal.element_number-requires
-element_number-requires g c = subst (λ (o : Option Element). IsSomeAnd o (λ element. IsInside c.args.layout.now c.args.bytes.now element)) (sym c.element.ensures ∙ c.in-Some.is) c.requires.element
+pub element_number-requires-clause-inside : goal.element_number-requires-clause-inside
+element_number-requires-clause-inside g c = subst (λ (o : Option Element). IsSomeAnd o (λ element. IsInside c.args.layout.now c.args.bytes.now element)) (sym c.element.ensures ∙ c.in-Some.is) c.requires.element
+
+-- an element begins in its report, which is short
+pub element_number-requires-clause-short : goal.element_number-requires-clause-short
+element_number-requires-clause-short g c = bit_short c.args.layout.now c.args.item c.args.j c.in-Some.element c.items-items.ensures.layout (sym c.element.ensures ∙ c.in-Some.is)
 
 pub returns-in-Some : goal.returns-in-Some
 returns-in-Some g c =

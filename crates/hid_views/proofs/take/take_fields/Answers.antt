@@ -15,6 +15,11 @@ use Rattle.hid_views.proofs.take.take_fields.Goals as goal
 pub are_bits-requires : goal.are_bits-requires
 are_bits-requires g c = c.requires.layout.elements c.args.listed.now.place c.args.listed.now.item.now c.requires.data.listed c.requires.data.no_padding
 
+pub overflow_add-at : goal.overflow_add-at
+overflow_add-at g c =
+    let inside = place_inside c.args.listed.now.layout.now c.args.listed.now.item.now.report c.args.listed.now.place c.args.listed.now.item.now c.requires.layout c.requires.data in
+    omega (arith, c.first_bit.ensures.value, c.requires.layout.short c.args.listed.now.item.now.report)
+
 pub new-numbers-requires : goal.new-numbers-requires
 new-numbers-requires g c =
     let elements = c.requires.layout.elements c.args.listed.now.place c.args.listed.now.item.now c.requires.data.listed c.requires.data.no_padding in

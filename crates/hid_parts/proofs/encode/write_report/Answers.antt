@@ -6,7 +6,7 @@ use Rattle.hid_parts.specs.Encoding.{part_numbers, bare_report}
 use Rattle.hid_cells.proofs.PlanLemmas.{input_there, along_next, along_step, along_end}
 use Rattle.hid_parts.proofs.EncodingLemmas.{encoded, other_passed, shows_put, whole_report}
 use Rattle.hid_parts.proofs.ReportLemmas.{can_send_all, only_one, bytes_are_of_part}
-use Rattle.hid_parts.proofs.encode.encode_report.Goals as goal
+use Rattle.hid_parts.proofs.encode.write_report.Goals as goal
 
 pub bare_report-requires-clause-report : goal.bare_report-requires-clause-report
 bare_report-requires-clause-report g c = input_there c.args.layout.now c.args.report c.requires.input

@@ -3,7 +3,7 @@ use Rattle.arrayvec.specs.ArrayVec.{array_vec_len}
 use Rattle.hid_layout.specs.Reports.{report_bytes}
 use Rattle.hid_parts.specs.Encoding.{bare_report, part_numbers, Shows, AreBytes}
 use Rattle.hid_cells.proofs.PlanLemmas.{IsAlong}
-use Rattle.hid_parts.proofs.encode.encode_report.Given as goal
+use Rattle.hid_parts.proofs.encode.write_report.Given as goal
 
 abbrev pub invariant-loop-place : goal.invariant-loop-place
 invariant-loop-place g l = record {
