@@ -1,13 +1,16 @@
 -- What a device makes of a token to endpoint 0, and of an ACK directly behind the data of a poll.
-use Rattle.std.proofs.Common.{◌≡◌, ◌∙◌, ℕ, Bool, true, false, ◌==◌, ◌&&◌, None, Some, refl, ap, arith}
+use Rattle.std.proofs.Common.{◌≡◌, ◌∙◌, ℕ, Bool, true, false, ◌==◌, ◌&&◌, Option, None, Some, refl, ap, arith}
 use Rattle.std.specs.Prelude.{if◌then◌else◌, not}
 use Rattle.std.proofs.lemmas.Bool.Decides.{nat_tests}
 use Rattle.usb_packet.specs.declared.packet.Packet.{Packet}
-use Rattle.usb_packet.specs.declared.packet.Packet.TheVariants.{Token, Ack}
+use Rattle.usb_packet.specs.declared.packet.Packet.TheVariants.{Token, Data, Ack, Nak, Stall}
 use Rattle.usb_packet.specs.declared.packet.TokenKind.{TokenKind}
 use Rattle.usb_packet.specs.declared.packet.TokenKind.TheVariants.{Out, In, Setup}
 use Rattle.usb_control.specs.Computed.{answer_to}
-use Rattle.hid_device.specs.Core.{closed_core, opening_of, poll_answer}
+use Rattle.hid_layout.specs.Controls.{items_of}
+use Rattle.hid_requests.specs.declared.codes.TheConstants.{REPORT_ENDPOINT}
+use Rattle.hid_device.specs.Standing.{due_where}
+use Rattle.hid_device.specs.Core.{CoreState, closed_core, opened_core_if, opened_core_where, opening_of, poll_answer}
 use Rattle.hid_device.specs.Device.{DeviceState, control_answer, controlled, core_of, device_after, device_answer, effect_of, heard, is_control, is_poll, passed, polled_device, unheard}
 
 -- a test that fails last fails
@@ -45,3 +48,30 @@ ack_after d waits = ap (λ (w : Bool). if not w then controlled d (effect_of d A
 
 pub ack_answer : (d : DeviceState) → d.waits ≡ true → device_answer d Ack ≡ None
 ack_answer d waits = ap (λ (w : Bool). if not w then answer_to (effect_of d Ack) else None) waits
+
+-- the first of two tests that hold together
+first_holds : (a b : Bool) → a && b ≡ true → a ≡ true
+first_holds true b both = refl
+first_holds false b both = both
+
+-- a device is polled once it is configured
+pub polled_configured : (d : DeviceState) (packet : Packet) → is_poll d packet ≡ true → (core_of d).is_configured ≡ true
+polled_configured d (Token In addr endp) is = first_holds (core_of d).is_configured ((addr == d.addr) && (endp == REPORT_ENDPOINT)) is
+polled_configured d (Token Out addr endp) is = absurd (cc)
+polled_configured d (Token Setup addr endp) is = absurd (cc)
+polled_configured d (Data one payload) is = absurd (cc)
+polled_configured d Ack is = absurd (cc)
+polled_configured d Nak is = absurd (cc)
+polled_configured d Stall is = absurd (cc)
+
+-- and a round that opens leaves it so
+opened_configured : (core : CoreState) (due : Option ℕ) → (opened_core_if core due).is_configured ≡ core.is_configured
+opened_configured core None = refl
+opened_configured core (Some r) = refl
+
+opened_where_configured : (core : CoreState) (current : Option ℕ) → (opened_core_where core current).is_configured ≡ core.is_configured
+opened_where_configured core None = opened_configured core (due_where (items_of core.layout) core.halted core.standing)
+opened_where_configured core (Some r) = refl
+
+pub opening_configured : (core : CoreState) → (opening_of core).is_configured ≡ core.is_configured
+opening_configured core = opened_where_configured core core.current

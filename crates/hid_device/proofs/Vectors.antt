@@ -3,7 +3,6 @@ use Rattle.std.specs.Prelude.{◌≡◌, ℕ, Bool, true, false, List, [], ◌�
 use Rattle.hid_descriptor.specs.declared.report.Report.{Report}
 use Rattle.hid_descriptor.specs.declared.report.ReportKind.{ReportKind}
 use Rattle.hid_descriptor.specs.declared.report.ReportKind.TheVariants.{Input, Output, Feature}
-use Rattle.hid_device.specs.declared.device.TheConstants.{ENDPOINT}
 use Rattle.hid_layout.specs.declared.boot.TheConstants.{KEYBOARD, MOUSE}
 use Rattle.hid_device.specs.Config.{is_config}
 use Rattle.hid_device.specs.Inputs.{input_count}
@@ -36,10 +35,6 @@ no_address = refl
 
 address_of_eight_bits : boot_mouse 128 MOUSE ≡ false
 address_of_eight_bits = refl
-
--- Input reports come from endpoint 1
-endpoint_of_reports : ENDPOINT ≡ 1
-endpoint_of_reports = refl
 
 -- what a host reads of a device of this kind whose report descriptor has so many bytes (HID 1.11, 4.2, 4.3 and appendix E)
 abbrev configuration : Boot → ℕ → List ℕ

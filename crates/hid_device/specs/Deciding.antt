@@ -19,7 +19,7 @@ use Rattle.hid_requests.specs.Class.{number_of as protocol_number}
 use Rattle.hid_requests.specs.Descriptors.{device_bytes, configuration_bytes, hid_bytes}
 use Rattle.hid_requests.specs.Boot.{is_boot, protocol_of, subclass_of}
 use Rattle.hid_device.specs.declared.config.Config.{Config}
-use Rattle.hid_device.specs.declared.device.TheConstants.{ENDPOINT}
+use Rattle.hid_requests.specs.declared.codes.TheConstants.{REPORT_ENDPOINT}
 use Rattle.hid_device.specs.declared.decisions.Pending.{Pending}
 use Rattle.hid_device.specs.declared.decisions.Pending.TheVariants.{Nothing, Configure, Keep, Idle, Halt, Clear}
 use Rattle.hid_device.specs.declared.decisions.Pending.TheVariants as pendings
@@ -36,7 +36,7 @@ device_info config = record { vendor = config.vendor; product = config.product }
 abbrev pub config_info : Config → ℕ → ConfigInfo
 config_info config len = record {
   report_length = len;
-  endpoint = ENDPOINT;
+  endpoint = REPORT_ENDPOINT;
   subclass = subclass_of config.boot;
   protocol = protocol_of config.boot;
 }

@@ -8,7 +8,7 @@ use Rattle.usb_packet.specs.declared.packet.TokenKind.TheVariants.{Out, In, Setu
 use Rattle.usb_control.specs.declared.device.Heard.TheVariants.{Nothing}
 use Rattle.usb_control.specs.Device.{DevControlState, Effect, effect, idle}
 use Rattle.usb_control.specs.Computed.{answer_to, control_after}
-use Rattle.hid_device.specs.declared.device.TheConstants.{ENDPOINT}
+use Rattle.hid_requests.specs.declared.codes.TheConstants.{REPORT_ENDPOINT}
 use Rattle.hid_device.specs.Core.{CoreState, opening_of, closed_core, configured_core, halted_core, reset_core, changed_core, framed_core, poll_answer}
 use Rattle.hid_device.specs.Deciding.{core_table}
 
@@ -39,7 +39,7 @@ passed d core waits = record {
 
 -- a poll is an IN token to the device's address and endpoint, once the device is configured
 abbrev pub is_poll : DeviceState → Packet → Bool
-is_poll d (Token In addr endp) = (core_of d).is_configured && ((addr == d.addr) && (endp == ENDPOINT))
+is_poll d (Token In addr endp) = (core_of d).is_configured && ((addr == d.addr) && (endp == REPORT_ENDPOINT))
 is_poll d (Token Out addr endp) = false
 is_poll d (Token Setup addr endp) = false
 is_poll d (Data one payload) = false

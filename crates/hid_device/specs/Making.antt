@@ -4,6 +4,7 @@ use Rattle.hid_descriptor.specs.Faults.{Explains}
 use Rattle.hid_layout.specs.Layout.{Contents}
 use Rattle.hid_layout.specs.Controls.{items_of}
 use Rattle.hid_cells.specs.declared.cell.Cell.{Cell}
+use Rattle.hid_cells.specs.Full.{IsFull}
 use Rattle.hid_cells.specs.Cells.{blank, FitsSnapshot, FitsShown}
 use Rattle.hid_cells.specs.Codes.{has_empty_codes}
 use Rattle.hid_cells.specs.Parts.{blank_parts, has_zeros}
@@ -48,7 +49,7 @@ new_core config descriptor layout = record {
   pending = Nothing;
 }
 
--- Room for what such a device keeps of its reports: as in a new one, and for the parts that are asked for.
+-- Room for what such a device keeps of its reports, and no more: as in a new one, and for the parts that are asked for.
 pub record IsRoom (bytes : List ℕ) (layout : Contents) (room : Room) : Type 0 where
   pub descriptor : room.descriptor.items ≡ bytes
   pub snapshot : room.controls.snapshot ≡ blank (items_of layout)
@@ -60,6 +61,7 @@ pub record IsRoom (bytes : List ℕ) (layout : Contents) (room : Room) : Type 0 
   pub idle : room.counts.idle.items ≡ replicate (input_count layout.reports) 0
   pub cut : room.counts.cut.items ≡ replicate (input_count layout.reports) false
   pub outputs : room.outputs.items ≡ bare_outputs layout
+  pub full : (IsFull room.descriptor) × (IsFull room.counts.frames) × (IsFull room.counts.idle) × (IsFull room.counts.cut) × IsFull room.outputs
 
 -- and such a device at an address, which waits for no ACK, and of which no request is open
 abbrev pub new_device : ℕ → Config → List ℕ → Contents → DeviceState

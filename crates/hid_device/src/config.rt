@@ -4,9 +4,8 @@ ghost use Rattle.std.specs.Prelude.{◌≡◌};
 ghost use Rattle.hid_device.specs.Config.{is_config, suits_boot};
 ghost use Rattle.hid_device.specs.Deciding.{config_info, device_info};
 
-use crate::device::ENDPOINT;
 use hid_layout::boot::{KEYBOARD, MOUSE};
-use hid_requests::Boot;
+use hid_requests::{Boot, REPORT_ENDPOINT};
 use usb_control::{ConfigInfo, DeviceInfo};
 use usb_packet::MAX_ADDRESS;
 
@@ -40,7 +39,7 @@ impl Config {
     {
         ConfigInfo {
             report_length,
-            endpoint: ENDPOINT,
+            endpoint: REPORT_ENDPOINT,
             subclass: self.boot.subclass(),
             protocol: self.boot.protocol(),
         }

@@ -1,6 +1,6 @@
 //! A device on the bus: which packets reach its pipe, and which its endpoint 0.
 
-ghost use Rattle.std.specs.Prelude.{◌≡◌, IfSome};
+ghost use Rattle.std.specs.Prelude.{◌≡◌, true, IfSome};
 ghost use Rattle.std.specs.Option.{option_copied};
 ghost use Rattle.hid_layout.specs.Controls.{items_of};
 ghost use Rattle.hid_cells.specs.Snapshots.{Changes};
@@ -16,16 +16,13 @@ use crate::state::Core;
 use hid_cells::{Change, ChangeFault};
 use hid_layout::{Layout, ReportKind};
 use hid_parts::Shown;
-use hid_requests::{DeviceCause, DeviceFault};
+use hid_requests::{DeviceCause, DeviceFault, REPORT_ENDPOINT};
 use std::alloc::Global;
 use std::marker::Model;
 use std::mem;
 use usb_control::DevControl;
 use usb_packet::{LentPacket, Packet, TokenKind};
 use usb_transact::DevPipe;
-
-/// The number of a device's interrupt-IN endpoint (our choice).
-pub const ENDPOINT: u8 = 1;
 
 /// A virtual device. A contract sees it as `addr`, `control` and `waits`. It stands round its endpoint 0 and its [`Core`],
 /// which is what the device itself is: which packets reach it, and which ACK counts, is the bus's side of it.
@@ -54,6 +51,11 @@ impl Device {
 
     /// A device at this address that isn't configured yet: nothing is pressed and nothing has moved. It makes all room that
     /// the other calls fill.
+    ///
+    /// # Errors
+    /// The first that stands of V20, where the address, the interval or the descriptor of a boot device doesn't fit; V1 to V17,
+    /// where the descriptor has no layout, or no memory is found for it; V18 and V19, where a report can't send that nothing is
+    /// pressed or has moved; and V21, where no memory is found for what is kept beside the layout. [`DeviceCause`] has them.
     pub fn new(
         alloc: Global,
         addr: u8,
@@ -109,7 +111,10 @@ impl Device {
         self.waits = false;
     }
 
-    /// Changes a control. A change that is refused changes nothing.
+    /// Changes a control.
+    ///
+    /// # Errors
+    /// The first of [`ChangeFault`] that stands: U1 to U7. A change that is refused changes nothing.
     pub fn change(&mut self, change: Change) -> Result<(), ChangeFault>
         // It is done exactly where no fault stands, else it is refused for the first fault that stands.
         ensures changes { Changes
@@ -137,14 +142,14 @@ impl Device {
         &mut self.control
     }
 
-    /// What the device makes of a packet that arrives. It answers a poll, an IN token to its address and [`ENDPOINT`], once
+    /// What the device makes of a packet that arrives. It answers a poll, an IN token to its address and [`REPORT_ENDPOINT`], once
     /// it is configured, and its endpoint 0 answers as a control transfer goes; nothing else is answered (USB 2.0,
     /// 8.4.6.1, 8.5.3 and 8.5.4).
     ///
     /// | packet | who hears it |
     /// |---|---|
     /// | a token to its address and endpoint 0 | endpoint 0 |
-    /// | IN to its address and [`ENDPOINT`], once it is configured | the pipe: a poll |
+    /// | IN to its address and [`REPORT_ENDPOINT`], once it is configured | the pipe: a poll |
     /// | data | endpoint 0, which looks whether its token stands before it |
     /// | ACK directly behind the data of a poll | the pipe: the piece is closed, and with the last one its round |
     /// | another ACK | endpoint 0 |
@@ -199,6 +204,7 @@ impl Device {
     /// A poll has arrived, which [`Device::is_polled_by`] tells: a round is opened where none is open and some report is due.
     /// What [`Device::on_packet`] makes of it but for its answer, which is [`Device::poll_answer`].
     pub fn hear_poll(&mut self)
+        requires configured { (core_of self.old).is_configured ≡ true }
         ensures device { self.new ≡ polled_device self.old (opening_of (core_of self.old)) }
     {
         self.pass();
@@ -208,6 +214,7 @@ impl Device {
 
     /// The answer to a poll that was heard, with its payload where it stands.
     pub fn poll_answer(&self) -> LentPacket<'_>
+        requires configured { (core_of self.now).is_configured ≡ true }
         ensures answer { owned result ≡ poll_answer (core_of self.now) }
         ensures fits { Fits (owned result) }
         ensures short { IsShort result }
@@ -274,7 +281,7 @@ impl Device {
     fn is_polled(&self, addr: u8, endp: u8) -> bool
         ensures { result ≡ is_poll self.now (Token In addr endp) }
     {
-        self.control.requests().is_configured() && (addr == self.addr && endp == ENDPOINT)
+        self.control.requests().is_configured() && (addr == self.addr && endp == REPORT_ENDPOINT)
     }
 
     /// Endpoint 0 hears a packet.
@@ -299,6 +306,7 @@ impl Device {
 
     /// The answer to a poll, once a round was opened for it.
     fn poll(&mut self) -> Packet
+        requires configured { (core_of self.old).is_configured ≡ true }
         ensures device { self.new ≡ polled_device self.old (opening_of (core_of self.old)) }
         ensures answer { result ≡ poll_answer (opening_of (core_of self.old)) }
         ensures fits { Fits result }

@@ -6,7 +6,7 @@
 //!                            its part is fixed                             Snapshot::shown -> fixed
 //!                            its motion is taken out                       Snapshot::take_motion
 //!                            its frames are counted anew                   frames
-//!                            its bytes are kept, and the first 64 armed    encode_report -> DevPipe::arm
+//!                            its bytes are kept, and the first 64 armed    write_report -> DevPipe::arm
 //!              <-------  what is armed under the toggle, else NAK          DevPipe::answer; STALL while it is halted
 //!   ACK 0xD2 --------->  directly behind data: the next 64 bytes are       DevPipe::acknowledged, DevPipe::arm
 //!                            armed, and behind the last the round is closed
@@ -54,7 +54,7 @@ mod room;
 mod state;
 
 pub use config::Config;
-pub use device::{Device, ENDPOINT};
+pub use device::Device;
 pub use hid_layout::boot::{KEYBOARD, MOUSE};
 pub use hid_requests::{Boot, DeviceCause, DeviceFault};
 pub use state::Core;

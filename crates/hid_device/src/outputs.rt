@@ -3,6 +3,7 @@
 ghost use Rattle.std.specs.Prelude.{◌≡◌, ◌<◌, ◌≤◌, length, position, IfOk, IfSome, true};
 ghost use Rattle.hid_layout.specs.Controls.{is_input};
 ghost use Rattle.hid_descriptor.specs.declared.report.ReportKind.TheVariants.{Input};
+ghost use Rattle.hid_cells.specs.Full.{IsFull};
 ghost use Rattle.hid_parts.specs.Encoding.{bare_report};
 ghost use Rattle.hid_device.specs.Outputs.{bare_outputs, in_place_of, is_named, kept_place, kept_reports, number_of};
 
@@ -77,11 +78,14 @@ pub(crate) fn reset_outputs(layout: &Layout, outputs: &mut [KeptReport])
 
 /// One for each Output and Feature report, in the order of the layout.
 pub(crate) fn bare_outputs(alloc: Global, layout: &Layout) -> Result<Vec<KeptReport>, AllocError>
-    ensures { IfOk result (λ outputs. outputs.items ≡ bare_outputs layout.now) }
+    ensures outputs { IfOk result (λ outputs. outputs.items ≡ bare_outputs layout.now) }
+    ensures full { IfOk result (λ outputs. IsFull outputs) }
 {
-    let mut outputs = Vec::new(alloc);
-    for report in input_count(layout)..layout.reports().len() {
-        outputs.push(bare(layout, report))?;
+    let first = input_count(layout);
+    let count = layout.reports().len();
+    let mut outputs = Vec::with_capacity(alloc, count - first)?;
+    for report in first..count {
+        outputs.push_reserved(bare(layout, report));
     }
     Ok(outputs)
 }

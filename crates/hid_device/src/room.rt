@@ -2,13 +2,14 @@
 
 ghost use Rattle.std.specs.Prelude.{◌≡◌, replicate, false, IfOk, IfErr};
 ghost use Rattle.hid_layout.specs.Controls.{items_of};
+ghost use Rattle.hid_cells.specs.Full.{IsFull};
 ghost use Rattle.hid_cells.specs.Cells.{blank, FitsSnapshot, FitsShown};
 ghost use Rattle.hid_cells.specs.Parts.{blank_parts};
 ghost use Rattle.hid_device.specs.Making.{no_memory, IsRoom};
 
 use crate::inputs::input_count;
 use crate::outputs::{KeptReport, bare_outputs};
-use hid_cells::MemoryFault;
+use hid_cells::{MemoryFault, full_from, full_of};
 use hid_layout::Layout;
 use hid_parts::{Shown, Snapshot};
 use hid_requests::{DeviceCause, DeviceFault};
@@ -54,10 +55,12 @@ impl Counts {
         ensures frames { IfOk result (λ made. made.frames.items ≡ replicate count 0) }
         ensures idle { IfOk result (λ made. made.idle.items ≡ replicate count 0) }
         ensures cut { IfOk result (λ made. made.cut.items ≡ replicate count false) }
+        ensures full { IfOk result
+            (λ made. (IsFull made.frames) × (IsFull made.idle) × IsFull made.cut) }
     {
-        let frames = vec![in alloc; 0; count]?;
-        let idle = vec![in alloc; 0; count]?;
-        let cut = vec![in alloc; false; count]?;
+        let frames = full_of(alloc, 0, count)?;
+        let idle = full_of(alloc, 0, count)?;
+        let cut = full_of(alloc, false, count)?;
         Ok(Counts { frames, idle, cut })
     }
 }
@@ -76,7 +79,7 @@ impl Room {
         ensures made { IfOk result (λ room. IsRoom descriptor.now layout.now room) }
         ensures wanting { IfErr result (λ fault. fault ≡ no_memory) }
     {
-        let descriptor = Vec::from_slice(alloc, descriptor)?;
+        let descriptor = full_from(alloc, descriptor)?;
         let outputs = bare_outputs(alloc, layout)?;
         let counts = Counts::zeros(alloc, input_count(layout))?;
         let Ok(controls) = Controls::blank(alloc, layout) else {

@@ -1,15 +1,16 @@
 //! The inside of a device: all that endpoint 0 reads and writes, and the pipe of its Input reports.
 
-ghost use Rattle.std.specs.Prelude.{◌≡◌, ◌<◌, ◌≤◌, false, length, None, IfSome, IfOk, IfErr};
+ghost use Rattle.std.specs.Prelude.{◌≡◌, ◌<◌, ◌≤◌, false, length, slice_get, None, IfSome, IfOk, IfErr};
 ghost use Rattle.std.specs.Option.{option_copied};
 ghost use Rattle.hid_layout.specs.Controls.{items_of};
+ghost use Rattle.hid_cells.specs.Full.{IsFull};
 ghost use Rattle.hid_cells.specs.Cells.{FitsSnapshot};
 ghost use Rattle.hid_parts.specs.Encoding.{AreBytes};
 ghost use Rattle.hid_cells.specs.Parts.{is_changed};
 ghost use Rattle.hid_cells.specs.Snapshots.{Changes};
 ghost use Rattle.usb_packet.specs.Lent.{owned, IsShort};
 ghost use Rattle.usb_packet.specs.Spelling.{Fits};
-ghost use Rattle.hid_device.specs.Standing.{is_due, due_where};
+ghost use Rattle.hid_device.specs.Standing.{cut_at, is_due, due_where};
 ghost use Rattle.hid_device.specs.Core.{IsSound, armed_of, opened_core, opening_of, closed_core, configured_core, halted_core, cleared_core, piece_at, poll_answer, reset_core, changed_core, framed_core, next_of, round_of};
 ghost use Rattle.hid_device.specs.declared.decisions.Pending.TheVariants.{Keep, Nothing};
 ghost use Rattle.hid_device.specs.Decisions.{Reads, Refuses, Writes, reads_if, writes_if};
@@ -26,7 +27,7 @@ use arrayvec::ArrayVec;
 use hid_cells::{Change, ChangeFault, has_empty_codes, has_zeros, piece_of, pieces_of};
 use hid_fields::WordCodec;
 use hid_layout::{Layout, ReportKind};
-use hid_parts::{Shown, Snapshot, encode_report};
+use hid_parts::{Shown, Snapshot, write_report};
 use hid_requests::{
     Asked, DeviceCause, DeviceFault, Protocol, configuration, device_descriptor, hid_descriptor,
     what_is_asked,
@@ -76,6 +77,8 @@ pub struct Core {
     written: ArrayVec<u8, 256>,
     /// What its status brings about.
     pending: Pending,
+    // Each list has room for its items alone.
+    ghost full: { (IsFull descriptor) × (IsFull frames) × (IsFull idle) × (IsFull cut) × IsFull outputs },
 }
 
 impl Model for Core {
@@ -311,12 +314,23 @@ impl Core {
     pub(crate) fn halt(&mut self)
         ensures { self.new ≡ halted_core self.old }
     {
-        if let Some(report) = self.current {
-            self.cut[report] = true;
-        }
+        self.cut_round();
         self.pipe.halt();
         self.current = None;
         self.piece = 0;
+    }
+
+    /// The report of the round that is open, where one is, is due until a round of it opens.
+    fn cut_round(&mut self)
+        ensures { self.new
+            ≡ record self.old { standing = cut_at self.old.current self.old.standing } }
+    {
+        match self.current {
+            Some(report) => {
+                self.cut[report] = true;
+            }
+            None => {}
+        }
     }
 
     /// A halt ends, where there is one: a round that is open ends as by a halt, and data begin with DATA0 (USB 2.0, 9.4.5).
@@ -466,7 +480,7 @@ impl Core {
         self.snapshot.take_motion(&self.layout, report, &self.fixed);
         self.frames[report] = 0;
         self.cut[report] = false;
-        encode_report::<WordCodec>(&self.layout, report, &self.fixed, &mut self.round);
+        write_report::<WordCodec>(&self.layout, report, &self.fixed, &mut self.round);
         are_bytes(&self.round);
         self.pipe.arm(piece_of(&self.round, 0));
         self.current = Some(report);
@@ -562,7 +576,7 @@ impl Core {
         self.forget_request();
         self.still.reset(&self.layout);
         self.snapshot.still(&self.layout, report, &mut self.still);
-        encode_report::<WordCodec>(&self.layout, report, &self.still, &mut self.written);
+        write_report::<WordCodec>(&self.layout, report, &self.still, &mut self.written);
         self.answer = Some(Answer::Bytes);
         true
     }
@@ -571,9 +585,17 @@ impl Core {
     fn read_output(&mut self, kind: ReportKind, id: u8) -> bool
         ensures { Decides self.old (reads_any (output_of self.old kind id)) result self.new }
     {
-        let Some(place) = kept_place(&self.layout, kind, id) else {
-            return self.refuse();
-        };
+        match kept_place(&self.layout, kind, id) {
+            Some(place) => self.read_kept(place),
+            None => self.refuse(),
+        }
+    }
+
+    /// A read has the Output or Feature report at this place, as it was set last, as its answer.
+    fn read_kept(&mut self, place: usize) -> bool
+        requires { place < length self.old.outputs }
+        ensures { Decides self.old (reads_any (slice_get self.old.outputs place)) result self.new }
+    {
         self.forget_request();
         self.written.clear();
         self.written

@@ -7,13 +7,13 @@ use Rattle.hid_device.specs.Standing.{Standing, most_frames}
 use Rattle.hid_device.proofs.OutputLemmas.{refilled, sound_framed}
 use Rattle.hid_device.proofs.state.Core.frame.Goals as goal
 
-frames_are : (c : goal.After-self-1) → c.count_frame.new.frames ≡ map (λ n. min (n + 1) most_frames) c.self.inside.frames.items
+frames_are : (c : goal.After-self-2-1) → c.count_frame.new.frames ≡ map (λ n. min (n + 1) most_frames) c.self.inside.frames.items
 frames_are c = c.count_frame.ensures ∙ ap (λ (frames : List ℕ). map (λ n. min (n + 1) most_frames) frames) c.deref_mut.ensures.value
 
-same_length : (c : goal.After-self-1) → length c.count_frame.new.frames ≡ length c.self.inside.frames.items
+same_length : (c : goal.After-self-2-1) → length c.count_frame.new.frames ≡ length c.self.inside.frames.items
 same_length c = ap (λ (frames : List ℕ). length frames) (frames_are c) ∙ length-map c.self.inside.frames.items (λ (n : ℕ). min (n + 1) most_frames)
 
-frames_then : (c : goal.After-self-1)
+frames_then : (c : goal.After-self-2-1)
     → take c.self.inside.frames.len (c.count_frame.new.frames ++ drop (length c.count_frame.new.frames) c.self.inside.frames.items) ≡ c.count_frame.new.frames
 frames_then c = refilled c.count_frame.new.frames c.self.inside.frames.items c.self.inside.frames.len c.self.inside.frames.ok.0 (same_length c)
 

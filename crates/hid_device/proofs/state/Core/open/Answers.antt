@@ -28,8 +28,8 @@ index_mut-requires-2 c =
     let sound = c.self.invariant.sound in
     subst (λ (n : ℕ). c.args.report < n) (sym (c.self.inside.cut.ok.0 ∙ sound.each_cut)) (counted (the_view c.self.inside) _ c.args.report sound c.self.view_is c.requires.input)
 
-pub encode_report-requires-clause-input : goal.encode_report-requires-clause-input
-encode_report-requires-clause-input c = counted_input (the_view c.self.inside) _ c.args.report c.self.invariant.sound c.self.view_is c.requires.input
+pub write_report-requires-clause-input : goal.write_report-requires-clause-input
+write_report-requires-clause-input c = counted_input (the_view c.self.inside) _ c.args.report c.self.invariant.sound c.self.view_is c.requires.input
 
 pub arm-requires-clause-idle : goal.arm-requires-clause-idle
 arm-requires-clause-idle c =
@@ -46,10 +46,10 @@ invariant_of-self c =
     let frames : length c.self.inside.frames.items ≡ length c.args.self.now.standing.frames = ap (λ (core : CoreState). length core.standing.frames) c.self.view_is in
     let going : c.arm.new.self.halted ≡ false = ap (λ (pipe : DevPipeState). pipe.halted) c.arm.ensures ∙ ap (λ (core : CoreState). core.halted) c.self.view_is ∙ c.requires.going in
     let part : List ℕ = part_bytes c.self.inside.layout c.args.report c.shown.new.parts in
-    let is : c.encode_report.new.bytes.items ≡ part = c.encode_report.ensures.bytes in
-    let are_bytes : AreBytes c.encode_report.new.bytes.items = subst AreBytes c.deref.ensures.0 c.are_bytes.ensures in
-    let shows : AreBytesOf c.self.inside.layout c.shown.new.parts c.args.report c.encode_report.new.bytes.items
-    = record { are_bytes = are_bytes; shows = c.encode_report.ensures.shows; only = c.encode_report.ensures.only } in
+    let is : c.write_report.new.bytes.items ≡ part = c.write_report.ensures.bytes in
+    let are_bytes : AreBytes c.write_report.new.bytes.items = subst AreBytes c.deref.ensures.0 c.are_bytes.ensures in
+    let shows : AreBytesOf c.self.inside.layout c.shown.new.parts c.args.report c.write_report.new.bytes.items
+    = record { are_bytes = are_bytes; shows = c.write_report.ensures.shows; only = c.write_report.ensures.only } in
     let sent : c.piece_of.result.now ≡ piece_of part 0 = c.piece_of.ensures.piece ∙ ap (λ (bytes : List ℕ). piece_of bytes 0) (c.deref-2.ensures.0 ∙ is) in
     record {
       sound = record {

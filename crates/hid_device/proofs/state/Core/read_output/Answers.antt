@@ -1,34 +1,21 @@
-use Rattle.std.proofs.Common.{◌≡◌, ◌∙◌, ◌<◌, ◌++◌, ℕ, List, length, Option, None, Some, ap, subst, sym}
+use Rattle.std.proofs.Common.{◌≡◌, ◌∙◌, ◌<◌, ℕ, List, length, Option, Some, ap, subst, sym}
 use Rattle.std.specs.Prelude.{slice_get}
 use Rattle.std.specs.Option.{option_and_then}
-use Rattle.std.proofs.lemmas.Option.{slice_get-get_or}
-use Rattle.hid_layout.specs.Layout.{Contents}
-use Rattle.hid_device.specs.contracts.state.Core.{the_view}
 use Rattle.hid_device.specs.Core.{CoreState}
-use Rattle.hid_device.specs.Deciding.{left_by, output_of, reads_any}
-use Rattle.hid_device.specs.Decisions.{is_accepted}
-use Rattle.hid_device.specs.declared.decisions.Pending.TheVariants.{Nothing}
-use Rattle.hid_device.specs.Outputs.{kept_place, kept_reports}
+use Rattle.hid_device.specs.Deciding.{Decides, output_of, reads_any}
+use Rattle.hid_device.specs.Outputs.{kept_place}
 use Rattle.hid_device.proofs.OutputLemmas.{kept_there}
 use Rattle.hid_device.proofs.state.Core.read_output.Goals as goal
 
-pub returns : goal.returns
-returns c =
+pub read_kept-requires : goal.read_kept-requires
+read_kept-requires c =
+    subst (λ (core : CoreState). c.in-Some.place < length core.outputs) c.self.view_is
+    (kept_there c.self.inside.layout c.self.inside.outputs.items c.in-Some.place c.self.invariant.sound.outputs c.in-Some.ensures.within)
+
+pub returns-in-Some : goal.returns-in-Some
+returns-in-Some c =
     let core = c.args.self.now in
-    let outputs = c.self-2.inside.outputs.items in
-    let place = c.in-Some.place in
-    let bytes = c.try_extend_from_slice.new.self.items in
-    let forgot : the_view c.self-2.inside ≡ record core { answer = None; pending = Nothing } = c.self-2.view_is ∙ c.forget_request.ensures in
-    let found : kept_place core.layout.reports c.args.kind c.args.id ≡ Some place
+    let found : kept_place core.layout.reports c.args.kind c.args.id ≡ Some c.in-Some.place
     = ap (λ (core : CoreState). kept_place core.layout.reports c.args.kind c.args.id) (sym c.self.view_is) ∙ sym c.kept_place.ensures.place ∙ c.in-Some.is in
-    let same : c.self.inside.layout ≡ c.self-2.inside.layout = ap (λ (core : CoreState). core.layout) c.self.view_is ∙ sym (ap (λ (core : CoreState). core.layout) forgot) in
-    let within : place < length outputs
-    = kept_there c.self-2.inside.layout outputs place c.self-2.invariant.sound.outputs (subst (λ (layout : Contents). place < length (kept_reports layout.reports)) same c.in-Some.ensures.within) in
-    let at : slice_get outputs place ≡ Some c.index.result.now = slice_get-get_or outputs place c.index.result.now within ∙ ap Some (sym c.index.ensures) in
-    let all : bytes ≡ c.clear.new.self.items ++ c.bytes.result.now = rw c.unwrap.ensures at c.try_extend_from_slice.ensures.ok in
-    let written : bytes ≡ c.index.result.now = all ∙ ap (λ (l : List ℕ). l ++ c.bytes.result.now) c.clear.ensures ∙ c.bytes.ensures.bytes in
-    let out : output_of core c.args.kind c.args.id ≡ Some bytes
-    = ap (option_and_then (slice_get core.outputs)) found ∙ ap (λ (core : CoreState). slice_get core.outputs place) (sym forgot) ∙ at ∙ ap Some (sym written) in (
-      ap (λ (o : Option (List ℕ)). is_accepted (reads_any o)) (sym out),
-      ap (λ (core : CoreState). let read : CoreState = record core { answer = Some bytes } in read) forgot ∙ ap (λ (o : Option (List ℕ)). left_by core (reads_any o)) (sym out),
-    )
+    let is : slice_get core.outputs c.in-Some.place ≡ output_of core c.args.kind c.args.id = sym (ap (option_and_then (slice_get core.outputs)) found) in
+    subst (λ (o : Option (List ℕ)). Decides core (reads_any o) c.read_kept.result c.read_kept.new.self) is c.read_kept.ensures

@@ -7,8 +7,8 @@ use Rattle.hid_device.proofs.InputLemmas.{inputs_first}
 use Rattle.hid_device.proofs.OutputLemmas.{bare_are}
 use Rattle.hid_device.proofs.state.Core.with_layout.Goals as goal
 
-pub invariant_of-result : goal.invariant_of-result
-invariant_of-result c =
+pub invariant_of-result-2 : goal.invariant_of-result-2
+invariant_of-result-2 c =
     let armed : c.new.result.armed ≡ None = ap (λ (pipe : DevPipeState). pipe.armed) c.new.ensures in
     record {
       sound = record {

@@ -8,13 +8,13 @@ use Rattle.hid_device.specs.contracts.state.Core.{the_view}
 use Rattle.hid_device.proofs.OutputLemmas.{idle_length, refilled, sound_with}
 use Rattle.hid_device.proofs.state.CoreRequests.apply.Goals as goal
 
-idle_is : (c : goal.After-self-1) → c.set_idle.new.idle ≡ idle_set c.self.inside.idle.items c.in-Idle.report c.in-Idle.time
+idle_is : (c : goal.After-self-in-Idle-1) → c.set_idle.new.idle ≡ idle_set c.self.inside.idle.items c.in-Idle.report c.in-Idle.time
 idle_is c = c.set_idle.ensures ∙ ap (λ (idle : List ℕ). idle_set idle c.in-Idle.report c.in-Idle.time) c.deref_mut.ensures.value
 
-same_length : (c : goal.After-self-1) → length c.set_idle.new.idle ≡ length c.self.inside.idle.items
+same_length : (c : goal.After-self-in-Idle-1) → length c.set_idle.new.idle ≡ length c.self.inside.idle.items
 same_length c = ap (λ (idle : List ℕ). length idle) (idle_is c) ∙ idle_length c.self.inside.idle.items c.in-Idle.report c.in-Idle.time
 
-idle_then : (c : goal.After-self-1)
+idle_then : (c : goal.After-self-in-Idle-1)
     → take c.self.inside.idle.len (c.set_idle.new.idle ++ drop (length c.set_idle.new.idle) c.self.inside.idle.items) ≡ c.set_idle.new.idle
 idle_then c = refilled c.set_idle.new.idle c.self.inside.idle.items c.self.inside.idle.len c.self.inside.idle.ok.0 (same_length c)
 
