@@ -1,14 +1,16 @@
 -- What a host makes of the answer to a request that is done (USB 2.0, 9.1.1.5, 9.4.5 and 9.6; HID 1.11, 6.2.1 and
 -- 6.2.2; the phases are our choice).
-use Rattle.std.specs.Prelude.{◌≡◌, ◌≢◌, ℕ, ◌<◌, ◌≤◌, List, length, Result, Ok, Err}
+use Rattle.std.specs.Prelude.{◌≡◌, ◌≢◌, ℕ, ◌<◌, ◌≤◌, if◌then◌else◌, List, length, Result, Ok, Err}
 use Rattle.hid_layout.specs.Layout.{Contents}
 use Rattle.hid_descriptor.specs.declared.limits.TheConstants.{MAX_DESCRIPTOR}
+use Rattle.hid_descriptor.specs.declared.fault.LayoutFault.{LayoutFault}
 use Rattle.hid_descriptor.specs.Faults.{Refuses}
 use Rattle.usb_control.specs.declared.descriptors.ConfigInfo.{ConfigInfo}
 use Rattle.usb_control.specs.declared.fault.InfoFault.TheVariants.{TooShort, WrongType}
 use Rattle.usb_control.specs.Descriptors.{IsDevice, ReadsConfig}
 use Rattle.hid_requests.specs.declared.request.Request.{Request}
 use Rattle.hid_requests.specs.declared.request.Request.TheVariants as requests
+use Rattle.hid_requests.specs.Fault.{is_memory}
 use Rattle.hid_layout.specs.Laying.{Lays}
 use Rattle.hid_host.specs.declared.fault.StackFault.{StackFault}
 use Rattle.hid_host.specs.declared.fault.StackFault.TheVariants.{BadDescriptor, Memory}
@@ -17,6 +19,10 @@ use Rattle.hid_host.specs.declared.phase.HostPhase.{HostPhase}
 use Rattle.hid_host.specs.declared.phase.HostPhase.TheVariants.{Described, Parsed, Ready}
 use Rattle.hid_host.specs.Phase.{cleared_phase}
 use Rattle.hid_host.specs.Ready.{known_at_start}
+
+-- What a layout's fault is told as: want of memory is the host's, and each other cause the descriptor's.
+abbrev pub layout_refusal : LayoutFault → StackFault
+layout_refusal fault = if is_memory fault.cause then Memory else BadDescriptor (Layout fault)
 
 -- why a host can't be given a layout: the descriptor is refused, or it isn't too long and memory was wanting
 abbrev pub IsNoLayout : List ℕ → StackFault → Type 0

@@ -4,7 +4,7 @@ ghost use Rattle.hid_descriptor.specs.Faults.{Explains};
 ghost use Rattle.usb_packet.specs.declared.packet.TheConstants.{MAX_ENDPOINT};
 ghost use Rattle.hid_layout.specs.Laying.{Lays};
 ghost use Rattle.hid_requests.specs.declared.request.Request.TheVariants.{Config, Configure, Report};
-ghost use Rattle.hid_host.specs.Conclusions.{ConfigRead, DeviceRead, IsNoLayout, Makes, ReportRead};
+ghost use Rattle.hid_host.specs.Conclusions.{ConfigRead, DeviceRead, IsNoLayout, Makes, ReportRead, layout_refusal};
 ghost use Rattle.hid_host.specs.Phase.{HasEndpoint};
 
 use crate::fault::{DescriptorFault, StackFault};
@@ -20,7 +20,8 @@ use usb_packet::MAX_ADDRESS;
 
 /// What a want of a layout is told as.
 fn no_layout(fault: LayoutFault) -> StackFault
-    ensures { (bytes : List ℕ) → Explains bytes fault.cause fault.at → IsNoLayout bytes result }
+    ensures told { result ≡ layout_refusal fault }
+    ensures explained { (bytes : List ℕ) → Explains bytes fault.cause fault.at → IsNoLayout bytes result }
 {
     match fault.cause {
         Cause::Memory => StackFault::Memory,

@@ -19,16 +19,13 @@ use crate::phase::{HostPhase, HostState};
 use crate::ready::ReadyHost;
 use hid_cells::Event;
 use hid_parts::Shown;
-use hid_requests::Request;
+use hid_requests::{REPORT_ENDPOINT, Request};
 use hid_views::View;
 use std::alloc::Global;
 use std::marker::Model;
 use usb_control::{ControlFault, DevControl, HostTransfer, Outcome, Progress, Requests};
 use usb_packet::{LentPacket, MAX_ADDRESS, Packet};
 use usb_transact::{Fate, HostPipe, Took};
-
-/// The interrupt-IN endpoint of a virtual device.
-const REPORT_ENDPOINT: u8 = 1;
 
 /// A transfer of a host, and the request that it plays.
 #[derive(Drop)]

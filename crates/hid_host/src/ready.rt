@@ -265,8 +265,8 @@ impl ReadyHost {
         ensures room { vec_capacity out.new ≡ vec_capacity out.old }
     {
         if let Some(report) = self.awaited(round, piece) {
-            let cells = self.reader.view().cells();
-            changes_and_drops(self.reader.layout(), cells, cells, report, fixed, out);
+            let view = self.reader.view();
+            changes_and_drops(self.reader.layout(), view, view, report, fixed, out);
         }
     }
 }
