@@ -11,7 +11,8 @@ use crate::reading::parsed;
 use arrayvec::ArrayVec;
 use hid_fields::WordCodec;
 use hid_layout::{Control, ControlId, ControlKind, Layout, Usage};
-use hid_usages::{Shown, Snapshot, encode_report, has_empty_codes, has_zeros, is_input};
+use hid_parts::write_report;
+use hid_usages::{Shown, Snapshot, has_empty_codes, has_zeros, is_input};
 use std::alloc::Global;
 use std::marker::Model;
 
@@ -121,7 +122,7 @@ impl Writing {
     pub fn write(&self, bytes: &mut ArrayVec<u8, 256>)
         ensures { bytes.new.items ≡ part_bytes self.now.layout self.now.report self.now.shown }
     {
-        encode_report::<WordCodec>(&self.layout, self.report, &self.shown, bytes);
+        write_report::<WordCodec>(&self.layout, self.report, &self.shown, bytes);
     }
 }
 

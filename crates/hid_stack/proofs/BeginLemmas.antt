@@ -29,7 +29,7 @@ begins_so device host request together knows home none =
     let there = joint device (begun host request) in
     let began = begun_unless None m request in
     let transfer : Some (transfer_of host.addr (asking_at host.phase) request) ≡ Some (transfer_of device.addr (asking_of core) request)
-    = ap (λ (s : Setup). Some (transfer_with host.addr request s)) knows.transfer.asked ∙ ap (λ (a : ℕ). Some (transfer_of a (asking_of core) request)) home in
+    = ap (λ (s : Setup). Some (transfer_with host.addr request s)) knows.by.transfer.asked ∙ ap (λ (a : ℕ). Some (transfer_of a (asking_of core) request)) home in
     let held = holds_still device core host.addr host.transfer host.clearing (clearing_with request host.clearing) host.phase together
     ∙ ap (λ (h : Bool). held_at (state_of host.phase) (h || clearing_with request host.clearing) (expects_of m)) (sym (halts_so core host.phase)) in
     ap (λ (t : Option Transfer). record there { transfer = t }) transfer

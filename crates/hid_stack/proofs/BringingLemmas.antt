@@ -14,14 +14,14 @@ use Rattle.usb_control.specs.Descriptors.{ReadsConfig}
 use Rattle.usb_control.specs.Device.{DevControlState}
 use Rattle.usb_control.specs.Host.{HostTransferState, IsRunning, progress_of}
 use Rattle.usb_control.specs.Runs.{IsDone}
-use Rattle.usb_control.specs.Transfer.{shape_of}
+use Rattle.usb_control.specs.Transfer.{Place, shape_of}
 use Rattle.usb_control.proofs.ComputedLemmas.{tries_are}
 use Rattle.usb_control.proofs.LawLemmas.{done_is, read_is}
 use Rattle.hid_requests.specs.declared.request.Request.{Request}
 use Rattle.hid_requests.specs.declared.request.Request.TheVariants as requests
 use Rattle.hid_requests.specs.Asking.{sends_of, setup_for}
 use Rattle.hid_requests.proofs.DescriptorLemmas.{configuration_read}
-use Rattle.hid_device.specs.declared.device.TheConstants.{ENDPOINT}
+use Rattle.hid_requests.specs.declared.codes.TheConstants.{REPORT_ENDPOINT as ENDPOINT}
 use Rattle.hid_device.specs.Core.{CoreState}
 use Rattle.hid_device.specs.Deciding.{core_table, device_info}
 use Rattle.hid_layout.specs.Laying.{Lays}
@@ -34,6 +34,7 @@ use Rattle.hid_stack.specs.Bringing.{IsComputed, TakesMemory, answering, brought
 use Rattle.hid_host.specs.Conclusions.{Configured, Makes, leads_to, phase_made}
 use Rattle.hid_host.specs.Host.{ConcludesAt, ControlSteps, HostEnd, TriesOnce, bytes_got, clearing_behind, running, told_made}
 use Rattle.hid_stack.specs.Knowing.{BeginsAnew, Carries, HasEffect, IsBehindSetup, Knows, KnowsAt, asking_of, info_of}
+use Rattle.hid_stack.specs.Trails.{Trail, trail_tried}
 use Rattle.hid_host.specs.Phase.{may_begin, state_of}
 use Rattle.hid_host.specs.Ready.{known_at_start}
 use Rattle.hid_stack.proofs.HostLemmas.{IsAnswer, config_is, device_is, fits_info, report_is}
@@ -107,27 +108,29 @@ leads_on host t ends other next phase same moves =
     = λ p e. record host { phase = p; transfer = Some (record t { ends = e }); clearing = clearing_behind e.stage t.request host.clearing } in
     ap (λ (p : HostPhase). behind p ends) moves ∙ ap (behind phase) same
 
-once_computed : HasOneReading → AcceptsNoRefused → (fate : Fate) (host after : HostEnd) (t : Transfer) (old new : DevControlState CoreState) (result : Result Progress StackFault)
-    → Lays old.requests.descriptor old.requests.layout → length old.requests.descriptor < 2 ^ 16 → KnowsAt host.phase host.addr old.requests → Carries host.phase t old → IsRunning t.ends.stage
+once_computed : HasOneReading → AcceptsNoRefused → (trail : Trail) (fate : Fate) (host after : HostEnd) (t : Transfer) (old new : DevControlState CoreState) (result : Result Progress StackFault)
+    → Lays old.requests.descriptor old.requests.layout → length old.requests.descriptor < 2 ^ 16 → KnowsAt host.phase host.addr old.requests → Carries trail host.phase t old → IsRunning t.ends.stage
     → TriesOnce (PreparesBy core_table) (AppliesBy core_table) core_table.answer_of fate host t old result after new → IsComputed fate host t old result after new
-once_computed one apart fate host after t old new result lays short knows c running tr =
+once_computed one apart trail fate host after t old new result lays short knows c running tr =
     let e = (tries_are core_table fate t.ends old tr.ends new).0 tr.transacts in
     let ends : HostTransferState = ends_after fate t old in
     let cleared : t.request ≡ requests.Clear → ends.stage ≡ stages.Done → BeginsAnew new.requests
     = λ is finished. subst (λ (r : Request). HasEffect r new.requests) is
-    (done_effect fate host.phase t tr.ends old new short c running tr.transacts tr.same (ap (λ (x : HostTransferState). x.stage) e.0 ∙ finished)) in
+    (done_effect trail fate host.phase t tr.ends old new short c running tr.transacts tr.same (ap (λ (x : HostTransferState). x.stage) e.0 ∙ finished)) in
     let brings = subst (λ (d : DevControlState CoreState). d.requests ≡ answering (brought_about fate t.ends old) d.requests) (sym e.1) (tried_rounds fate t.ends old) in
     elim (concluded_so tr.ends.stage host.addr t.request host.phase tr.next (bytes_got tr.ends) result tr.concludes) [
       | inl (done, (made, makes, told, moves)) ↦
           let not_running : IsRunning tr.ends.stage → tr.next ≡ host.phase = λ run. let wrong = subst IsRunning done run in absurd (cc) in
-          let tried_so = carried fate host.phase tr.next t tr.ends old new short c running tr.transacts tr.same not_running in
+          let tried_so = carried trail fate host.phase tr.next t tr.ends old new short c running tr.transacts tr.same not_running in
+          let behind_it : Trail = trail_tried fate t old trail in
+          let place : Place = behind_it.place in
           let goes = tried_so.goes in
           let d = tried_so.carries in
-          let is_done : IsDone d.place = (done_is core_table.answer_of (shape_of tr.ends.setup) (sends_of t.request) d.place tr.ends new d.stands).0 done in
-          let behind : IsBehindSetup d.place.host = subst IsBehindSetup (sym is_done.1) tt in
-          let answer = answer_is t.request new.requests d.place.decision (bytes_got tr.ends) (d.decided behind)
-          (got_so tr.ends (setup_for t.request (asking_of new.requests)) d.place.decision d.asked
-          (λ is_read. read_is core_table.answer_of (shape_of tr.ends.setup) (sends_of t.request) d.place tr.ends new d.stands is_done is_read)) in
+          let is_done : IsDone place = (done_is core_table.answer_of (shape_of tr.ends.setup) (sends_of t.request) place tr.ends new d.stands).0 done in
+          let behind : IsBehindSetup place.host = subst IsBehindSetup (sym is_done.1) tt in
+          let answer = answer_is t.request behind_it.decider new.requests place.decision (bytes_got tr.ends) (d.decided behind)
+          (got_so tr.ends (setup_for t.request (asking_of new.requests)) place.decision d.asked
+          (λ is_read. read_is core_table.answer_of (shape_of tr.ends.setup) (sends_of t.request) place tr.ends new d.stands is_done is_read)) in
           let lays_on : Lays new.requests.descriptor new.requests.layout = subst (λ (x : List ℕ). Lays x new.requests.layout) (sym goes.descriptor) (subst (λ l. Lays old.requests.descriptor l) (sym goes.layout) lays) in
           let short_on : length new.requests.descriptor < 2 ^ 16 = subst (λ (x : List ℕ). length x < 2 ^ 16) (sym goes.descriptor) short in
           let stage : ends.stage ≡ stages.Done = ap (λ (x : HostTransferState). x.stage) (sym e.0) ∙ done in
@@ -143,9 +146,9 @@ once_computed one apart fate host after t old new result lays short knows c runn
             ];
             needs = c.needs running;
             brings = brings;
-            parsed = λ h. parsed_by fate host.phase t old c running h;
-            cut = λ h. cut_by fate host.phase t old c running h;
-            clears = λ h. cleared_by fate host.phase t old c running h;
+            parsed = λ h. parsed_by trail fate host.phase t old c running h;
+            cut = λ h. cut_by trail fate host.phase t old c running h;
+            clears = λ h. cleared_by trail fate host.phase t old c running h;
             cleared = cleared;
           }
       | inr (told, stays, leads) ↦ record {
@@ -157,9 +160,9 @@ once_computed one apart fate host after t old new result lays short knows c runn
         );
         needs = c.needs running;
         brings = brings;
-        parsed = λ h. parsed_by fate host.phase t old c running h;
-        cut = λ h. cut_by fate host.phase t old c running h;
-        clears = λ h. cleared_by fate host.phase t old c running h;
+        parsed = λ h. parsed_by trail fate host.phase t old c running h;
+        cut = λ h. cut_by trail fate host.phase t old c running h;
+        clears = λ h. cleared_by trail fate host.phase t old c running h;
         cleared = cleared;
       }
     ]
@@ -174,4 +177,4 @@ steps_computed one apart fate host after t old new result lays short knows is st
       | None ↦ (result ≡ Err (Control NoTransfer)) × (after ≡ host) × (new ≡ old)
       | Some x ↦ TriesOnce (PreparesBy core_table) (AppliesBy core_table) core_table.answer_of fate host x old result after new
     ]) is steps in
-    once_computed one apart fate host after t old new result lays short knows.phase (subst (λ (o : Option Transfer). IfSome o (λ (x : Transfer). Carries host.phase x old)) r.0 knows.transfer) r.1 tries
+    once_computed one apart knows.trail fate host after t old new result lays short knows.by.phase (subst (λ (o : Option Transfer). IfSome o (λ (x : Transfer). Carries knows.trail host.phase x old)) r.0 knows.by.transfer) r.1 tries

@@ -11,7 +11,6 @@ use Rattle.usb_control.specs.Computed.{control_tried, effect_reached}
 use Rattle.usb_control.specs.Device.{Answers, Applies, Decides, DevControlState, Effect}
 use Rattle.usb_control.specs.Host.{HostTransferState}
 use Rattle.usb_control.specs.Meanwhile.{Tries, ends_tried, is_running}
-use Rattle.usb_control.specs.Transfer.{start}
 use Rattle.usb_control.proofs.ComputedLemmas.{transacts_computed}
 use Rattle.usb_control.proofs.LawLemmas.{begins}
 use Rattle.usb_control.proofs.MeanwhileLemmas.{is_running_runs, setup_stays}
@@ -23,7 +22,7 @@ use Rattle.hid_requests.specs.Asking.{sends_of}
 use Rattle.hid_requests.proofs.AskedLemmas.{sends_so}
 use Rattle.hid_lives.specs.Rounds.{OwnStep, Changes, Frame, Polls}
 use Rattle.hid_lives.specs.Stations.{Open, Station, expected}
-use Rattle.hid_device.specs.declared.device.TheConstants.{ENDPOINT}
+use Rattle.hid_requests.specs.declared.codes.TheConstants.{REPORT_ENDPOINT as ENDPOINT}
 use Rattle.hid_device.specs.declared.decisions.Pending.{Pending}
 use Rattle.hid_device.specs.declared.decisions.Pending.TheVariants as pendings
 use Rattle.hid_device.specs.Core.{CoreState}
@@ -38,6 +37,7 @@ use Rattle.hid_host.specs.declared.phase.HostState.TheVariants as states
 use Rattle.hid_stack.specs.Bringing.{brought_about, carried_out}
 use Rattle.hid_host.specs.Host.{clearing_behind, transfer_of}
 use Rattle.hid_stack.specs.Knowing.{BeginsAnew, Carries, HasEffect, LeavesTransfers, asking_of}
+use Rattle.hid_stack.specs.Trails.{Trail, trail_from, trail_tried}
 use Rattle.hid_host.specs.Phase.{may_poll}
 use Rattle.hid_host.specs.Ready.{known_at_start}
 use Rattle.hid_stack.proofs.LawLemmas.{carried, carries_on, done_effect, short_so}
@@ -52,9 +52,9 @@ abbrev report_of : Option Open → Option ℕ
 report_of o = option_map (λ round. round.report) o
 
 -- the inside of a device and its station have the same open round, and the same toggle
-record Agrees (core : CoreState) (s : Station) : Type 0 where
-  current : core.current ≡ report_of s.current
-  toggle : core.toggle ≡ s.odd
+pub record Agrees (core : CoreState) (s : Station) : Type 0 where
+  pub current : core.current ≡ report_of s.current
+  pub toggle : core.toggle ≡ s.odd
 
 written_agrees : (items : List Item) (core : CoreState) (s : Station) (bytes : List ℕ) (pending : Pending) → Agrees core s → Agrees (effected core bytes pending) (befallen_by items s (written_deed core pending))
 written_agrees items core s bytes pendings.Nothing a = a
@@ -77,10 +77,10 @@ brought_agrees items Clean ends control s a = effect_agrees items (effect_reache
 brought_agrees items ReplyLost ends control s a = effect_agrees items (effect_reached core_table ends control) control.requests s a
 brought_agrees items AckLost ends control s a = effect_agrees items (effect_reached core_table ends control) control.requests s a
 
-abbrev tried_control : Fate → Member → Transfer → DevControlState CoreState
+abbrev pub tried_control : Fate → Member → Transfer → DevControlState CoreState
 tried_control fate m t = control_tried core_table fate t.ends (control_at m)
 
-tried_agrees : (fate : Fate) (m : Member) (t : Transfer) → Agrees (tried_control fate m t).requests (befallen_by (items_of m.layout) m.station (tried_deed fate m (Some t)))
+pub tried_agrees : (fate : Fate) (m : Member) (t : Transfer) → Agrees (tried_control fate m t).requests (befallen_by (items_of m.layout) m.station (tried_deed fate m (Some t)))
 tried_agrees fate m t =
     let brought = brought_agrees (items_of m.layout) fate t.ends (control_at m) m.station (record { current = refl; toggle = refl }) in
     let same = tried_rounds fate t.ends (control_at m) in
@@ -99,15 +99,16 @@ none_open (Some round) none = absurd (cc)
 abbrev ready_with : Member → HostPhase
 ready_with m = Ready (known_at_start m.addr ENDPOINT m.layout)
 
-record Pends (phase : HostPhase) (m : Member) (t : Transfer) : Type 0 where
-  carries : Carries phase t (control_at m)
-  is : t.request ≡ requests.Clear
-  clearing : m.clearing ≡ true
+pub record Pends (phase : HostPhase) (m : Member) (t : Transfer) : Type 0 where
+  pub trail : Trail
+  pub carries : Carries trail phase t (control_at m)
+  pub is : t.request ≡ requests.Clear
+  pub clearing : m.clearing ≡ true
 
 -- what leaves it so
 stays_pending : (phase : HostPhase) (m n : Member) (t : Transfer) → LeavesTransfers true (control_at m) (control_at n) → n.clearing ≡ true → Pends phase m t → Pends phase n t
 stays_pending phase m n t leaves clearing p =
-    record { carries = carries_on phase true (control_at m) (control_at n) (Some t) leaves p.carries (λ is runs. refl); is = p.is; clearing = clearing }
+    record { trail = p.trail; carries = carries_on p.trail phase true (control_at m) (control_at n) (Some t) leaves p.carries (λ is runs. refl); is = p.is; clearing = clearing }
 
 no_polls : (host : HostState) → may_poll host true ≡ false
 no_polls states.Cold = refl
@@ -115,10 +116,10 @@ no_polls states.Described = refl
 no_polls states.Parsed = refl
 no_polls states.Ready = refl
 
-polls_none : (m : Member) → m.clearing ≡ true → polls_it m ≡ false
+pub polls_none : (m : Member) → m.clearing ≡ true → polls_it m ≡ false
 polls_none m clearing = ap (may_poll m.host) clearing ∙ no_polls m.host
 
-scheduled_pends : (x : OwnStep) (phase : HostPhase) (m : Member) (t : Transfer) → Pends phase m t → Pends phase (member_after m (Scheduled x)) t
+pub scheduled_pends : (x : OwnStep) (phase : HostPhase) (m : Member) (t : Transfer) → Pends phase m t → Pends phase (member_after m (Scheduled x)) t
 scheduled_pends (Changes change) phase m t p = stays_pending phase m (member_after m (Scheduled (Changes change))) t (record {
   layout = refl;
   config = refl;
@@ -143,7 +144,7 @@ scheduled_pends (Polls fate) phase m t p =
     let same : m ≡ member_after m (Scheduled (Polls fate)) = sym (ap (λ (b : Bool). record m { station = befallen_by (items_of m.layout) m.station (polled_deed b fate) }) (polls_none m p.clearing)) in
     subst (λ (n : Member). Pends phase n t) same p
 
-halted_pends : (b : Bool) (phase : HostPhase) (m : Member) (t : Transfer) → Pends phase m t → Pends phase (halted_if b m) t
+pub halted_pends : (b : Bool) (phase : HostPhase) (m : Member) (t : Transfer) → Pends phase m t → Pends phase (halted_if b m) t
 halted_pends false phase m t p = p
 halted_pends true phase m t p = stays_pending phase m (halted_if true m) t (record {
   layout = refl;
@@ -158,11 +159,11 @@ halted_pends true phase m t p = stays_pending phase m (halted_if true m) t (reco
 
 -- ---- a try of it
 
-same_setup : (fate : Fate) (m : Member) (t : Transfer) → is_running t.ends.stage ≡ true → (ends_tried_at fate m t).setup ≡ t.ends.setup
+pub same_setup : (fate : Fate) (m : Member) (t : Transfer) → is_running t.ends.stage ≡ true → (ends_tried_at fate m t).setup ≡ t.ends.setup
 same_setup fate m t runs =
     sym (ap (λ (b : Bool). (if b then ends_tried core_table fate (ends_at m t) else ends_at m t).host.setup) runs) ∙ setup_stays core_table (ends_at m t) (Tries fate ∷ [])
 
-abbrev tried_transfer : Fate → Member → Transfer → Transfer
+abbrev pub tried_transfer : Fate → Member → Transfer → Transfer
 tried_transfer fate m t = record t { ends = ends_tried_at fate m t }
 
 clearing_stays : (stage : HostStage) (request : Request) (clearing : Bool) → stage ≢ stages.Done → clearing_behind stage request clearing ≡ clearing
@@ -174,12 +175,12 @@ clearing_stays stages.StatusIn request clearing undone = refl
 clearing_stays stages.StatusOut request clearing undone = refl
 clearing_stays (stages.Failed fault) request clearing undone = refl
 
-tried_pends : (fate : Fate) (phase : HostPhase) (m : Member) (t : Transfer) → length m.descriptor < 2 ^ 16 → is_running t.ends.stage ≡ true → (ends_tried_at fate m t).stage ≢ stages.Done → Pends phase m t
+pub tried_pends : (fate : Fate) (phase : HostPhase) (m : Member) (t : Transfer) → length m.descriptor < 2 ^ 16 → is_running t.ends.stage ≡ true → (ends_tried_at fate m t).stage ≢ stages.Done → Pends phase m t
     → Pends phase (tried_of fate m (Some t)) (tried_transfer fate m t)
 tried_pends fate phase m t short runs undone p =
     let n = tried_of fate m (Some t) in
     let new = tried_control fate m t in
-    let behind = carried fate phase phase t (ends_tried_at fate m t) (control_at m) new short p.carries (is_running_runs t.ends.stage runs)
+    let behind = carried p.trail fate phase phase t (ends_tried_at fate m t) (control_at m) new short p.carries (is_running_runs t.ends.stage runs)
     (transacts_computed core_table fate t.ends (control_at m)) (same_setup fate m t runs) (λ run. refl) in
     let agrees = tried_agrees fate m t in
     let leaves : LeavesTransfers true new (control_at n) = record {
@@ -193,7 +194,8 @@ tried_pends fate phase m t short runs undone p =
       anew = λ clearing anew. record { current = sym agrees.current ∙ anew.current; toggle = sym agrees.toggle ∙ anew.toggle };
     } in
     record {
-      carries = carries_on phase true new (control_at n) (Some (tried_transfer fate m t)) leaves behind.carries (λ is runs. refl);
+      trail = trail_tried fate t (control_at m) p.trail;
+      carries = carries_on (trail_tried fate t (control_at m) p.trail) phase true new (control_at n) (Some (tried_transfer fate m t)) leaves behind.carries (λ is runs. refl);
       is = p.is;
       clearing = clearing_stays (ends_tried_at fate m t).stage t.request m.clearing undone ∙ p.clearing;
     }
@@ -201,7 +203,7 @@ tried_pends fate phase m t short runs undone p =
 -- ---- whole lists
 
 -- a transfer that is done stays so
-idle_step : (fate : Fate) (m : Member) (t : Transfer) (b : Bool) → is_running t.ends.stage ≡ b → b ≡ false → m.transfer ≡ Some t → member_after m (Controls fate) ≡ m
+pub idle_step : (fate : Fate) (m : Member) (t : Transfer) (b : Bool) → is_running t.ends.stage ≡ b → b ≡ false → m.transfer ≡ Some t → member_after m (Controls fate) ≡ m
 idle_step fate m t b is over has = ap (tried_of fate m) (runs_as m t has ∙ ap (λ (x : Bool). if x then Some t else None) (is ∙ over))
 
 done_over : (stage : HostStage) → stage ≡ stages.Done → is_running stage ≡ false
@@ -220,11 +222,11 @@ undone_by : (o : Option Transfer) (t : Transfer) → o ≡ Some t → IsUndone o
 undone_by o t is undone = subst IsUndone is undone
 
 -- one that isn't stays pending
-record PendsThere (phase : HostPhase) (n : Member) : Type 0 where
-  transfer : Transfer
-  has : n.transfer ≡ Some transfer
-  pends : Pends phase n transfer
-  short : length n.descriptor < 2 ^ 16
+pub record PendsThere (phase : HostPhase) (n : Member) : Type 0 where
+  pub transfer : Transfer
+  pub has : n.transfer ≡ Some transfer
+  pub pends : Pends phase n transfer
+  pub short : length n.descriptor < 2 ^ 16
 
 pends_on : (steps : List MemberStep) (phase : HostPhase) (m : Member) (t : Transfer) → m.transfer ≡ Some t → length m.descriptor < 2 ^ 16 → BeginsNone steps → IsUndone (member_after_all m steps).transfer → Pends phase m t
     → PendsThere phase (member_after_all m steps)
@@ -283,13 +285,13 @@ even_by fate m t done is anew =
       clearing = ap (λ (x : HostStage). clearing_behind x t.request m.clearing) done ∙ ap (λ (q : Request). clearing_behind stages.Done q m.clearing) is;
     }
 
-even_there : (fate : Fate) (phase : HostPhase) (n : Member) → IsUndone n.transfer → PendsThere phase n → IsOver (member_after n (Controls fate)).transfer → IsEvenAgain (member_after n (Controls fate))
+pub even_there : (fate : Fate) (phase : HostPhase) (n : Member) → IsUndone n.transfer → PendsThere phase n → IsOver (member_after n (Controls fate)).transfer → IsEvenAgain (member_after n (Controls fate))
 even_there fate phase n undone p over = elim (cases_Bool (is_running p.transfer.ends.stage)) [
   | inl runs ↦
       let t = p.transfer in
       let there : member_after n (Controls fate) ≡ tried_of fate n (Some t) = ap (tried_of fate n) (runs_as n t p.has ∙ ap (λ (x : Bool). if x then Some t else None) runs) in
       let done : (ends_tried_at fate n t).stage ≡ stages.Done = subst (λ (k : Member). IsOver k.transfer) there over in
-      let effect = done_effect fate phase t (ends_tried_at fate n t) (control_at n) (tried_control fate n t) p.short p.pends.carries (is_running_runs t.ends.stage runs)
+      let effect = done_effect p.pends.trail fate phase t (ends_tried_at fate n t) (control_at n) (tried_control fate n t) p.short p.pends.carries (is_running_runs t.ends.stage runs)
       (transacts_computed core_table fate t.ends (control_at n)) (same_setup fate n t runs) done in
       subst IsEvenAgain (sym there) (even_by fate n t done p.pends.is (subst (λ (q : Request). HasEffect q (tried_control fate n t).requests) p.pends.is effect))
   | inr ended ↦
@@ -304,27 +306,35 @@ ClearsFrom steps begun =
     let n = member_after_all begun steps in IsUndone n.transfer
     → (polls_it n ≡ false) × ((fate : Fate) → IsOver (member_after n (Controls fate)).transfer → IsEvenAgain (member_after n (Controls fate)))
 
+-- a Clear that begins
+pub begins_pending : (m : Member) → (phase : HostPhase) × Pends phase (begun_unless None m requests.Clear) (transfer_of m.addr (asking_of (core_at m)) requests.Clear)
+begins_pending m =
+    let asking : Asking = asking_of (core_at m) in
+    let begun : Member = begun_unless None m requests.Clear in (
+      ready_with m,
+      record {
+        trail = trail_from (core_at m);
+        carries = record {
+          stands = begins core_table.answer_of m.addr (setup_at m requests.Clear) (sends_of requests.Clear) (control_at begun) (sends_so requests.Clear asking);
+          asked = refl;
+          fits = tt;
+          needs = λ run. refl;
+          decided = λ behind. absurd behind;
+          effect = λ run took. absurd (cc);
+          applied = λ done writes. let wrong = done.1 in absurd (cc);
+        };
+        is = refl;
+        clearing = refl;
+      },
+    )
+
 pub clears_so : (m : Member) (steps : List MemberStep) → Lays m.descriptor m.layout → begin_refusal_at m requests.Clear ≡ None → BeginsNone steps → IsClearing m steps
 clears_so m steps lays allowed none =
-    let asking : Asking = asking_of (core_at m) in
     let begun : Member = begun_unless None m requests.Clear in
-    let t : Transfer = transfer_of m.addr asking requests.Clear in
-    let pends : Pends (ready_with m) begun t = record {
-      carries = record {
-        place = start;
-        stands = begins core_table.answer_of m.addr (setup_at m requests.Clear) (sends_of requests.Clear) (control_at begun) (sends_so requests.Clear asking);
-        asked = refl;
-        fits = tt;
-        needs = λ run. refl;
-        decided = λ behind. absurd behind;
-        effect = λ run took. absurd (cc);
-        applied = λ done writes. let wrong = done.1 in absurd (cc);
-      };
-      is = refl;
-      clearing = refl;
-    } in
+    let t : Transfer = transfer_of m.addr (asking_of (core_at m)) requests.Clear in
+    let pends = begins_pending m in
     let short = short_so m.descriptor m.layout lays in
     let from : ClearsFrom steps begun = λ undone.
-    let there = pends_on steps (ready_with m) begun t refl short none undone pends in
-    (polls_none (member_after_all begun steps) there.pends.clearing, λ fate over. even_there fate (ready_with m) (member_after_all begun steps) undone there over) in
+    let there = pends_on steps pends.0 begun t refl short none undone pends.1 in
+    (polls_none (member_after_all begun steps) there.pends.clearing, λ fate over. even_there fate pends.0 (member_after_all begun steps) undone there over) in
     subst (ClearsFrom steps) (sym (ap (λ (o : Option StackFault). begun_unless o m requests.Clear) allowed)) from

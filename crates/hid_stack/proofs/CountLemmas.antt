@@ -31,6 +31,7 @@ use Rattle.hid_stack.specs.Bringing.{is_configure}
 use Rattle.hid_host.specs.Host.{running, running_at}
 use Rattle.hid_requests.proofs.AskedLemmas.{of_reports}
 use Rattle.hid_stack.specs.Knowing.{IsBehindSetup, IsDecided, asking_of}
+use Rattle.hid_stack.specs.Trails.{Trail, trail_tried}
 use Rattle.hid_stack.proofs.KnowingLemmas.{acts_go, decided_behind, decided_stays}
 use Rattle.hid_stack.proofs.RoundLemmas.{is_configuring, pends_so}
 use Rattle.hid_stack.specs.Members.{Member, MemberStep, Scheduled, Begins, Controls, Halts, Resets, brought_deed, control_at, core_at, deeds_in, effect_deed, ends_tried_at, halted_deed, halted_if, member_after, polls_it, scheduled_deed, tried_deed, tried_of, tried_to, written_deed}
@@ -75,36 +76,36 @@ brought_as AckLost ends control sets rest pends = effect_as (effect_reached core
 
 -- ---- both ends stand at a place, with what the device decided
 
-pub record Stood (m : Member) (t : Transfer) (place : Place) : Type 0 where
+pub record Stood (m : Member) (t : Transfer) (trail : Trail) : Type 0 where
   pub asked : t.ends.setup ≡ setup_at m t.request
   pub spelled : IsSpelled t.ends.setup
   pub fits : FitsRequest t.request
-  pub stands : StandAt core_table (sends_of t.request) place (ends_at m t)
-  pub decided : IsBehindSetup place.host → IsDecided t.request (core_at m) place.decision
+  pub stands : StandAt core_table (sends_of t.request) trail.place (ends_at m t)
+  pub decided : IsBehindSetup trail.place.host → IsDecided t.request trail.decider (core_at m) trail.place.decision
 
 -- a step of the schedule leaves it
-stood_scheduled : (x : OwnStep) (m : Member) (t : Transfer) (place : Place) → Stood m t place → Stood (member_after m (Scheduled x)) t place
-stood_scheduled x m t place s =
+pub stood_scheduled : (x : OwnStep) (m : Member) (t : Transfer) (trail : Trail) → Stood m t trail → Stood (member_after m (Scheduled x)) t trail
+stood_scheduled x m t trail s =
     let n = member_after m (Scheduled x) in
     record {
       asked = s.asked;
       spelled = s.spelled;
       fits = s.fits;
-      stands = kept_is core_table.answer_of (shape_of t.ends.setup) (sends_of t.request) place t.ends (control_at m) (control_at n) s.stands refl refl;
-      decided = λ behind. decided_stays t.request (core_at m) (core_at n) place.decision (record { layout = refl; config = refl; descriptor = refl; configured = λ h. h }) refl (s.decided behind);
+      stands = kept_is core_table.answer_of (shape_of t.ends.setup) (sends_of t.request) trail.place t.ends (control_at m) (control_at n) s.stands refl refl;
+      decided = λ behind. decided_stays t.request trail.decider (core_at m) (core_at n) trail.place.decision (record { layout = refl; config = refl; descriptor = refl; configured = λ h. h }) refl (s.decided behind);
     }
 
 -- and so does a halt of the device
-stood_halted : (b : Bool) (m : Member) (t : Transfer) (place : Place) → Stood m t place → Stood (halted_if b m) t place
-stood_halted false m t place s = s
-stood_halted true m t place s =
+pub stood_halted : (b : Bool) (m : Member) (t : Transfer) (trail : Trail) → Stood m t trail → Stood (halted_if b m) t trail
+stood_halted false m t trail s = s
+stood_halted true m t trail s =
     let n = halted_if true m in
     record {
       asked = s.asked;
       spelled = s.spelled;
       fits = s.fits;
-      stands = kept_is core_table.answer_of (shape_of t.ends.setup) (sends_of t.request) place t.ends (control_at m) (control_at n) s.stands refl refl;
-      decided = λ behind. decided_stays t.request (core_at m) (core_at n) place.decision (record { layout = refl; config = refl; descriptor = refl; configured = λ h. h }) refl (s.decided behind);
+      stands = kept_is core_table.answer_of (shape_of t.ends.setup) (sends_of t.request) trail.place t.ends (control_at m) (control_at n) s.stands refl refl;
+      decided = λ behind. decided_stays t.request trail.decider (core_at m) (core_at n) trail.place.decision (record { layout = refl; config = refl; descriptor = refl; configured = λ h. h }) refl (s.decided behind);
     }
 
 pub halted_transfer : (b : Bool) (m : Member) → (halted_if b m).transfer ≡ m.transfer
@@ -112,27 +113,30 @@ halted_transfer true m = refl
 halted_transfer false m = refl
 
 -- and a try leads on
-abbrev tried_transfer : Fate → Member → Transfer → Transfer
+abbrev pub tried_transfer : Fate → Member → Transfer → Transfer
 tried_transfer fate m t = record t { ends = ends_tried_at fate m t }
 
-abbrev place_behind : Fate → Member → Transfer → Place → Place
-place_behind fate m t place = tried (shape_of t.ends.setup) fate (decision_now core_table (ends_at m t)) place
+-- its trail
+abbrev pub trail_on : Fate → Member → Transfer → Trail → Trail
+trail_on fate m t trail = trail_tried fate t (control_at m) trail
 
-stood_tried : (fate : Fate) (m : Member) (t : Transfer) (place : Place) (host : HostState) → Stood m t place → GoesBy core_table (sends_of t.request) place fate (ends_at m t)
-    → Stood (tried_to fate m t host) (tried_transfer fate m t) (place_behind fate m t place)
-stood_tried fate m t place host s g =
+pub stood_tried : (fate : Fate) (m : Member) (t : Transfer) (trail : Trail) (host : HostState) → Stood m t trail → GoesBy core_table (sends_of t.request) trail.place fate (ends_at m t)
+    → Stood (tried_to fate m t host) (tried_transfer fate m t) (trail_on fate m t trail)
+stood_tried fate m t trail host s g =
     let n = tried_to fate m t host in
     let control = control_tried core_table fate t.ends (control_at m) in
     let asking : Asking = asking_of (core_at m) in
-    let goes = acts_go t.ends.setup (sends_of t.request) (act_now core_table place fate (ends_at m t)) (core_at m) control.requests g.acts in
+    let behind : Trail = trail_on fate m t trail in
+    let goes = acts_go t.ends.setup (sends_of t.request) (act_now core_table trail.place fate (ends_at m t)) (core_at m) control.requests g.acts in
     record {
       asked = g.asked ∙ s.asked;
       spelled = subst IsSpelled (sym g.asked) s.spelled;
       fits = s.fits;
-      stands = kept_is core_table.answer_of (shape_of (ends_tried_at fate m t).setup) (sends_of t.request) (place_behind fate m t place) (ends_tried_at fate m t) control (control_at n) g.stands refl refl;
-      decided = λ behind. decided_stays t.request control.requests (core_at n) (place_behind fate m t place).decision
+      stands = kept_is core_table.answer_of (shape_of (ends_tried_at fate m t).setup) (sends_of t.request) behind.place (ends_tried_at fate m t) control (control_at n) g.stands refl refl;
+      decided = λ later. decided_stays t.request behind.decider control.requests (core_at n) behind.place.decision
           (record { layout = sym goes.layout; config = sym goes.config; descriptor = sym goes.descriptor; configured = λ h. h }) refl
-          (decided_behind t.request asking t.ends.setup (sends_of t.request) fate (decision_now core_table (ends_at m t)) place.host place (core_at m) control.requests s.fits (of_reports t.request asking refl) s.asked refl g.acts s.decided behind);
+          (decided_behind t.request asking t.ends.setup (sends_of t.request) fate (decision_now core_table (ends_at m t)) trail.place.host trail.place trail.decider (core_at m) control.requests s.fits (of_reports t.request asking refl) s.asked refl g.acts
+          s.decided later);
     }
 
 -- what a try adds to both counts
@@ -142,14 +146,21 @@ more_of true false n = refl
 more_of false true n = refl
 more_of false false n = refl
 
-try_configures : (fate : Fate) (m : Member) (t : Transfer) (place : Place) (rest : List Deed) (later : ℕ) → Stood m t place → GoesBy core_table (sends_of t.request) place fate (ends_at m t)
+-- what is pending where a write takes effect was decided at the last SETUP that arrived
+pub decided_now : (fate : Fate) (m : Member) (t : Transfer) (trail : Trail) → Stood m t trail → GoesBy core_table (sends_of t.request) trail.place fate (ends_at m t)
+    → takes_effect core_table fate t.ends (control_at m) ≡ true → IsDecided t.request trail.decider (core_at m) trail.place.decision
+decided_now fate m t trail s g takes =
+    let place : Place = trail.place in
+    s.decided (effect_behind place.host (shape_of t.ends.setup) fate (decision_now core_table (ends_at m t)) place.decision place.applied (sym g.takes ∙ takes))
+
+try_configures : (fate : Fate) (m : Member) (t : Transfer) (trail : Trail) (rest : List Deed) (later : ℕ) → Stood m t trail → GoesBy core_table (sends_of t.request) trail.place fate (ends_at m t)
     → configurations rest ≡ (if is_configure t.request then later else 0)
     → configurations (cons_option (brought_deed fate t.ends (control_at m)) rest)
     ≡ (if is_configure t.request then more_if (takes_effect core_table fate t.ends (control_at m)) later else 0)
-try_configures fate m t place rest later s g so =
+try_configures fate m t trail rest later s g so =
     let takes = takes_effect core_table fate t.ends (control_at m) in
     brought_as fate t.ends (control_at m) (is_configure t.request) rest
-    (λ takes. pends_so t.request (core_at m) place.decision (s.decided (effect_behind place.host (shape_of t.ends.setup) fate (decision_now core_table (ends_at m t)) place.decision place.applied (sym g.takes ∙ takes))))
+    (λ takes. pends_so t.request trail.decider (core_at m) trail.place.decision (decided_now fate m t trail s g takes))
     ∙ ap (more_if (takes && is_configure t.request)) so
     ∙ more_of takes (is_configure t.request) later
 
@@ -212,65 +223,67 @@ pub runs_as : (m : Member) (t : Transfer) → m.transfer ≡ Some t → running 
 runs_as m t has = ap running has ∙ running_so t t.ends.stage (is_running t.ends.stage) refl
 
 -- the same of a try and the steps behind it, of a transfer that runs or not
-abbrev CountsTry : Fate → List MemberStep → Member → Transfer → Place → ℕ → Option Transfer → Option Transfer → Type 0
-CountsTry fate steps m t place n runs has =
-    Counts t.request n (acts (shape_of t.ends.setup) (try_at fate m has ++ tries_of (tried_of fate m runs) steps) place)
+abbrev CountsTry : Fate → List MemberStep → Member → Transfer → Trail → ℕ → Option Transfer → Option Transfer → Type 0
+CountsTry fate steps m t trail n runs has =
+    Counts t.request n (acts (shape_of t.ends.setup) (try_at fate m has ++ tries_of (tried_of fate m runs) steps) trail.place)
     (more_if (takes_effect_at fate m runs) (effects_in (tried_of fate m runs) steps))
     (cons_option (tried_deed fate m runs) (deeds_in (tried_of fate m runs) steps))
 
 abbrev Behind : List MemberStep → Type 0
-Behind steps = (m : Member) (t : Transfer) (place : Place) (n : ℕ) → m.transfer ≡ Some t → BeginsNone steps → Stood m t place
-    → Counts t.request n (acts (shape_of t.ends.setup) (tries_of m steps) place) (effects_in m steps) (deeds_in m steps)
+Behind steps = (m : Member) (t : Transfer) (trail : Trail) (n : ℕ) → m.transfer ≡ Some t → BeginsNone steps → Stood m t trail
+    → Counts t.request n (acts (shape_of t.ends.setup) (tries_of m steps) trail.place) (effects_in m steps) (deeds_in m steps)
 
-try_counts : (fate : Fate) (steps : List MemberStep) (m : Member) (t : Transfer) (place : Place) (n : ℕ) → BeginsNone steps → Stood m t place → is_running t.ends.stage ≡ true → Behind steps
-    → CountsTry fate steps m t place n (Some t) (Some t)
-try_counts fate steps m t place n none s runs later =
+try_counts : (fate : Fate) (steps : List MemberStep) (m : Member) (t : Transfer) (trail : Trail) (n : ℕ) → BeginsNone steps → Stood m t trail → is_running t.ends.stage ≡ true → Behind steps
+    → CountsTry fate steps m t trail n (Some t) (Some t)
+try_counts fate steps m t trail n none s runs later =
+    let place : Place = trail.place in
     let shape = shape_of t.ends.setup in
     let g = goes_by core_table (sends_of t.request) place fate (ends_at m t) s.spelled (is_running_runs t.ends.stage runs) s.stands in
     let act = act_now core_table place fate (ends_at m t) in
     let k = tried_of fate m (Some t) in
-    let behind = place_behind fate m t place in
+    let behind : Trail = trail_on fate m t trail in
     let xs = tries_of k steps in
     let more : ℕ = more_if (is_effect act) n in
-    let rest : Counts t.request more (acts (shape_of (ends_tried_at fate m t).setup) xs behind) (effects_in k steps) (deeds_in k steps)
-    = later k (tried_transfer fate m t) behind more refl none (stood_tried fate m t place k.host s g) in
+    let rest : Counts t.request more (acts (shape_of (ends_tried_at fate m t).setup) xs behind.place) (effects_in k steps) (deeds_in k steps)
+    = later k (tried_transfer fate m t) behind more refl none (stood_tried fate m t trail k.host s g) in
     record {
       took = ap (effects n) (open_acts shape (fate, decision_now core_table (ends_at m t)) xs place (sym (runs_so core_table (sends_of t.request) place (ends_at m t) s.stands) ∙ runs))
-          ∙ one_act n act (acts shape xs behind)
-          ∙ ap (λ (s : Shape). effects more (acts s xs behind)) (sym (ap shape_of g.asked))
+          ∙ one_act n act (acts shape xs behind.place)
+          ∙ ap (λ (s : Shape). effects more (acts s xs behind.place)) (sym (ap shape_of g.asked))
           ∙ rest.took
           ∙ more_before (is_effect act) (effects_in k steps) n
           ∙ ap (λ (b : Bool). more_if b (effects_in k steps) + n) (sym g.takes);
-      configures = try_configures fate m t place (deeds_in k steps) (effects_in k steps) s g rest.configures;
+      configures = try_configures fate m t trail (deeds_in k steps) (effects_in k steps) s g rest.configures;
     }
 
-over_counts : (fate : Fate) (steps : List MemberStep) (m : Member) (t : Transfer) (place : Place) (n : ℕ) → m.transfer ≡ Some t → BeginsNone steps → Stood m t place → is_running t.ends.stage ≡ false → Behind steps
-    → CountsTry fate steps m t place n None (Some t)
-over_counts fate steps m t place n has none s over later =
+over_counts : (fate : Fate) (steps : List MemberStep) (m : Member) (t : Transfer) (trail : Trail) (n : ℕ) → m.transfer ≡ Some t → BeginsNone steps → Stood m t trail → is_running t.ends.stage ≡ false → Behind steps
+    → CountsTry fate steps m t trail n None (Some t)
+over_counts fate steps m t trail n has none s over later =
+    let place : Place = trail.place in
     let shape = shape_of t.ends.setup in
     let closed : is_open place ≡ false = sym (runs_so core_table (sends_of t.request) place (ends_at m t) s.stands) ∙ over in
-    let rest = later m t place n has none s in
+    let rest = later m t trail n has none s in
     record {
       took = ap (effects n) (closed_acts shape (try_at fate m (Some t) ++ tries_of m steps) place closed ∙ sym (closed_acts shape (tries_of m steps) place closed)) ∙ rest.took;
       configures = rest.configures;
     }
 
 pub counted : (steps : List MemberStep) → Behind steps
-counted [] m t place n has none s = record { took = none_yet n; configures = none_counts (is_configure t.request) }
-counted (Scheduled x ∷ steps) m t place n has none s =
-    let rest = counted steps (member_after m (Scheduled x)) t place n has none (stood_scheduled x m t place s) in
+counted [] m t trail n has none s = record { took = none_yet n; configures = none_counts (is_configure t.request) }
+counted (Scheduled x ∷ steps) m t trail n has none s =
+    let rest = counted steps (member_after m (Scheduled x)) t trail n has none (stood_scheduled x m t trail s) in
     record { took = rest.took; configures = own_deed (polls_it m) x (deeds_in (member_after m (Scheduled x)) steps) ∙ rest.configures }
-counted (Begins request ∷ steps) m t place n has none s = absurd none
-counted (Halts ∷ steps) m t place n has none s =
+counted (Begins request ∷ steps) m t trail n has none s = absurd none
+counted (Halts ∷ steps) m t trail n has none s =
     let k = member_after m Halts in
-    let rest = counted steps k t place n (halted_transfer m.endpoint.is_configured m ∙ has) none (stood_halted m.endpoint.is_configured m t place s) in
+    let rest = counted steps k t trail n (halted_transfer m.endpoint.is_configured m ∙ has) none (stood_halted m.endpoint.is_configured m t trail s) in
     record { took = rest.took; configures = halt_deed m.endpoint.is_configured (deeds_in k steps) ∙ rest.configures }
-counted (Resets ∷ steps) m t place n has none s = absurd none
-counted (Controls fate ∷ steps) m t place n has none s = elim (cases_Bool (is_running t.ends.stage)) [
+counted (Resets ∷ steps) m t trail n has none s = absurd none
+counted (Controls fate ∷ steps) m t trail n has none s = elim (cases_Bool (is_running t.ends.stage)) [
   | inl runs ↦
-      subst (λ (o : Option Transfer). CountsTry fate steps m t place n o m.transfer) (sym (runs_as m t has ∙ ap (λ (b : Bool). if b then Some t else None) runs))
-      (subst (λ (o : Option Transfer). CountsTry fate steps m t place n (Some t) o) (sym has) (try_counts fate steps m t place n none s runs (counted steps)))
+      subst (λ (o : Option Transfer). CountsTry fate steps m t trail n o m.transfer) (sym (runs_as m t has ∙ ap (λ (b : Bool). if b then Some t else None) runs))
+      (subst (λ (o : Option Transfer). CountsTry fate steps m t trail n (Some t) o) (sym has) (try_counts fate steps m t trail n none s runs (counted steps)))
   | inr over ↦
-      subst (λ (o : Option Transfer). CountsTry fate steps m t place n o m.transfer) (sym (runs_as m t has ∙ ap (λ (b : Bool). if b then Some t else None) over))
-      (subst (λ (o : Option Transfer). CountsTry fate steps m t place n None o) (sym has) (over_counts fate steps m t place n has none s over (counted steps)))
+      subst (λ (o : Option Transfer). CountsTry fate steps m t trail n o m.transfer) (sym (runs_as m t has ∙ ap (λ (b : Bool). if b then Some t else None) over))
+      (subst (λ (o : Option Transfer). CountsTry fate steps m t trail n None o) (sym has) (over_counts fate steps m t trail n has none s over (counted steps)))
 ]

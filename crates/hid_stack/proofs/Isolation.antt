@@ -61,7 +61,7 @@ abbrev pub after_own : Member → Option MemberStep → Member
 after_own m None = m
 after_own m (Some x) = member_after m x
 
-abbrev own_events : Member → Option MemberStep → List Event
+abbrev pub own_events : Member → Option MemberStep → List Event
 own_events m None = []
 own_events m (Some x) = events_by (items_of m.layout) m.station (deed_at m x)
 
@@ -141,7 +141,7 @@ quiet_own m d device y quiet = by_number (eqb d device)
     by_number true = sym quiet
     by_number false = refl
 
-step_events : (device : ℕ) (members : List Member) (m : Member) (x : Step) → member_at members device ≡ Some m → from_device device (delivered_at members x) ≡ own_events m (member_step device x)
+pub step_events : (device : ℕ) (members : List Member) (m : Member) (x : Step) → member_at members device ≡ Some m → from_device device (delivered_at members x) ≡ own_events m (member_step device x)
 step_events device members m (Change d change) h = quiet_own m d device (Scheduled (Changes change)) refl
 step_events device members m Frame h = refl
 step_events device members m (Poll d fate) h = one_told d device members m (Scheduled (Polls fate)) h
@@ -151,7 +151,7 @@ step_events device members m (Halt d) h = one_told d device members m Halts h
 step_events device members m (Reset d) h = one_told d device members m Resets h
 
 -- one more own step
-pub own_states : (m : Member) (o : Option MemberStep) (steps : List MemberStep) → member_after_all (after_own m o) steps ≡ member_after_all m (cons_option o steps)
+own_states : (m : Member) (o : Option MemberStep) (steps : List MemberStep) → member_after_all (after_own m o) steps ≡ member_after_all m (cons_option o steps)
 own_states m None steps = refl
 own_states m (Some x) steps = refl
 
@@ -171,7 +171,7 @@ states (x ∷ steps) members device m h =
     ∙ ap (λ (t : Member). Some t) (own_states m (member_step device x) (member_steps device steps))
 
 -- one step, and what is delivered behind it
-pub told_behind : (x : Step) (rest : List Delivered) (steps : List Step) (members : List Member) (device : ℕ) (m : Member) → member_at members device ≡ Some m
+told_behind : (x : Step) (rest : List Delivered) (steps : List Step) (members : List Member) (device : ℕ) (m : Member) → member_at members device ≡ Some m
     → (let own = after_own m (member_step device x) in from_device device rest ≡ told_in (items_of own.layout) own.station (deeds_in own (member_steps device steps)))
     → from_device device (delivered_at members x ++ rest) ≡ told_in (items_of m.layout) m.station (deeds_in m (member_steps device (x ∷ steps)))
 told_behind x rest steps members device m h later =

@@ -17,6 +17,7 @@ use Rattle.hid_device.specs.Core.{CoreState}
 use Rattle.hid_device.specs.Decisions.{Decided, Refuses, Reads, Writes, is_accepted, writes_if}
 use Rattle.hid_device.specs.Deciding.{core_table, decide, decided_on, decided_row, effected, left_by}
 use Rattle.hid_stack.specs.Knowing.{BeginsAnew, IsBehindSetup, IsDecided, IsDecidedBy}
+use Rattle.hid_stack.specs.Trails.{decider_behind}
 use Rattle.hid_stack.proofs.PlacesLemmas.{accepted_reaches, piece_decision, refused_applied, silent_host, silent_stays}
 
 -- what a device was made with stays, and so does its configuration
@@ -64,7 +65,7 @@ unfolding decide
 decide_is request asking core fits known = ap (decided_on core) (asked_so request asking fits known)
 
 decided_so : (request : Request) (asking : Asking) (setup : Request') (old new : CoreState) (said : Bool) (decision : Decision) → FitsRequest request → IsOfReports request asking → setup ≡ setup_for request asking
-    → said ≡ is_accepted (decide old setup) → new ≡ left_by old (decide old setup) → decision ≡ decision_of said new.answer → IsDecided request new decision
+    → said ≡ is_accepted (decide old setup) → new ≡ left_by old (decide old setup) → decision ≡ decision_of said new.answer → IsDecided request old new decision
 decided_so request asking setup old new said decision fits known asks accepts leaves is =
     let d = decided_row old (row_of request) in
     let row : decide old setup ≡ d = ap (decide old) asks ∙ decide_is request asking old fits known in
@@ -73,8 +74,7 @@ decided_so request asking setup old new said decision fits known asks accepts le
     let decides : decision ≡ decision_of (is_accepted d) (left_by old d).answer
     = is ∙ ap (λ (b : Bool). decision_of b new.answer) says ∙ ap (λ (c : CoreState). decision_of (is_accepted d) c.answer) left in
     let goes = left_goes old d in
-    subst (λ (c : CoreState). IsDecided request c decision) (sym left) (record {
-      then = old;
+    subst (λ (c : CoreState). IsDecided request old c decision) (sym left) (record {
       same = record { layout = goes.layout; config = goes.config; descriptor = goes.descriptor };
       by = subst (λ (x : Decision). IsDecidedBy d x (left_by old d).pending) (sym decides) (by_row old d);
     })
@@ -101,11 +101,10 @@ quiet_pends setup bytes Nothing old new quiet same = ap (λ (c : CoreState). c.p
 quiet_pends setup bytes (Decides decision) old new quiet same = absurd quiet
 quiet_pends setup bytes TakesEffect old new quiet same = ap (λ (c : CoreState). c.pending) same ∙ pends_on old bytes old.pending
 
-pub decided_stays : (request : Request) (old new : CoreState) (decision : Decision) → Goes old new → new.pending ≡ old.pending → IsDecided request old decision → IsDecided request new decision
-decided_stays request old new decision goes pends h = record {
-  then = h.then;
+pub decided_stays : (request : Request) (decider old new : CoreState) (decision : Decision) → Goes old new → new.pending ≡ old.pending → IsDecided request decider old decision → IsDecided request decider new decision
+decided_stays request decider old new decision goes pends h = record {
   same = record { layout = goes.layout ∙ h.same.layout; config = goes.config ∙ h.same.config; descriptor = goes.descriptor ∙ h.same.descriptor };
-  by = subst (λ (p : Pending). IsDecidedBy (decided_row h.then (row_of request)) decision p) (sym pends) h.by;
+  by = subst (λ (p : Pending). IsDecidedBy (decided_row decider (row_of request)) decision p) (sym pends) h.by;
 }
 
 piece_quiet : (k : ℕ) (shape : Shape) (fate : Fate) (decision q : Decision) (a : Bool) → IsQuiet (act_at (Piece k) shape fate decision q a)
@@ -149,35 +148,44 @@ setup_behind ReplyLost count decision place at behind = absurd (subst IsBehindSe
 setup_behind AckLost count decision place at behind = absurd (subst IsBehindSetup (silent_host (decided count decision place) ∙ at) behind)
 setup_behind Clean count decision place at behind = refl
 
-by_setup : (request : Request) (asking : Asking) (setup : Request') (bytes : List ℕ) (fate : Fate) (decision : Decision) (place : Place) (old new : CoreState) → FitsRequest request → IsOfReports request asking → setup ≡ setup_for request asking
+by_setup : (request : Request) (asking : Asking) (setup : Request') (bytes : List ℕ) (fate : Fate) (decision : Decision) (place : Place) (decider old new : CoreState) → FitsRequest request → IsOfReports request asking → setup ≡ setup_for request asking
     → ActsOn setup bytes (act_at Setup (shape_of setup) fate decision place.decision place.applied) old new → fate ≡ Clean
-    → IsDecided request new (setup_tried fate (data_pieces (shape_of setup) decision) decision place).decision
-by_setup request asking setup bytes Clean decision place old new fits known asks (said, gives, is) clean = decided_so request asking setup old new said decision fits known asks gives.0 gives.1 is
-by_setup request asking setup bytes TokenLost decision place old new fits known asks acts clean = absurd (cc)
-by_setup request asking setup bytes ReplyLost decision place old new fits known asks acts clean = absurd (cc)
-by_setup request asking setup bytes AckLost decision place old new fits known asks acts clean = absurd (cc)
+    → IsDecided request (decider_behind (act_at Setup (shape_of setup) fate decision place.decision place.applied) old decider) new (setup_tried fate (data_pieces (shape_of setup) decision) decision place).decision
+by_setup request asking setup bytes Clean decision place decider old new fits known asks (said, gives, is) clean = decided_so request asking setup old new said decision fits known asks gives.0 gives.1 is
+by_setup request asking setup bytes TokenLost decision place decider old new fits known asks acts clean = absurd (cc)
+by_setup request asking setup bytes ReplyLost decision place decider old new fits known asks acts clean = absurd (cc)
+by_setup request asking setup bytes AckLost decision place decider old new fits known asks acts clean = absurd (cc)
 
-later : (request : Request) (setup : Request') (bytes : List ℕ) (fate : Fate) (decision : Decision) (p : Position) (place : Place) (old new : CoreState) → p ≢ Setup
-    → ActsOn setup bytes (act_at p (shape_of setup) fate decision place.decision place.applied) old new → IsDecided request old place.decision
-    → IsDecided request new (piece_tried (shape_of setup) fate place.decision place).decision
-later request setup bytes fate decision p place old new apart acts h =
+-- a device that decides nothing decided before
+quiet_decider : (act : Act) (core decider : CoreState) → IsQuiet act → decider_behind act core decider ≡ decider
+quiet_decider Nothing core decider quiet = refl
+quiet_decider (Decides decision) core decider quiet = absurd quiet
+quiet_decider TakesEffect core decider quiet = refl
+
+later : (request : Request) (setup : Request') (bytes : List ℕ) (fate : Fate) (decision : Decision) (p : Position) (place : Place) (decider old new : CoreState) → p ≢ Setup
+    → ActsOn setup bytes (act_at p (shape_of setup) fate decision place.decision place.applied) old new → IsDecided request decider old place.decision
+    → IsDecided request (decider_behind (act_at p (shape_of setup) fate decision place.decision place.applied) old decider) new (piece_tried (shape_of setup) fate place.decision place).decision
+later request setup bytes fate decision p place decider old new apart acts h =
     let act = act_at p (shape_of setup) fate decision place.decision place.applied in
-    subst (λ (d : Decision). IsDecided request new d) (sym (piece_decision (shape_of setup) fate place.decision place))
-    (decided_stays request old new place.decision (acts_go setup bytes act old new acts) (quiet_pends setup bytes act old new (behind_at p (shape_of setup) fate decision apart place.decision place.applied) acts) h)
+    let quiet = behind_at p (shape_of setup) fate decision apart place.decision place.applied in
+    subst (λ (d : Decision). IsDecided request (decider_behind act old decider) new d) (sym (piece_decision (shape_of setup) fate place.decision place))
+    (subst (λ (c : CoreState). IsDecided request c new place.decision) (sym (quiet_decider act old decider quiet))
+    (decided_stays request decider old new place.decision (acts_go setup bytes act old new acts) (quiet_pends setup bytes act old new quiet acts) h))
 
 -- what was decided behind SETUP, after a try
-pub decided_behind : (request : Request) (asking : Asking) (setup : Request') (bytes : List ℕ) (fate : Fate) (decision : Decision) (p : Position) (place : Place) (old new : CoreState)
+pub decided_behind : (request : Request) (asking : Asking) (setup : Request') (bytes : List ℕ) (fate : Fate) (decision : Decision) (p : Position) (place : Place) (decider old new : CoreState)
     → FitsRequest request → IsOfReports request asking → setup ≡ setup_for request asking → place.host ≡ p → ActsOn setup bytes (act_at p (shape_of setup) fate decision place.decision place.applied) old new
-    → (IsBehindSetup p → IsDecided request old place.decision)
-    → IsBehindSetup (tried_at p (shape_of setup) fate decision place).host → IsDecided request new (tried_at p (shape_of setup) fate decision place).decision
-decided_behind request asking setup bytes fate decision Setup place old new fits known asks at acts before behind =
-    by_setup request asking setup bytes fate decision place old new fits known asks acts (setup_behind fate (data_pieces (shape_of setup) decision) decision place at behind)
-decided_behind request asking setup bytes fate decision (Piece k) place old new fits known asks at acts before behind =
-    later request setup bytes fate decision (Piece k) place old new (λ e. cc) acts (before tt)
-decided_behind request asking setup bytes fate decision Status place old new fits known asks at acts before behind =
-    later request setup bytes fate decision Status place old new (λ e. cc) acts (before tt)
-decided_behind request asking setup bytes fate decision Past place old new fits known asks at acts before behind =
-    later request setup bytes fate decision Past place old new (λ e. cc) acts (before tt)
+    → (IsBehindSetup p → IsDecided request decider old place.decision)
+    → IsBehindSetup (tried_at p (shape_of setup) fate decision place).host
+    → IsDecided request (decider_behind (act_at p (shape_of setup) fate decision place.decision place.applied) old decider) new (tried_at p (shape_of setup) fate decision place).decision
+decided_behind request asking setup bytes fate decision Setup place decider old new fits known asks at acts before behind =
+    by_setup request asking setup bytes fate decision place decider old new fits known asks acts (setup_behind fate (data_pieces (shape_of setup) decision) decision place at behind)
+decided_behind request asking setup bytes fate decision (Piece k) place decider old new fits known asks at acts before behind =
+    later request setup bytes fate decision (Piece k) place decider old new (λ e. cc) acts (before tt)
+decided_behind request asking setup bytes fate decision Status place decider old new fits known asks at acts before behind =
+    later request setup bytes fate decision Status place decider old new (λ e. cc) acts (before tt)
+decided_behind request asking setup bytes fate decision Past place decider old new fits known asks at acts before behind =
+    later request setup bytes fate decision Past place decider old new (λ e. cc) acts (before tt)
 
 -- ---- what took effect
 
@@ -208,8 +216,8 @@ pends_where true wanted pending q accepted h = h.1
 pends_where false wanted pending Refused accepted h = absurd accepted
 pends_where false wanted pending (Accepted answer) accepted h = let wrong = h.0 in absurd (cc)
 
-pub clear_pends : (core : CoreState) (q : Decision) → IsAccepted q → IsDecided requests.Clear core q → core.pending ≡ pendings.Clear
-clear_pends core q accepted h = pends_where h.then.is_configured pendings.Clear core.pending q accepted h.by
+pub clear_pends : (decider core : CoreState) (q : Decision) → IsAccepted q → IsDecided requests.Clear decider core q → core.pending ≡ pendings.Clear
+clear_pends decider core q accepted h = pends_where decider.is_configured pendings.Clear core.pending q accepted h.by
 
 -- no write takes effect
 abbrev IsKeeping : Act → Type 0
@@ -265,13 +273,13 @@ status_effect brings shape setup bytes Clean answer decision false old new write
 status_effect brings shape setup bytes ReplyLost answer decision false old new writes pends effect acts h = effect_by brings shape setup bytes old new writes pends acts
 status_effect brings shape setup bytes AckLost answer decision false old new writes pends effect acts h = effect_by brings shape setup bytes old new writes pends acts
 
-applies_piece : (shape : Shape) (fate : Fate) (k : ℕ) → applies shape fate (Piece k) ≡ false
+pub applies_piece : (shape : Shape) (fate : Fate) (k : ℕ) → applies shape fate (Piece k) ≡ false
 applies_piece shape TokenLost k = refl
 applies_piece shape Clean k = refl
 applies_piece shape ReplyLost k = refl
 applies_piece shape AckLost k = refl
 
-applies_past : (shape : Shape) (fate : Fate) → applies shape fate Past ≡ false
+pub applies_past : (shape : Shape) (fate : Fate) → applies shape fate Past ≡ false
 applies_past shape TokenLost = refl
 applies_past shape Clean = refl
 applies_past shape ReplyLost = refl

@@ -11,22 +11,24 @@ use Rattle.usb_control.specs.declared.fault.ControlFault.TheVariants.{NoTransfer
 use Rattle.usb_control.specs.declared.host.HostStage.{HostStage}
 use Rattle.usb_control.specs.declared.host.HostStage.TheVariants as stages
 use Rattle.usb_control.specs.declared.host.Progress.{Progress}
-use Rattle.usb_control.specs.Computed.{AppliesBy, PreparesBy}
+use Rattle.usb_control.specs.Computed.{AppliesBy, PreparesBy, host_tried}
 use Rattle.usb_control.specs.Device.{DevControlState}
 use Rattle.usb_control.specs.Host.{HostTransferState, IsRunning, progress_of}
+use Rattle.usb_control.specs.Meanwhile.{decision_now}
 use Rattle.usb_control.specs.Runs.{IsDone}
 use Rattle.usb_control.specs.SetupBytes.{IsSpelled, reads}
 use Rattle.usb_control.specs.Standing.{Stands}
 use Rattle.usb_control.specs.Transaction.{Transacts}
-use Rattle.usb_control.specs.Transfer.{Decision, Place, answered_bytes, act_of, shape_of, start, tried}
+use Rattle.usb_control.specs.Transfer.{Act, Decision, Place, answered_bytes, act_of, shape_of, tried}
 use Rattle.usb_control.proofs.LawLemmas.{begins, done_is, kept_is, read_is}
-use Rattle.usb_control.proofs.TryLemmas.{goes_on}
+use Rattle.usb_control.proofs.ComputedLemmas.{tries_are}
+use Rattle.usb_control.proofs.MeanwhileLemmas.{goes_by}
 use Rattle.hid_requests.specs.declared.request.Request.{Request}
 use Rattle.hid_requests.specs.declared.request.Request.TheVariants as requests
 use Rattle.hid_requests.specs.declared.request.Asking.{Asking}
 use Rattle.hid_requests.specs.Asking.{FitsRequest, asks_endpoint, sends_of, setup_for}
 use Rattle.hid_requests.specs.Descriptors.{configuration_bytes, device_bytes}
-use Rattle.hid_device.specs.declared.device.TheConstants.{ENDPOINT}
+use Rattle.hid_requests.specs.declared.codes.TheConstants.{REPORT_ENDPOINT as ENDPOINT}
 use Rattle.hid_device.specs.Core.{CoreState}
 use Rattle.hid_device.specs.Deciding.{config_info, core_table, device_info}
 use Rattle.hid_layout.specs.Laying.{Lays}
@@ -37,10 +39,11 @@ use Rattle.hid_host.specs.declared.phase.HostPhase.{HostPhase}
 use Rattle.hid_host.specs.declared.phase.HostPhase.TheVariants.{Cold, Described, Parsed, Ready}
 use Rattle.hid_host.specs.Conclusions.{Makes, phase_made}
 use Rattle.hid_host.specs.Host.{ConcludesAt, ControlSteps, HostEnd, TriesOnce, begin_refusal, begun, bytes_got, clearing_behind, clearing_with, ready_after, running, running_at, told_made}
-use Rattle.hid_stack.specs.Knowing.{Carries, HasEffect, IsBehindSetup, IsDecided, IsNoRefusal, IsPending, Knows, KnowsAt, LeavesTransfers, asking_of, info_of}
+use Rattle.hid_stack.specs.Knowing.{Carries, HasEffect, IsBehindSetup, IsDecided, IsNoRefusal, IsPending, KnowsAt, KnowsBy, LeavesTransfers, asking_of, info_of}
 use Rattle.hid_host.specs.Phase.{IfReady, asking_at, has_endpoint, may_begin, state_of}
 use Rattle.hid_host.specs.Ready.{Known, known_behind}
 use Rattle.hid_requests.proofs.AskedLemmas.{of_reports, sends_so, spelled_so}
+use Rattle.hid_stack.specs.Trails.{Trail, ends_with, trail_behind, trail_from, trail_tried}
 use Rattle.hid_stack.proofs.HostLemmas.{IsAnswer, learned}
 use Rattle.hid_stack.proofs.KnowingLemmas.{ActsOn, Goes, acts_go, clear_brings, clear_pends, configure_brings, decided_behind, decided_stays, effect_at}
 use Rattle.hid_stack.proofs.PlacesLemmas.{open_place, past_applied}
@@ -102,90 +105,95 @@ take_all (suc n) [] h = refl
 take_all (suc n) (x ∷ xs) h = ap (λ (l : List ℕ). x ∷ l) (take_all n xs (omega (arith, h)))
 
 -- the bytes of a read that is done are what the device answered
-pub answer_is : (request : Request) (core : CoreState) (decision : Decision) (bytes : List ℕ) → IsDecided request core decision
+pub answer_is : (request : Request) (decider core : CoreState) (decision : Decision) (bytes : List ℕ) → IsDecided request decider core decision
     → (reads (setup_for request (asking_of core)) ≡ true → bytes ≡ answered_bytes (shape_of (setup_for request (asking_of core))) decision)
     → IsAnswer request core bytes
-answer_is requests.Device core decision bytes says got =
-    got refl ∙ ap (answered_bytes (shape_of (setup_for requests.Device (asking_of core)))) says.by.0 ∙ take_all 18 (device_bytes (device_info says.then.config)) (omega arith)
+answer_is requests.Device decider core decision bytes says got =
+    got refl ∙ ap (answered_bytes (shape_of (setup_for requests.Device (asking_of core)))) says.by.0 ∙ take_all 18 (device_bytes (device_info decider.config)) (omega arith)
     ∙ ap (λ config. device_bytes (device_info config)) (sym says.same.config)
-answer_is requests.Config core decision bytes says got =
+answer_is requests.Config decider core decision bytes says got =
     got refl ∙ ap (answered_bytes (shape_of (setup_for requests.Config (asking_of core)))) says.by.0
-    ∙ take_all 255 (configuration_bytes (info_of says.then) says.then.config.interval) (omega arith)
-    ∙ ap (λ config. configuration_bytes (config_info config (length says.then.descriptor)) config.interval) (sym says.same.config)
+    ∙ take_all 255 (configuration_bytes (info_of decider) decider.config.interval) (omega arith)
+    ∙ ap (λ config. configuration_bytes (config_info config (length decider.descriptor)) config.interval) (sym says.same.config)
     ∙ ap (λ (d : List ℕ). configuration_bytes (config_info core.config (length d)) core.config.interval) (sym says.same.descriptor)
-answer_is requests.Report core decision bytes says got =
-    let all : length says.then.descriptor ≤ length core.descriptor = let same = ap (λ (d : List ℕ). length d) says.same.descriptor in omega (arith, same) in
+answer_is requests.Report decider core decision bytes says got =
+    let all : length decider.descriptor ≤ length core.descriptor = let same = ap (λ (d : List ℕ). length d) says.same.descriptor in omega (arith, same) in
     got refl ∙ ap (answered_bytes (shape_of (setup_for requests.Report (asking_of core)))) says.by.0
-    ∙ take_all (length core.descriptor) says.then.descriptor all ∙ sym says.same.descriptor
-answer_is requests.Configure core decision bytes says got = tt
-answer_is requests.Status core decision bytes says got = tt
-answer_is requests.GetConfiguration core decision bytes says got = tt
-answer_is (requests.Idle id time) core decision bytes says got = tt
-answer_is (requests.GetIdle id) core decision bytes says got = tt
-answer_is (requests.Protocol boot) core decision bytes says got = tt
-answer_is requests.GetProtocol core decision bytes says got = tt
-answer_is (requests.GetReport kind id) core decision bytes says got = tt
-answer_is (requests.SetReport kind id set) core decision bytes says got = tt
-answer_is requests.Halt core decision bytes says got = tt
-answer_is requests.Clear core decision bytes says got = tt
-answer_is requests.EndpointStatus core decision bytes says got = tt
+    ∙ take_all (length core.descriptor) decider.descriptor all ∙ sym says.same.descriptor
+answer_is requests.Configure decider core decision bytes says got = tt
+answer_is requests.Status decider core decision bytes says got = tt
+answer_is requests.GetConfiguration decider core decision bytes says got = tt
+answer_is (requests.Idle id time) decider core decision bytes says got = tt
+answer_is (requests.GetIdle id) decider core decision bytes says got = tt
+answer_is (requests.Protocol boot) decider core decision bytes says got = tt
+answer_is requests.GetProtocol decider core decision bytes says got = tt
+answer_is (requests.GetReport kind id) decider core decision bytes says got = tt
+answer_is (requests.SetReport kind id set) decider core decision bytes says got = tt
+answer_is requests.Halt decider core decision bytes says got = tt
+answer_is requests.Clear decider core decision bytes says got = tt
+answer_is requests.EndpointStatus decider core decision bytes says got = tt
 
-effect_so : (request : Request) (asking : Asking) (setup : Setup) (fate : Fate) (decision : Decision) (place : Place) (old new : CoreState) → setup ≡ setup_for request asking
-    → (IsBehindSetup place.host → IsDecided request old place.decision) → (place.applied ≡ true → HasEffect request old)
+effect_so : (request : Request) (asking : Asking) (setup : Setup) (fate : Fate) (decision : Decision) (place : Place) (decider old new : CoreState) → setup ≡ setup_for request asking
+    → (IsBehindSetup place.host → IsDecided request decider old place.decision) → (place.applied ≡ true → HasEffect request old)
     → ActsOn setup (sends_of request) (act_of (shape_of setup) fate decision place) old new → (tried (shape_of setup) fate decision place).applied ≡ true → HasEffect request new
-effect_so requests.Configure asking setup fate decision place old new asks decided effect acts took =
+effect_so requests.Configure asking setup fate decision place decider old new asks decided effect acts took =
     effect_at configure_brings setup [] fate place.host decision place.decision place old new (ap (λ (s : Setup). reads s) asks) refl refl (λ behind accepted. (decided behind).by.1) effect acts took
-effect_so requests.Clear asking setup fate decision place old new asks decided effect acts took =
+effect_so requests.Clear asking setup fate decision place decider old new asks decided effect acts took =
     effect_at clear_brings setup [] fate place.host decision place.decision place old new (ap (λ (s : Setup). reads s) asks) refl refl
-    (λ behind accepted. clear_pends old place.decision accepted (decided behind)) effect acts took
-effect_so requests.Device asking setup fate decision place old new asks decided effect acts took = tt
-effect_so requests.Config asking setup fate decision place old new asks decided effect acts took = tt
-effect_so requests.Report asking setup fate decision place old new asks decided effect acts took = tt
-effect_so requests.Status asking setup fate decision place old new asks decided effect acts took = tt
-effect_so requests.GetConfiguration asking setup fate decision place old new asks decided effect acts took = tt
-effect_so (requests.Idle id time) asking setup fate decision place old new asks decided effect acts took = tt
-effect_so (requests.GetIdle id) asking setup fate decision place old new asks decided effect acts took = tt
-effect_so (requests.Protocol boot) asking setup fate decision place old new asks decided effect acts took = tt
-effect_so requests.GetProtocol asking setup fate decision place old new asks decided effect acts took = tt
-effect_so (requests.GetReport kind id) asking setup fate decision place old new asks decided effect acts took = tt
-effect_so (requests.SetReport kind id bytes) asking setup fate decision place old new asks decided effect acts took = tt
-effect_so requests.Halt asking setup fate decision place old new asks decided effect acts took = tt
-effect_so requests.EndpointStatus asking setup fate decision place old new asks decided effect acts took = tt
+    (λ behind accepted. clear_pends decider old place.decision accepted (decided behind)) effect acts took
+effect_so requests.Device asking setup fate decision place decider old new asks decided effect acts took = tt
+effect_so requests.Config asking setup fate decision place decider old new asks decided effect acts took = tt
+effect_so requests.Report asking setup fate decision place decider old new asks decided effect acts took = tt
+effect_so requests.Status asking setup fate decision place decider old new asks decided effect acts took = tt
+effect_so requests.GetConfiguration asking setup fate decision place decider old new asks decided effect acts took = tt
+effect_so (requests.Idle id time) asking setup fate decision place decider old new asks decided effect acts took = tt
+effect_so (requests.GetIdle id) asking setup fate decision place decider old new asks decided effect acts took = tt
+effect_so (requests.Protocol boot) asking setup fate decision place decider old new asks decided effect acts took = tt
+effect_so requests.GetProtocol asking setup fate decision place decider old new asks decided effect acts took = tt
+effect_so (requests.GetReport kind id) asking setup fate decision place decider old new asks decided effect acts took = tt
+effect_so (requests.SetReport kind id bytes) asking setup fate decision place decider old new asks decided effect acts took = tt
+effect_so requests.Halt asking setup fate decision place decider old new asks decided effect acts took = tt
+effect_so requests.EndpointStatus asking setup fate decision place decider old new asks decided effect acts took = tt
 
 -- a transfer behind a try of it
-pub record Tried (next : HostPhase) (transfer : Transfer) (old new : DevControlState CoreState) : Type 0 where
+pub record Tried (trail : Trail) (next : HostPhase) (transfer : Transfer) (old new : DevControlState CoreState) : Type 0 where
   pub goes : Goes old.requests new.requests
-  pub carries : Carries next transfer new
-  pub effect : carries.place.applied ≡ true → HasEffect transfer.request new.requests
+  pub carries : Carries trail next transfer new
+  pub effect : trail.place.applied ≡ true → HasEffect transfer.request new.requests
 
-pub carried : (fate : Fate) (phase next : HostPhase) (t : Transfer) (ends : HostTransferState) (old new : DevControlState CoreState) → length old.requests.descriptor < 2 ^ 16 → Carries phase t old
+pub carried : (trail : Trail) (fate : Fate) (phase next : HostPhase) (t : Transfer) (ends : HostTransferState) (old new : DevControlState CoreState) → length old.requests.descriptor < 2 ^ 16 → Carries trail phase t old
     → IsRunning t.ends.stage → Transacts (PreparesBy core_table) (AppliesBy core_table) core_table.answer_of fate t.ends old ends new → ends.setup ≡ t.ends.setup
-    → (IsRunning ends.stage → next ≡ phase) → Tried next (record t { ends = ends }) old new
-carried fate phase next t ends old new short c running transacts same stays =
+    → (IsRunning ends.stage → next ≡ phase) → Tried (trail_tried fate t old trail) next (record t { ends = ends }) old new
+carried trail fate phase next t ends old new short c running transacts same stays =
     let asking : Asking = asking_of old.requests in
     let setup : Setup = t.ends.setup in
+    let place : Place = trail.place in
     let spelled : IsSpelled setup = subst IsSpelled (sym c.asked) (spelled_so t.request asking c.fits short (omega arith)) in
-    let g = goes_on (PreparesBy core_table) (AppliesBy core_table) core_table.answer_of (sends_of t.request) fate c.place t.ends old ends new spelled running c.stands transacts in
-    let decision : Decision = g.1.0 in
-    let goes = acts_go setup (sends_of t.request) (act_of (shape_of setup) fate decision c.place) old.requests new.requests g.1.1 in
-    let apart = open_place core_table.answer_of (shape_of setup) (sends_of t.request) c.place t.ends old c.stands running in
-    let effect : g.0.applied ≡ true → HasEffect t.request new.requests
-    = λ took. effect_so t.request asking setup fate decision c.place old.requests new.requests c.asked c.decided (c.effect running) g.1.1 (sym (ap (λ (p : Place). p.applied) g.1.2) ∙ took) in
+    let both = ends_with t old in
+    let e = (tries_are core_table fate t.ends old ends new).0 transacts in
+    let g = goes_by core_table (sends_of t.request) place fate both spelled running c.stands in
+    let decision : Decision = decision_now core_table both in
+    let behind : Place = tried (shape_of setup) fate decision place in
+    let act : Act = act_of (shape_of setup) fate decision place in
+    let acts : ActsOn setup (sends_of t.request) act old.requests new.requests
+    = subst (λ (d : DevControlState CoreState). ActsOn setup (sends_of t.request) act old.requests d.requests) (sym e.1) g.acts in
+    let stands : Stands core_table.answer_of (shape_of ends.setup) (sends_of t.request) behind ends new
+    = subst (λ (h : HostTransferState). Stands core_table.answer_of (shape_of h.setup) (sends_of t.request) behind h new) (sym e.0)
+    (subst (λ (d : DevControlState CoreState). Stands core_table.answer_of (shape_of (host_tried core_table fate t.ends old).setup) (sends_of t.request) behind (host_tried core_table fate t.ends old) d) (sym e.1) g.stands) in
+    let goes = acts_go setup (sends_of t.request) act old.requests new.requests acts in
+    let apart = open_place core_table.answer_of (shape_of setup) (sends_of t.request) place t.ends old c.stands running in
+    let effect : behind.applied ≡ true → HasEffect t.request new.requests
+    = λ took. effect_so t.request asking setup fate decision place trail.decider old.requests new.requests c.asked c.decided (c.effect running) acts took in
     record {
       goes = goes;
       carries = record {
-        place = g.0;
-        stands = subst (λ (s : Setup). Stands core_table.answer_of (shape_of s) (sends_of t.request) g.0 ends new) (sym same) g.2;
+        stands = stands;
         asked = same ∙ c.asked ∙ ap (λ (d : List ℕ). setup_for t.request (record { report_length = length d; endpoint = ENDPOINT })) (sym goes.descriptor);
         fits = c.fits;
         needs = λ run. subst (λ (p : HostPhase). may_begin t.request (state_of p) ≡ true) (sym (stays run)) (c.needs running);
-        decided = λ behind. subst (λ (p : Place). IsDecided t.request new.requests p.decision) (sym g.1.2)
-            (decided_behind t.request asking setup (sends_of t.request) fate decision c.place.host c.place old.requests new.requests c.fits (of_reports t.request asking refl) c.asked refl g.1.1 c.decided
-            (subst (λ (p : Place). IsBehindSetup p.host) g.1.2 behind));
+        decided = decided_behind t.request asking setup (sends_of t.request) fate decision place.host place trail.decider old.requests new.requests c.fits (of_reports t.request asking refl) c.asked refl acts c.decided;
         effect = λ run took. effect took;
-        applied = λ done writes. ap (λ (p : Place). p.applied) g.1.2
-            ∙ past_applied (shape_of setup) fate decision c.place.host c.place.decision c.place (ap (λ (s : Setup). reads s) (sym same) ∙ writes) refl apart
-            (sym (ap (λ (p : Place). p.host) g.1.2) ∙ done.1);
+        applied = λ done writes. past_applied (shape_of setup) fate decision place.host place.decision place (ap (λ (s : Setup). reads s) (sym same) ∙ writes) refl apart done.1;
       };
       effect = effect;
     }
@@ -221,14 +229,15 @@ done_by requests.Halt asking setup core applied asks effect took = tt
 done_by requests.Clear asking setup core applied asks effect took = effect (took (ap (λ (s : Setup). reads s) asks))
 done_by requests.EndpointStatus asking setup core applied asks effect took = tt
 
-pub done_effect : (fate : Fate) (phase : HostPhase) (t : Transfer) (ends : HostTransferState) (old new : DevControlState CoreState) → length old.requests.descriptor < 2 ^ 16 → Carries phase t old
+pub done_effect : (trail : Trail) (fate : Fate) (phase : HostPhase) (t : Transfer) (ends : HostTransferState) (old new : DevControlState CoreState) → length old.requests.descriptor < 2 ^ 16 → Carries trail phase t old
     → IsRunning t.ends.stage → Transacts (PreparesBy core_table) (AppliesBy core_table) core_table.answer_of fate t.ends old ends new → ends.setup ≡ t.ends.setup
     → ends.stage ≡ stages.Done → HasEffect t.request new.requests
-done_effect fate phase t ends old new short c running transacts same done =
-    let tried_so = carried fate phase phase t ends old new short c running transacts same (λ run. refl) in
+done_effect trail fate phase t ends old new short c running transacts same done =
+    let tried_so = carried trail fate phase phase t ends old new short c running transacts same (λ run. refl) in
+    let place : Place = (trail_tried fate t old trail).place in
     let d = tried_so.carries in
-    let is_done : IsDone d.place = (done_is core_table.answer_of (shape_of ends.setup) (sends_of t.request) d.place ends new d.stands).0 done in
-    done_by t.request (asking_of new.requests) ends.setup new.requests d.place.applied d.asked tried_so.effect (d.applied is_done)
+    let is_done : IsDone place = (done_is core_table.answer_of (shape_of ends.setup) (sends_of t.request) place ends new d.stands).0 done in
+    done_by t.request (asking_of new.requests) ends.setup new.requests place.applied d.asked tried_so.effect (d.applied is_done)
 
 -- the bytes of a read that is done
 pub got_so : (ends : HostTransferState) (setup : Setup) (decision : Decision) → ends.setup ≡ setup → (reads ends.setup ≡ true → ends.bytes ≡ answered_bytes (shape_of ends.setup) decision)
@@ -237,15 +246,15 @@ got_so ends setup decision is got is_read =
     let here : reads ends.setup ≡ true = ap (λ (s : Setup). reads s) is ∙ is_read in
     ap (λ (b : Bool). if b then ends.bytes else []) here ∙ got here ∙ ap (λ (s : Setup). answered_bytes (shape_of s) decision) is
 
-record Behind (host : HostEnd) (result : Result Progress StackFault) (new : DevControlState CoreState) : Type 0 where
-  knows : Knows host new
+record Behind (trail : Trail) (host : HostEnd) (result : Result Progress StackFault) (new : DevControlState CoreState) : Type 0 where
+  knows : KnowsBy trail host new
   told : IsNoRefusal result
 
 is_told : (p : Progress) (result : Result Progress StackFault) → result ≡ Ok p → IsNoRefusal result
 is_told p result is = subst IsNoRefusal (sym is) tt
 
 -- a Clear that still runs is pending
-clears_on : (stage : HostStage) (request : Request) (clearing : Bool) → IsRunning stage → clearing ≡ true → clearing_behind stage request clearing ≡ true
+pub clears_on : (stage : HostStage) (request : Request) (clearing : Bool) → IsRunning stage → clearing ≡ true → clearing_behind stage request clearing ≡ true
 clears_on stages.Done request clearing run h = absurd (cc)
 clears_on stages.Setup request clearing run h = h
 clears_on (stages.DataIn one) request clearing run h = h
@@ -254,35 +263,37 @@ clears_on stages.StatusIn request clearing run h = h
 clears_on stages.StatusOut request clearing run h = h
 clears_on (stages.Failed fault) request clearing run h = h
 
-once_known : HasOneReading → AcceptsNoRefused → (fate : Fate) (host after : HostEnd) (t : Transfer) (old new : DevControlState CoreState) (result : Result Progress StackFault)
-    → Lays old.requests.descriptor old.requests.layout → length old.requests.descriptor < 2 ^ 16 → KnowsAt host.phase host.addr old.requests → Carries host.phase t old → IsPending host.clearing t → IsRunning t.ends.stage
-    → TriesOnce (PreparesBy core_table) (AppliesBy core_table) core_table.answer_of fate host t old result after new → Behind after result new
-once_known one apart fate host after t old new result lays short knows c pending running tr =
+once_known : HasOneReading → AcceptsNoRefused → (trail : Trail) (fate : Fate) (host after : HostEnd) (t : Transfer) (old new : DevControlState CoreState) (result : Result Progress StackFault)
+    → Lays old.requests.descriptor old.requests.layout → length old.requests.descriptor < 2 ^ 16 → KnowsAt host.phase host.addr old.requests → Carries trail host.phase t old → IsPending host.clearing t → IsRunning t.ends.stage
+    → TriesOnce (PreparesBy core_table) (AppliesBy core_table) core_table.answer_of fate host t old result after new → Behind (trail_tried fate t old trail) after result new
+once_known one apart trail fate host after t old new result lays short knows c pending running tr =
+    let behind_it : Trail = trail_tried fate t old trail in
+    let place : Place = behind_it.place in
     let clears : IsPending (clearing_behind tr.ends.stage t.request host.clearing) (record t { ends = tr.ends })
     = λ is run. clears_on tr.ends.stage t.request host.clearing run (pending is running) in
     elim (concluded_by tr.ends.stage host.addr t.request host.phase tr.next (bytes_got tr.ends) result tr.concludes) [
       | inl (done, (made, makes, told, moves)) ↦
           let not_running : IsRunning tr.ends.stage → tr.next ≡ host.phase = λ run. let wrong = subst IsRunning done run in absurd (cc) in
-          let tried_so = carried fate host.phase tr.next t tr.ends old new short c running tr.transacts tr.same not_running in
+          let tried_so = carried trail fate host.phase tr.next t tr.ends old new short c running tr.transacts tr.same not_running in
           let goes = tried_so.goes in
           let d = tried_so.carries in
-          let is_done : IsDone d.place = (done_is core_table.answer_of (shape_of tr.ends.setup) (sends_of t.request) d.place tr.ends new d.stands).0 done in
-          let behind : IsBehindSetup d.place.host = subst IsBehindSetup (sym is_done.1) tt in
-          let answer = answer_is t.request new.requests d.place.decision (bytes_got tr.ends) (d.decided behind)
-          (got_so tr.ends (setup_for t.request (asking_of new.requests)) d.place.decision d.asked
-          (λ is_read. read_is core_table.answer_of (shape_of tr.ends.setup) (sends_of t.request) d.place tr.ends new d.stands is_done is_read)) in
-          let effect = done_effect fate host.phase t tr.ends old new short c running tr.transacts tr.same done in
+          let is_done : IsDone place = (done_is core_table.answer_of (shape_of tr.ends.setup) (sends_of t.request) place tr.ends new d.stands).0 done in
+          let behind : IsBehindSetup place.host = subst IsBehindSetup (sym is_done.1) tt in
+          let answer = answer_is t.request behind_it.decider new.requests place.decision (bytes_got tr.ends) (d.decided behind)
+          (got_so tr.ends (setup_for t.request (asking_of new.requests)) place.decision d.asked
+          (λ is_read. read_is core_table.answer_of (shape_of tr.ends.setup) (sends_of t.request) place tr.ends new d.stands is_done is_read)) in
+          let effect = done_effect trail fate host.phase t tr.ends old new short c running tr.transacts tr.same done in
           let lays_on : Lays new.requests.descriptor new.requests.layout = subst (λ (x : List ℕ). Lays x new.requests.layout) (sym goes.descriptor) (subst (λ l. Lays old.requests.descriptor l) (sym goes.layout) lays) in
           let short_on : length new.requests.descriptor < 2 ^ 16 = subst (λ (x : List ℕ). length x < 2 ^ 16) (sym goes.descriptor) short in
           let l = learned one apart host.addr t.request host.phase new.requests (bytes_got tr.ends) made lays_on short_on (knows_on host.phase host.addr old.requests new.requests goes knows) (c.needs running) answer effect makes in
           record {
-            knows = subst (λ (h : HostEnd). Knows h new) (sym tr.after) (record { phase = subst (λ (p : HostPhase). KnowsAt p host.addr new.requests) (sym moves) l.knows; transfer = d; clears = clears });
+            knows = subst (λ (h : HostEnd). KnowsBy behind_it h new) (sym tr.after) (record { phase = subst (λ (p : HostPhase). KnowsAt p host.addr new.requests) (sym moves) l.knows; transfer = d; clears = clears });
             told = subst IsNoRefusal (sym told) l.told;
           }
       | inr (told, stays) ↦
-          let tried_so = carried fate host.phase tr.next t tr.ends old new short c running tr.transacts tr.same (λ run. stays) in
+          let tried_so = carried trail fate host.phase tr.next t tr.ends old new short c running tr.transacts tr.same (λ run. stays) in
           record {
-            knows = subst (λ (h : HostEnd). Knows h new) (sym tr.after) (record {
+            knows = subst (λ (h : HostEnd). KnowsBy behind_it h new) (sym tr.after) (record {
               phase = subst (λ (p : HostPhase). KnowsAt p host.addr new.requests) (sym stays) (knows_on host.phase host.addr old.requests new.requests tried_so.goes knows);
               transfer = tried_so.carries;
               clears = clears;
@@ -307,42 +318,42 @@ runs_so (Some u) t h =
     let r = runs_at u t u.ends.stage h in
     (ap (λ (x : Transfer). Some x) r.0, subst (λ (x : Transfer). IsRunning x.ends.stage) r.0 r.1)
 
-steps_by : HasOneReading → AcceptsNoRefused → (fate : Fate) (host after : HostEnd) (old new : DevControlState CoreState) (result : Result Progress StackFault) (o : Option Transfer)
-    → Lays old.requests.descriptor old.requests.layout → length old.requests.descriptor < 2 ^ 16 → Knows host old → running host.transfer ≡ o
+steps_by : HasOneReading → AcceptsNoRefused → (trail : Trail) (fate : Fate) (host after : HostEnd) (old new : DevControlState CoreState) (result : Result Progress StackFault) (o : Option Transfer)
+    → Lays old.requests.descriptor old.requests.layout → length old.requests.descriptor < 2 ^ 16 → KnowsBy trail host old → running host.transfer ≡ o
     → (elim o as (λ _. Type 0) [
       | None ↦ (result ≡ Err (Control NoTransfer)) × (after ≡ host) × (new ≡ old)
       | Some t ↦ TriesOnce (PreparesBy core_table) (AppliesBy core_table) core_table.answer_of fate host t old result after new
-    ]) → Behind after result new
-steps_by one apart fate host after old new result None lays short knows is (told, same, stays) = record {
-  knows = subst (λ (h : HostEnd). Knows h new) (sym same) (subst (λ (c : DevControlState CoreState). Knows host c) (sym stays) knows);
+    ]) → Behind (trail_behind fate o old trail) after result new
+steps_by one apart trail fate host after old new result None lays short knows is (told, same, stays) = record {
+  knows = subst (λ (h : HostEnd). KnowsBy trail h new) (sym same) (subst (λ (c : DevControlState CoreState). KnowsBy trail host c) (sym stays) knows);
   told = subst IsNoRefusal (sym told) tt;
 }
-steps_by one apart fate host after old new result (Some t) lays short knows is tr =
+steps_by one apart trail fate host after old new result (Some t) lays short knows is tr =
     let r = runs_so host.transfer t is in
-    once_known one apart fate host after t old new result lays short knows.phase (subst (λ (o : Option Transfer). IfSome o (λ (x : Transfer). Carries host.phase x old)) r.0 knows.transfer)
+    once_known one apart trail fate host after t old new result lays short knows.phase (subst (λ (o : Option Transfer). IfSome o (λ (x : Transfer). Carries trail host.phase x old)) r.0 knows.transfer)
     (subst (λ (o : Option Transfer). IfSome o (IsPending host.clearing)) r.0 knows.clears) r.1 tr
 
-pub steps_know : HasOneReading → AcceptsNoRefused → (fate : Fate) (host after : HostEnd) (old new : DevControlState CoreState) (result : Result Progress StackFault)
-    → Lays old.requests.descriptor old.requests.layout → length old.requests.descriptor < 2 ^ 16 → Knows host old
-    → ControlSteps (PreparesBy core_table) (AppliesBy core_table) core_table.answer_of fate host old result after new → Knows after new × IsNoRefusal result
-steps_know one apart fate host after old new result lays short knows steps =
-    let b = steps_by one apart fate host after old new result (running host.transfer) lays short knows refl steps in
+pub steps_know : HasOneReading → AcceptsNoRefused → (trail : Trail) (fate : Fate) (host after : HostEnd) (old new : DevControlState CoreState) (result : Result Progress StackFault)
+    → Lays old.requests.descriptor old.requests.layout → length old.requests.descriptor < 2 ^ 16 → KnowsBy trail host old
+    → ControlSteps (PreparesBy core_table) (AppliesBy core_table) core_table.answer_of fate host old result after new → KnowsBy (trail_behind fate (running host.transfer) old trail) after new × IsNoRefusal result
+steps_know one apart trail fate host after old new result lays short knows steps =
+    let b = steps_by one apart trail fate host after old new result (running host.transfer) lays short knows refl steps in
     (b.knows, b.told)
 
 -- ---- a request that begins
 
-may_if : (busy may : Bool) → (if busy then Some (Control Busy) else if may then None else Some NotReady) ≡ None → may ≡ true
+pub may_if : (busy may : Bool) → (if busy then Some (Control Busy) else if may then None else Some NotReady) ≡ None → may ≡ true
 may_if true may h = absurd (cc)
 may_if false true h = refl
 may_if false false h = absurd (cc)
 
-pub begins_know : (host : HostEnd) (request : Request) (control : DevControlState CoreState) → FitsRequest request → begin_refusal host request ≡ None → Knows host control → Knows (begun host request) control
-begins_know host request control fits none knows =
+pub begins_know : (trail : Trail) (host : HostEnd) (request : Request) (control : DevControlState CoreState) → FitsRequest request → begin_refusal host request ≡ None → KnowsBy trail host control
+    → KnowsBy (trail_from control.requests) (begun host request) control
+begins_know trail host request control fits none knows =
     let needs : may_begin request (state_of host.phase) ≡ true = may_if (is_some (running host.transfer)) (may_begin request (state_of host.phase)) none in
     record {
       phase = knows.phase;
       transfer = record {
-        place = start;
         stands = begins core_table.answer_of host.addr (setup_for request (asking_at host.phase)) (sends_of request) control (sends_so request (asking_at host.phase));
         asked = asked_with request host.phase host.addr control.requests knows.phase needs;
         fits = fits;
@@ -377,26 +388,25 @@ effect_goes (requests.SetReport kind id bytes) clearing old new l pending h = tt
 effect_goes requests.Halt clearing old new l pending h = tt
 effect_goes requests.EndpointStatus clearing old new l pending h = tt
 
-pub carries_on : (phase : HostPhase) (clearing : Bool) (old new : DevControlState CoreState) (o : Option Transfer) → LeavesTransfers clearing old new → IfSome o (λ t. Carries phase t old)
-    → IfSome o (IsPending clearing) → IfSome o (λ t. Carries phase t new)
-carries_on phase clearing old new None l h pending = tt
-carries_on phase clearing old new (Some t) l c pending =
+pub carries_on : (trail : Trail) (phase : HostPhase) (clearing : Bool) (old new : DevControlState CoreState) (o : Option Transfer) → LeavesTransfers clearing old new → IfSome o (λ t. Carries trail phase t old)
+    → IfSome o (IsPending clearing) → IfSome o (λ t. Carries trail phase t new)
+carries_on trail phase clearing old new None l h pending = tt
+carries_on trail phase clearing old new (Some t) l c pending =
     let goes = leaves_goes clearing old new l in
     record {
-      place = c.place;
-      stands = kept_is core_table.answer_of (shape_of t.ends.setup) (sends_of t.request) c.place t.ends old new c.stands l.answer l.stage;
+      stands = kept_is core_table.answer_of (shape_of t.ends.setup) (sends_of t.request) trail.place t.ends old new c.stands l.answer l.stage;
       asked = c.asked ∙ ap (λ (d : List ℕ). setup_for t.request (record { report_length = length d; endpoint = ENDPOINT })) (sym goes.descriptor);
       fits = c.fits;
       needs = c.needs;
-      decided = λ behind. decided_stays t.request old.requests new.requests c.place.decision goes l.pending (c.decided behind);
+      decided = λ behind. decided_stays t.request trail.decider old.requests new.requests trail.place.decision goes l.pending (c.decided behind);
       effect = λ run took. effect_goes t.request clearing old new l (λ is. pending is run) (c.effect run took);
       applied = c.applied;
     }
 
-pub leaves_know : (host : HostEnd) (old new : DevControlState CoreState) → LeavesTransfers host.clearing old new → Knows host old → Knows host new
-leaves_know host old new l knows = record {
+pub leaves_know : (trail : Trail) (host : HostEnd) (old new : DevControlState CoreState) → LeavesTransfers host.clearing old new → KnowsBy trail host old → KnowsBy trail host new
+leaves_know trail host old new l knows = record {
   phase = knows_on host.phase host.addr old.requests new.requests (leaves_goes host.clearing old new l) knows.phase;
-  transfer = carries_on host.phase host.clearing old new host.transfer l knows.transfer knows.clears;
+  transfer = carries_on trail host.phase host.clearing old new host.transfer l knows.transfer knows.clears;
   clears = knows.clears;
 }
 
@@ -409,10 +419,10 @@ knows_behind known addr core Nak h = h
 knows_behind known addr core Stall h = h
 knows_behind known addr core Silent h = h
 
-carries_so : (phase next : HostPhase) (control : DevControlState CoreState) (o : Option Transfer) → state_of next ≡ state_of phase → IfSome o (λ t. Carries phase t control) → IfSome o (λ t. Carries next t control)
-carries_so phase next control None same h = tt
-carries_so phase next control (Some t) same c = record {
-  place = c.place;
+carries_so : (trail : Trail) (phase next : HostPhase) (control : DevControlState CoreState) (o : Option Transfer) → state_of next ≡ state_of phase → IfSome o (λ t. Carries trail phase t control)
+    → IfSome o (λ t. Carries trail next t control)
+carries_so trail phase next control None same h = tt
+carries_so trail phase next control (Some t) same c = record {
   stands = c.stands;
   asked = c.asked;
   fits = c.fits;
@@ -422,20 +432,21 @@ carries_so phase next control (Some t) same c = record {
   applied = c.applied;
 }
 
-replies_at : (phase : HostPhase) (addr : ℕ) (transfer : Option Transfer) (clearing : Bool) (control : DevControlState CoreState) (took : Took)
-    → Knows (record { addr = addr; phase = phase; transfer = transfer; clearing = clearing }) control
-    → IfReady phase (λ known. Knows (ready_after (record { addr = addr; phase = phase; transfer = transfer; clearing = clearing }) known took) control)
-replies_at Cold addr transfer clearing control took knows = tt
-replies_at (Described info) addr transfer clearing control took knows = tt
-replies_at (Parsed info layout) addr transfer clearing control took knows = tt
-replies_at (Ready known) addr transfer clearing control took knows = record {
+replies_at : (trail : Trail) (phase : HostPhase) (addr : ℕ) (transfer : Option Transfer) (clearing : Bool) (control : DevControlState CoreState) (took : Took)
+    → KnowsBy trail (record { addr = addr; phase = phase; transfer = transfer; clearing = clearing }) control
+    → IfReady phase (λ known. KnowsBy trail (ready_after (record { addr = addr; phase = phase; transfer = transfer; clearing = clearing }) known took) control)
+replies_at trail Cold addr transfer clearing control took knows = tt
+replies_at trail (Described info) addr transfer clearing control took knows = tt
+replies_at trail (Parsed info layout) addr transfer clearing control took knows = tt
+replies_at trail (Ready known) addr transfer clearing control took knows = record {
   phase = knows_behind known addr control.requests took knows.phase;
-  transfer = carries_so (Ready known) (Ready (known_behind known took)) control transfer refl knows.transfer;
+  transfer = carries_so trail (Ready known) (Ready (known_behind known took)) control transfer refl knows.transfer;
   clears = knows.clears;
 }
 
-pub replies_know : (host : HostEnd) (control : DevControlState CoreState) (took : Took) → Knows host control → IfReady host.phase (λ known. Knows (ready_after host known took) control)
-replies_know host control took knows = replies_at host.phase host.addr host.transfer host.clearing control took knows
+pub replies_know : (trail : Trail) (host : HostEnd) (control : DevControlState CoreState) (took : Took) → KnowsBy trail host control
+    → IfReady host.phase (λ known. KnowsBy trail (ready_after host known took) control)
+replies_know trail host control took knows = replies_at trail host.phase host.addr host.transfer host.clearing control took knows
 
 -- ---- a sound device
 

@@ -8,24 +8,32 @@ pub mod SlotLemmas
 pub mod TransferLemmas
 pub mod TryLemmas
 pub mod CountLemmas
+pub mod EffectLemmas
 pub mod WholeLemmas
 pub mod ClearLemmas
+pub mod PendingLemmas
 pub mod SumLemmas
 pub mod RoomLemmas
 pub mod RigLemmas
 pub mod ResetLemmas
+pub mod UnreadyLemmas
 pub mod HaltLemmas
 pub mod BeginLemmas
 pub mod AttachLemmas
 pub mod ShowLemmas
 pub mod ReportLemmas
 pub mod StoryLemmas
+pub mod HoldLemmas
+pub mod ToggleLemmas
+pub mod CarryLemmas
 pub mod AnswerLemmas
 pub mod NamedLemmas
 mod Vectors
+mod ToggleVectors
 pub mod ServeLemmas
 pub mod PlacesLemmas
 pub mod KnowingLemmas
+pub mod TrailLemmas
 pub mod HostLemmas
 pub mod LawLemmas
 pub mod SuitLemmas

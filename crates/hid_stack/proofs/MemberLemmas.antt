@@ -17,7 +17,7 @@ use Rattle.hid_lives.specs.Stations.{Station, after_all}
 use Rattle.hid_host.specs.declared.fault.StackFault.{StackFault}
 use Rattle.hid_host.specs.declared.host.Transfer.{Transfer}
 use Rattle.hid_host.specs.Host.{cuts_round, running}
-use Rattle.hid_stack.specs.Members.{Member, MemberStep, Scheduled, Begins, Controls, Halts, Resets, befallen_by, begin_refusal_at, begun_unless, brought_deed, deed_at, deeds_in, effect_deed, events_by, halted_deed, halted_if, member_after, member_after_all, polls_it, scheduled_deed, tried_deed, tried_of, tried_to, unconcluded_of, written_deed}
+use Rattle.hid_stack.specs.Members.{Member, MemberStep, Scheduled, Begins, Controls, Halts, Resets, befallen_by, begin_refusal_at, begun_unless, brought_deed, deed_at, deeds_in, effect_deed, events_by, halted_deed, halted_if, member_after, member_after_all, polls_it, scheduled_deed, tried_deed, tried_of, tried_to, unconcluded_deed, unconcluded_of, written_deed}
 use Rattle.hid_layout.specs.Layout.{Contents}
 use Rattle.hid_device.specs.declared.config.Config.{Config}
 use Rattle.hid_device.specs.declared.decisions.Pending.{Pending}
@@ -92,10 +92,6 @@ station_is m Halts = halted_station m.endpoint.is_configured m
 station_is m Resets = refl
 
 -- a try that isn't concluded leaves both as one that is, or nothing was tried
-abbrev pub unconcluded_deed : Fate → Member → Option Transfer → Option Deed
-unconcluded_deed fate m None = None
-unconcluded_deed fate m (Some t) = if cuts_round t.request then None else tried_deed fate m (Some t)
-
 pub unconcluded_layout : (fate : Fate) (m : Member) (o : Option Transfer) → (unconcluded_of fate m o).layout ≡ m.layout
 unconcluded_layout fate m None = refl
 unconcluded_layout fate m (Some t) = by_request (cuts_round t.request)
@@ -150,11 +146,11 @@ quiet_effect items s (Some lives.Resets) is none = absurd is
 
 -- ---- lists of steps
 
-befallen_more : (items : List Item) (s : Station) (o : Option Deed) (deeds : List Deed) → befallen_all items (befallen_by items s o) deeds ≡ befallen_all items s (cons_option o deeds)
+pub befallen_more : (items : List Item) (s : Station) (o : Option Deed) (deeds : List Deed) → befallen_all items (befallen_by items s o) deeds ≡ befallen_all items s (cons_option o deeds)
 befallen_more items s None deeds = refl
 befallen_more items s (Some deed) deeds = refl
 
-told_more : (items : List Item) (s : Station) (o : Option Deed) (deeds : List Deed) → events_by items s o ++ told_in items (befallen_by items s o) deeds ≡ told_in items s (cons_option o deeds)
+pub told_more : (items : List Item) (s : Station) (o : Option Deed) (deeds : List Deed) → events_by items s o ++ told_in items (befallen_by items s o) deeds ≡ told_in items s (cons_option o deeds)
 told_more items s None deeds = refl
 told_more items s (Some deed) deeds = refl
 

@@ -25,7 +25,7 @@ use Rattle.usb_transact.specs.Fate.{arrives_under}
 use Rattle.usb_transact.specs.Taken.{taken}
 use Rattle.usb_transact.specs.Exchange.{took_where}
 use Rattle.usb_transact.proofs.TableLemmas.{read_whole, read_lost, took_answer}
-use Rattle.hid_device.specs.declared.device.TheConstants.{ENDPOINT}
+use Rattle.hid_requests.specs.declared.codes.TheConstants.{REPORT_ENDPOINT as ENDPOINT}
 use Rattle.hid_lives.specs.Standing.{due_where}
 use Rattle.std.specs.Prelude.{unwrap_or}
 use Rattle.hid_device.specs.Core.{CoreState, IsSound, opened_core_if, opening_of, closed_core, left_open, piece_armed}

@@ -24,7 +24,7 @@ use Rattle.hid_stack.specs.Members.{Resets, member_after}
 use Rattle.hid_stack.specs.Slot.{IsUntouched, StandTogether, joint, round_between, station_of}
 
 -- a view that stays tells nothing
-same_view : (i : ℕ) (items : List Item) (cells : List Cell) → changes_from i items cells cells ≡ []
+pub same_view : (i : ℕ) (items : List Item) (cells : List Cell) → changes_from i items cells cells ≡ []
 same_view i [] cells = refl
 same_view i (item ∷ items) [] = refl
 same_view i (item ∷ items) (cell ∷ cells) =

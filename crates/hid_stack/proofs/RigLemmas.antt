@@ -18,8 +18,10 @@ use Rattle.hid_requests.specs.declared.start.Start.TheVariants as starts
 use Rattle.hid_stack.specs.Attaching.{member_at_start}
 use Rattle.hid_stack.specs.Members.{Member, MemberStep, Scheduled, Controls, member_after, tried_of}
 use Rattle.hid_stack.specs.Slot.{TriesTransfer}
+use Rattle.hid_stack.specs.Expecting.{AllHoldToggles}
 use Rattle.hid_stack.specs.Sums.{AllHaveMotions}
 use Rattle.hid_lives.proofs.MotionLemmas.{fresh_has}
+use Rattle.hid_stack.proofs.HoldLemmas.{bus_holds}
 use Rattle.hid_stack.proofs.SumLemmas.{HasItsMotions, after_member, after_unconcluded, bus_has, attached_has}
 
 at_place : (members : List Member) (i : ℕ) (m : Member) → AllHaveMotions members → i < length members → m ≡ get_or members i m → HasItsMotions m
@@ -54,13 +56,13 @@ tried fate m n result tries has = tried_by fate m n (running m.transfer) result 
 pub framed : (members new : List Member) (len : ℕ) → length new ≡ len → take len (new ++ drop (length new) members) ≡ new
 framed members new len size = take-append-le len new (drop (length new) members) (omega arith) ∙ take_all len new (omega arith)
 
-pub framed_hold : (members new : List Member) (len cap limit : ℕ) → (length members ≤ limit) × (limit ≤ cap) × AllHaveMotions members → new ≡ map (λ (m : Member). member_after m (Scheduled Frame)) members → length new ≡ len
-    → (length (take len (new ++ drop (length new) members)) ≤ limit) × (limit ≤ cap) × AllHaveMotions (take len (new ++ drop (length new) members))
-framed_hold members new len cap limit (within, room, all) is size =
+pub framed_hold : (members new : List Member) (len cap limit : ℕ) → (length members ≤ limit) × (cap ≡ limit) × AllHaveMotions members × AllHoldToggles members → new ≡ map (λ (m : Member). member_after m (Scheduled Frame)) members → length new ≡ len
+    → (length (take len (new ++ drop (length new) members)) ≤ limit) × (cap ≡ limit) × AllHaveMotions (take len (new ++ drop (length new) members)) × AllHoldToggles (take len (new ++ drop (length new) members))
+framed_hold members new len cap limit (within, room, all, hold) is size =
     let whole = framed members new len size in
     let same : length new ≡ length members = ap (λ (ms : List Member). length ms) is ∙ length-map members (λ (m : Member). member_after m (Scheduled Frame)) in
-    subst (λ (ms : List Member). (length ms ≤ limit) × (limit ≤ cap) × AllHaveMotions ms) (sym whole)
-    (omega arith, room, subst AllHaveMotions (sym is) (bus_has members FrameStep all))
+    subst (λ (ms : List Member). (length ms ≤ limit) × (cap ≡ limit) × AllHaveMotions ms × AllHoldToggles ms) (sym whole)
+    (omega arith, room, subst AllHaveMotions (sym is) (bus_has members FrameStep all), subst AllHoldToggles (sym is) (bus_holds members FrameStep hold))
 
 -- where a device was attached
 starts_with : (start : Start) (addr : ℕ) (config : Config) (descriptor : List ℕ) (layout : Contents) → HasItsMotions (member_at_start start addr config descriptor layout)

@@ -14,8 +14,9 @@ use Rattle.hid_lives.specs.Rounds as own_steps
 use Rattle.hid_steps.specs.declared.step.Step.{Step}
 use Rattle.hid_steps.specs.declared.step.Step.TheVariants.{Change, Frame, Poll, Begin, Control, Halt, Reset}
 use Rattle.hid_steps.specs.declared.step.Told.{Told}
+use Rattle.hid_host.specs.Host.{running}
 use Rattle.hid_stack.specs.Members.{Member, MemberStep, Scheduled, Begins, Controls, Halts, Resets, member_after}
-use Rattle.hid_stack.specs.Rig.{AreScheduled, member_at, with_member, one_after, bus_after, bus_after_all, HasRoomFor, is_scheduled, most_events, most_in, refusal, refused_after, stopped_after, IsRefusal, NoneIsRefused, StopsAt}
+use Rattle.hid_stack.specs.Rig.{AreScheduled, member_at, with_member, one_after, bus_after, bus_after_all, HasRoomAt, HasRoomFor, HasRoomToTry, is_scheduled, most_events, most_in, refusal, refused_after, stopped_after, IsRefusal, NoneIsRefused, StopsAt}
 use Rattle.hid_host.specs.declared.fault.StackFault.{StackFault}
 use Rattle.hid_stack.proofs.MemberLemmas.{layout_stays}
 
@@ -70,6 +71,12 @@ most_part members [] i d lt = absurd (omega arith)
 most_part members (x ∷ steps) zero d lt = omega arith
 most_part members (x ∷ steps) (suc i) d lt = omega (arith, most_part (bus_after members x) steps i d (omega arith))
 
+-- what is delivered at most fits with less in the way
+most_fits : (o : Option Member) (more used capacity now : ℕ) → used ≤ more → capacity ≤ now → IfSome o (λ (m : Member). more + max_events (items_of m.layout) ≤ capacity)
+    → IfSome o (λ (m : Member). used + max_events (items_of m.layout) ≤ now)
+most_fits None more used capacity now less grows has = tt
+most_fits (Some m) more used capacity now less grows has = omega (arith, has, less, grows)
+
 -- a step that is of no transfer of any device
 abbrev IsOfNone : Step → Type 0
 IsOfNone x = (device : ℕ) → is_scheduled device x ≡ true
@@ -101,12 +108,35 @@ room_at members mid steps i d first used capacity now lt before few grows all ro
     let part = most_part members steps i d lt in
     has_room mid (get_or steps i d) used now (none_at steps i d lt all) (omega (arith, few, grows, room, same, part))
 
--- where a run stops, the refused step leaves the bus so
 read_at : (steps : List Step) (i : ℕ) (d : Step) → i < length steps → slice_get steps i ≡ Some (get_or steps i d)
 read_at [] i d lt = absurd (omega (arith, lt))
 read_at (x ∷ steps) zero d lt = refl
 read_at (x ∷ steps) (suc i) d lt = read_at steps i d (omega (arith, lt))
 
+-- where there is room for a step, there is with less in the way
+more_room : (members : List Member) (x : Step) (more used capacity now : ℕ) → used ≤ more → capacity ≤ now → HasRoomFor members x more capacity → HasRoomFor members x used now
+more_room members (Change dev change) more used capacity now less grows has = tt
+more_room members Frame more used capacity now less grows has = tt
+more_room members (Poll dev fate) more used capacity now less grows has = most_fits (member_at members dev) more used capacity now less grows has
+more_room members (Halt dev) more used capacity now less grows has = most_fits (member_at members dev) more used capacity now less grows has
+more_room members (Reset dev) more used capacity now less grows has = most_fits (member_at members dev) more used capacity now less grows has
+more_room members (Begin dev request) more used capacity now less grows has = absurd has
+more_room members (Control dev fate) more used capacity now less grows has = by_member (member_at members dev) has
+  where
+    by_member : (o : Option Member) → IfSome o (λ (m : Member). HasRoomToTry fate m (running m.transfer) more capacity) → IfSome o (λ (m : Member). HasRoomToTry fate m (running m.transfer) used now)
+    by_member None h = tt
+    by_member (Some m) h = (λ cuts. let fits = h.0 cuts in omega (arith, fits, less, grows), h.1)
+
+-- where there is room at a step of a run, there is as it comes
+pub room_here : (members mid : List Member) (steps : List Step) (i : ℕ) (d : Step) (first used capacity now : ℕ) → i < length steps → mid ≡ bus_after_all members (take i steps)
+    → used ≤ first + most_in members (take i steps) → capacity ≤ now → HasRoomAt members steps i first capacity → HasRoomFor mid (get_or steps i d) used now
+room_here members mid steps i d first used capacity now lt before few grows has =
+    let most : ℕ = first + most_in members (take i steps) in
+    let here : HasRoomFor (bus_after_all members (take i steps)) (get_or steps i d) most capacity
+    = subst (λ (o : Option Step). IfSome o (λ x. HasRoomFor (bus_after_all members (take i steps)) x most capacity)) (read_at steps i d lt) has in
+    more_room mid (get_or steps i d) most used capacity now few grows (subst (λ (ms : List Member). HasRoomFor ms (get_or steps i d) most capacity) (sym before) here)
+
+-- where a run stops, the refused step leaves the bus so
 pub stopped : (members mid new : List Member) (steps : List Step) (i : ℕ) (d : Step) (e : StackFault) → i < length steps → mid ≡ bus_after_all members (take i steps)
     → new ≡ refused_after mid (get_or steps i d) e → new ≡ stopped_after members steps i e
 stopped members mid new steps i d e lt before one =

@@ -39,6 +39,7 @@ use Rattle.hid_requests.specs.Boot.{is_boot}
 use Rattle.hid_host.specs.Host.{cuts_round}
 use Rattle.hid_stack.specs.Bringing.{answering, brought_about, carried_out, clears, clears_in, configures, cuts_in, is_configure}
 use Rattle.hid_stack.specs.Knowing.{Carries, IsBehindSetup, IsDecided, IsDecidedBy}
+use Rattle.hid_stack.specs.Trails.{Trail}
 use Rattle.hid_host.specs.Phase.{may_begin, state_of}
 
 -- ---- what a packet leaves
@@ -233,20 +234,20 @@ row_asks requests.Clear core = clear_asks core.is_configured
 row_asks requests.EndpointStatus core = asks_else requests.EndpointStatus _ refl (λ test of. read_is_read test core.is_configured (endpoint_status core.halted))
 
 -- what is pending behind the SETUP of a request passes a test where its row does
-pends_by_row : (test : Pending → Bool) → test pendings.Nothing ≡ false → (request : Request) (core : CoreState) (decision : Decision) (says : IsDecided request core decision)
-    → test core.pending ≡ writes_by test (decided_row says.then (row_of request))
-pends_by_row test none request core decision says = pends_by test none (decided_row says.then (row_of request)) decision core.pending says.by
+pends_by_row : (test : Pending → Bool) → test pendings.Nothing ≡ false → (request : Request) (decider core : CoreState) (decision : Decision) → IsDecided request decider core decision
+    → test core.pending ≡ writes_by test (decided_row decider (row_of request))
+pends_by_row test none request decider core decision says = pends_by test none (decided_row decider (row_of request)) decision core.pending says.by
 
 -- a configuration is pending behind the SETUP of a request for it, and of no other
-pub pends_so : (request : Request) (core : CoreState) (decision : Decision) → IsDecided request core decision → is_configuring core.pending ≡ is_configure request
-pends_so request core decision says = pends_by_row is_configuring refl request core decision says ∙ (row_asks request says.then).configures
+pub pends_so : (request : Request) (decider core : CoreState) (decision : Decision) → IsDecided request decider core decision → is_configuring core.pending ≡ is_configure request
+pends_so request decider core decision says = pends_by_row is_configuring refl request decider core decision says ∙ (row_asks request decider).configures
 
 -- what ends a round is pending behind that of a Halt or a Clear alone, and what ends a halt behind that of a Clear
-pub cuts_so : (request : Request) (core : CoreState) (decision : Decision) → IsDecided request core decision → is_cutting core.pending ≡ true → cuts_round request ≡ true
-cuts_so request core decision says h = (row_asks request says.then).cuts (sym (pends_by_row is_cutting refl request core decision says) ∙ h)
+pub cuts_so : (request : Request) (decider core : CoreState) (decision : Decision) → IsDecided request decider core decision → is_cutting core.pending ≡ true → cuts_round request ≡ true
+cuts_so request decider core decision says h = (row_asks request decider).cuts (sym (pends_by_row is_cutting refl request decider core decision says) ∙ h)
 
-pub clears_so : (request : Request) (core : CoreState) (decision : Decision) → IsDecided request core decision → is_clearing core.pending ≡ true → request ≡ requests.Clear
-clears_so request core decision says h = (row_asks request says.then).clears (sym (pends_by_row is_clearing refl request core decision says) ∙ h)
+pub clears_so : (request : Request) (decider core : CoreState) (decision : Decision) → IsDecided request decider core decision → is_clearing core.pending ≡ true → request ≡ requests.Clear
+clears_so request decider core decision says h = (row_asks request decider).clears (sym (pends_by_row is_clearing refl request decider core decision says) ∙ h)
 
 asks_for : (request : Request) (phase : HostPhase) → is_configure request ≡ true → may_begin request (state_of phase) ≡ true → state_of phase ≡ states.Parsed
 asks_for requests.Configure Cold asks needs = absurd (cc)
@@ -269,17 +270,17 @@ asks_for requests.Clear phase asks needs = absurd (cc)
 asks_for requests.EndpointStatus phase asks needs = absurd (cc)
 
 -- what is pending where a write takes effect was decided on
-decided_at : (phase : HostPhase) (t : Transfer) (control : DevControlState CoreState) (c : Carries phase t control) → IsRunning t.ends.stage → IsApplied (effect_reached core_table t.ends control)
-    → IsDecided t.request control.requests c.place.decision
-decided_at phase t control c running applied =
+decided_at : (trail : Trail) (phase : HostPhase) (t : Transfer) (control : DevControlState CoreState) → Carries trail phase t control → IsRunning t.ends.stage → IsApplied (effect_reached core_table t.ends control)
+    → IsDecided t.request trail.decider control.requests trail.place.decision
+decided_at trail phase t control c running applied =
     let apart = not_at_setup t.ends.stage t.ends.setup t.ends.bytes control.stage control.requests.answer applied in
-    c.decided (behind_by (shape_of t.ends.setup) (sends_of t.request) c.place c.place.fault t.ends control c.stands running apart)
+    c.decided (behind_by (shape_of t.ends.setup) (sends_of t.request) trail.place trail.place.fault t.ends control c.stands running apart)
 
-pub parsed_by : (fate : Fate) (phase : HostPhase) (t : Transfer) (control : DevControlState CoreState) → Carries phase t control → IsRunning t.ends.stage → configures fate t.ends control ≡ true
+pub parsed_by : (trail : Trail) (fate : Fate) (phase : HostPhase) (t : Transfer) (control : DevControlState CoreState) → Carries trail phase t control → IsRunning t.ends.stage → configures fate t.ends control ≡ true
     → state_of phase ≡ states.Parsed
-parsed_by fate phase t control c running h =
+parsed_by trail fate phase t control c running h =
     let by = configures_by fate t.ends control h in
-    asks_for t.request phase (sym (pends_so t.request control.requests c.place.decision (decided_at phase t control c running by.0)) ∙ ap is_configuring by.1) (c.needs running)
+    asks_for t.request phase (sym (pends_so t.request trail.decider control.requests trail.place.decision (decided_at trail phase t control c running by.0)) ∙ ap is_configuring by.1) (c.needs running)
 
 -- ---- a round is cut by a request for that, and a halt ended by a Clear
 
@@ -301,11 +302,11 @@ cuts_by Clean ends control h = is_cut (effect_reached core_table ends control) c
 cuts_by ReplyLost ends control h = is_cut (effect_reached core_table ends control) control.requests.pending h
 cuts_by AckLost ends control h = is_cut (effect_reached core_table ends control) control.requests.pending h
 
-pub cut_by : (fate : Fate) (phase : HostPhase) (t : Transfer) (control : DevControlState CoreState) → Carries phase t control → IsRunning t.ends.stage → cuts_in fate t.ends control ≡ true
+pub cut_by : (trail : Trail) (fate : Fate) (phase : HostPhase) (t : Transfer) (control : DevControlState CoreState) → Carries trail phase t control → IsRunning t.ends.stage → cuts_in fate t.ends control ≡ true
     → cuts_round t.request ≡ true
-cut_by fate phase t control c running h =
+cut_by trail fate phase t control c running h =
     let by = cuts_by fate t.ends control h in
-    cuts_so t.request control.requests c.place.decision (decided_at phase t control c running by.0) by.1
+    cuts_so t.request trail.decider control.requests trail.place.decision (decided_at trail phase t control c running by.0) by.1
 
 is_cleared : (effect : Effect) (pending : Pending) → clears effect pending ≡ true → IsApplied effect × (is_clearing pending ≡ true)
 is_cleared (Applies bytes) pendings.Clear h = (tt, refl)
@@ -325,8 +326,8 @@ clears_by Clean ends control h = is_cleared (effect_reached core_table ends cont
 clears_by ReplyLost ends control h = is_cleared (effect_reached core_table ends control) control.requests.pending h
 clears_by AckLost ends control h = is_cleared (effect_reached core_table ends control) control.requests.pending h
 
-pub cleared_by : (fate : Fate) (phase : HostPhase) (t : Transfer) (control : DevControlState CoreState) → Carries phase t control → IsRunning t.ends.stage → clears_in fate t.ends control ≡ true
+pub cleared_by : (trail : Trail) (fate : Fate) (phase : HostPhase) (t : Transfer) (control : DevControlState CoreState) → Carries trail phase t control → IsRunning t.ends.stage → clears_in fate t.ends control ≡ true
     → t.request ≡ requests.Clear
-cleared_by fate phase t control c running h =
+cleared_by trail fate phase t control c running h =
     let by = clears_by fate t.ends control h in
-    clears_so t.request control.requests c.place.decision (decided_at phase t control c running by.0) by.1
+    clears_so t.request trail.decider control.requests trail.place.decision (decided_at trail phase t control c running by.0) by.1

@@ -7,7 +7,7 @@ use Rattle.hid_layout.specs.Layout.{Contents}
 use Rattle.hid_cells.specs.declared.cell.Cell.{Cell}
 use Rattle.usb_transact.specs.Host.{HostPipeState}
 use Rattle.hid_lives.specs.Stations.{Open}
-use Rattle.hid_device.specs.declared.device.TheConstants.{ENDPOINT}
+use Rattle.hid_requests.specs.declared.codes.TheConstants.{REPORT_ENDPOINT as ENDPOINT}
 use Rattle.hid_device.specs.Device.{DeviceState, core_of}
 use Rattle.hid_host.specs.declared.host.Transfer.{Transfer}
 use Rattle.hid_host.specs.declared.phase.HostPhase.{HostPhase}
@@ -94,4 +94,4 @@ shows_at device addr transfer clearing (Ready known) together knows home = recor
 }
 
 pub shows_host : (device : DeviceState) (host : HostEnd) → StandTogether device host.clearing host.phase → Knows host device.control → host.addr ≡ device.addr → ShowsHost (joint device host) host
-shows_host device host together knows home = shows_at device host.addr host.transfer host.clearing host.phase together knows.phase home
+shows_host device host together knows home = shows_at device host.addr host.transfer host.clearing host.phase together knows.by.phase home

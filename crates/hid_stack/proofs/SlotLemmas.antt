@@ -191,7 +191,7 @@ stays_together clearing (Ready known) device device_then l pair = record {
 
 -- and of the invariant of a slot
 abbrev Holds : DeviceState → HostEnd → ℕ → ℕ → Type 0
-Holds device host capacity most = StandTogether device host.clearing host.phase × Knows host device.control × (host.addr ≡ device.addr) × (max_events (items_of (core_of device).layout) ≤ capacity)
+Holds device host capacity most = StandTogether device host.clearing host.phase × Knows host device.control × (host.addr ≡ device.addr) × (capacity ≡ max_events (items_of (core_of device).layout))
     × (most ≡ max_events (items_of (core_of device).layout))
 
 abbrev OthersLeave : Type 0
@@ -203,7 +203,7 @@ holds_on device device_then host capacity most others transfers l (together, kno
   stays_together host.clearing host.phase device device_then l together,
   others host device.control device_then.control transfers knows,
   home ∙ sym l.addr,
-  subst (λ (x : Contents). max_events (items_of x) ≤ capacity) (sym l.layout) room,
+  subst (λ (x : Contents). capacity ≡ max_events (items_of x)) (sym l.layout) room,
   subst (λ (x : Contents). most ≡ max_events (items_of x)) (sym l.layout) events,
 )
 
@@ -215,7 +215,7 @@ holds_by device device_then host host_then capacity capacity_then most together 
   together,
   knows,
   home ∙ at_home ∙ sym addr,
-  subst (λ (x : Contents). max_events (items_of x) ≤ capacity_then) (sym layout) (subst (λ (n : ℕ). max_events (items_of (core_of device).layout) ≤ n) (sym same) room),
+  subst (λ (x : Contents). capacity_then ≡ max_events (items_of x)) (sym layout) (same ∙ room),
   subst (λ (x : Contents). most ≡ max_events (items_of x)) (sym layout) events,
 )
 

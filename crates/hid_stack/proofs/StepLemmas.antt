@@ -25,7 +25,7 @@ use Rattle.usb_transact.specs.Fate.{arrives_under}
 use Rattle.usb_transact.specs.Host.{token_to}
 use Rattle.usb_transact.specs.Taken.{taken}
 use Rattle.usb_transact.proofs.TableLemmas.{read_whole, read_lost}
-use Rattle.hid_device.specs.declared.device.TheConstants.{ENDPOINT}
+use Rattle.hid_requests.specs.declared.codes.TheConstants.{REPORT_ENDPOINT as ENDPOINT}
 use Rattle.hid_device.specs.Inputs.{input_count}
 use Rattle.hid_lives.specs.Standing.{due_where}
 use Rattle.hid_device.specs.Core.{CoreState, IsSound, IsBelow, IsQuiet, SendsPart, opened_core_if, opening_of, poll_answer}

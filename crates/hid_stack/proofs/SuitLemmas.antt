@@ -31,4 +31,4 @@ at_phase (Ready known) addr core sound knows =
 
 pub rounds_suit : (host : HostEnd) (control : DevControlState CoreState) → IsSound control.requests → Knows host control
     → IfReady host.phase (λ known. SuitsRound known.layout (round_of control.requests) control.requests.standing.fixed)
-rounds_suit host control sound knows = at_phase host.phase host.addr control.requests sound knows.phase
+rounds_suit host control sound knows = at_phase host.phase host.addr control.requests sound knows.by.phase

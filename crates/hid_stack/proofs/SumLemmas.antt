@@ -26,11 +26,11 @@ use Rattle.hid_steps.specs.declared.step.Step.{Step}
 use Rattle.hid_steps.specs.declared.step.Step.TheVariants.{Change, Frame, Poll, Begin, Control, Halt, Reset}
 use Rattle.hid_steps.specs.declared.step.Delivered.{Delivered}
 use Rattle.hid_steps.specs.Delivered.{from_device}
-use Rattle.hid_stack.specs.Members.{Member, MemberStep, Scheduled, Begins, Controls, Halts, Resets, befallen_by, brought_deed, control_at, deed_at, deeds_in, halted_deed, member_after, member_after_all, polls_it, scheduled_deed, tried_deed, unconcluded_of}
+use Rattle.hid_stack.specs.Members.{Member, MemberStep, Scheduled, Begins, Controls, Halts, Resets, befallen_by, brought_deed, control_at, deed_at, deeds_in, halted_deed, member_after, member_after_all, polls_it, scheduled_deed, tried_deed, unconcluded_deed, unconcluded_of}
 use Rattle.hid_stack.specs.Rig.{member_at, with_member, one_after, one_unconcluded, refused_after, bus_after, bus_after_all, delivered_in, member_step, member_steps}
 use Rattle.hid_stack.specs.Sums.{AllHaveMotions, ConfiguresBetweenRounds, CutsByRequest, CutsNone, IsBetween, OnlyHaltsCut, RefusedKeepMotion, SumsUp}
 use Rattle.hid_stack.proofs.Isolation.{isolated, same_or_not, states as states_of, with_other, with_same}
-use Rattle.hid_stack.proofs.MemberLemmas.{IsEffect, between_append, between_one, brings_effect, layout_stays, layouts_stay, station_is, stations, unconcluded_deed, unconcluded_layout, unconcluded_station}
+use Rattle.hid_stack.proofs.MemberLemmas.{IsEffect, between_append, between_one, brings_effect, layout_stays, layouts_stay, station_is, stations, unconcluded_layout, unconcluded_station}
 use Rattle.hid_lives.proofs.ItemMotionLemmas.{given_append}
 use Rattle.hid_lives.proofs.MotionLemmas.{lived_has, lives_keep}
 

@@ -21,7 +21,7 @@ use Rattle.usb_control.specs.Host.{HostTransferState}
 use Rattle.hid_requests.specs.declared.request.Request.{Request}
 use Rattle.hid_requests.specs.declared.request.Request.TheVariants as requests
 use Rattle.hid_lives.specs.Stations.{Station, Open}
-use Rattle.hid_device.specs.declared.device.TheConstants.{ENDPOINT}
+use Rattle.hid_requests.specs.declared.codes.TheConstants.{REPORT_ENDPOINT as ENDPOINT}
 use Rattle.hid_requests.specs.declared.class.Protocol.{Protocol}
 use Rattle.hid_lives.specs.Lives.{Deed, Idles, Configures, befallen}
 use Rattle.hid_lives.specs.Lives as lives

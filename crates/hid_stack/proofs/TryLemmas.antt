@@ -265,7 +265,7 @@ goes_on fate device device_then host host_then t progress c told moved pends kno
     let l = leaves_by fate t.ends device.control core c.brings in
     let parsed : brought_deed fate t.ends device.control ≡ Some Configures → state_of host.phase ≡ states.Parsed = λ is. c.parsed (brought_configures fate t.ends device.control is) in
     let none : state_of host.phase ≡ states.Parsed → NoRounds core = λ is. l.none (unready_none device host.clearing host.phase together is) in
-    let known : KnowsAt phase device_then.addr core = subst (λ (a : ℕ). KnowsAt phase a core) (home ∙ sym stays) (subst (λ (h : HostEnd). KnowsAt h.phase h.addr core) moved knows.phase) in
+    let known : KnowsAt phase device_then.addr core = subst (λ (a : ℕ). KnowsAt phase a core) (home ∙ sym stays) (subst (λ (h : HostEnd). KnowsAt h.phase h.addr core) moved knows.by.phase) in
     let here = still_together device device_then host.clearing host.phase (brought_deed fate t.ends device.control) parsed pends l stays sound together in
     record {
       tries = (
@@ -468,7 +468,7 @@ steps_by fate device control host host_then (Some t) result know compute is step
     let before = sound_of device host.clearing host.phase together in
     let c = compute fate host host_then t device.control control result before knows is steps in
     let k = know fate host host_then device.control control result before knows steps in
-    let pends : Pends fate device host t = λ cleared. pends_at host t host.transfer refl is knows.clears (c.clears (brought_clears fate t.ends device.control cleared)) in
+    let pends : Pends fate device host t = λ cleared. pends_at host t host.transfer refl is knows.by.clears (c.clears (brought_clears fate t.ends device.control cleared)) in
     let done = tried_by fate device (controlled device control) host host_then t result c pends k.0 together home refl sound in
     let same = same_try fate device host t before in
     record {

@@ -10,7 +10,10 @@ use Rattle.hid_steps.specs.declared.step.Told.TheVariants.{Polled}
 use Rattle.hid_stack.specs.declared.rig.TheConstants.{MAX_DEVICES}
 use Rattle.hid_lives.specs.Rows.{open_at, press, stands_after}
 use Rattle.hid_lives.specs.Stations.{opened}
-use Rattle.hid_stack.specs.Members.{got_in}
+use Rattle.hid_layout.specs.Layout.{Contents}
+use Rattle.hid_requests.specs.declared.request.Request.TheVariants.{Clear, Status}
+use Rattle.hid_device.specs.declared.config.Config.{Config}
+use Rattle.hid_stack.specs.Members.{MemberStep, Begins, Controls, fresh_member, got_in, member_after_all, polls_it}
 use Rattle.hid_stack.specs.Tells.{told_by}
 
 -- what a poll tells behind these steps, where the part that is sent has these bytes
@@ -63,6 +66,16 @@ got_before_the_last = refl
 
 got_all : got_in (replicate 100 7) (open_at 2 1 true) ≡ []
 got_all = refl
+
+-- a Clear of which three tokens are lost has failed (C2); while the status of the device is asked for, it is still pending
+abbrev failed_clear : List MemberStep
+failed_clear = Begins Clear ∷ Controls TokenLost ∷ Controls TokenLost ∷ Controls TokenLost ∷ Begins Status ∷ []
+
+held_back : (config : Config) (layout : Contents) → polls_it (member_after_all (fresh_member 1 config [] layout) failed_clear) ≡ false
+held_back config layout = refl
+
+polled_before : (config : Config) (layout : Contents) → polls_it (fresh_member 1 config [] layout) ≡ true
+polled_before config layout = refl
 
 -- a bus has room for seven devices
 devices_at_most : MAX_DEVICES ≡ 7

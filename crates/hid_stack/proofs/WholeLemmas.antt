@@ -27,9 +27,11 @@ use Rattle.usb_control.specs.declared.host.HostStage.TheVariants as stages
 use Rattle.hid_requests.specs.declared.request.Request.TheVariants.{Configure}
 use Rattle.hid_host.specs.Host.{cuts_round, may_cut, running, running_at, transfer_of}
 use Rattle.hid_stack.specs.Knowing.{asking_of}
+use Rattle.hid_stack.specs.Trails.{trail_from}
 use Rattle.hid_stack.specs.Members.{Member, MemberStep, Scheduled, Begins, Controls, Halts, Resets, begin_refusal_at, begun_unless, control_at, core_at, ends_tried_at, halted_if, member_after, member_after_all, tried_of, tried_to, unconcluded_of}
 use Rattle.hid_stack.specs.Transfers.{BeginsNone, IsEndedByReset, IsUnconcludedOnce, IsWhole, IsWholeFrom, effects_in, ends_at, more_if, takes_effect_at, setup_at, tries_of, try_at}
 use Rattle.hid_stack.proofs.CountLemmas.{Stood, counted, halted_transfer, runs_as}
+use Rattle.hid_stack.proofs.EffectLemmas.{has_effects}
 
 -- ---- the steps of a member as turns of a transfer
 
@@ -154,8 +156,8 @@ whole m request steps lays fits allowed none =
     = subst (λ (xs : List (Fate × Decision)). StandAt core_table (sends_of request) (run shape xs start) (ends_at (member_after_all begun steps) b.transfer)) f.tries
     (subst (λ (e : Ends CoreState). StandAt core_table (sends_of request) (run shape (tries_in core_table (ends_at begun t) turns) start) e) b.ends_are stands) in
     let once = is_once shape (tries_of begun steps) in
-    let none_yet : Stood begun t start = record { asked = refl; spelled = spelled_so request asking fits (short_so m.descriptor m.layout lays) of_one; fits = fits; stands = first; decided = λ behind. absurd behind } in
-    let count = counted steps begun t start 0 refl none none_yet in
+    let none_yet : Stood begun t (trail_from (core_at m)) = record { asked = refl; spelled = spelled_so request asking fits (short_so m.descriptor m.layout lays) of_one; fits = fits; stands = first; decided = λ behind. absurd behind } in
+    let count = counted steps begun t (trail_from (core_at m)) 0 refl none none_yet in
     let all = acts shape (tries_of begun steps) start in
     let took : effects_in begun steps ≡ effects 0 all
     = let zero : effects_in begun steps + 0 ≡ effects_in begun steps = omega arith in sym zero ∙ sym count.took in
@@ -172,6 +174,7 @@ whole m request steps lays fits allowed none =
           read_is core_table.answer_of shape (sends_of request) (run shape (tries_of begun steps) start) b.transfer.ends (control_at (member_after_all begun steps)) stands_there (is_done done) is_read
           ∙ ap (answered_bytes shape) once.decided;
       took = took;
+      effect = has_effects steps begun t (trail_from (core_at m)) refl none none_yet;
       written = λ done writes. took ∙ once.once (is_done done) writes;
       configures = count.configures;
       configured = λ is_configured done.
@@ -198,6 +201,11 @@ begins_none fate (Controls other ∷ steps) none = begins_none fate steps none
 same_transfer : (fate : Fate) (n : Member) (runs : Option Transfer) → may_cut runs ≡ false → (tried_of fate n runs).transfer ≡ (unconcluded_of fate n runs).transfer
 same_transfer fate n None apart = refl
 same_transfer fate n (Some t) apart = sym (ap (λ (b : Bool). (if b then n else tried_to fate n t n.host).transfer) apart)
+
+-- and the device stands behind it so
+same_core : (fate : Fate) (n : Member) (runs : Option Transfer) → may_cut runs ≡ false → core_at (unconcluded_of fate n runs) ≡ core_at (tried_of fate n runs)
+same_core fate n None apart = refl
+same_core fate n (Some t) apart = ap (λ (b : Bool). core_at (if b then n else tried_to fate n t n.host)) apart
 
 one_transfer : (a b : Transfer) → Some a ≡ Some b → a ≡ b
 one_transfer a b e = cc
@@ -227,7 +235,7 @@ unconcluded_once m request steps lays fits allowed none fate ended is_configure 
     let apart = no_cut n.transfer before.transfer before.is (before.of ∙ is_configure) in
     let there : Some w.transfer ≡ Some ended
     = sym w.is ∙ ap (λ (k : Member). k.transfer) (behind_one steps begun (Controls fate)) ∙ same_transfer fate n (running n.transfer) apart ∙ is in
-    w.configured is_configure (ap (λ (t : Transfer). t.ends.stage) (one_transfer w.transfer ended there) ∙ done)
+    (w.configured is_configure (ap (λ (t : Transfer). t.ends.stage) (one_transfer w.transfer ended there) ∙ done), same_core fate n (running n.transfer) apart)
 
 -- ---- a reset ends a transfer
 

@@ -1,5 +1,5 @@
 -- Which devices can be attached, and what is found of those that are (our choice).
-use Rattle.std.specs.Prelude.{◌≡◌, ◌⊎◌, ℕ, ◌<◌, ◌≤◌, ◌+◌, Bool, true, false, List, [], ◌∷◌, ◌++◌, length, Some, None, Result, Ok, Err}
+use Rattle.std.specs.Prelude.{◌≡◌, ◌⊎◌, ℕ, ◌<◌, ◌≤◌, ◌+◌, Bool, true, false, if◌then◌else◌, List, [], ◌∷◌, ◌++◌, length, Some, None, Result, Ok, Err}
 use Rattle.hid_layout.specs.declared.control.ControlId.{ControlId}
 use Rattle.hid_descriptor.specs.declared.limits.TheConstants.{MAX_DESCRIPTOR}
 use Rattle.hid_descriptor.specs.declared.usage.Usage.{Usage}
@@ -10,6 +10,7 @@ use Rattle.hid_cells.specs.declared.change.ChangeFault.TheVariants.{NoSuchContro
 use Rattle.hid_device.specs.declared.config.Config.{Config}
 use Rattle.hid_requests.specs.declared.fault.DeviceCause.{DeviceCause}
 use Rattle.hid_requests.specs.declared.fault.DeviceCause.TheVariants as causes
+use Rattle.hid_requests.specs.declared.fault.DeviceFault.{DeviceFault}
 use Rattle.hid_device.specs.Config.{is_config}
 use Rattle.hid_requests.specs.Fault.{is_memory}
 use Rattle.hid_device.specs.Making.{CanServe}
@@ -34,6 +35,10 @@ wants_memory (causes.Layout cause) = is_memory cause
 wants_memory causes.NoEmptyCode = false
 wants_memory causes.RelativeWithoutZero = false
 wants_memory causes.Memory = true
+
+-- What a device's fault is told as: want of memory is the bus's, and each other cause the descriptor's.
+abbrev pub device_refusal : DeviceFault → StackFault
+device_refusal fault = if wants_memory fault.cause then Memory else BadDescriptor (Device fault)
 
 -- why there is no device, and no host for it: the device is refused, or its address and configuration fit, its
 -- descriptor isn't too long, and memory was wanting

@@ -12,7 +12,7 @@ use Rattle.hid_requests.specs.declared.request.Request.{Request}
 use Rattle.hid_requests.specs.declared.request.Request.TheVariants.{Config, Report, Configure, Clear}
 use Rattle.hid_device.specs.declared.decisions.Pending.{Pending}
 use Rattle.hid_device.specs.declared.decisions.Pending.TheVariants as pendings
-use Rattle.hid_device.specs.declared.device.TheConstants.{ENDPOINT}
+use Rattle.hid_requests.specs.declared.codes.TheConstants.{REPORT_ENDPOINT as ENDPOINT}
 use Rattle.hid_device.specs.Apart.{carries_out, cuts}
 use Rattle.hid_device.specs.Core.{CoreState}
 use Rattle.hid_device.specs.Deciding.{core_table, effected}

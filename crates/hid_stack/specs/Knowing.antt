@@ -7,14 +7,14 @@ use Rattle.usb_control.specs.Device.{DevControlState}
 use Rattle.usb_control.specs.Host.{IsRunning}
 use Rattle.usb_control.specs.Runs.{IsDone}
 use Rattle.usb_control.specs.Standing.{Stands}
-use Rattle.usb_control.specs.Transfer.{Decision, Accepted, Refused, Place, Position, Setup, shape_of}
+use Rattle.usb_control.specs.Transfer.{Decision, Accepted, Refused, Position, Setup, shape_of}
 use Rattle.hid_requests.specs.declared.request.Asking.{Asking}
 use Rattle.hid_requests.specs.declared.request.Request.{Request}
 use Rattle.hid_requests.specs.declared.request.Request.TheVariants as requests
 use Rattle.hid_requests.specs.Asking.{FitsRequest, row_of, sends_of, setup_for}
 use Rattle.hid_device.specs.declared.decisions.Pending.{Pending}
 use Rattle.hid_device.specs.declared.decisions.Pending.TheVariants.{Nothing}
-use Rattle.hid_device.specs.declared.device.TheConstants.{ENDPOINT}
+use Rattle.hid_requests.specs.declared.codes.TheConstants.{REPORT_ENDPOINT as ENDPOINT}
 use Rattle.hid_device.specs.Core.{CoreState}
 use Rattle.hid_device.specs.Deciding.{config_info, core_table, decided_row}
 use Rattle.hid_device.specs.Decisions.{Decided, Reads, Refuses, Writes}
@@ -25,6 +25,7 @@ use Rattle.hid_host.specs.declared.phase.HostPhase.{HostPhase}
 use Rattle.hid_host.specs.declared.phase.HostPhase.TheVariants.{Cold, Described, Parsed, Ready}
 use Rattle.hid_host.specs.Host.{HostEnd}
 use Rattle.hid_host.specs.Phase.{may_begin, state_of}
+use Rattle.hid_stack.specs.Trails.{Trail}
 
 -- what a host reads of a device's configuration
 abbrev pub info_of : CoreState → ConfigInfo
@@ -56,11 +57,10 @@ pub record IsSameDevice (core other : CoreState) : Type 0 where
   pub config : core.config ≡ other.config
   pub descriptor : core.descriptor ≡ other.descriptor
 
--- what was decided on a request is what its row says of some state of the device, as it was made
-pub record IsDecided (request : Request) (core : CoreState) (decision : Decision) : Type 0 where
-  pub then : CoreState
-  pub same : IsSameDevice core then
-  pub by : IsDecidedBy (decided_row then (row_of request)) decision core.pending
+-- what was decided on a request is what its row says of the device as it stood then, as it was made
+pub record IsDecided (request : Request) (decider core : CoreState) (decision : Decision) : Type 0 where
+  pub same : IsSameDevice core decider
+  pub by : IsDecidedBy (decided_row decider (row_of request)) decision core.pending
 
 -- no round is open, and the next one begins with DATA0
 pub record BeginsAnew (core : CoreState) : Type 0 where
@@ -78,30 +78,37 @@ HasEffect _ core = Unit {0}
 abbrev pub asking_of : CoreState → Asking
 asking_of core = record { report_length = length core.descriptor; endpoint = ENDPOINT }
 
--- A transfer is the one of its request, and both ends stand somewhere in it.
-pub record Carries (phase : HostPhase) (transfer : Transfer) (control : DevControlState CoreState) : Type 0 where
-  pub place : Place
-  pub stands : Stands core_table.answer_of (shape_of transfer.ends.setup) (sends_of transfer.request) place
+-- A transfer is the one of its request, and both ends stand where its trail leads.
+pub record Carries (trail : Trail) (phase : HostPhase) (transfer : Transfer)
+    (control : DevControlState CoreState) : Type 0 where
+  pub stands : Stands core_table.answer_of (shape_of transfer.ends.setup) (sends_of transfer.request) trail.place
       transfer.ends control
   pub asked : transfer.ends.setup ≡ setup_for transfer.request (asking_of control.requests)
   pub fits : FitsRequest transfer.request
   -- it began in the state that its request needs
   pub needs : IsRunning transfer.ends.stage → may_begin transfer.request (state_of phase) ≡ true
-  -- what the device decided behind SETUP, and has done while it runs where it took effect, as it has where the write is
-  -- done
-  pub decided : IsBehindSetup place.host → IsDecided transfer.request control.requests place.decision
-  pub effect : IsRunning transfer.ends.stage → place.applied ≡ true → HasEffect transfer.request control.requests
-  pub applied : IsDone place → (shape_of transfer.ends.setup).reads ≡ false → place.applied ≡ true
+  -- what the device decided at the last SETUP that arrived, as it stood then, and has done while it runs where it took
+  -- effect, as it has where the write is done
+  pub decided : IsBehindSetup trail.place.host
+      → IsDecided transfer.request trail.decider control.requests trail.place.decision
+  pub effect : IsRunning transfer.ends.stage → trail.place.applied ≡ true
+      → HasEffect transfer.request control.requests
+  pub applied : IsDone trail.place → (shape_of transfer.ends.setup).reads ≡ false → trail.place.applied ≡ true
 
 -- a Clear that runs is pending
 abbrev pub IsPending : Bool → Transfer → Type 0
 IsPending clearing transfer = transfer.request ≡ requests.Clear → IsRunning transfer.ends.stage → clearing ≡ true
 
--- A host knows its device, and holds its polls back while it ends a halt.
-pub record Knows (host : HostEnd) (control : DevControlState CoreState) : Type 0 where
+-- A host knows its device, with which its transfer came by this trail, and holds its polls back while it ends a halt.
+pub record KnowsBy (trail : Trail) (host : HostEnd) (control : DevControlState CoreState) : Type 0 where
   pub phase : KnowsAt host.phase host.addr control.requests
-  pub transfer : IfSome host.transfer (λ transfer. Carries host.phase transfer control)
+  pub transfer : IfSome host.transfer (λ transfer. Carries trail host.phase transfer control)
   pub clears : IfSome host.transfer (IsPending host.clearing)
+
+-- the same by some trail, where what came before isn't told
+pub record Knows (host : HostEnd) (control : DevControlState CoreState) : Type 0 where
+  pub trail : Trail
+  pub by : KnowsBy trail host control
 
 -- nothing of a virtual device is refused
 abbrev pub IsNoRefusal : Result Progress StackFault → Type 0

@@ -9,7 +9,10 @@ pub mod Showing
 pub mod Sums
 pub mod Steps
 pub mod Headline
+pub mod Expecting
+pub mod Trails
 pub mod Transfers
+pub mod Clearing
 pub mod Laws
 pub mod Reports
 pub mod Stories

@@ -356,7 +356,12 @@ abbrev pub unconcluded_of : Fate → Member → Option Transfer → Member
 unconcluded_of fate m None = m
 unconcluded_of fate m (Some t) = if cuts_round t.request then m else tried_to fate m t m.host
 
--- and after a list of steps
+-- and what befalls the device then
+abbrev pub unconcluded_deed : Fate → Member → Option Transfer → Option Deed
+unconcluded_deed fate m None = None
+unconcluded_deed fate m (Some t) = if cuts_round t.request then None else tried_deed fate m (Some t)
+
+-- The member after a list of steps.
 abbrev pub member_after_all : Member → List MemberStep → Member
 member_after_all m [] = m
 member_after_all m (x ∷ steps) = member_after_all (member_after m x) steps

@@ -142,6 +142,16 @@ TakesMemory members (Reset dev) = Unit {0}
 TakesMemory members (Control dev fate) =
     (m : Member) × (member_at members dev ≡ Some m) × TriesWithMemory fate m (running m.transfer)
 
+-- a step for which no room is made: it delivers nothing and begins nothing
+abbrev pub MakesNoRoom : Step → Type 0
+MakesNoRoom (Change dev change) = Unit {0}
+MakesNoRoom Frame = Unit {0}
+MakesNoRoom (Poll dev fate) = ⊥
+MakesNoRoom (Begin dev request) = ⊥
+MakesNoRoom (Control dev fate) = ⊥
+MakesNoRoom (Halt dev) = ⊥
+MakesNoRoom (Reset dev) = ⊥
+
 -- Why a step may be refused: its cause stands, or none does and memory was wanting where it is taken.
 abbrev pub IsRefusal : List Member → Step → StackFault → Type 0
 IsRefusal members x e =
@@ -202,6 +212,11 @@ most_events members (Control dev fate) =
 abbrev pub most_in : List Member → List Step → ℕ
 most_in members [] = 0
 most_in members (x ∷ steps) = most_events members x + most_in (bus_after members x) steps
+
+-- There is room at a step of a list, behind all that the steps before it can deliver, and it takes no other memory.
+abbrev pub HasRoomAt : List Member → List Step → ℕ → ℕ → ℕ → Type 0
+HasRoomAt members steps i used capacity = IfSome (slice_get steps i)
+    (λ x. HasRoomFor (bus_after_all members (take i steps)) x (used + most_in members (take i steps)) capacity)
 
 -- no step of a list is refused where it comes, memory aside
 abbrev pub NoneIsRefused : List Member → List Step → Type 0

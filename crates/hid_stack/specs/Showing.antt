@@ -1,7 +1,7 @@
 -- What the two ends of a member show (USB 2.0, 8.5.4 and 8.6).
 use Rattle.std.specs.Prelude.{◌≡◌, ℕ, true, List, length, Option, Some, None, Result, Err}
 use Rattle.std.specs.Option.{option_map}
-use Rattle.hid_device.specs.declared.device.TheConstants.{ENDPOINT}
+use Rattle.hid_requests.specs.declared.codes.TheConstants.{REPORT_ENDPOINT as ENDPOINT}
 use Rattle.hid_device.specs.Core.{piece_at}
 use Rattle.hid_device.specs.Device.{DeviceState, core_of}
 use Rattle.usb_control.specs.declared.host.Outcome.{Outcome}

@@ -1,13 +1,16 @@
 -- One step of the bus, whole: what it tells, where it leaves the bus and the events, and when it is refused (our choice).
 use Rattle.std.specs.Prelude.{◌≡◌, ◌≢◌, ◌≤◌, ◌+◌, ◌++◌, ℕ, List, [], ◌∷◌, Option, Some, None, Result, Err, IfOk, IfErr, OnOk, OnErr}
+use Rattle.hid_layout.specs.Controls.{items_of}
+use Rattle.hid_cells.specs.Cells.{blank}
 use Rattle.hid_host.specs.declared.fault.StackFault.{StackFault}
 use Rattle.hid_host.specs.declared.fault.StackFault.TheVariants.{Memory}
+use Rattle.hid_host.specs.declared.phase.HostState.TheVariants.{Ready}
 use Rattle.hid_steps.specs.declared.step.Step.{Step}
 use Rattle.hid_steps.specs.declared.step.Step.TheVariants.{Change, Frame, Poll, Begin, Control, Halt, Reset}
 use Rattle.hid_steps.specs.declared.step.Told.{Told}
 use Rattle.hid_steps.specs.declared.step.Delivered.{Delivered}
 use Rattle.hid_stack.specs.Members.{Member}
-use Rattle.hid_stack.specs.Rig.{FitsStep, HasRoomFor, IsRefusal, bus_after, delivered_at, most_events, refusal, refused_after}
+use Rattle.hid_stack.specs.Rig.{FitsStep, HasRoomFor, IsRefusal, bus_after, delivered_at, member_at, most_events, refusal, refused_after}
 use Rattle.hid_stack.specs.Sums.{ConfiguresBetweenRounds, OnlyHaltsCut}
 use Rattle.hid_stack.specs.Tells.{Tells}
 
@@ -20,6 +23,16 @@ named_by (Begin dev request) = Some dev
 named_by (Control dev fate) = Some dev
 named_by (Halt dev) = Some dev
 named_by (Reset dev) = Some dev
+
+-- nothing was told of a device: its host's view is the initial one, and no round is open
+pub record IsUntold (m : Member) : Type 0 where
+  pub view : m.station.view ≡ blank (items_of m.layout)
+  pub quiet : m.station.current ≡ None
+
+-- A step of a device whose host isn't ready delivers nothing, a reset neither.
+abbrev pub TellsNothingUnready : List Member → Step → List Delivered → List Delivered → Type 0
+TellsNothingUnready members x old new =
+    (dev : ℕ) (m : Member) → named_by x ≡ Some dev → member_at members dev ≡ Some m → m.host ≢ Ready → new ≡ old
 
 -- The step leads from these members to those, and its list of events, so long and with such room, to that one.
 pub record StepsTo (members after_it : List Member) (x : Step) (result : Result Told StackFault)

@@ -9,15 +9,18 @@ use Rattle.usb_control.specs.Runs.{IsOnce, acts, effects, last_decision, run}
 use Rattle.usb_control.specs.Transfer.{Decision, Refused, answered_bytes, shape_of, start}
 use Rattle.hid_requests.specs.declared.request.Request.{Request}
 use Rattle.hid_requests.specs.declared.request.Request.TheVariants.{Configure, Clear}
-use Rattle.hid_requests.specs.Asking.{sends_of, setup_for}
+use Rattle.hid_requests.specs.Asking.{row_of, sends_of, setup_for}
 use Rattle.hid_lives.specs.Lives.{Deed, Own, Idles, Configures}
 use Rattle.hid_lives.specs.Lives as lives
 use Rattle.hid_device.specs.Core.{CoreState}
-use Rattle.hid_device.specs.Deciding.{core_table}
+use Rattle.hid_device.specs.declared.decisions.Pending.{Pending}
+use Rattle.hid_device.specs.Deciding.{core_table, decided_row, effected}
+use Rattle.hid_device.specs.Decisions.{Writes}
 use Rattle.hid_host.specs.declared.host.Transfer.{Transfer}
 use Rattle.hid_stack.specs.Bringing.{is_configure}
 use Rattle.hid_host.specs.Host.{running}
 use Rattle.hid_stack.specs.Knowing.{asking_of}
+use Rattle.hid_stack.specs.Trails.{Trail, trail_behind, trail_from}
 use Rattle.hid_stack.specs.Members.{Member, MemberStep, Scheduled, Begins, Controls, Halts, Resets, control_at, core_at, deeds_in, expects_of, member_after, member_after_all, polls_it, unconcluded_of}
 
 -- the setup of a request of a member
@@ -81,10 +84,32 @@ effects_in m (Begins request ∷ steps) = effects_in (member_after m (Begins req
 effects_in m (Halts ∷ steps) = effects_in (member_after m Halts) steps
 effects_in m (Resets ∷ steps) = effects_in (member_after m Resets) steps
 
+-- A write took effect: it did what the row of its request says, of the device as it stood at the last SETUP that arrived,
+-- with the bytes that its host sends, and nothing else.
+pub record TookEffect (request : Request) (decider old new : CoreState) : Type 0 where
+  pub effect : Pending
+  pub says : decided_row decider (row_of request) ≡ Writes effect
+  pub does : new ≡ effected old (sends_of request) effect
+
+-- Each try among the steps of a member in which a write takes effect has the effect of this request, where the transfer
+-- came by this trail.
+abbrev pub HasEffects : Request → Trail → Member → List MemberStep → Type 0
+HasEffects request trail m [] = Unit {0}
+HasEffects request trail m (Controls fate ∷ steps) =
+    (takes_effect_at fate m (running m.transfer) ≡ true
+    → TookEffect request trail.decider (core_at m) (core_at (member_after m (Controls fate))))
+    × HasEffects request (trail_behind fate (running m.transfer) (control_at m) trail)
+    (member_after m (Controls fate)) steps
+HasEffects request trail m (Scheduled x ∷ steps) = HasEffects request trail (member_after m (Scheduled x)) steps
+HasEffects request trail m (Begins other ∷ steps) = HasEffects request trail (member_after m (Begins other)) steps
+HasEffects request trail m (Halts ∷ steps) = HasEffects request trail (member_after m Halts) steps
+HasEffects request trail m (Resets ∷ steps) = HasEffects request trail (member_after m Resets) steps
+
 -- Behind its tries both ends of a request that began at this member stand where these lead, whatever came between them.
 -- So a read that is done gave the device's answer as it was fixed at the last SETUP that arrived, cut to what was asked
 -- for; and a write took effect at the device as often as the places of its tries say, which is `IsOnce`: exactly once
--- where it is done, else once at most, and never where it was refused. A configuration befell the device as often as a
+-- where it is done, else once at most, and never where it was refused. The one try in which it took effect did at the
+-- device what the row of the request says, with the bytes that were sent. A configuration befell the device as often as a
 -- request for it took effect, and never by another request.
 pub record IsWholeFrom (m : Member) (request : Request) (steps : List MemberStep) (begun : Member) : Type 0 where
   pub transfer : Transfer
@@ -100,19 +125,24 @@ pub record IsWholeFrom (m : Member) (request : Request) (steps : List MemberStep
       (last_decision Refused (acts (shape_of (setup_at m request)) (tries_of begun steps) start))
   pub took : effects_in begun steps
       ≡ effects 0 (acts (shape_of (setup_at m request)) (tries_of begun steps) start)
+  -- the effect is that of the request
+  pub effect : HasEffects request (trail_from (core_at m)) begun steps
   -- a write that is done took effect once
   pub written : transfer.ends.stage ≡ Done → (shape_of (setup_at m request)).reads ≡ false → effects_in begun steps ≡ 1
   pub configures : configurations (deeds_in begun steps) ≡ (if is_configure request then effects_in begun steps else 0)
   -- a device is configured once by a Configure that is done
   pub configured : request ≡ Configure → transfer.ends.stage ≡ Done → configurations (deeds_in begun steps) ≡ 1
 
--- A Configure that is done at a try behind which the host finds no memory for its view configured the device once too.
+-- A Configure that is done at a try behind which the host finds no memory for its view configured the device once too:
+-- the device stands behind it as where there is memory.
 abbrev pub IsUnconcludedOnce : Member → Request → List MemberStep → Type 0
 IsUnconcludedOnce m request steps =
     (fate : Fate) (ended : Transfer) → let begun = member_after m (Begins request) in
-    request ≡ Configure
-    → (let n = member_after_all begun steps in (unconcluded_of fate n (running n.transfer)).transfer) ≡ Some ended
-    → ended.ends.stage ≡ Done → configurations (deeds_in begun (steps ++ Controls fate ∷ [])) ≡ 1
+    let n = member_after_all begun steps in
+    request ≡ Configure → (unconcluded_of fate n (running n.transfer)).transfer ≡ Some ended
+    → ended.ends.stage ≡ Done
+    → (configurations (deeds_in begun (steps ++ Controls fate ∷ [])) ≡ 1)
+    × (core_at (unconcluded_of fate n (running n.transfer)) ≡ core_at (member_after n (Controls fate)))
 
 -- the same from its begin on
 abbrev pub IsWhole : Member → Request → List MemberStep → Type 0

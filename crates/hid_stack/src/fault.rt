@@ -11,6 +11,7 @@ use std::fmt;
 pub struct RunFault {
     /// The place of the refused step in the list, from 0. The steps before it are done.
     pub at: usize,
+    /// Why that step was refused.
     pub fault: StackFault,
 }
 

@@ -1,6 +1,7 @@
 //! Laws of the definitions that contracts cite.
 
 ghost use Rattle.std.specs.Prelude.{◌≡◌, ◌++◌, List, None, ℕ, Bool, true, false, Some, Result};
+ghost use Rattle.std.specs.List.{All};
 ghost use Rattle.usb_transact.specs.declared.transaction.Fate.{Fate};
 ghost use Rattle.usb_transact.specs.declared.host.Took.{Took};
 ghost use Rattle.usb_control.specs.declared.host.Progress.{Progress};
@@ -21,15 +22,22 @@ ghost use Rattle.hid_host.specs.Resetting.{SuitsRound};
 ghost use Rattle.hid_steps.specs.declared.step.Step.{Step as BusStep};
 ghost use Rattle.hid_steps.specs.declared.step.Delivered.{Delivered};
 ghost use Rattle.hid_stack.specs.Laws.{IsMadeAs, TellsOneThing, FindsOneControl, AttachesOneDevice, PacketsMakePolls};
+ghost use Rattle.hid_requests.specs.declared.start.Start.{Start};
+ghost use Rattle.hid_layout.specs.Layout.{Contents};
+ghost use Rattle.hid_device.specs.declared.config.Config.{Config};
+ghost use Rattle.hid_stack.specs.Attaching.{member_at_start};
+ghost use Rattle.hid_stack.specs.Expecting.{AllHoldToggles, ExpectsParity, HoldsToggle, HostsExpectParity};
 ghost use Rattle.hid_stack.specs.Headline.{DeliversChanges, DevicesLive, KeepsToRounds};
 ghost use Rattle.hid_stack.specs.Members.{Member, MemberStep, begin_refusal_at, member_after_all};
+ghost use Rattle.hid_stack.specs.Clearing.{IsPendingUntilDone};
 ghost use Rattle.hid_stack.specs.Transfers.{BeginsNone, IsClearing, IsEndedByReset, IsUnconcludedOnce, IsWhole};
 ghost use Rattle.hid_stack.specs.Reports.{IsWholeOrNothing, KeepsToRound};
 ghost use Rattle.hid_stack.specs.Rig.{bus_after_all, delivered_in, IsIsolated};
-ghost use Rattle.hid_stack.specs.Stories.{Act, IsItsOwn};
+ghost use Rattle.hid_stack.specs.Stories.{Act, EndNoRounds, FitsAct, IsItsOwn, OwnAct};
 ghost use Rattle.hid_stack.specs.Sums.{AllHaveMotions, ConfiguresBetweenRounds, RefusedKeepMotion, SumsUp};
 ghost use Rattle.hid_stack.specs.Bringing.{IsComputed};
-ghost use Rattle.hid_stack.specs.Knowing.{IsNoRefusal, Knows, LeavesTransfers, with_core};
+ghost use Rattle.hid_stack.specs.Knowing.{IsNoRefusal, Knows, KnowsBy, LeavesTransfers, with_core};
+ghost use Rattle.hid_stack.specs.Trails.{Trail, trail_behind, trail_from};
 
 use hid_layout::laws::{accepted_or_refused, one_reading, one_refusal};
 pub use hid_lives::laws::{halts_lose_nothing, motion_is_kept, rounds_say_all};
@@ -77,9 +85,24 @@ pub fn devices_go_their_own_way()
 
 /// A device is a function of its attach and its own steps alone, in any list of attaches and steps from an empty bus on,
 /// whatever comes before and between: how it stands with its host, and the events under its number, which are what its
-/// life tells.
+/// life tells. A try that was refused for want of memory is one of its steps too: it tells nothing, as it ends no round.
 pub fn devices_are_their_own()
-    ensures { (before : List Act) (m : Member) (since : List Act) → IsItsOwn before m since }
+    ensures own { (before : List Act) (m : Member) (since : List Act) → IsItsOwn before m since }
+    ensures ends { (m : Member) (story : List OwnAct)
+        → Lays m.descriptor m.layout → m.transfer ≡ None → All FitsAct story → EndNoRounds m story }
+{}
+
+/// The toggle of a host behind any steps of its device, transfers, halts, clears and resets too: while it may poll, so is
+/// ready with no clear pending, also while the endpoint is halted, it expects the parity of the pieces that crossed since
+/// the configuration or the last clear. Every host holds its toggle so from its attach on.
+pub fn hosts_expect_parity()
+    ensures members { (m : Member) (steps : List MemberStep) → HoldsToggle m → ExpectsParity m steps }
+    ensures bus { (before after : List Member) (steps : List BusStep) → AllHoldToggles before
+        → after ≡ bus_after_all before steps → HostsExpectParity before steps after }
+    ensures attached { (start : Start) (addr : ℕ) (config : Config) (descriptor : List ℕ) (layout : Contents)
+        → HoldsToggle (member_at_start start addr config descriptor layout) }
+    ensures after { (members : List Member) (steps : List BusStep) → AllHoldToggles members
+        → AllHoldToggles (bus_after_all members steps) }
 {}
 
 /// Steps of a bus neither lose nor double motion, of each device and control, and every device keeps its motions. One that
@@ -96,10 +119,12 @@ pub fn motion_sums_up()
 
 /// Whatever befalls a device between the tries of a request: both ends stand where its tries lead; a read that is done gave
 /// the device's answer as it was fixed at the last SETUP that arrived, cut to what was asked for; a write that is done took
-/// effect at the device exactly once, one that failed or runs once at most, and one that was refused never. A configuration
-/// befell the device as often as a request for it took effect: once where it is done, also where the host then found no
-/// memory. A write that a reset ended took effect once or not at all. While a Clear isn't done its host polls nothing, and
-/// where it is done no round is open and both ends begin with DATA0, whatever was lost of it.
+/// effect at the device exactly once, one that failed or runs once at most, and one that was refused never; the try in which it
+/// took effect did at the device what the row of the request says, with the bytes that were sent, and nothing else. A
+/// configuration befell the device as often as a request for it took effect: once where it is done, also where the host then
+/// found no memory. A write that a reset ended took effect once or not at all. While a Clear isn't done its host polls nothing,
+/// and where it is done no round is open and both ends begin with DATA0, whatever was lost of it; so too where the Clear failed,
+/// and other requests begin and end before one is done.
 pub fn transfers_are_whole()
     ensures whole { (m : Member) (request : Request) (steps : List MemberStep)
         → Lays m.descriptor m.layout → FitsRequest request → begin_refusal_at m request ≡ None
@@ -112,6 +137,8 @@ pub fn transfers_are_whole()
         → BeginsNone steps → BeginsNone later → IsEndedByReset m request steps later }
     ensures clears { (m : Member) (steps : List MemberStep)
         → Lays m.descriptor m.layout → begin_refusal_at m Clear ≡ None → BeginsNone steps → IsClearing m steps }
+    ensures pending { (m : Member) (steps : List MemberStep)
+        → Lays m.descriptor m.layout → begin_refusal_at m Clear ≡ None → IsPendingUntilDone m steps }
 {}
 
 /// A report is delivered whole or not at all, and never from two rounds: a poll delivers the part that was fixed as the open
@@ -130,31 +157,36 @@ pub fn devices_stay_as_made()
 
 /// A host knows its virtual device: what it read of the configuration is what the device was made with, its layout is the
 /// device's, it is ready only while the device is configured, and the transfer that it began last is the one of its
-/// request. It does so from the start, behind a reset of the bus too, and whatever befalls the two leaves it so. Nothing that
-/// the device answers is refused.
+/// request: both ends stand where its tries led, and what was decided is what the row of the request says of the device as it
+/// stood at the last SETUP that arrived. It does so from the start, behind a reset of the bus too, and whatever befalls the two
+/// leaves it so. Nothing that the device answers is refused.
 pub fn hosts_know_their_devices()
     // It begins so: cold, or ready with a device that is configured and has its layout.
-    ensures cold { (addr : ℕ) (control : DevControlState CoreState) → Knows (cold_host addr) control }
-    ensures ready { (addr : ℕ) (control : DevControlState CoreState)
+    ensures cold { (trail : Trail) (addr : ℕ) (control : DevControlState CoreState)
+        → KnowsBy trail (cold_host addr) control }
+    ensures ready { (trail : Trail) (addr : ℕ) (control : DevControlState CoreState)
         → control.requests.is_configured ≡ true
-        → Knows (ready_host addr control.requests.layout) control }
+        → KnowsBy trail (ready_host addr control.requests.layout) control }
 
-    // A request that begins, and each try of it, whatever is lost.
-    ensures begins { (host : HostEnd) (request : Request) (control : DevControlState CoreState)
-        → FitsRequest request → begin_refusal host request ≡ None → Knows host control
-        → Knows (begun host request) control }
-    ensures steps { (fate : Fate) (host after : HostEnd) (old new : DevControlState CoreState)
-        (result : Result Progress StackFault) → IsSound old.requests → Knows host old
+    // A request that begins, and each try of it, whatever is lost: its trail goes on by the fate of the try and by how the
+    // device stands, which decides where a SETUP arrives.
+    ensures begins { (trail : Trail) (host : HostEnd) (request : Request)
+        (control : DevControlState CoreState)
+        → FitsRequest request → begin_refusal host request ≡ None → KnowsBy trail host control
+        → KnowsBy (trail_from control.requests) (begun host request) control }
+    ensures steps { (trail : Trail) (fate : Fate) (host after : HostEnd)
+        (old new : DevControlState CoreState) (result : Result Progress StackFault)
+        → IsSound old.requests → KnowsBy trail host old
         → ControlSteps (PreparesBy core_table) (AppliesBy core_table) core_table.answer_of fate
         host old result after new
-        → Knows after new × IsNoRefusal result }
+        → KnowsBy (trail_behind fate (running host.transfer) old trail) after new × IsNoRefusal result }
 
-    // The answer to a poll, and what befalls the device beside its endpoint 0.
-    ensures replies { (host : HostEnd) (control : DevControlState CoreState) (took : Took)
-        → Knows host control
-        → IfReady host.phase (λ known. Knows (ready_after host known took) control) }
-    ensures meanwhile { (host : HostEnd) (old new : DevControlState CoreState)
-        → LeavesTransfers host.clearing old new → Knows host old → Knows host new }
+    // The answer to a poll, and what befalls the device beside its endpoint 0, leave it.
+    ensures replies { (trail : Trail) (host : HostEnd) (control : DevControlState CoreState)
+        (took : Took) → KnowsBy trail host control
+        → IfReady host.phase (λ known. KnowsBy trail (ready_after host known took) control) }
+    ensures meanwhile { (trail : Trail) (host : HostEnd) (old new : DevControlState CoreState)
+        → LeavesTransfers host.clearing old new → KnowsBy trail host old → KnowsBy trail host new }
 {
     one_reading();
     accepted_or_refused();

@@ -27,7 +27,8 @@
 //! Each step is told by its definition: `told`, `after` and `events` on [`Rig::step`]. Each device goes its own way:
 //! `isolated`, and over lists of attaches and steps [`laws::devices_are_their_own`]. A halt or a clear loses no report:
 //! [`laws::halts_lose_nothing`]. The motion of a device is neither lost nor doubled: `conserves`. A host is ready only while
-//! its device is configured, and only with its layout: `shows` on [`Rig::host`].
+//! its device is configured, and only with its layout: `shows` on [`Rig::host`]; the toggle that it expects is the parity of the
+//! pieces that crossed: `toggles` on [`Rig::run`].
 #![tactic(auto)]
 
 mod fault;

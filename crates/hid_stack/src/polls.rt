@@ -58,6 +58,7 @@ fn has_bytes(packet: LentPacket)
 }
 
 // Lets the device hear a poll, and writes the bytes of its answer.
+#[tactic(auto, using(hid_device::proofs::DeviceLemmas::polled_configured, hid_device::proofs::DeviceLemmas::opening_configured))]
 fn answer_poll(device: &mut Device, packet: LentPacket, bytes: &mut ArrayVec<u8, 65>)
     requires polls { is_poll device.old (owned packet) ≡ true }
     requires empty { bytes.old.items ≡ [] }

@@ -4,11 +4,12 @@ ghost use Rattle.std.specs.List.{All};
 ghost use Rattle.hid_lives.specs.Rounds.{Frame as FrameStep};
 ghost use Rattle.hid_host.specs.declared.fault.StackFault.{StackFault};
 ghost use Rattle.hid_stack.specs.Attaching.{Attaches, IsAttached, Finds};
+ghost use Rattle.hid_stack.specs.Expecting.{HostsExpectParity};
 ghost use Rattle.hid_stack.specs.Headline.{DeliversChanges, DevicesLive, KeepsToRounds};
 ghost use Rattle.hid_stack.specs.Members.{Scheduled, member_after};
-ghost use Rattle.hid_stack.specs.Rig.{AreScheduled, FitsStep, NoneIsRefused, member_at, bus_after, delivered_at, bus_after_all, delivered_in, refusal, refused_after, stopped_after, IsRefusal, StopsAt, HasRoomFor, most_events, most_in, IsIsolated};
+ghost use Rattle.hid_stack.specs.Rig.{AreScheduled, FitsStep, NoneIsRefused, member_at, bus_after, delivered_at, bus_after_all, delivered_in, refusal, refused_after, stopped_after, IsRefusal, StopsAt, HasRoomAt, HasRoomFor, MakesNoRoom, most_events, most_in, IsIsolated};
 ghost use Rattle.hid_stack.specs.Showing.{GivesOf, ShowsDevice, ShowsHost, ShowsTransfer};
-ghost use Rattle.hid_stack.specs.Steps.{named_by};
+ghost use Rattle.hid_stack.specs.Steps.{TellsNothingUnready, named_by};
 ghost use Rattle.hid_stack.specs.Sums.{ConfiguresBetweenRounds, OnlyHaltsCut, SumsUp};
 ghost use Rattle.hid_stack.specs.Tells.{Tells};
 
@@ -34,7 +35,8 @@ pub struct Rig {
 }
 
 impl Model for Rig {
-    ghost use Rattle.std.specs.Prelude.{List, ◌≤◌, length, vec_capacity};
+    ghost use Rattle.std.specs.Prelude.{List, ◌≡◌, ◌≤◌, length, vec_capacity};
+    ghost use Rattle.hid_stack.specs.Expecting.{AllHoldToggles};
     ghost use Rattle.hid_stack.specs.Members.{Member};
     ghost use Rattle.hid_stack.specs.Sums.{AllHaveMotions};
     ghost use Rattle.hid_stack.specs.declared.rig.TheConstants.{MAX_DEVICES};
@@ -43,8 +45,8 @@ impl Model for Rig {
 
     ghost view = { λ r. r.slots.items };
 
-    ghost invariant = { λ r. (length r.slots.items ≤ MAX_DEVICES) × (MAX_DEVICES ≤ vec_capacity r.slots)
-        × AllHaveMotions r.slots.items };
+    ghost invariant = { λ r. (length r.slots.items ≤ MAX_DEVICES) × (vec_capacity r.slots ≡ MAX_DEVICES)
+        × AllHaveMotions r.slots.items × AllHoldToggles r.slots.items };
 }
 
 impl Rig {
@@ -173,6 +175,9 @@ impl Rig {
         ensures events { OnOk result (out.new.items
             ≡ out.old.items ++ delivered_at self.old step.now) }
 
+        // A host that isn't ready has told nothing, so a reset takes nothing back, and no other step of its device tells.
+        ensures unready { TellsNothingUnready self.old step.now out.old.items out.new.items }
+
         // The ID, the time and the report of a request that begins fit its setup.
         ensures fits { IfOk result (λ _. FitsStep step.now) }
 
@@ -192,6 +197,8 @@ impl Rig {
             → result ≢ Err StackFault.Memory }
         ensures few { vec_len out.new ≤ vec_len out.old + most_events self.old step.now }
         ensures capacity { vec_capacity out.old ≤ vec_capacity out.new }
+        // A change and a frame take no memory: the room for what is delivered stays, and so does all that a rig keeps.
+        ensures keeps { MakesNoRoom step.now → vec_capacity out.new ≡ vec_capacity out.old }
     {
         match device_of(step) {
             None => {
@@ -200,6 +207,7 @@ impl Rig {
             }
             Some(dev) => {
                 let i = self.place(dev)?;
+                self.slots[i].tells_once_ready();
                 self.slots[i].step(step, out)
             }
         }
@@ -225,6 +233,10 @@ impl Rig {
         // clear end the open round, whose report is due then, and a clear begins the toggles anew.
         ensures lives { OnOk result
             (DevicesLive self.old steps.now self.new out.old.items out.new.items) }
+
+        // The toggle of each host: while it may poll, also while the endpoint is halted, it expects the parity of the
+        // pieces that crossed since the configuration or the last clear.
+        ensures toggles { OnOk result (HostsExpectParity self.old steps.now self.new) }
 
         // No step was refused, and each request that began fits its setup.
         ensures goes_on { OnOk result (NoneIsRefused self.old steps.now) }
@@ -258,12 +270,18 @@ impl Rig {
             (bus_after_all self.old (take e.at steps.now))) }
         ensures err_lives { IfErr result (λ e. DevicesLive self.old (take e.at steps.now)
             (bus_after_all self.old (take e.at steps.now)) out.old.items out.new.items) }
+        ensures err_toggles { IfErr result (λ e. HostsExpectParity self.old (take e.at steps.now)
+            (bus_after_all self.old (take e.at steps.now))) }
         ensures err_isolated { IfErr result (λ e. IsIsolated self.old
             (bus_after_all self.old (take e.at steps.now)) (take e.at steps.now) out.old.items out.new.items) }
 
-        // With room for all that its polls can deliver, memory is never wanting where no request is begun or tried, and
-        // nothing is halted or reset.
-        ensures room { AreScheduled steps.now
+        // Memory is never wanting at a step for which there is room behind all that the steps before it can deliver.
+        ensures room { IfErr result (λ e. HasRoomAt self.old steps.now e.at
+            (vec_len out.old) (vec_capacity out.old) → e.fault ≢ StackFault.Memory) }
+
+        // So it never is with room for all that its polls can deliver, where no request is begun or tried, and nothing is
+        // halted or reset.
+        ensures room_for_all { AreScheduled steps.now
             → vec_len out.old + most_in self.old steps.now ≤ vec_capacity out.old
             → IfErr result (λ e. e.fault ≢ StackFault.Memory) }
     {

@@ -12,15 +12,16 @@ ghost use Rattle.hid_requests.specs.Fault.{is_memory};
 ghost use Rattle.hid_device.specs.Making.{MakesDevice, Refuses};
 ghost use Rattle.usb_packet.specs.declared.packet.TheConstants.{MAX_ADDRESS as GREATEST};
 ghost use Rattle.hid_requests.specs.Asking.{FitsRequest};
-ghost use Rattle.hid_stack.specs.Attaching.{Suits, IsNoPair, member_at_start};
+ghost use Rattle.hid_stack.specs.Attaching.{Suits, IsNoPair, device_refusal, member_at_start};
 ghost use Rattle.hid_host.specs.declared.fault.StackFault.{StackFault as Refusal};
 ghost use Rattle.hid_host.specs.Host.{may_cut, running};
+ghost use Rattle.hid_host.specs.declared.phase.HostState.TheVariants.{Ready as ReadyState};
 ghost use Rattle.hid_stack.specs.Members.{Member, Scheduled, Begins, Controls, Halts, Resets, begin_refusal_at, cold_member, deed_at, events_by, fresh_member, member_after, polls_it};
 ghost use Rattle.hid_stack.specs.Knowing.{Knows};
 ghost use Rattle.hid_stack.specs.Slot.{StandTogether, TriesTransfer, joint};
 ghost use Rattle.hid_steps.specs.declared.step.Told.TheVariants as Tellings;
-ghost use Rattle.hid_stack.specs.Rig.{HasRoomToTry, member_at, most_tried, poll_refusal, tagged, with_member};
-ghost use Rattle.hid_stack.specs.Steps.{StepsTo, named_by};
+ghost use Rattle.hid_stack.specs.Rig.{HasRoomToTry, MakesNoRoom, member_at, most_tried, poll_refusal, tagged, with_member};
+ghost use Rattle.hid_stack.specs.Steps.{IsUntold, StepsTo, named_by};
 ghost use Rattle.hid_stack.specs.Sums.{CutsByRequest, IsBetween};
 ghost use Rattle.hid_stack.specs.Showing.{ShowsDevice, ShowsHost};
 ghost use Rattle.hid_stack.specs.Tells.{TellsPoll};
@@ -53,7 +54,7 @@ pub struct Slot {
 }
 
 impl Model for Slot {
-    ghost use Rattle.std.specs.Prelude.{◌≡◌, ◌≤◌, vec_capacity};
+    ghost use Rattle.std.specs.Prelude.{◌≡◌, vec_capacity};
     ghost use Rattle.hid_layout.specs.Controls.{items_of, max_events};
     ghost use Rattle.hid_stack.specs.Knowing.{Knows};
     ghost use Rattle.hid_stack.specs.Members.{Member};
@@ -65,13 +66,14 @@ impl Model for Slot {
 
     ghost invariant = { λ s. StandTogether s.device s.host.clearing s.host.phase × Knows s.host s.device.control
         × (s.host.addr ≡ s.device.addr)
-        × (max_events (items_of s.device.control.requests.layout) ≤ vec_capacity s.events)
+        × (vec_capacity s.events ≡ max_events (items_of s.device.control.requests.layout))
         × (s.most_events ≡ max_events (items_of s.device.control.requests.layout)) };
 }
 
 /// What a want of a device is told as.
 fn no_device(fault: DeviceFault) -> StackFault
-    ensures { (addr : ℕ) (config : ConfigValue) (bytes : List ℕ)
+    ensures told { result ≡ device_refusal fault }
+    ensures explained { (addr : ℕ) (config : ConfigValue) (bytes : List ℕ)
         → Refuses addr config bytes fault.cause fault.at → IsNoPair addr config bytes result }
 {
     let is_memory = match fault.cause {
@@ -247,6 +249,14 @@ impl Slot {
         &self.host
     }
 
+    // A host that isn't ready has told nothing.
+    #[inline(always)] // as `Rig::step`
+    pub(crate) fn tells_once_ready(&self)
+        ensures { self.now.host ≢ ReadyState → IsUntold self.now }
+    {
+        let _host = &self.host;
+    }
+
     /// A step of the bus that names this device. In a step that names none a frame passes.
     #[inline(always)] // as `Rig::step`
     pub(crate) fn step(&mut self, step: &Step, out: &mut Vec<Delivered>) -> Result<Told, StackFault>
@@ -255,6 +265,7 @@ impl Slot {
             → StepsTo members (with_member members dev self.new) step.now result
             out.old.items out.new.items (vec_len out.old) (vec_len out.new)
             (vec_capacity out.old) (vec_capacity out.new) }
+        ensures keeps { MakesNoRoom step.now → vec_capacity out.new ≡ vec_capacity out.old }
         ensures motions { HasMotions (items_of self.old.layout) self.old.station
             → HasMotions (items_of self.new.layout) self.new.station }
     {

@@ -7,6 +7,7 @@ use Rattle.hid_lives.specs.Lives.{cut_events}
 use Rattle.hid_device.specs.Device.{core_of}
 use Rattle.hid_stack.specs.Slot.{station_of}
 use Rattle.hid_stack.specs.Tells.{kept_if}
+use Rattle.hid_stack.proofs.TrailLemmas.{some_steps}
 use Rattle.hid_stack.proofs.HaltLemmas.{kept_at_try, kept_few, shown_open}
 use Rattle.hid_stack.proofs.TryLemmas.{knows_so, steps_so}
 use Rattle.hid_stack.proofs.halts.control_pair.Goals as goal
@@ -14,42 +15,42 @@ use Rattle.hid_stack.proofs.halts.control_pair.Goals as goal
 pub returns-clause-tries : goal.returns-clause-tries
 returns-clause-tries c =
     let step = steps_so c.args.fate c.args.device.now c.control.result.now c.control_step-result.new.control c.args.host.now c.control_step-result.new.self c.control_step-result.result
-    c.hosts_know_their_devices.ensures.steps c.control_steps_are_computed.ensures c.control.ensures.now c.control_step-result.ensures c.requires.together c.requires.knows c.requires.home c.is_sound.ensures in
+    (some_steps c.hosts_know_their_devices.ensures.steps) c.control_steps_are_computed.ensures c.control.ensures.now c.control_step-result.ensures c.requires.together c.requires.knows c.requires.home c.is_sound.ensures in
     step.tries
 
 pub returns-clause-between : goal.returns-clause-between
 returns-clause-between c =
     let step = steps_so c.args.fate c.args.device.now c.control.result.now c.control_step-result.new.control c.args.host.now c.control_step-result.new.self c.control_step-result.result
-    c.hosts_know_their_devices.ensures.steps c.control_steps_are_computed.ensures c.control.ensures.now c.control_step-result.ensures c.requires.together c.requires.knows c.requires.home c.is_sound.ensures in
+    (some_steps c.hosts_know_their_devices.ensures.steps) c.control_steps_are_computed.ensures c.control.ensures.now c.control_step-result.ensures c.requires.together c.requires.knows c.requires.home c.is_sound.ensures in
     step.between
 
 pub returns-clause-cuts : goal.returns-clause-cuts
 returns-clause-cuts c =
     let step = steps_so c.args.fate c.args.device.now c.control.result.now c.control_step-result.new.control c.args.host.now c.control_step-result.new.self c.control_step-result.result
-    c.hosts_know_their_devices.ensures.steps c.control_steps_are_computed.ensures c.control.ensures.now c.control_step-result.ensures c.requires.together c.requires.knows c.requires.home c.is_sound.ensures in
+    (some_steps c.hosts_know_their_devices.ensures.steps) c.control_steps_are_computed.ensures c.control.ensures.now c.control_step-result.ensures c.requires.together c.requires.knows c.requires.home c.is_sound.ensures in
     step.cuts
 
 pub returns-clause-together : goal.returns-clause-together
 returns-clause-together c =
     let step = steps_so c.args.fate c.args.device.now c.control.result.now c.control_step-result.new.control c.args.host.now c.control_step-result.new.self c.control_step-result.result
-    c.hosts_know_their_devices.ensures.steps c.control_steps_are_computed.ensures c.control.ensures.now c.control_step-result.ensures c.requires.together c.requires.knows c.requires.home c.is_sound.ensures in
+    (some_steps c.hosts_know_their_devices.ensures.steps) c.control_steps_are_computed.ensures c.control.ensures.now c.control_step-result.ensures c.requires.together c.requires.knows c.requires.home c.is_sound.ensures in
     step.together
 
 pub returns-clause-layout : goal.returns-clause-layout
 returns-clause-layout c =
     let step = steps_so c.args.fate c.args.device.now c.control.result.now c.control_step-result.new.control c.args.host.now c.control_step-result.new.self c.control_step-result.result
-    c.hosts_know_their_devices.ensures.steps c.control_steps_are_computed.ensures c.control.ensures.now c.control_step-result.ensures c.requires.together c.requires.knows c.requires.home c.is_sound.ensures in
+    (some_steps c.hosts_know_their_devices.ensures.steps) c.control_steps_are_computed.ensures c.control.ensures.now c.control_step-result.ensures c.requires.together c.requires.knows c.requires.home c.is_sound.ensures in
     step.layout
 
 pub returns-clause-knows : goal.returns-clause-knows
 returns-clause-knows c =
     knows_so c.args.fate c.args.device.now c.control.result.now c.control_step-result.new.control c.args.host.now c.control_step-result.new.self c.control_step-result.result
-    c.hosts_know_their_devices.ensures.steps c.control.ensures.now c.control_step-result.ensures c.requires.together c.requires.knows
+    (some_steps c.hosts_know_their_devices.ensures.steps) c.control.ensures.now c.control_step-result.ensures c.requires.together c.requires.knows
 
 pub returns-clause-events : goal.returns-clause-events
 returns-clause-events c =
     let step = steps_so c.args.fate c.args.device.now c.control.result.now c.control_step-result.new.control c.args.host.now c.control_step-result.new.self c.control_step-result.result
-    c.hosts_know_their_devices.ensures.steps c.control_steps_are_computed.ensures c.control.ensures.now c.control_step-result.ensures c.requires.together c.requires.knows c.requires.home c.is_sound.ensures in
+    (some_steps c.hosts_know_their_devices.ensures.steps) c.control_steps_are_computed.ensures c.control.ensures.now c.control_step-result.ensures c.requires.together c.requires.knows c.requires.home c.is_sound.ensures in
     let told = cut_events (items_of (core_of c.args.device.now).layout) (station_of (core_of c.args.device.now) c.args.host.now.phase) in
     let is_open : c.is_some-is_open.result ≡ is_some c.control_step-result.new.control.requests.current = c.is_some-is_open.ensures ∙ ap is_some c.open_round.ensures ∙ shown_open c.control_step-result.new.control.requests in
     c.keep_if_cut.ensures.events
@@ -61,7 +62,7 @@ returns-clause-events c =
 pub returns-clause-home : goal.returns-clause-home
 returns-clause-home c =
     let step = steps_so c.args.fate c.args.device.now c.control.result.now c.control_step-result.new.control c.args.host.now c.control_step-result.new.self c.control_step-result.result
-    c.hosts_know_their_devices.ensures.steps c.control_steps_are_computed.ensures c.control.ensures.now c.control_step-result.ensures c.requires.together c.requires.knows c.requires.home c.is_sound.ensures in
+    (some_steps c.hosts_know_their_devices.ensures.steps) c.control_steps_are_computed.ensures c.control.ensures.now c.control_step-result.ensures c.requires.together c.requires.knows c.requires.home c.is_sound.ensures in
     (step.home, refl)
 
 pub returns-clause-none : goal.returns-clause-none

@@ -1,5 +1,9 @@
+use Rattle.hid_stack.proofs.CarryLemmas.{end_no_rounds}
 use Rattle.hid_stack.proofs.StoryLemmas.{its_own}
 use Rattle.hid_stack.proofs.laws.devices_are_their_own.Goals as goal
 
-pub returns : goal.returns
-returns c = its_own
+pub returns-clause-own : goal.returns-clause-own
+returns-clause-own c = its_own
+
+pub returns-clause-ends : goal.returns-clause-ends
+returns-clause-ends c = end_no_rounds

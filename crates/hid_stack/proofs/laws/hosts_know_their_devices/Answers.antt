@@ -3,14 +3,14 @@ use Rattle.hid_stack.proofs.LawLemmas.{begins_know, leaves_know, replies_know, s
 use Rattle.hid_stack.proofs.laws.hosts_know_their_devices.Goals as goal
 
 pub returns-clause-ready : goal.returns-clause-ready
-returns-clause-ready c = λ addr control configured. record { phase = (refl, configured, refl, refl); transfer = tt; clears = tt }
+returns-clause-ready c = λ trail addr control configured. record { phase = (refl, configured, refl, refl); transfer = tt; clears = tt }
 
 pub returns-clause-begins : goal.returns-clause-begins
 returns-clause-begins c = begins_know
 
 pub returns-clause-steps : goal.returns-clause-steps
-returns-clause-steps c = λ fate host after old new result sound knows steps.
-    steps_know c.one_reading.ensures c.accepted_or_refused.ensures fate host after old new result sound.lays
+returns-clause-steps c = λ trail fate host after old new result sound knows steps.
+    steps_know c.one_reading.ensures c.accepted_or_refused.ensures trail fate host after old new result sound.lays
     (short_so old.requests.descriptor old.requests.layout sound.lays) knows steps
 
 pub returns-clause-replies : goal.returns-clause-replies

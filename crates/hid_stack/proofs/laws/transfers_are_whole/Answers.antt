@@ -1,4 +1,5 @@
 use Rattle.hid_stack.proofs.ClearLemmas.{clears_so}
+use Rattle.hid_stack.proofs.PendingLemmas.{pending_until_done}
 use Rattle.hid_stack.proofs.WholeLemmas.{ended_by_reset, unconcluded_once, whole}
 use Rattle.hid_stack.proofs.laws.transfers_are_whole.Goals as goal
 
@@ -13,3 +14,6 @@ returns-clause-reset c = ended_by_reset
 
 pub returns-clause-clears : goal.returns-clause-clears
 returns-clause-clears c = clears_so
+
+pub returns-clause-pending : goal.returns-clause-pending
+returns-clause-pending c = pending_until_done

@@ -2,6 +2,7 @@ use Rattle.hid_device.specs.Device.{core_of}
 use Rattle.std.proofs.Common.{◌≡◌, ◌∙◌, Ok, Err, sym}
 use Rattle.usb_transact.specs.Fate.{arrives_under}
 use Rattle.hid_stack.specs.Slot.{station_of}
+use Rattle.hid_stack.proofs.TrailLemmas.{some_meanwhile, some_replies}
 use Rattle.hid_stack.proofs.StepLemmas.{polls_by, polled_to, polls_know, told_is, home_stays, few_of}
 use Rattle.hid_stack.proofs.polls.poll_pair.Goals as goal
 
@@ -24,7 +25,7 @@ pub returns-clause-knows : goal.returns-clause-knows
 returns-clause-knows c =
     let done = polls_by c.args.fate c.args.device.now c.args.host.now c.poll.result c.poll.new.device c.poll.new.host c.clear.new.self.items c.poll.new.out.items c.requires.pair c.requires.free c.clear.ensures.items c.poll.ensures.packets in
     polls_know (arrives_under c.args.fate) c.args.device.now c.poll.new.device c.args.host.now c.poll.new.host c.poll.result c.clear.new.self.items c.poll.new.out.items _ _
-    c.hosts_know_their_devices.ensures.replies c.hosts_know_their_devices.ensures.meanwhile c.requires.pair c.requires.free c.poll.ensures.packets done.member
+    (some_replies c.hosts_know_their_devices.ensures.replies) (some_meanwhile c.hosts_know_their_devices.ensures.meanwhile) c.requires.pair c.requires.free c.poll.ensures.packets done.member
 
 pub returns-clause-pair : goal.returns-clause-pair
 returns-clause-pair c = (polls_by c.args.fate c.args.device.now c.args.host.now c.poll.result c.poll.new.device c.poll.new.host c.clear.new.self.items c.poll.new.out.items c.requires.pair c.requires.free c.clear.ensures.items c.poll.ensures.packets).pair

@@ -4,9 +4,11 @@ use Rattle.std.proofs.lemmas.List.Elements.{All-more}
 use Rattle.hid_steps.specs.declared.step.Step.{Step}
 use Rattle.std.specs.List.{All}
 use Rattle.hid_stack.specs.Rig.{FitsStep, HasRoomFor, IsRefusal, NoneIsRefused, bus_after, bus_after_all, delivered_at, delivered_in, most_events, refusal, refused_after}
+use Rattle.hid_stack.specs.Expecting.{AllHoldToggles}
 use Rattle.hid_stack.specs.Sums.{AllHaveMotions, ConfiguresBetweenRounds}
 use Rattle.hid_stack.proofs.Isolation.{ran_more, told_more, devices_live, headline, isolated, keeps_to_rounds}
-use Rattle.hid_stack.proofs.RoomLemmas.{fits_of, goes_on_more, most_more, not_refused, room_at, stopped, stops_at}
+use Rattle.hid_stack.proofs.RoomLemmas.{fits_of, goes_on_more, most_more, not_refused, room_at, room_here, stopped, stops_at}
+use Rattle.hid_stack.proofs.ToggleLemmas.{hosts_expect}
 use Rattle.hid_stack.proofs.SumLemmas.{between_more, sums_stop, sums_up}
 use Rattle.hid_stack.proofs.rig.Rig.run.Goals as goal
 
@@ -57,6 +59,12 @@ returns-clause-lives c =
     let told = c.loop-at.invariant.told ∙ ap (λ (xs : List Step). c.args.out.now.items ++ delivered_in c.args.self.now xs) whole in
     devices_live c.args.self.now c.loop-at.self c.args.steps.now c.args.out.now.items c.loop-at.out.items stands told
 
+pub returns-clause-toggles : goal.returns-clause-toggles
+returns-clause-toggles c =
+    let whole : take c.loop-at.at c.args.steps.now ≡ c.args.steps.now = take_all c.loop-at.at c.args.steps.now c.loop-at-test.false in
+    let stands = c.loop-at.invariant.now ∙ ap (bus_after_all c.args.self.now) whole in
+    hosts_expect c.args.self.now c.loop-at.self c.args.steps.now (subst AllHoldToggles c.self.view_is c.self.invariant.3) stands
+
 pub returns-clause-isolated : goal.returns-clause-isolated
 returns-clause-isolated c =
     let whole : take c.loop-at.at c.args.steps.now ≡ c.args.steps.now = take_all c.loop-at.at c.args.steps.now c.loop-at-test.false in
@@ -106,6 +114,11 @@ returns-in-Err-clause-err_lives c =
     devices_live c.args.self.now (bus_after_all c.args.self.now (take c.loop-at.at c.args.steps.now)) (take c.loop-at.at c.args.steps.now) c.args.out.now.items c.step.new.out.items refl
     (c.in-Err.ensures.err_events ∙ c.loop-at.invariant.told)
 
+pub returns-in-Err-clause-err_toggles : goal.returns-in-Err-clause-err_toggles
+returns-in-Err-clause-err_toggles c =
+    hosts_expect c.args.self.now (bus_after_all c.args.self.now (take c.loop-at.at c.args.steps.now)) (take c.loop-at.at c.args.steps.now)
+    (subst AllHoldToggles c.self.view_is c.self.invariant.3) refl
+
 pub returns-in-Err-clause-err_isolated : goal.returns-in-Err-clause-err_isolated
 returns-in-Err-clause-err_isolated c =
     isolated c.args.self.now (bus_after_all c.args.self.now (take c.loop-at.at c.args.steps.now)) (take c.loop-at.at c.args.steps.now) c.args.out.now.items c.step.new.out.items refl
@@ -117,7 +130,13 @@ returns-in-Err-clause-err_conserves c =
     (subst AllHaveMotions c.self.view_is c.self.invariant.2) c.loop-at.invariant.between c.step.ensures.between c.step.ensures.cuts c.loop-at.invariant.now (c.in-Err.ensures.err_events ∙ c.loop-at.invariant.told) c.in-Err.ensures.err
 
 pub returns-in-Err-clause-room : goal.returns-in-Err-clause-room
-returns-in-Err-clause-room c scheduled room memory =
+returns-in-Err-clause-room c has memory =
+    c.step.ensures.room
+    (subst (λ (x : Step). HasRoomFor c.loop-at.self x (vec_len c.loop-at.out) (vec_capacity c.loop-at.out)) (sym c.index-steps-at.is)
+    (room_here _ _ _ _ _ _ _ _ _ c.loop-at-test.true c.loop-at.invariant.now c.loop-at.invariant.few c.loop-at.invariant.capacity has)) (c.in-Err.is ∙ ap Err memory)
+
+pub returns-in-Err-clause-room_for_all : goal.returns-in-Err-clause-room_for_all
+returns-in-Err-clause-room_for_all c scheduled room memory =
     c.step.ensures.room
     (subst (λ (x : Step). HasRoomFor c.loop-at.self x (vec_len c.loop-at.out) (vec_capacity c.loop-at.out)) (sym c.index-steps-at.is)
     (room_at _ _ _ _ _ _ _ _ _ c.loop-at-test.true c.loop-at.invariant.now c.loop-at.invariant.few c.loop-at.invariant.capacity scheduled room)) (c.in-Err.is ∙ ap Err memory)

@@ -1,11 +1,16 @@
-use Rattle.std.proofs.Common.{◌≡◌, ◌<◌, ◌≤◌, ◌∙◌, ℕ, List, length, map, ap, sym, subst, arith, rules, Err, vec_len, vec_capacity}
+use Rattle.std.proofs.Common.{◌≡◌, ◌<◌, ◌≤◌, ◌∙◌, ℕ, List, length, map, ap, refl, sym, subst, arith, rules, Some, None, Err, vec_len, vec_capacity}
+use Rattle.std.specs.Prelude.{slice_set}
 use Rattle.std.proofs.lemmas.List.{length-set}
 use Rattle.hid_host.specs.declared.fault.StackFault.TheVariants.{NoDevice}
 use Rattle.hid_lives.specs.Rounds.{Frame}
 use Rattle.hid_stack.specs.declared.rig.TheConstants.{MAX_DEVICES}
+use Rattle.hid_stack.specs.Expecting.{AllHoldToggles}
 use Rattle.hid_stack.specs.Members.{Member, Scheduled, member_after}
+use Rattle.hid_stack.proofs.HoldLemmas.{stepped_hold}
+use Rattle.hid_stack.proofs.NamedLemmas.{named}
 use Rattle.hid_stack.proofs.RigLemmas.{framed, framed_hold, stepped_have}
 use Rattle.hid_stack.proofs.ServeLemmas.{frame_steps, none_steps, placed_steps}
+use Rattle.hid_stack.proofs.UnreadyLemmas.{tells_nothing}
 use Rattle.hid_stack.proofs.rig.Rig.step.Goals as goal
 
 pub invariant_of-self : goal.invariant_of-self
@@ -19,6 +24,8 @@ invariant_of-self-in-Some c = (
   subst (λ (n : ℕ). n ≤ MAX_DEVICES) (sym (length-set c.self.inside.slots.items c.in_ok-i-in-Some.i c.step.new.self)) c.self.invariant.0,
   c.self.invariant.1,
   stepped_have c.self.inside.slots.items c.in_ok-i-in-Some.i c.index_mut.result.now c.step.new.self c.self.invariant.2 (subst (λ (ms : List Member). c.in_ok-i-in-Some.i < length ms) (sym c.self.view_is) c.in_ok-i-in-Some.ensures.place.1) c.index_mut.ensures.value c.step.ensures.motions,
+  let s = placed_steps c.self.inside.slots.items c.args.self.now c.args.step.now c.in-Some.dev c.in_ok-i-in-Some.i c.index_mut.result.now c.step.new.self c.step.result c.args.out.now.items c.step.new.out.items (vec_len c.args.out.now) (vec_len c.step.new.out) (vec_capacity c.args.out.now) (vec_capacity c.step.new.out) c.self.view_is (sym c.device_of.ensures ∙ c.in-Some.is) c.in_ok-i-in-Some.ensures.place.0 c.in_ok-i-in-Some.ensures.place.1 c.index_mut.ensures.value c.step.ensures.steps in
+      stepped_hold c.args.self.now (slice_set c.self.inside.slots.items c.in_ok-i-in-Some.i c.step.new.self) c.args.step.now c.step.result s.after s.err (subst AllHoldToggles c.self.view_is c.self.invariant.3),
 )
 
 -- a frame
@@ -32,6 +39,7 @@ returns-in-None c =
       told = s.told;
       after = s.after;
       events = s.events;
+      unready = λ dev m names. let wrong : None ≡ Some dev = sym (sym c.device_of.ensures ∙ c.in-None.is) ∙ names in absurd (cc);
       fits = s.fits;
       refused = s.refused;
       only = s.only;
@@ -42,6 +50,7 @@ returns-in-None c =
       room = s.room;
       few = s.few;
       capacity = s.capacity;
+      keeps = λ _. refl;
     }
 
 -- no device of the number
@@ -54,6 +63,7 @@ returns-in_err-i-in-Some c =
       told = s.told;
       after = s.after;
       events = s.events;
+      unready = λ dev m names here unready. refl;
       fits = s.fits;
       refused = s.refused;
       only = s.only;
@@ -64,6 +74,7 @@ returns-in_err-i-in-Some c =
       room = s.room;
       few = s.few;
       capacity = s.capacity;
+      keeps = λ _. refl;
     }
 
 -- a step of a device
@@ -75,6 +86,9 @@ returns-in_ok-i-in-Some c =
       told = s.told;
       after = s.after;
       events = s.events;
+      unready = tells_nothing c.args.self.now c.args.step.now c.in-Some.dev c.index.result.now c.step.result c.args.out.now.items c.step.new.out.items (sym c.device_of.ensures ∙ c.in-Some.is)
+          (named c.self.inside.slots.items c.args.self.now c.in-Some.dev c.in_ok-i-in-Some.i c.index.result.now c.self.view_is c.in_ok-i-in-Some.ensures.place.0 c.in_ok-i-in-Some.ensures.place.1 c.index.ensures).here
+          c.tells_once_ready.ensures s.events s.err_events;
       fits = s.fits;
       refused = s.refused;
       only = s.only;
@@ -85,4 +99,5 @@ returns-in_ok-i-in-Some c =
       room = s.room;
       few = s.few;
       capacity = s.capacity;
+      keeps = c.step.ensures.keeps;
     }

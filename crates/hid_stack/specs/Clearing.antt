@@ -1,0 +1,32 @@
+-- A Clear that is pending, whatever else its host asks meanwhile (USB 2.0, 8.5.3.3, 8.6 and 9.4.5).
+use Rattle.std.specs.Prelude.{◌≡◌, false, List, [], ◌∷◌, Option, Some, None}
+use Rattle.usb_transact.specs.declared.transaction.Fate.{Fate}
+use Rattle.usb_control.specs.declared.host.HostStage.TheVariants.{Done}
+use Rattle.hid_requests.specs.declared.request.Request.TheVariants.{Clear}
+use Rattle.hid_host.specs.declared.host.Transfer.{Transfer}
+use Rattle.hid_stack.specs.Members.{Member, MemberStep, Begins, Controls, Resets, member_after, member_after_all, polls_it}
+use Rattle.hid_stack.specs.Transfers.{IsEvenAgain}
+
+-- the transfer that was begun last is a Clear, and it is done
+abbrev pub IsClearDone : Option Transfer → Type 0
+IsClearDone None = ⊥
+IsClearDone (Some t) = (t.request ≡ Clear) × (t.ends.stage ≡ Done)
+
+-- a step that leaves a member so is no reset, and no Clear is done by it
+abbrev pub LeavesPending : MemberStep → Member → Type 0
+LeavesPending Resets n = ⊥
+LeavesPending x n = IsClearDone n.transfer → ⊥
+
+-- and so is each of these: other requests may begin and end among them, and a Clear that failed may begin again
+abbrev pub LeavePending : Member → List MemberStep → Type 0
+LeavePending m [] = Unit {0}
+LeavePending m (x ∷ steps) = LeavesPending x (member_after m x) × LeavePending (member_after m x) steps
+
+-- From the begin of a Clear until one is done or the bus is reset the host polls nothing: also while the Clear has failed,
+-- and other requests begin and end. Where a try ends one, both ends begin anew.
+abbrev pub IsPendingUntilDone : Member → List MemberStep → Type 0
+IsPendingUntilDone m steps =
+    let begun = member_after m (Begins Clear) in let n = member_after_all begun steps in LeavePending begun steps
+    → (polls_it n ≡ false)
+    × ((fate : Fate) → IsClearDone (member_after n (Controls fate)).transfer
+    → IsEvenAgain (member_after n (Controls fate)))

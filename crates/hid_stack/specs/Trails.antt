@@ -1,0 +1,39 @@
+-- The trail of a transfer with a virtual device: where its tries led, and on what the device decided (USB 2.0, 8.5.3).
+use Rattle.usb_transact.specs.declared.transaction.Fate.{Fate}
+use Rattle.usb_control.specs.Device.{DevControlState}
+use Rattle.usb_control.specs.Meanwhile.{Ends, act_now, decision_now}
+use Rattle.usb_control.specs.Transfer.{Act, Decides, Place, shape_of, start, tried}
+use Rattle.std.specs.Prelude.{Option, Some, None}
+use Rattle.hid_device.specs.Core.{CoreState}
+use Rattle.hid_device.specs.Deciding.{core_table}
+use Rattle.hid_host.specs.declared.host.Transfer.{Transfer}
+
+-- the place to which the tries of a transfer led, and the device as it stood when the last SETUP arrived
+pub record Trail : Type 0 where
+  pub place : Place
+  pub decider : CoreState
+
+-- before the first try: no SETUP has arrived, so whatever stands for that device counts for nothing
+abbrev pub trail_from : CoreState → Trail
+trail_from core = record { place = start; decider = core }
+
+-- the device that decided last, behind an act of a device that stands so
+abbrev pub decider_behind : Act → CoreState → CoreState → CoreState
+decider_behind (Decides decision) core decider = core
+decider_behind _ core decider = decider
+
+-- both ends of a transfer
+abbrev pub ends_with : Transfer → DevControlState CoreState → Ends CoreState
+ends_with t control = record { host = t.ends; control = control }
+
+-- A try leads on by its fate and by how the device stands, which decides where a SETUP arrives.
+abbrev pub trail_tried : Fate → Transfer → DevControlState CoreState → Trail → Trail
+trail_tried fate t control trail = record {
+  place = tried (shape_of t.ends.setup) fate (decision_now core_table (ends_with t control)) trail.place;
+  decider = decider_behind (act_now core_table trail.place fate (ends_with t control)) control.requests trail.decider;
+}
+
+-- and so does a control step, where a transfer runs
+abbrev pub trail_behind : Fate → Option Transfer → DevControlState CoreState → Trail → Trail
+trail_behind fate None control trail = trail
+trail_behind fate (Some t) control trail = trail_tried fate t control trail
