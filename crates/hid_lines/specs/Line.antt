@@ -1,5 +1,5 @@
 -- What a line says (our choice: the script language of docs/SCRIPT.md).
-use Rattle.std.specs.Prelude.{◌≡◌, ◌⊎◌, ◌==◌, ℕ, List, [], ◌∷◌, length, nat_lt, slice_index, Option, None, Some, Result, Ok, Err, MatchResult, codes, if◌then◌else◌}
+use Rattle.std.specs.Prelude.{◌==◌, ℕ, List, [], ◌∷◌, length, nat_lt, slice_index, Option, None, Some, Result, Ok, Err, codes, if◌then◌else◌}
 use Rattle.hid_requests.specs.declared.boot.Boot.{Boot}
 use Rattle.hid_requests.specs.declared.start.Start.{Start}
 use Rattle.hid_lines.specs.declared.line.Keyword.{Keyword}
@@ -7,7 +7,7 @@ use Rattle.hid_lines.specs.declared.line.Keyword.TheVariants as keywords
 use Rattle.hid_lines.specs.declared.line.Line.{Line}
 use Rattle.hid_lines.specs.declared.line.Line.TheVariants.{Nothing, Layout, Values, Device, Press, Release, Null, Set, Move, Frame, Poll, Control, Reset, Halt}
 use Rattle.hid_lines.specs.declared.fault.LineFault.{LineFault}
-use Rattle.hid_lines.specs.declared.fault.LineFault.TheVariants.{Syntax, LineTooLong, Memory}
+use Rattle.hid_lines.specs.declared.fault.LineFault.TheVariants.{Syntax, LineTooLong}
 use Rattle.hid_lines.specs.Words.{Word, words_of, look_up, hex_of}
 use Rattle.hid_lines.specs.Arguments.{or_syntax, with_bytes, two, start_of, boot_of, control_said, set_said, move_said, frame_said, poll_said, one_device_said}
 use Rattle.hid_lines.specs.Requests.{begin_said}
@@ -61,7 +61,3 @@ words_said (first ∷ words) = if slice_index first 0 == 35 then Ok Nothing else
 -- a line of more than 1,024 bytes is refused whatever it says
 unfoldable pub meaning_of : List ℕ → Result Line LineFault
 meaning_of line = if nat_lt 1024 (length line) then Err LineTooLong else words_said (words_of line)
-
--- what was answered is what was meant, unless memory ran out
-abbrev pub Gives : Result Line LineFault → Result Line LineFault → Type 0
-Gives result meant = MatchResult result (λ line. meant ≡ Ok line) (λ cause. (cause ≡ Memory) ⊎ (meant ≡ Err cause))

@@ -1,9 +1,5 @@
 //! Why a line says nothing.
 
-ghost use Rattle.std.specs.Prelude.{◌≡◌};
-
-use std::alloc::AllocError;
-
 /// Why a line says nothing. Of several causes the first that is looked for is told: its length, its words, its digits.
 #[derive(Clone, Copy, Debug, PartialEq, Eq)]
 pub enum LineFault {
@@ -13,16 +9,4 @@ pub enum LineFault {
     Syntax,
     /// X3: a word of hex with a bad digit, or with an odd number of digits.
     BadHex,
-    /// X7: memory was wanting.
-    Memory,
-}
-
-impl From<AllocError> for LineFault {
-    ghost use Rattle.hid_lines.specs.declared.fault.LineFault.TheVariants.{Memory};
-
-    ghost from_gives = { λ _ fault. fault ≡ Memory };
-
-    fn from(_error: AllocError) -> LineFault {
-        LineFault::Memory
-    }
 }

@@ -14,7 +14,7 @@
 //!   values 0                             BadHex
 //! ```
 //! The rule to know: a line is read without its end, and alone: what came before it doesn't change what it says.
-//! Most lines are short: [`read_short`] reads them into a smaller room. [`parse_line`] gives exactly what the
+//! Most lines are short: [`read_short`] reads them into a smaller room. [`read_line`] gives exactly what the
 //! definition `meaning_of` says (`exact`), and takes no memory.
 #![tactic(auto)]
 
@@ -27,7 +27,7 @@ mod short;
 mod words;
 
 pub use fault::LineFault;
-pub use line::{HEX_LIMIT, LINE_LIMIT, Line, parse_line, says_nothing};
+pub use line::{HEX_LIMIT, LINE_LIMIT, Line, read_line, says_nothing};
 pub use numbers::read_number;
 pub use short::{ShortLine, read_short};
 pub use words::words_of_line;

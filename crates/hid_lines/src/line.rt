@@ -1,10 +1,10 @@
 //! The lines of a script.
 
-ghost use Rattle.std.specs.Prelude.{◌≡◌, ◌≤◌, true, Err, IsTrue, length};
+ghost use Rattle.std.specs.Prelude.{◌≡◌, ◌≤◌, true, IsTrue, length};
 ghost use Rattle.hid_lines.specs.Arguments.{with_bytes};
 ghost use Rattle.hid_lines.specs.Short.{may_be_long};
 ghost use Rattle.hid_lines.specs.Words.{hex_of, words_of};
-ghost use Rattle.hid_lines.specs.Line.{Gives, keyword_of, meaning_of, words_said, said_by, device_said};
+ghost use Rattle.hid_lines.specs.Line.{keyword_of, meaning_of, words_said, said_by, device_said};
 
 use super::arguments::{read_boot, read_start};
 use super::fault::LineFault;
@@ -29,72 +29,100 @@ pub enum Line {
     Nothing,
     /// `layout HEX`: a report descriptor.
     Layout {
+        /// The descriptor.
         bytes: ArrayVec<u8, HEX_LIMIT>,
     },
     /// `values HEX`: the bytes of an Input report, with its ID byte where reports are numbered.
     Values {
+        /// The report.
         bytes: ArrayVec<u8, HEX_LIMIT>,
     },
     /// `device START KIND HEX`: a device, with its report descriptor.
     Device {
+        /// How device and host begin.
         start: Start,
+        /// Whether its reports are those of the boot protocol.
         boot: Boot,
+        /// The report descriptor.
         bytes: ArrayVec<u8, HEX_LIMIT>,
     },
     /// `press D U`
     Press {
+        /// The device, from 1.
         dev: u8,
+        /// The usage of the control that is pressed.
         usage: Usage,
     },
     /// `release D U`
     Release {
+        /// The device, from 1.
         dev: u8,
+        /// The usage of the control that is released.
         usage: Usage,
     },
     /// `null D U`
     Null {
+        /// The device, from 1.
         dev: u8,
+        /// The usage of the control that is set to null.
         usage: Usage,
     },
     /// `set D U N`
     Set {
+        /// The device, from 1.
         dev: u8,
+        /// The usage of the control that is set.
         usage: Usage,
+        /// The value that it is set to.
         value: i64,
     },
     /// `move D U N`
     Move {
+        /// The device, from 1.
         dev: u8,
+        /// The usage of the control that moves.
         usage: Usage,
+        /// How far it moves.
         by: i32,
     },
     /// `frame [COUNT]`: so many frames, 1 to 10,000.
     Frame {
+        /// How many frames pass, 1 to 10,000.
         count: u16,
     },
     /// `poll D [FATE [COUNT]]`: so many polls, 1 to 10,000.
     Poll {
+        /// The device, from 1.
         dev: u8,
+        /// What is lost of each poll.
         fate: Fate,
+        /// How many polls, 1 to 10,000.
         count: u16,
     },
     /// `control D [FATE [COUNT]]`: so many tries of the transfer that runs, 1 to 10,000 (USB 2.0, 8.5.3).
     Control {
+        /// The device, from 1.
         dev: u8,
+        /// What is lost of each try.
         fate: Fate,
+        /// How many tries, 1 to 10,000.
         count: u16,
     },
     /// `begin D REQUEST`: a request that the host begins (USB 2.0, 9.4; HID 1.11, 7.2).
     Begin {
+        /// The device, from 1.
         dev: u8,
+        /// What the host asks, with the data that go with it.
         request: Request,
     },
     /// `reset D`: the bus resets a device (USB 2.0, 7.1.7.5), and its host forgets it.
     Reset {
+        /// The device, from 1.
         dev: u8,
     },
     /// `halt D`: a device halts the endpoint that is polled (USB 2.0, 8.4.5 and 9.4.5).
     Halt {
+        /// The device, from 1.
         dev: u8,
     },
 }
@@ -159,7 +187,7 @@ pub(crate) fn read_keyword(word: &[u8]) -> Option<Keyword>
     }
 }
 
-/// Whether a line, without its end, is empty or a comment, and not too long: `true` only where [`parse_line`] gives `Nothing`.
+/// Whether a line, without its end, is empty or a comment, and not too long: `true` only where [`read_line`] gives `Nothing`.
 #[tactic(auto, unfolding(crate::specs::Line::meaning_of))]
 pub fn says_nothing(line: &[u8]) -> bool
     ensures { IsTrue result → meaning_of line.now ≡ Ok Line.Nothing }
@@ -173,15 +201,13 @@ pub fn says_nothing(line: &[u8]) -> bool
     }
 }
 
-/// Reads one line, without its end. Of several causes the first is told: X2, X1, X3. No memory is taken: the words are read
-/// where they stand.
+/// Reads one line, without its end. No memory is taken: the words are read where they stand.
+///
+/// # Errors
+/// Of several causes the first that is looked for: X2, X1, X3.
 #[inline(never)] // one place for what a line says
 #[tactic(auto, unfolding(crate::specs::Line::meaning_of))]
-pub fn parse_line(line: &[u8]) -> Result<Line, LineFault>
-    ensures says { Gives result (meaning_of line.now) }
-    // Want of memory hides no X2.
-    ensures memory { result ≡ Err LineFault.Memory → length line.now ≤ LINE_LIMIT }
-    // It hides no other cause either, and is never told: a line has its meaning, whatever memory there is.
+pub fn read_line(line: &[u8]) -> Result<Line, LineFault>
     ensures exact { result ≡ meaning_of line.now }
 {
     if line.len() > LINE_LIMIT {

@@ -12,7 +12,7 @@ use hid_descriptor::Usage;
 use usb_transact::Fate;
 
 /// What a line says that has no hex words and begins no request. It is a [`Line`] too, which has room for the bytes of a
-/// descriptor, and is dearer to hand on.
+/// descriptor, and is dearer to hand on. Its fields are those of the line.
 #[derive(Clone, Copy)]
 pub enum ShortLine {
     /// `press D U`

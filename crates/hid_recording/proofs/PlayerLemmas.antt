@@ -26,7 +26,9 @@ use Rattle.hid_recording.specs.Refusals.{is_memory}
 use Rattle.hid_recording.specs.Session.{Session, Member, Outcome, accepted, refused, counted}
 use Rattle.hid_recording.specs.Records.{Said, record_of}
 use Rattle.hid_recording.specs.EventLines.{event_lines}
-use Rattle.hid_recording.specs.Joining.{past_chunk, bytes_with, ends_with, kept_of}
+use Rattle.hid_recording.specs.declared.recorded.Joined.{Joined}
+use Rattle.hid_recording.specs.declared.recorded.Joined.TheVariants.{Unknown, Doubtful, Begun, Whole}
+use Rattle.hid_recording.specs.Joining.{IsRefusedAs, Joins, past_chunk, bytes_with, ends_with, kept_of}
 use Rattle.hid_recording.specs.Telling.{refuses, with_device, TellsDescriptor, SaidTells, values_asked, report_text, reads_named, reads_of, known_at, report_told, chunk_in, chunk_of, chunk_told, ended, EndTells, Means, TellsUnless, LineTells, LineBegins}
 use Rattle.hid_recording.specs.Gathering.{EndsIn, Gathers}
 use Rattle.hid_recording.specs.Playing.{TakesOne, SlotTakesNone, PlaysAt}
@@ -142,6 +144,16 @@ pub doubtful_told : (session : Session) (time chunk : List ℕ) (member : Member
     → after ≡ Some (past_chunk member chunk) → refuses (with_device session after) refusals.PartMissing ≡ chunk_told time chunk session
 doubtful_told session time chunk member after slot doubts behind =
     ap (λ m. refuses (with_device session m) refusals.PartMissing) behind ∙ sym (found_told session time chunk member true (ends_with member chunk) slot doubts refl)
+
+-- a chunk that is refused
+pub refused_told : (session : Session) (time chunk : List ℕ) (joined : Joined) (refusal : Why) (after : Option Member) → Joins (known_at (slice_get session.devices session.current)) chunk joined after → IsRefusedAs joined refusal
+    → refuses (with_device session after) refusal ≡ chunk_told time chunk session
+refused_told session time chunk Unknown refusal after joins is =
+    subst (λ r. refuses (with_device session after) r ≡ chunk_told time chunk session) (sym is) (unknown_told session time chunk after joins.0 joins.1)
+refused_told session time chunk Doubtful refusal after joins is =
+    subst (λ r. refuses (with_device session after) r ≡ chunk_told time chunk session) (sym is) (doubtful_told session time chunk joins.0 after joins.1 joins.2 joins.3)
+refused_told session time chunk Begun refusal after joins is = absurd is
+refused_told session time chunk (Whole bytes) refusal after joins is = absurd is
 
 -- more of its report comes
 pub begun_told : (session : Session) (time chunk : List ℕ) (member : Member) (after : Option Member) → known_at (slice_get session.devices session.current) ≡ Some member → member.in_doubt ≡ false → ends_with member chunk ≡ false

@@ -10,6 +10,8 @@ use Rattle.hid_layout.specs.Layout.{Contents}
 use Rattle.hid_host.specs.Ready.{is_whole}
 use Rattle.hid_recording.specs.declared.recorded.Joined.{Joined}
 use Rattle.hid_recording.specs.declared.recorded.Joined.TheVariants.{Unknown, Doubtful, Begun, Whole}
+use Rattle.hid_recording.specs.declared.fault.Refusal.{Refusal}
+use Rattle.hid_recording.specs.declared.fault.Refusal.TheVariants as refusals
 use Rattle.hid_recording.specs.Session.{Member}
 
 -- an Input report of over 64 bytes with its ID, which spans packets
@@ -57,3 +59,10 @@ Joins slot chunk Begun after =
 Joins slot chunk (Whole bytes) after =
     (member : Member) × (slot ≡ Some member) × (member.in_doubt ≡ false) × (ends_with member chunk ≡ true)
     × (bytes.items ≡ bytes_with member chunk) × (after ≡ Some (kept_of member []))
+
+-- why a chunk is refused; one that goes on or ends a report isn't
+abbrev pub IsRefusedAs : Joined → Refusal → Type 0
+IsRefusedAs Unknown refusal = refusal ≡ refusals.NoLayout
+IsRefusedAs Doubtful refusal = refusal ≡ refusals.PartMissing
+IsRefusedAs Begun refusal = ⊥
+IsRefusedAs (Whole bytes) refusal = ⊥

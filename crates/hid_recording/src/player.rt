@@ -281,8 +281,10 @@ impl Player {
         ensures { Gathers (λ o. o ≡ begins (session_of self.old) address content time.now) result
             (string_bytes self.new.text) (session_of self.new) }
     {
-        let Some(device) = self.addresses.number(address)? else {
-            return self.drop_dump(Refusal::TooManyDevices);
+        let number = self.addresses.number(address)?;
+        let device = match number.ok_or(Refusal::TooManyDevices) {
+            Ok(device) => device,
+            Err(refusal) => return self.drop_dump(refusal),
         };
         let begun = Dump::begin(self.alloc, content, device, time)?;
         let before = mem::replace(&mut self.dump, begun);
@@ -360,14 +362,14 @@ impl Player {
         ensures { Gathers (λ o. o ≡ chunk_told time.now chunk.now (session_of self.old)) result
             (string_bytes self.new.text) (session_of self.new) }
     {
-        match self.devices.join(self.alloc, chunk)? {
-            Joined::Unknown => self.refuse(Refusal::NoLayout),
-            Joined::Doubtful => self.refuse(Refusal::PartMissing),
-            Joined::Begun => {
+        let joined = self.devices.join(self.alloc, chunk)?;
+        match joined.into_report() {
+            Ok(Some(bytes)) => self.report(time, bytes.as_slice()),
+            Ok(None) => {
                 self.text.clear();
                 Ok(())
             }
-            Joined::Whole(bytes) => self.report(time, bytes.as_slice()),
+            Err(refusal) => self.refuse(refusal),
         }
     }
 

@@ -1,6 +1,6 @@
 //! What a line of a recording says.
 
-ghost use Rattle.std.specs.Prelude.{◌≡◌, Ok, Err, MatchResult, map};
+ghost use Rattle.std.specs.Prelude.{◌≡◌, ◌≢◌, Ok, Err, IfErr, MatchResult, map};
 ghost use Rattle.hid_recording.specs.Records.{record_of, said_by, device_said, descriptor_said, report_said, counted_bytes, dumped, header_said, begins_at, begun, time_said, ReadsRecord, IsNone};
 
 use super::dump::{Address, Content};
@@ -83,7 +83,8 @@ fn read_words<'a>(alloc: Global, letter: u8, words: &[&'a [u8]]) -> Result<Recor
 
 /// `DEVICE`
 fn read_selection<'a>(words: &[&'a [u8]]) -> Result<Record<'a>, Cause>
-    ensures { ReadsRecord result (device_said (map (λ word. word.now) words.now)) }
+    ensures read { ReadsRecord result (device_said (map (λ word. word.now) words.now)) }
+    ensures refusal { IfErr result (λ cause. cause ≢ Cause.Memory) }
 {
     let [word] = words else {
         return Err(Cause::Refused(Refusal::BadDevice));
@@ -204,7 +205,8 @@ fn read_begin_time<'a>(words: &[&'a [u8]]) -> Result<&'a str, Refusal>
 
 /// A dump that doesn't begin: of a descriptor, its bytes can't be read.
 fn unbegun<'a>(address: Address, content: Content, refusal: Refusal) -> Result<Record<'a>, Cause>
-    ensures { ReadsRecord result (begun address content (Err refusal)) }
+    ensures read { ReadsRecord result (begun address content (Err refusal)) }
+    ensures refusal { IfErr result (λ cause. cause ≢ Cause.Memory) }
 {
     match content {
         Content::Descriptor => Ok(Record::Unread {

@@ -1,14 +1,15 @@
 //! A device of a recording: its layout, the view that its reports made, and what came of a report in chunks.
 
-ghost use Rattle.std.specs.Prelude.{◌≡◌, ◌++◌, Some, IfOk, IfErr, OnOk, List, string_bytes};
+ghost use Rattle.std.specs.Prelude.{◌≡◌, ◌++◌, Some, Ok, Err, IfOk, IfErr, IfSome, OnOk, List, string_bytes};
+ghost use Rattle.std.specs.Option.{IfNone};
 ghost use Rattle.hid_descriptor.specs.Items.{Spelled};
 ghost use Rattle.hid_descriptor.specs.Faults.{Accepts, Explains};
-ghost use Rattle.hid_layout.specs.Layout.{layout_of};
+ghost use Rattle.hid_layout.specs.Layout.{Contents, layout_of};
 ghost use Rattle.hid_recording.specs.Session.{fresh_member};
 ghost use Rattle.hid_descriptor.specs.declared.fault.Cause.TheVariants.{Memory};
 ghost use Rattle.hid_recording.specs.Telling.{values_in, values_asked};
 ghost use Rattle.hid_recording.specs.Playing.{PlaysMember};
-ghost use Rattle.hid_recording.specs.Joining.{is_long, has_long, doubted, Joins};
+ghost use Rattle.hid_recording.specs.Joining.{is_long, has_long, doubted, Joins, IsRefusedAs};
 ghost use Rattle.hid_host.specs.Ready.{is_whole};
 ghost use Rattle.hid_usages.specs.Reading.{report_named};
 
@@ -51,6 +52,22 @@ pub enum Joined {
     Whole(Vec<u8>),
 }
 
+impl Joined {
+    /// The bytes of a report that is whole, none where more of it comes, or why the chunk is refused.
+    pub fn into_report(self) -> Result<Option<Vec<u8>>, Refusal>
+        ensures whole { IfOk result (λ given. IfSome given (λ bytes. self ≡ Joined.Whole bytes)) }
+        ensures begun { IfOk result (λ given. IfNone given (self ≡ Joined.Begun)) }
+        ensures refused { IfErr result (λ refusal. IsRefusedAs self refusal) }
+    {
+        match self {
+            Joined::Unknown => Err(Refusal::NoLayout),
+            Joined::Doubtful => Err(Refusal::PartMissing),
+            Joined::Begun => Ok(None),
+            Joined::Whole(bytes) => Ok(Some(bytes)),
+        }
+    }
+}
+
 impl Model for Recorded {
     ghost use Rattle.std.specs.Prelude.{◌≤◌, vec_capacity};
     ghost use Rattle.hid_layout.specs.Controls.{items_of, max_events};
@@ -71,7 +88,7 @@ impl Model for Recorded {
 }
 
 fn no_memory() -> LayoutFault
-    ensures { (result.cause ≡ Memory) × (result.at ≡ 0) }
+    ensures { result ≡ record { cause = Memory; at = 0 } }
 {
     LayoutFault {
         cause: hid_layout::Cause::Memory,
@@ -86,7 +103,16 @@ impl Recorded {
             × (recorded ≡ fresh_member (layout_of before))) }
         ensures err { IfErr result (λ f. Explains descriptor.now f.cause f.at) }
     {
-        let layout = match Layout::parse(alloc, descriptor) {
+        Recorded::of_layout(alloc, Layout::parse(alloc, descriptor))
+    }
+
+    /// A device of this layout, of which no report came yet. A fault in the layout's place is handed on as it is.
+    fn of_layout(alloc: Global, laid: Result<Layout, LayoutFault>) -> Result<Recorded, LayoutFault>
+        ensures ok { IfOk result (λ recorded. (c : Contents) × (laid ≡ Ok c) × (recorded ≡ fresh_member c)) }
+        ensures fault { (f : LayoutFault) → laid ≡ Err f → result ≡ Err f }
+        ensures memory { (c : Contents) → laid ≡ Ok c → IfErr result (λ f. f ≡ record { cause = Memory; at = 0 }) }
+    {
+        let layout = match laid {
             Ok(layout) => layout,
             Err(fault) => return Err(fault),
         };

@@ -1,5 +1,5 @@
 -- A flush that fails ends a run at the line where it stood, whatever ended it there.
-use Rattle.std.proofs.Common.{◌≡◌, ℕ, zero, suc, ◌+◌, List, [], ◌∷◌, ◌++◌, refl, sym, ap, ◌∙◌, subst, inl, inr, arith, append-nil, Option, None, Some, Result, Ok, Err}
+use Rattle.std.proofs.Common.{◌≡◌, ◌⊎◌, ℕ, zero, suc, ◌+◌, List, [], ◌∷◌, ◌++◌, refl, sym, ap, ◌∙◌, subst, inl, inr, arith, append-nil, Option, None, Some, Result, Ok, Err}
 use Rattle.std.specs.Str.Lines.{lines}
 use Rattle.std.proofs.KnownBytes.{Appends-nil}
 use Rattle.std.specs.Io.KnownBytes.{Appends, Consumes, Keeps}
@@ -29,7 +29,7 @@ use Rattle.hid_script.specs.Output.{IsFront}
 use Rattle.hid_script.specs.Session.{Session, Outcome, accepted, refused, at_first, Repeats}
 use Rattle.hid_script.specs.Steps.{TellsLayout, TellsDevice, TellsStep, TellsFound, TellsChange, valued, read_report, change_of}
 use Rattle.hid_script.specs.Telling.{Once, times, Means, LineTells, LineBegins, Begins, BeginsMeant}
-use Rattle.hid_script.specs.Runs.{Ending, Refusal, Want, Cut, Silence, ending_of, EndsAs, FirstTells, FirstBegins, RunsTo, Stops, line_of, AppendsScript}
+use Rattle.hid_script.specs.Runs.{Ending, Refusal, Want, Cut, Silence, ending_of, EndsAs, Ends, FirstTells, FirstBegins, RunsTo, Stops, line_of, AppendsScript}
 use Rattle.hid_script.specs.Place.{Place, Advances, RunsFrom, lines_at, AppendsFrom}
 use Rattle.hid_script.proofs.PlaceLemmas.{first_begins, broken_run}
 
@@ -121,6 +121,18 @@ line_begins session bytes text cause h = meant_begins session (meaning_of bytes)
 
 -- ---- a run that stopped may as well have been cut off there
 
+whole_text : (session : Session) (script : List (List ℕ)) (part : List ℕ) (cause : Cause) → FirstBegins session script part
+    → (cut : List ℕ) × FirstBegins session script (part ++ cut) × ((cause ≡ causes.Write) ⊎ (cut ≡ []))
+whole_text session script part cause h = ([], subst (FirstBegins session script) (sym (append-nil part)) h, inr refl)
+
+begun_whole : (ending : Ending) (session : Session) (script : List (List ℕ)) (part : List ℕ) (cause : Cause) → (ending ≡ Cut → ⊥) → EndsAs ending (FirstTells session script) (FirstBegins session script) part cause
+    → (cut : List ℕ) × FirstBegins session script (part ++ cut) × ((cause ≡ causes.Write) ⊎ (cut ≡ []))
+begun_whole Refusal session [] part cause other h = absurd h
+begun_whole Refusal session (bytes ∷ more) part cause other h = whole_text session (bytes ∷ more) part cause (line_begins session bytes part cause h)
+begun_whole Want session script part cause other h = whole_text session script part cause h
+begun_whole Cut session script part cause other h = absurd (other refl)
+begun_whole Silence session script part cause other h = whole_text session script part cause (subst (FirstBegins session script) (sym h) (first_begins session script))
+
 cut_there : (ending : Ending) (session : Session) (script : List (List ℕ)) (part : List ℕ) (cause : Cause) → EndsAs ending (FirstTells session script) (FirstBegins session script) part cause
     → (text : List ℕ) × FirstBegins session script text × IsFront part text
 cut_there Refusal session [] part cause h = absurd h
@@ -128,6 +140,20 @@ cut_there Refusal session (bytes ∷ more) part cause h = (part, line_begins ses
 cut_there Want session script part cause h = (part, h, ([], sym (append-nil part)))
 cut_there Cut session script part cause h = h
 cut_there Silence session script part cause h = ([], first_begins session script, rw h ([], refl))
+
+-- of what was begun only a writer cuts something off
+pub begun_there : (session : Session) (script : List (List ℕ)) (part : List ℕ) (cause : Cause) → Ends (FirstTells session script) (FirstBegins session script) part cause
+    → (cut : List ℕ) × FirstBegins session script (part ++ cut) × ((cause ≡ causes.Write) ⊎ (cut ≡ []))
+unfolding ending_of
+begun_there session script part causes.Write (text, begun, (rest, is)) = (rest, subst (FirstBegins session script) is begun, inl refl)
+begun_there session script part causes.Syntax h = begun_whole Refusal session script part causes.Syntax (λ e. cc) h
+begun_there session script part causes.LineTooLong h = begun_whole Refusal session script part causes.LineTooLong (λ e. cc) h
+begun_there session script part causes.BadHex h = begun_whole Refusal session script part causes.BadHex (λ e. cc) h
+begun_there session script part (causes.Step fault) h = begun_whole Refusal session script part (causes.Step fault) (λ e. cc) h
+begun_there session script part causes.NoLayout h = begun_whole Refusal session script part causes.NoLayout (λ e. cc) h
+begun_there session script part causes.Memory h = begun_whole Want session script part causes.Memory (λ e. cc) h
+begun_there session script part causes.Read h = begun_whole Silence session script part causes.Read (λ e. cc) h
+begun_there session script part causes.TooManyReads h = begun_whole Silence session script part causes.TooManyReads (λ e. cc) h
 
 cut_stops : (session : Session) (script : List (List ℕ)) (before : ℕ) (written : List ℕ) (first fault : ScriptFault) → fault.line ≡ first.line → fault.cause ≡ causes.Write
     → Stops session script before written first → Stops session script before written fault

@@ -5,4 +5,5 @@ pub mod RepeatLemmas
 pub mod TellingLemmas
 pub mod FlushLemmas
 pub mod PrintingLemmas
+pub mod StreamLemmas
 mod Vectors

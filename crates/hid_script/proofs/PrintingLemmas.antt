@@ -1,7 +1,8 @@
 -- What the lines of a script do to its bus, and what they print of it.
-use Rattle.std.proofs.Common.{◌≡◌, ℕ, zero, suc, ◌+◌, ◌-◌, ◌<◌, List, [], ◌∷◌, ◌++◌, length, length-append, map, refl, sym, ap, ◌∙◌, subst, inl, inr, arith, append-nil, Option, None, Some, Result, Ok, Err}
+use Rattle.std.proofs.Common.{◌≡◌, ℕ, zero, suc, ◌+◌, ◌-◌, ◌<◌, ◌≤◌, ◌⊎◌, List, [], ◌∷◌, ◌++◌, length, length-append, map, refl, sym, ap, ◌∙◌, subst, inl, inr, arith, append-nil, append_assoc, Option, None, Some, Result, Ok, Err}
 use Rattle.std.specs.Prelude.{replicate}
 use Rattle.std.proofs.lemmas.Bool.{cond_both}
+use Rattle.std.proofs.lemmas.List.{replicate-append-replicate}
 use Rattle.std.proofs.lemmas.Option.{slice_get_within}
 use Rattle.hid_descriptor.specs.declared.usage.Usage.{Usage}
 use Rattle.hid_layout.specs.Layout.{Contents, layout_of}
@@ -20,11 +21,11 @@ use Rattle.hid_steps.specs.Delivered.{from_device}
 use Rattle.hid_stack.specs.declared.rig.TheConstants.{MAX_DEVICES}
 use Rattle.hid_stack.specs.Attaching.{Attaches, member_at_start}
 use Rattle.hid_stack.specs.Headline.{LivesThrough}
-use Rattle.hid_stack.specs.Members.{Member, deeds_in, member_after_all}
+use Rattle.hid_stack.specs.Members.{Member}
 use Rattle.hid_stack.specs.Rig.{bus_after, delivered_at, member_at, tagged}
-use Rattle.hid_stack.specs.Stories.{Act, Attached, Taken, bus_behind, delivered_behind, next_number, own_story}
+use Rattle.hid_stack.specs.Stories.{Act, Attached, Taken, Unconcluded, after_story, bus_behind, deeds_by, delivered_behind, next_number, own_story}
 use Rattle.hid_stack.proofs.Isolation.{at_place, no_zero}
-use Rattle.hid_stack.proofs.StoryLemmas.{bus_append, delivered_append, its_own, nothing_of, same_many}
+use Rattle.hid_stack.proofs.StoryLemmas.{AreTaken, bus_append, delivered_append, its_own, nothing_of, same_many, taken_end}
 use Rattle.hid_lines.specs.declared.fault.LineFault.{LineFault}
 use Rattle.hid_lines.specs.declared.line.Line.{Line}
 use Rattle.hid_lines.specs.declared.line.Line.TheVariants as line
@@ -37,19 +38,21 @@ use Rattle.hid_script.specs.declared.fault.Cause.{Cause}
 use Rattle.hid_script.specs.declared.wanted.Wanted.{Wanted}
 use Rattle.hid_script.specs.declared.wanted.Wanted.TheVariants as wanted
 use Rattle.hid_script.specs.Laws.{LinesPrintLives, RunsPrintLives}
-use Rattle.hid_script.specs.Printing.{AllDo, AttachesOne, ChangesOne, Does}
-use Rattle.hid_script.specs.Runs.{AllTell}
+use Rattle.hid_script.specs.Printing.{AllDo, AttachesOne, BeginsToDo, ChangesOne, Does, DoUpTo, PrintsLives}
+use Rattle.hid_script.specs.Runs.{AllTell, FirstBegins}
+use Rattle.hid_script.proofs.FlushLemmas.{begun_there}
 use Rattle.hid_script.specs.Session.{Session, Outcome, accepted, after_text, at_first, Repeats}
 use Rattle.hid_script.specs.Steps.{TellsLayout, TellsValues, TellsDevice, TellsStep, TellsChange, attaches, change_of, config_of, counted, got_by, lays_out, read_report, refuses_step, stepped, valued}
-use Rattle.hid_script.specs.Telling.{LineTells, Means, Once, times}
+use Rattle.hid_script.specs.Telling.{BeginsMeant, LineBegins, LineTells, Means, Once, times}
 
 -- ---- what a part does
 
--- no device is attached with an open round
+-- no device is attached with an open round, and each step is taken
 abbrev HaveNoRound : List Act → Type 0
 HaveNoRound [] = Unit {0}
 HaveNoRound (Attached m ∷ acts) = (m.station.current ≡ None) × HaveNoRound acts
 HaveNoRound (Taken x ∷ acts) = HaveNoRound acts
+HaveNoRound (Unconcluded dev fate ∷ acts) = ⊥
 
 -- a part of a script did this to a bus, and printed the lines of its events
 record Done (members : List Member) (text : List ℕ) (acts : List Act) (next : List Member) : Type 0 where
@@ -62,6 +65,7 @@ no_rounds : (first rest : List Act) → HaveNoRound first → HaveNoRound rest �
 no_rounds [] rest h k = k
 no_rounds (Attached m ∷ first) rest h k = (h.0, no_rounds first rest h.1 k)
 no_rounds (Taken x ∷ first) rest h k = no_rounds first rest h k
+no_rounds (Unconcluded dev fate ∷ first) rest h k = absurd h
 
 done_both : (members middle next : List Member) (a b : List ℕ) (first rest : List Act) → Done members a first middle → Done middle b rest next → Done members (a ++ b) (first ++ rest) next
 done_both members middle next a b first rest h k =
@@ -256,38 +260,139 @@ no_round_there : (before since : List Act) (m : Member) → HaveNoRound (before 
 no_round_there [] since m h = h.0
 no_round_there (Attached k ∷ before) since m h = no_round_there before since m h.1
 no_round_there (Taken x ∷ before) since m h = no_round_there before since m h
+no_round_there (Unconcluded dev fate ∷ before) since m h = absurd h
+
+are_taken : (acts : List Act) → HaveNoRound acts → AreTaken acts
+are_taken [] h = tt
+are_taken (Attached m ∷ acts) h = are_taken acts h.1
+are_taken (Taken x ∷ acts) h = are_taken acts h
+are_taken (Unconcluded dev fate ∷ acts) h = absurd h
+
+taken_since : (before since : List Act) (m : Member) → HaveNoRound (before ++ Attached m ∷ since) → AreTaken since
+taken_since [] since m h = are_taken since h.1
+taken_since (Attached k ∷ before) since m h = taken_since before since m h.1
+taken_since (Taken x ∷ before) since m h = taken_since before since m h
+taken_since (Unconcluded dev fate ∷ before) since m h = absurd h
 
 -- the lines of a device's events in all that was printed
 lines_are : (text : List ℕ) (delivered : List Delivered) (dev : ℕ) → ShowsEvents text delivered → event_lines dev text ≡ map (event_text dev) (from_device dev delivered)
 lines_are text delivered dev h = ap (event_lines dev) (sym (append-nil text)) ∙ h dev [] ∙ append-nil (map (event_text dev) (from_device dev delivered))
 
-pub lives_printed : LinesPrintLives
-lives_printed options script text last h =
-    let all = all_done script (at_first options) last text (omega arith) h in
-    let acts = all.0 in
-    let it = all.2 in
+lives_of : (Did : List Act → Type 0) (text : List ℕ) (last : List Member) (acts : List Act) → Did acts → Done [] text acts last → PrintsLives Did text last
+lives_of Did text last acts did it =
     record {
       acts = acts;
-      done = all.1;
+      done = did;
       bus = it.bus;
       lives = λ before since m is.
           let dev = next_number before in
           let its = its_own before m since in
-          let n = member_after_all m (own_story before since) in
+          let n = after_story m (own_story before since) in
           let told = from_device dev (delivered_behind [] acts) in
-          let quiet = no_round_there before since m (subst HaveNoRound is it.no_round) in (
+          let quiet = no_round_there before since m (subst HaveNoRound is it.no_round) in
+          let ends = taken_end since dev m (taken_since before since m (subst HaveNoRound is it.no_round)) in (
             n,
             told,
             ap (λ (ms : List Member). member_at ms dev) (it.bus ∙ ap (bus_behind []) is) ∙ its.state,
             lines_are text (delivered_behind [] acts) dev it.shows,
-            subst (LivesThrough m (deeds_in m (own_story before since)) n) (sym (ap (λ (a : List Act). from_device dev (delivered_behind [] a)) is ∙ its.events)) (its.lives quiet),
+            subst (LivesThrough m (deeds_by m (own_story before since)) n) (sym (ap (λ (a : List Act). from_device dev (delivered_behind [] a)) is ∙ its.events ends)) (its.lives quiet),
           );
       none = λ dev absent.
           lines_are text (delivered_behind [] acts) dev it.shows
           ∙ ap (map (event_text dev)) (nothing_of acts [] dev (ap (λ (ms : List Member). member_at ms dev) (sym it.bus) ∙ absent));
     }
 
+pub lives_printed : LinesPrintLives
+lives_printed options script text last h =
+    let all = all_done script (at_first options) last text (omega arith) h in
+    lives_of (AllDo [] script) text last.members all.0 all.1 all.2
+
+-- ---- the line at which a run ends
+
+-- what the first times of a line did, and printed
+abbrev BegunDone : Line → Session → List ℕ → Session → Type 0
+BegunDone said session text next = (acts : List Act) × ((acts ≡ []) ⊎ ((others : List Act) × Does said session.members (acts ++ others))) × Done session.members text acts next.members
+
+-- not once
+nothing_begun : (said : Line) (session next : Session) (text : List ℕ) → length session.members < 10 → accepted text next ≡ accepted [] session → BegunDone said session text next
+nothing_begun said session next text few e =
+    ([], inl refl, done_nothing session.members next.members text few (subst (λ t. ShowsEvents t []) (sym (text_is text next (accepted [] session) e)) shows_nothing) (ap (λ (s : Session). s.members) (session_is text [] next session e)))
+
+-- a line that is carried out once
+once_begun : (said : Line) (n : ℕ) (session next : Session) (text : List ℕ) → times said ≡ 1 → length session.members < 10 → n ≤ times said → Repeats n (Once said) session (accepted text next) → BegunDone said session text next
+unfolding Repeats
+once_begun said zero session next text one few below h = nothing_begun said session next text few h
+once_begun said (suc zero) session next text one few below h =
+    let did = line_done said session next text few (subst (λ k. Repeats k (Once said) session (accepted text next)) (sym one) h) in
+    (did.0, inr ([], subst (Does said session.members) (sym (append-nil did.0)) did.1), did.2)
+once_begun said (suc (suc n)) session next text one few below h = absurd (omega (arith, one, below))
+
+-- a step that is taken some times
+steps_begun : (said : Line) (x : Step) (n count : ℕ) (session next : Session) (text : List ℕ) → ((s : Session) (o : Outcome) → Once said s o → TellsStep x s o) → ((acts : List Act) → acts ≡ replicate count (Taken x) → Does said session.members acts)
+    → length session.members < 10 → n ≤ count → Repeats n (Once said) session (accepted text next) → BegunDone said session text next
+steps_begun said x n count session next text is does few below h =
+    let whole : n + (count - n) ≡ count = omega (arith, below) in
+    let parts : replicate n (Taken x) ++ replicate (count - n) (Taken x) ≡ replicate count (Taken x) = replicate-append-replicate n (count - n) (Taken x) ∙ ap (λ k. replicate k (Taken x)) whole in
+    (replicate n (Taken x), inr (replicate (count - n) (Taken x), does (replicate n (Taken x) ++ replicate (count - n) (Taken x)) parts), steps_done said x is n session next text few h)
+
+begun_done : (said : Line) (n : ℕ) (session next : Session) (text : List ℕ) → length session.members < 10 → n ≤ times said → Repeats n (Once said) session (accepted text next) → BegunDone said session text next
+unfolding Once times Does
+begun_done (line.Frame count) n session next text few below h = steps_begun (line.Frame count) Frame n count session next text (λ s o told. told) (λ acts is. is) few below h
+begun_done (line.Poll dev fate count) n session next text few below h = steps_begun (line.Poll dev fate count) (Poll dev fate) n count session next text (λ s o told. told) (λ acts is. is) few below h
+begun_done (line.Control dev fate count) n session next text few below h = steps_begun (line.Control dev fate count) (Control dev fate) n count session next text (λ s o told. told) (λ acts is. is) few below h
+begun_done line.Nothing n session next text few below h = once_begun line.Nothing n session next text refl few below h
+begun_done (line.Layout bytes) n session next text few below h = once_begun (line.Layout bytes) n session next text refl few below h
+begun_done (line.Values bytes) n session next text few below h = once_begun (line.Values bytes) n session next text refl few below h
+begun_done (line.Device start boot bytes) n session next text few below h = once_begun (line.Device start boot bytes) n session next text refl few below h
+begun_done (line.Press dev usage) n session next text few below h = once_begun (line.Press dev usage) n session next text refl few below h
+begun_done (line.Release dev usage) n session next text few below h = once_begun (line.Release dev usage) n session next text refl few below h
+begun_done (line.Null dev usage) n session next text few below h = once_begun (line.Null dev usage) n session next text refl few below h
+begun_done (line.Set dev usage value) n session next text few below h = once_begun (line.Set dev usage value) n session next text refl few below h
+begun_done (line.Move dev usage by) n session next text few below h = once_begun (line.Move dev usage by) n session next text refl few below h
+begun_done (line.Begin dev request) n session next text few below h = once_begun (line.Begin dev request) n session next text refl few below h
+begun_done (line.Reset dev) n session next text few below h = once_begun (line.Reset dev) n session next text refl few below h
+begun_done (line.Halt dev) n session next text few below h = once_begun (line.Halt dev) n session next text refl few below h
+
+-- what the first of some lines began to do, and printed
+abbrev NextBegun : Session → List (List ℕ) → List ℕ → Type 0
+NextBegun session others text = (next : List Member) × (acts : List Act) × BeginsToDo session.members others acts × Done session.members text acts next
+
+no_next : (session : Session) (text : List ℕ) → length session.members < 10 → text ≡ [] → Done session.members text [] session.members
+no_next session text few none = done_nothing session.members session.members text few (subst (λ t. ShowsEvents t []) (sym none) shows_nothing) refl
+
+meant_begun : (session : Session) (bytes text : List ℕ) (more : List (List ℕ)) (meaning : Result Line LineFault) → meaning_of bytes ≡ meaning → length session.members < 10 → BeginsMeant session meaning text → NextBegun session (bytes ∷ more) text
+meant_begun session bytes text more (Err fault) is few h = (session.members, [], inl refl, no_next session text few h)
+meant_begun session bytes text more (Ok said) is few h = by_acts (begun_done said h.0 session h.1 text few h.2 h.3)
+  where
+    by_acts : BegunDone said session text h.1 → NextBegun session (bytes ∷ more) text
+    by_acts (acts, inl none, did) = (h.1.members, acts, inl none, did)
+    by_acts (acts, inr does, did) = (h.1.members, acts, inr (said, does.0, is, does.1), did)
+
+next_begun : (session : Session) (others : List (List ℕ)) (text : List ℕ) → length session.members < 10 → FirstBegins session others text → NextBegun session others text
+unfolding LineBegins
+next_begun session [] text few h = (session.members, [], refl, no_next session text few h)
+next_begun session (bytes ∷ more) text few h = meant_begun session bytes text more (meaning_of bytes) refl few h
+
 pub runs_printed : RunsPrintLives
 runs_printed options script written (Ok summary) h = (h.last.members, lives_printed options script written h.last h.all)
 runs_printed options script written (Err fault) h =
-    (h.first, h.others, h.text, h.part, h.now.members, h.split, omega (arith, h.line), h.whole, lives_printed options h.first h.text h.now h.all)
+    let all = all_done h.first (at_first options) h.now h.text (omega arith) h.all in
+    let ends = begun_there h.now h.others h.part fault.cause h.ends in
+    let begun = next_begun h.now h.others (h.part ++ ends.0) all.2.few ends.1 in
+    let did : DoUpTo h.first h.others (all.0 ++ begun.1) = (all.0, begun.1, all.1, subst (λ (ms : List Member). BeginsToDo ms h.others begun.1) all.2.bus begun.2, refl) in
+    let whole : h.text ++ (h.part ++ ends.0) ≡ written ++ ends.0 = sym (append_assoc h.text h.part ends.0) ∙ ap (λ t. t ++ ends.0) (sym h.whole) in
+    let printed = subst (λ t. Done [] t (all.0 ++ begun.1) begun.0) whole (done_both [] h.now.members begun.0 h.text (h.part ++ ends.0) all.0 begun.1 all.2 begun.3) in (
+      h.first,
+      h.others,
+      h.text,
+      h.part,
+      h.now.members,
+      h.split,
+      omega (arith, h.line),
+      h.whole,
+      lives_printed options h.first h.text h.now h.all,
+      ends.0,
+      begun.0,
+      lives_of (DoUpTo h.first h.others) (written ++ ends.0) begun.0 (all.0 ++ begun.1) did printed,
+      ends.2,
+    )

@@ -35,7 +35,6 @@ use Rattle.hid_script.specs.declared.fault.Cause.{Cause}
 use Rattle.hid_script.specs.declared.fault.Cause.TheVariants as causes
 use Rattle.hid_script.specs.declared.fault.StepFault.TheVariants as faults
 use Rattle.hid_lines.specs.declared.fault.LineFault.{LineFault}
-use Rattle.hid_lines.specs.declared.fault.LineFault.TheVariants as line_faults
 use Rattle.hid_lines.specs.declared.line.Line.{Line}
 use Rattle.hid_lines.specs.declared.line.Line.TheVariants as lines
 use Rattle.hid_script.specs.declared.wanted.Wanted.{Wanted}
@@ -94,12 +93,11 @@ refusal_left Cut Tells Begun cause begun h = ([], begun, ([], refl))
 refusal_left Silence Tells Begun cause begun h = refl
 
 -- a line that isn't understood
-pub line_refused : (old : Option (List ℕ)) (session : Session) (bytes : List ℕ) (fault : LineFault) (r : Result (Unit {0}) Cause) (next : Session) → (fault ≡ line_faults.Memory) ⊎ (meaning_of bytes ≡ Err fault) → IsErrAnd r (λ e. e ≡ line_cause fault)
+pub line_refused : (old : Option (List ℕ)) (session : Session) (bytes : List ℕ) (fault : LineFault) (r : Result (Unit {0}) Cause) (next : Session) → meaning_of bytes ≡ Err fault → IsErrAnd r (λ e. e ≡ line_cause fault)
     → AppendsTold old old (LineTells session bytes) (LineBegins session bytes) r next
 unfolding LineTells ending_of
 line_refused old session bytes fault (Ok u) next why is = absurd is
-line_refused old session bytes fault (Err e) next (inl memory) is = ([], Appends-nil old, subst (λ c. Ends (LineTells session bytes) (LineBegins session bytes) [] c) (sym (is ∙ ap line_cause memory)) (begins_nothing session bytes))
-line_refused old session bytes fault (Err e) next (inr meant) is = (
+line_refused old session bytes fault (Err e) next meant is = (
   [],
   Appends-nil old,
   subst (λ c. Ends (LineTells session bytes) (LineBegins session bytes) [] c) (sym is)

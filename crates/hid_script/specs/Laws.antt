@@ -1,5 +1,5 @@
 -- Laws of what a script tells, which hold whatever runs it (our choice: docs/SCRIPT.md).
-use Rattle.std.specs.Prelude.{◌≡◌, ℕ, List, Result}
+use Rattle.std.specs.Prelude.{◌≡◌, ℕ, List, [], Result}
 use Rattle.hid_script.specs.declared.fault.Options.{Options}
 use Rattle.hid_script.specs.declared.fault.ScriptFault.{ScriptFault}
 use Rattle.hid_script.specs.declared.fault.Summary.{Summary}
@@ -7,7 +7,7 @@ use Rattle.hid_script.specs.Session.{Session, Outcome, at_first}
 use Rattle.hid_script.specs.Telling.{LineTells, LineBegins}
 use Rattle.hid_script.specs.Output.{IsFront}
 use Rattle.hid_script.specs.Runs.{AllTell, RunsTo}
-use Rattle.hid_script.specs.Printing.{PrintsLives, RunPrintsLives}
+use Rattle.hid_script.specs.Printing.{AllDo, PrintsLives, RunPrintsLives}
 
 -- a line tells one outcome at most
 abbrev pub LineTellsOneThing : Type 0
@@ -27,7 +27,7 @@ BeginsWithFronts = (session : Session) (line text : List ℕ) (o : Outcome)
 -- lines that are all accepted, from the first of a script on, print the lives of its devices
 abbrev pub LinesPrintLives : Type 0
 LinesPrintLives = (options : Options) (script : List (List ℕ)) (text : List ℕ) (last : Session)
-    → AllTell (at_first options) script text last → PrintsLives script text last.members
+    → AllTell (at_first options) script text last → PrintsLives (AllDo [] script) text last.members
 
 -- and so does what a run of a script wrote
 abbrev pub RunsPrintLives : Type 0

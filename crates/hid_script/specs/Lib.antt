@@ -8,4 +8,5 @@ pub mod Laws
 pub mod Place
 pub mod Interpreter
 pub mod Script
+pub mod Streams
 pub mod Printing

@@ -1,6 +1,6 @@
 -- What the lines of a script do to its bus, and what the text that they print tells of each device (our choice:
 -- docs/SCRIPT.md).
-use Rattle.std.specs.Prelude.{◌≡◌, ℕ, ◌+◌, List, [], ◌∷◌, ◌++◌, length, map, replicate, Some, None, Result, Ok, Err}
+use Rattle.std.specs.Prelude.{◌≡◌, ◌⊎◌, ℕ, ◌+◌, List, [], ◌∷◌, ◌++◌, length, map, replicate, Some, None, Result, Ok, Err}
 use Rattle.hid_descriptor.specs.declared.usage.Usage.{Usage}
 use Rattle.hid_layout.specs.declared.control.ControlId.{ControlId}
 use Rattle.hid_cells.specs.declared.event.Event.{Event}
@@ -10,14 +10,15 @@ use Rattle.hid_steps.specs.declared.step.Step.TheVariants as step
 use Rattle.hid_stack.specs.declared.rig.TheConstants.{MAX_DEVICES}
 use Rattle.hid_stack.specs.Attaching.{Attaches, Finds}
 use Rattle.hid_stack.specs.Headline.{LivesThrough}
-use Rattle.hid_stack.specs.Members.{Member, deeds_in}
+use Rattle.hid_stack.specs.Members.{Member}
 use Rattle.hid_stack.specs.Rig.{member_at}
-use Rattle.hid_stack.specs.Stories.{Act, Attached, Taken, bus_behind, next_number, own_story}
+use Rattle.hid_stack.specs.Stories.{Act, Attached, Taken, bus_behind, deeds_by, next_number, own_story}
 use Rattle.hid_lines.specs.declared.line.Line.{Line}
 use Rattle.hid_lines.specs.declared.line.Line.TheVariants as line
 use Rattle.hid_lines.specs.Line.{meaning_of}
 use Rattle.hid_text.specs.EventLines.{event_lines}
 use Rattle.hid_text.specs.EventText.{event_text}
+use Rattle.hid_script.specs.declared.fault.Cause.TheVariants.{Write}
 use Rattle.hid_script.specs.declared.fault.ScriptFault.{ScriptFault}
 use Rattle.hid_script.specs.declared.fault.Summary.{Summary}
 use Rattle.hid_script.specs.declared.wanted.Wanted.{Wanted}
@@ -64,24 +65,38 @@ AllDo members (bytes ∷ more) acts =
     × (meaning_of bytes ≡ Ok said) × Does said members first × AllDo (bus_behind members first) more rest
     × (acts ≡ first ++ rest)
 
+-- what the first of these lines begins to do: nothing, or the first of the steps that it takes
+abbrev pub BeginsToDo : List Member → List (List ℕ) → List Act → Type 0
+BeginsToDo members [] acts = acts ≡ []
+BeginsToDo members (bytes ∷ more) acts = (acts ≡ [])
+    ⊎ ((said : Line) × (others : List Act) × (meaning_of bytes ≡ Ok said) × Does said members (acts ++ others))
+
+-- what lines do from the first of a script on, and what the next begins to do
+abbrev pub DoUpTo : List (List ℕ) → List (List ℕ) → List Act → Type 0
+DoUpTo script next acts =
+    (all : List Act) × (begun : List Act) × AllDo [] script all × BeginsToDo (bus_behind [] all) next begun × (acts ≡ all ++ begun)
+
 -- ---- the headline, of the text that is printed
 
 -- What a script prints of each device that it attaches: the lines of its events are, in order, the texts of all that is
 -- told in its life, which its own steps behind its attach make. There are none of a device that isn't attached.
-pub record PrintsLives (script : List (List ℕ)) (text : List ℕ) (members : List Member) : Type 0 where
+pub record PrintsLives (Did : List Act → Type 0) (text : List ℕ) (members : List Member) : Type 0 where
   pub acts : List Act
-  pub done : AllDo [] script acts
+  pub done : Did acts
   pub bus : members ≡ bus_behind [] acts
   pub lives : (before since : List Act) (m : Member) → acts ≡ before ++ Attached m ∷ since
       → (n : Member) × (told : List Event) × (member_at members (next_number before) ≡ Some n)
       × (event_lines (next_number before) text ≡ map (event_text (next_number before)) told)
-      × LivesThrough m (deeds_in m (own_story before since)) n told
+      × LivesThrough m (deeds_by m (own_story before since)) n told
   pub none : (dev : ℕ) → member_at members dev ≡ None → event_lines dev text ≡ []
 
--- What a run prints of them: by all its lines, or by those before the one at which it ends.
+-- What a run prints of them: by all its lines; or by those before the one at which it ends, and by the first times of that
+-- one, of which only a writer cuts something off.
 abbrev pub RunPrintsLives : List (List ℕ) → List ℕ → Result Summary ScriptFault → Type 0
-RunPrintsLives script written (Ok summary) = (last : List Member) × PrintsLives script written last
+RunPrintsLives script written (Ok summary) = (last : List Member) × PrintsLives (AllDo [] script) written last
 RunPrintsLives script written (Err fault) =
     (first : List (List ℕ)) × (others : List (List ℕ)) × (text : List ℕ) × (part : List ℕ) × (last : List Member)
     × (script ≡ first ++ others) × (fault.line ≡ length first + 1)
-    × (written ≡ text ++ part) × PrintsLives first text last
+    × (written ≡ text ++ part) × PrintsLives (AllDo [] first) text last
+    × (cut : List ℕ) × (now : List Member)
+    × PrintsLives (DoUpTo first others) (written ++ cut) now × ((fault.cause ≡ Write) ⊎ (cut ≡ []))

@@ -52,7 +52,11 @@ abbrev pub line_cause : LineFault → Cause
 line_cause lines.LineTooLong = causes.LineTooLong
 line_cause lines.Syntax = causes.Syntax
 line_cause lines.BadHex = causes.BadHex
-line_cause lines.Memory = causes.Memory
+
+-- what a line says, or the script's cause for which it is refused
+abbrev pub line_or_cause : Result Line LineFault → Result Line Cause
+line_or_cause (Ok said) = Ok said
+line_or_cause (Err fault) = Err (line_cause fault)
 
 -- a line tells what it says
 abbrev pub Means : Session → Result Line LineFault → Outcome → Type 0

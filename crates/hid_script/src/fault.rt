@@ -23,7 +23,8 @@ pub struct Options {
 pub struct Summary {
     /// All lines, empty ones and comments too.
     pub lines: u64,
-    /// The events that polls delivered. The count stops at the greatest `u64`.
+    /// The events that the lines told, of polls, resets, halts and tries of transfers. The count stops at the greatest
+    /// `u64`.
     pub events: u64,
 }
 
@@ -38,12 +39,13 @@ pub enum StepFault {
     Stack(StackFault),
 }
 
-/// Why a run ends early, in the order in which a line is looked at. It is printed as its codes.
+/// Why a run ends early, in the order of the codes. It is printed as its codes. Of a line by itself X2 is looked for first,
+/// then X1 and X3; X9 comes before X4.
 #[derive(Clone, Copy, Debug, PartialEq, Eq)]
 pub enum Cause {
     /// X1: no line of the script language.
     Syntax,
-    /// X2: over 1,024 bytes, without the line's end.
+    /// X2: over 1,024 bytes, without the line's end. A line is looked at no further then.
     LineTooLong,
     /// X3: a word of hex with a bad digit, or with an odd number of digits.
     BadHex,
@@ -71,7 +73,6 @@ impl From<LineFault> for Cause {
             LineFault::LineTooLong => Cause::LineTooLong,
             LineFault::Syntax => Cause::Syntax,
             LineFault::BadHex => Cause::BadHex,
-            LineFault::Memory => Cause::Memory,
         }
     }
 }
@@ -128,6 +129,7 @@ impl From<AllocError> for Cause {
 #[error("line {line}: {cause}")]
 pub struct ScriptFault {
     /// The line that was being read or run, from 1.
-    pub line: u64,
+    pub line: usize,
+    /// Why it was the last.
     pub cause: Cause,
 }

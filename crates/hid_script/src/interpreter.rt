@@ -6,19 +6,20 @@ ghost use Rattle.hid_script.specs.Session.{at_first};
 ghost use Rattle.hid_script.specs.Steps.{TellsLayout, TellsValues, TellsDevice, TellsStep, TellsChange, got_by};
 ghost use Rattle.hid_script.specs.Telling.{Once, times, CarriesOut, Begins, LineTells, LineBegins};
 ghost use Rattle.hid_script.specs.Place.{AppendsTold, AppendsOnce};
+ghost use Rattle.hid_script.specs.Streams.{EndsText};
 ghost use Rattle.hid_steps.specs.declared.step.Step.TheVariants as Taking;
 
 use super::fault::{Cause, Options};
 use super::output::write_text;
+use super::streams::Sink;
 use super::wanted::{Wanted, change_of};
 use hid_device::{Boot, Config};
 use hid_layout::{Layout, Usage};
-use hid_lines::{Line, ShortLine, parse_line, read_short, says_nothing};
+use hid_lines::{Line, ShortLine, read_line, read_short, says_nothing};
 use hid_stack::{Delivered, Request, Rig, Start, Step};
 use hid_text::{print_layout, print_step, print_values};
 use hid_views::input_report;
 use std::alloc::Global;
-use std::io::Write;
 use usb_control::Outcome;
 use usb_transact::Fate;
 
@@ -108,10 +109,11 @@ impl Interpreter {
     }
 
     /// Carries out a line, without its end.
-    pub fn line<W: Write>(&mut self, line: &[u8], writer: &mut W) -> Result<(), Cause>
-        ensures { AppendsTold (W.contents writer.old) (W.contents writer.new)
+    pub fn line<W: Sink>(&mut self, line: &[u8], writer: &mut W) -> Result<(), Cause>
+        ensures told { AppendsTold (W.contents writer.old) (W.contents writer.new)
             (LineTells (session_of self.old) line.now)
             (LineBegins (session_of self.old) line.now) result (session_of self.new) }
+        ensures outside { EndsText W.calls writer.new result }
     {
         if says_nothing(line) {
             return Ok(());
@@ -121,10 +123,11 @@ impl Interpreter {
 
     /// The same of any line.
     #[inline(never)] // an empty line makes no room for what a line says
-    fn run_line<W: Write>(&mut self, line: &[u8], writer: &mut W) -> Result<(), Cause>
-        ensures { AppendsTold (W.contents writer.old) (W.contents writer.new)
+    fn run_line<W: Sink>(&mut self, line: &[u8], writer: &mut W) -> Result<(), Cause>
+        ensures told { AppendsTold (W.contents writer.old) (W.contents writer.new)
             (LineTells (session_of self.old) line.now)
             (LineBegins (session_of self.old) line.now) result (session_of self.new) }
+        ensures outside { EndsText W.calls writer.new result }
     {
         match read_short(line) {
             Some(line) => self.repeat(&line, writer),
@@ -134,12 +137,13 @@ impl Interpreter {
 
     /// The same, with room for the bytes of hex words.
     #[inline(never)] // a short line makes none
-    fn run_any<W: Write>(&mut self, line: &[u8], writer: &mut W) -> Result<(), Cause>
-        ensures { AppendsTold (W.contents writer.old) (W.contents writer.new)
+    fn run_any<W: Sink>(&mut self, line: &[u8], writer: &mut W) -> Result<(), Cause>
+        ensures told { AppendsTold (W.contents writer.old) (W.contents writer.new)
             (LineTells (session_of self.old) line.now)
             (LineBegins (session_of self.old) line.now) result (session_of self.new) }
+        ensures outside { EndsText W.calls writer.new result }
     {
-        match &parse_line(line) {
+        match &read_line(line) {
             Ok(line) => self.carry_out(line, writer),
             Err(fault) => Err(Cause::from(*fault)),
         }
@@ -147,11 +151,12 @@ impl Interpreter {
 
     /// Carries out a line as often as it says, up to the first time that it is refused. What it tells each time is written
     /// before the next.
-    fn carry_out<W: Write>(&mut self, line: &Line, writer: &mut W) -> Result<(), Cause>
-        ensures { AppendsTold (W.contents writer.old) (W.contents writer.new)
+    fn carry_out<W: Sink>(&mut self, line: &Line, writer: &mut W) -> Result<(), Cause>
+        ensures told { AppendsTold (W.contents writer.old) (W.contents writer.new)
             (CarriesOut (session_of self.old) line.now)
             (Begins (times line.now) (Once line.now) (session_of self.old)) result
             (session_of self.new) }
+        ensures outside { EndsText W.calls writer.new result }
     {
         match line.short() {
             Some(line) => self.repeat(&line, writer),
@@ -160,11 +165,12 @@ impl Interpreter {
     }
 
     /// The same of a short line.
-    fn repeat<W: Write>(&mut self, line: &ShortLine, writer: &mut W) -> Result<(), Cause>
-        ensures { AppendsTold (W.contents writer.old) (W.contents writer.new)
+    fn repeat<W: Sink>(&mut self, line: &ShortLine, writer: &mut W) -> Result<(), Cause>
+        ensures told { AppendsTold (W.contents writer.old) (W.contents writer.new)
             (CarriesOut (session_of self.old) (line_of line.now))
             (Begins (times (line_of line.now)) (Once (line_of line.now)) (session_of self.old)) result
             (session_of self.new) }
+        ensures outside { EndsText W.calls writer.new result }
     {
         for _ in 0..times(line) {
             self.carry_out_once(line, writer)?;
@@ -174,9 +180,10 @@ impl Interpreter {
 
     /// What a short line tells each time.
     #[tactic(auto, unfolding(crate::specs::Telling::Once))]
-    fn carry_out_once<W: Write>(&mut self, line: &ShortLine, writer: &mut W) -> Result<(), Cause>
-        ensures { AppendsOnce (W.contents writer.old) (W.contents writer.new)
+    fn carry_out_once<W: Sink>(&mut self, line: &ShortLine, writer: &mut W) -> Result<(), Cause>
+        ensures told { AppendsOnce (W.contents writer.old) (W.contents writer.new)
             (Once (line_of line.now) (session_of self.old)) result (session_of self.new) }
+        ensures outside { EndsText W.calls writer.new result }
     {
         match line {
             ShortLine::Press { dev, usage } => self.change(*dev, *usage, Wanted::Press, writer),
@@ -204,10 +211,11 @@ impl Interpreter {
 
     /// What another line tells.
     #[tactic(auto, unfolding(crate::specs::Telling::Once))]
-    fn carry_out_long<W: Write>(&mut self, line: &Line, writer: &mut W) -> Result<(), Cause>
+    fn carry_out_long<W: Sink>(&mut self, line: &Line, writer: &mut W) -> Result<(), Cause>
         requires { is_long line.now ≡ true }
-        ensures { AppendsOnce (W.contents writer.old) (W.contents writer.new)
+        ensures told { AppendsOnce (W.contents writer.old) (W.contents writer.new)
             (Once line.now (session_of self.old)) result (session_of self.new) }
+        ensures outside { EndsText W.calls writer.new result }
     {
         match line {
             Line::Nothing => Ok(()),
@@ -226,9 +234,10 @@ impl Interpreter {
 
     /// Prints the layout that a descriptor gives, and keeps it.
     #[inline(never)]
-    fn lay_out<W: Write>(&mut self, descriptor: &[u8], writer: &mut W) -> Result<(), Cause>
-        ensures { AppendsOnce (W.contents writer.old) (W.contents writer.new)
+    fn lay_out<W: Sink>(&mut self, descriptor: &[u8], writer: &mut W) -> Result<(), Cause>
+        ensures told { AppendsOnce (W.contents writer.old) (W.contents writer.new)
             (TellsLayout descriptor.now (session_of self.old)) result (session_of self.new) }
+        ensures outside { EndsText W.calls writer.new result }
     {
         let layout = Layout::parse(self.alloc, descriptor)?;
         self.text.clear();
@@ -242,9 +251,10 @@ impl Interpreter {
 
     /// Prints the values of a report of the layout that is kept.
     #[inline(never)]
-    fn tell_values<W: Write>(&mut self, bytes: &[u8], writer: &mut W) -> Result<(), Cause>
-        ensures { AppendsOnce (W.contents writer.old) (W.contents writer.new)
+    fn tell_values<W: Sink>(&mut self, bytes: &[u8], writer: &mut W) -> Result<(), Cause>
+        ensures told { AppendsOnce (W.contents writer.old) (W.contents writer.new)
             (TellsValues bytes.now (session_of self.old)) result (session_of self.new) }
+        ensures outside { EndsText W.calls writer.new result }
     {
         let Some(layout) = &self.layout else {
             return Err(Cause::NoLayout);
@@ -257,16 +267,17 @@ impl Interpreter {
 
     /// Attaches a device, and prints its layout where layouts are asked for.
     #[inline(never)]
-    fn attach<W: Write>(
+    fn attach<W: Sink>(
         &mut self,
         start: Start,
         boot: Boot,
         descriptor: &[u8],
         writer: &mut W,
     ) -> Result<(), Cause>
-        ensures { AppendsOnce (W.contents writer.old) (W.contents writer.new)
+        ensures told { AppendsOnce (W.contents writer.old) (W.contents writer.new)
             (TellsDevice start boot descriptor.now (session_of self.old)) result
             (session_of self.new) }
+        ensures outside { EndsText W.calls writer.new result }
     {
         let config = Config {
             vendor: VENDOR,
@@ -286,15 +297,16 @@ impl Interpreter {
 
     /// Changes the least control with a usage.
     #[inline(never)]
-    fn change<W: Write>(
+    fn change<W: Sink>(
         &mut self,
         dev: u8,
         usage: Usage,
         wanted: Wanted,
         writer: &mut W,
     ) -> Result<(), Cause>
-        ensures { AppendsOnce (W.contents writer.old) (W.contents writer.new)
+        ensures told { AppendsOnce (W.contents writer.old) (W.contents writer.new)
             (TellsChange dev usage wanted (session_of self.old)) result (session_of self.new) }
+        ensures outside { EndsText W.calls writer.new result }
     {
         let control = self.rig.find(dev, usage)?;
         let change = change_of(wanted, control);
@@ -305,36 +317,40 @@ impl Interpreter {
 
     /// A frame passes.
     #[inline(never)]
-    fn frame<W: Write>(&mut self, writer: &mut W) -> Result<(), Cause>
-        ensures { AppendsOnce (W.contents writer.old) (W.contents writer.new)
+    fn frame<W: Sink>(&mut self, writer: &mut W) -> Result<(), Cause>
+        ensures told { AppendsOnce (W.contents writer.old) (W.contents writer.new)
             (TellsStep (Taking.Frame) (session_of self.old)) result (session_of self.new) }
+        ensures outside { EndsText W.calls writer.new result }
     {
         self.step(&Step::Frame, writer)
     }
 
     /// The host polls a device.
     #[inline(never)]
-    fn poll<W: Write>(&mut self, dev: u8, fate: Fate, writer: &mut W) -> Result<(), Cause>
-        ensures { AppendsOnce (W.contents writer.old) (W.contents writer.new)
+    fn poll<W: Sink>(&mut self, dev: u8, fate: Fate, writer: &mut W) -> Result<(), Cause>
+        ensures told { AppendsOnce (W.contents writer.old) (W.contents writer.new)
             (TellsStep (Taking.Poll dev fate) (session_of self.old)) result (session_of self.new) }
+        ensures outside { EndsText W.calls writer.new result }
     {
         self.step(&Step::Poll { dev, fate }, writer)
     }
 
     /// The host makes a try of the transfer that runs.
     #[inline(never)]
-    fn control<W: Write>(&mut self, dev: u8, fate: Fate, writer: &mut W) -> Result<(), Cause>
-        ensures { AppendsOnce (W.contents writer.old) (W.contents writer.new)
+    fn control<W: Sink>(&mut self, dev: u8, fate: Fate, writer: &mut W) -> Result<(), Cause>
+        ensures told { AppendsOnce (W.contents writer.old) (W.contents writer.new)
             (TellsStep (Taking.Control dev fate) (session_of self.old)) result (session_of self.new) }
+        ensures outside { EndsText W.calls writer.new result }
     {
         self.step(&Step::Control { dev, fate }, writer)
     }
 
     /// The host begins a request.
     #[inline(never)]
-    fn begin<W: Write>(&mut self, dev: u8, request: &Request, writer: &mut W) -> Result<(), Cause>
-        ensures { AppendsOnce (W.contents writer.old) (W.contents writer.new)
+    fn begin<W: Sink>(&mut self, dev: u8, request: &Request, writer: &mut W) -> Result<(), Cause>
+        ensures told { AppendsOnce (W.contents writer.old) (W.contents writer.new)
             (TellsStep (Taking.Begin dev request.now) (session_of self.old)) result (session_of self.new) }
+        ensures outside { EndsText W.calls writer.new result }
     {
         let request = request.copied();
         self.step(&Step::Begin { dev, request }, writer)
@@ -342,27 +358,30 @@ impl Interpreter {
 
     /// The bus resets a device.
     #[inline(never)]
-    fn reset<W: Write>(&mut self, dev: u8, writer: &mut W) -> Result<(), Cause>
-        ensures { AppendsOnce (W.contents writer.old) (W.contents writer.new)
+    fn reset<W: Sink>(&mut self, dev: u8, writer: &mut W) -> Result<(), Cause>
+        ensures told { AppendsOnce (W.contents writer.old) (W.contents writer.new)
             (TellsStep (Taking.Reset dev) (session_of self.old)) result (session_of self.new) }
+        ensures outside { EndsText W.calls writer.new result }
     {
         self.step(&Step::Reset { dev }, writer)
     }
 
     /// A device halts the endpoint that is polled.
     #[inline(never)]
-    fn halt<W: Write>(&mut self, dev: u8, writer: &mut W) -> Result<(), Cause>
-        ensures { AppendsOnce (W.contents writer.old) (W.contents writer.new)
+    fn halt<W: Sink>(&mut self, dev: u8, writer: &mut W) -> Result<(), Cause>
+        ensures told { AppendsOnce (W.contents writer.old) (W.contents writer.new)
             (TellsStep (Taking.Halt dev) (session_of self.old)) result (session_of self.new) }
+        ensures outside { EndsText W.calls writer.new result }
     {
         self.step(&Step::Halt { dev }, writer)
     }
 
     /// Takes a step of the bus, and prints what it tells.
     #[inline(always)] // each sort of step pays for no other
-    fn step<W: Write>(&mut self, step: &Step, writer: &mut W) -> Result<(), Cause>
-        ensures { AppendsOnce (W.contents writer.old) (W.contents writer.new)
+    fn step<W: Sink>(&mut self, step: &Step, writer: &mut W) -> Result<(), Cause>
+        ensures told { AppendsOnce (W.contents writer.old) (W.contents writer.new)
             (TellsStep step.now (session_of self.old)) result (session_of self.new) }
+        ensures outside { EndsText W.calls writer.new result }
     {
         self.delivered.clear();
         let told = self.rig.step(step, &mut self.delivered)?;

@@ -36,9 +36,9 @@ pub fn fronts()
     one_attaching();
 }
 
-/// The headline, of the text that is printed: over all lines of a script, or all before the one at which a run ends, the
-/// lines printed of a device's events are, in order, the texts of the events of its life from its attach on, with
-/// whatever befalls it there; of no other device are there any.
+/// The headline, of the text that is printed: over all lines of a script, or all before the one at which a run ends and the
+/// first times of that one, the lines printed of a device's events are, in order, the texts of the events of its life from
+/// its attach on, with whatever befalls it there; of no other device are there any.
 pub fn lives_are_printed()
     ensures lines { LinesPrintLives }
     ensures runs { RunsPrintLives }

@@ -2,7 +2,7 @@
 //! ```text
 //!                           --read_short--> ShortLine --
 //!   reader --> pieces --> lines                         carried out, by the rig --> text --> writer
-//!                           --parse_line--> Line -------
+//!                           --read_line---> Line -------
 //!
 //!   layout 05 01 09 30 15 81 25 7F 75 08 95 01 81 06    report input 0 bytes 1
 //!                                                       item 0 input 0 at 0 8x1 relative -127..127 01:30
@@ -15,10 +15,10 @@
 //!   halt 1
 //!   poll 1                                              (with `trace`) 1 poll STALL stall
 //! ```
-//! A line is read whole, by `read_short` of `hid_lines` or else by [`parse_line`], carried out, and its text is written
+//! A line is read whole, by `read_short` of `hid_lines` or else by `read_line`, carried out, and its text is written
 //! at once, of a line with a count each time: a line that is refused ends the run, and what stands in the output is
 //! what was told before it.
-//! `run` writes exactly the text that the script tells: the clause on [`run`]. Its lines of a device's events are the texts
+//! [`parse_line`] says what a line means by itself. `run` writes exactly the text that the script tells: the clause on [`run`]. Its lines of a device's events are the texts
 //! of what the device lives through: law [`laws::lives_are_printed`].
 #![tactic(auto)]
 
@@ -26,13 +26,16 @@ mod fault;
 mod fault_text;
 mod interpreter;
 pub mod laws;
+mod line;
 mod output;
 mod runs;
 mod script;
+mod streams;
 mod wanted;
 
 pub use fault::{Cause, Options, ScriptFault, StepFault, Summary};
 pub use fault_text::fault_line;
-pub use hid_cells::ReportFault;
-pub use hid_lines::{Line, LineFault, parse_line};
-pub use runs::run;
+pub use hid_lines::{Line, ShortLine};
+pub use line::parse_line;
+pub use runs::{READS, run};
+pub use streams::{Given, Lost, Sink, Source};

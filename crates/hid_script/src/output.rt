@@ -3,22 +3,24 @@
 ghost use Rattle.std.specs.Prelude.{◌≡◌, [], OnOk, IfErr};
 ghost use Rattle.std.specs.Io.KnownBytes.{Appends};
 ghost use Rattle.hid_script.specs.Output.{AppendsFront};
+ghost use Rattle.hid_script.specs.Streams.{Lost as Losing, StandsBehind};
 
 use super::fault::Cause;
-use std::io::Write;
+use super::streams::{Lost, Sink};
 
 /// Writes all the bytes. At a fault, which no text of no bytes has, a front of them is written.
-pub fn write_text<W: Write>(writer: &mut W, text: &[u8]) -> Result<(), Cause>
+pub fn write_text<W: Sink>(writer: &mut W, text: &[u8]) -> Result<(), Cause>
     ensures ok { OnOk result (Appends (W.contents writer.old) (W.contents writer.new) text.now) }
     ensures cause { IfErr result (λ cause. cause ≡ Cause.Write) }
+    ensures lost { IfErr result (λ _. StandsBehind W.calls Losing writer.new) }
     ensures nothing { text.now ≡ [] → result ≡ Ok tt }
     ensures front { AppendsFront (W.contents writer.old) (W.contents writer.new) text.now }
 {
     let mut rest = text;
     while !rest.is_empty() {
         match writer.write(rest) {
-            Ok(0) | Err(_) => return Err(Cause::Write),
             Ok(n) => rest = &rest[n..],
+            Err(Lost) => return Err(Cause::Write),
         }
     }
     Ok(())

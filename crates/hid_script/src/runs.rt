@@ -1,18 +1,19 @@
 //! A whole script, from a reader to a writer.
 
-ghost use Rattle.std.specs.Prelude.{◌≡◌, ◌≤◌, ◌*◌, IfOk};
+ghost use Rattle.std.specs.Prelude.{◌≡◌, ◌≤◌, ◌*◌, [], IfOk};
 ghost use Rattle.hid_script.specs.Runs.{AppendsScript, line_of};
 ghost use Rattle.hid_script.specs.Place.{AppendsFrom};
 ghost use Rattle.hid_script.specs.Script.{place_of};
+ghost use Rattle.hid_script.specs.Streams.{EndsByReads, EndsByWrites, EndsFlushed, LosesText};
 
 use super::fault::{Cause, Options, ScriptFault, Summary};
 use super::interpreter::Interpreter;
 use super::script::Script;
+use super::streams::{Given, Lost, Sink, Source};
 use std::alloc::Global;
-use std::io::{ErrorKind, Read, Write};
 
 /// How often the reader is asked at most.
-const READS: u32 = 1_000_000;
+pub const READS: u32 = 1_000_000;
 
 /// For how many bytes the reader is asked at most.
 const PIECE: usize = 4096;
@@ -24,19 +25,23 @@ const PIECE: usize = 4096;
 /// # Errors
 /// The first fault, at its line. Where the last flush fails, X6 at that line, whatever the fault was: what was told would
 /// else be lost without a word. Of a script that is accepted the line is the one behind the last.
-pub fn run<R: Read, W: Write>(
+pub fn run<R: Source, W: Sink>(
     alloc: Global,
     reader: &mut R,
     writer: &mut W,
     options: Options,
 ) -> Result<Summary, ScriptFault>
-    ensures { AppendsScript options (R.remaining reader.old) (W.contents writer.old)
+    ensures ran { AppendsScript options (R.remaining reader.old) (W.contents writer.old)
         (W.contents writer.new) result }
+    // A fault from outside comes only where a call of the reader or the writer answered so.
+    ensures reads { EndsByReads R.reads reader.old reader.new result }
+    ensures writes { EndsByWrites W.calls writer.new result }
+    ensures flushed { EndsFlushed W.calls writer.new result }
 {
     let end = run_lines(alloc, reader, writer, options);
     match writer.flush() {
         Ok(()) => end,
-        Err(_) => Err(ScriptFault {
+        Err(Lost) => Err(ScriptFault {
             line: line_of(&end),
             cause: Cause::Write,
         }),
@@ -44,18 +49,18 @@ pub fn run<R: Read, W: Write>(
 }
 
 /// The line at which a run ended: behind the last one, where all were run.
-fn line_of(end: &Result<Summary, ScriptFault>) -> u64
+fn line_of(end: &Result<Summary, ScriptFault>) -> usize
     requires { IfOk end.now (λ summary. summary.lines ≤ 4096 * 1000000) }
     ensures { result ≡ line_of end.now }
 {
     match end {
-        Ok(summary) => summary.lines + 1,
+        Ok(summary) => summary.lines as usize + 1,
         Err(fault) => fault.line,
     }
 }
 
 /// The same, without the last flush.
-fn run_lines<R: Read, W: Write>(
+fn run_lines<R: Source, W: Sink>(
     alloc: Global,
     reader: &mut R,
     writer: &mut W,
@@ -64,6 +69,8 @@ fn run_lines<R: Read, W: Write>(
     ensures ran { AppendsScript options (R.remaining reader.old) (W.contents writer.old)
         (W.contents writer.new) result }
     ensures count { IfOk result (λ summary. summary.lines ≤ 4096 * 1000000) }
+    ensures reads { EndsByReads R.reads reader.old reader.new result }
+    ensures writes { LosesText W.calls writer.new result }
 {
     match Interpreter::new(alloc, options) {
         Ok(interpreter) => {
@@ -77,15 +84,18 @@ fn run_lines<R: Read, W: Write>(
 }
 
 /// Runs what the reader gives.
-fn run_pieces<R: Read, W: Write>(
+fn run_pieces<R: Source, W: Sink>(
     script: &mut Script,
     reader: &mut R,
     writer: &mut W,
 ) -> Result<Summary, ScriptFault>
-    requires { script.old.lines ≡ 0 }
+    requires first { script.old.lines ≡ 0 }
+    requires none { script.old.begun.items ≡ [] }
     ensures ran { AppendsFrom (place_of script.old) (R.remaining reader.old) (W.contents writer.old)
         (W.contents writer.new) result }
     ensures count { IfOk result (λ summary. summary.lines ≤ 4096 * 1000000) }
+    ensures reads { EndsByReads R.reads reader.old reader.new result }
+    ensures writes { LosesText W.calls writer.new result }
 {
     let mut piece = [0u8; PIECE];
     for _ in 0..READS {
@@ -93,10 +103,10 @@ fn run_pieces<R: Read, W: Write>(
             return Err(script.fault(Cause::Write));
         }
         match reader.read(&mut piece) {
-            Ok(0) => return script.finish(writer),
-            Ok(n) => script.feed(&piece[..n], writer)?,
-            Err(error) if error.kind() == ErrorKind::Interrupted => {}
-            Err(_) => return Err(script.fault(Cause::Read)),
+            Given::Bytes(0) => return script.finish(writer),
+            Given::Bytes(n) => script.feed(&piece[..n], writer)?,
+            Given::Interrupted => {}
+            Given::Failed => return Err(script.fault(Cause::Read)),
         }
     }
     Err(script.fault(Cause::TooManyReads))

@@ -1,14 +1,15 @@
 //! The lines of a script, from bytes that come in pieces.
 
-ghost use Rattle.std.specs.Prelude.{◌≡◌, ◌+◌, ◌-◌, ◌^◌, ◌<◌, ◌≤◌, [], ◌∷◌, ◌++◌, length, IfOk};
+ghost use Rattle.std.specs.Prelude.{◌≡◌, ◌+◌, ◌-◌, ◌^◌, ◌<◌, ◌≤◌, [], ◌∷◌, ◌++◌, length, IfOk, IfErr};
 ghost use Rattle.std.specs.Str.Lines.{strip_carriage_return};
 ghost use Rattle.hid_script.specs.Place.{IsUnbroken, Takes, AppendsTaken, AppendsRun};
+ghost use Rattle.hid_script.specs.Streams.{EndsLine};
 
 use super::fault::{Cause, ScriptFault, Summary};
 use super::interpreter::Interpreter;
+use super::streams::Sink;
 use arrayvec::ArrayVec;
 use memchr::memchr;
-use std::io::Write;
 
 /// One byte more than a line has: a carriage return may stand before the end.
 const ROOM: usize = 1025;
@@ -40,10 +41,11 @@ impl Script {
     }
 
     /// Takes the next bytes, and runs each line that they end.
-    pub fn feed<W: Write>(&mut self, bytes: &[u8], writer: &mut W) -> Result<(), ScriptFault>
+    pub fn feed<W: Sink>(&mut self, bytes: &[u8], writer: &mut W) -> Result<(), ScriptFault>
         requires { self.old.lines + length bytes.now < 2 ^ 64 - 1 }
         ensures taken { AppendsTaken (W.contents writer.old) (W.contents writer.new)
             (place_of self.old) bytes.now result (place_of self.new) }
+        ensures outside { EndsLine W.calls writer.new result }
         ensures count { self.new.lines ≤ self.old.lines + length bytes.now }
     {
         let mut rest = bytes;
@@ -55,11 +57,12 @@ impl Script {
     }
 
     // The last bytes of a line came, and its line feed.
-    fn take_line<W: Write>(&mut self, bytes: &[u8], writer: &mut W) -> Result<(), ScriptFault>
+    fn take_line<W: Sink>(&mut self, bytes: &[u8], writer: &mut W) -> Result<(), ScriptFault>
         requires room { self.old.lines < 2 ^ 64 - 1 }
         requires unbroken { IsUnbroken bytes.now }
         ensures taken { AppendsTaken (W.contents writer.old) (W.contents writer.new)
             (place_of self.old) (bytes.now ++ 10 ∷ []) result (place_of self.new) }
+        ensures outside { EndsLine W.calls writer.new result }
         ensures count { self.new.lines ≤ self.old.lines + 1 }
     {
         if self.begun.is_empty() {
@@ -70,12 +73,13 @@ impl Script {
     }
 
     // A whole line came: it is run where it stands.
-    fn run_line<W: Write>(&mut self, bytes: &[u8], writer: &mut W) -> Result<(), ScriptFault>
+    fn run_line<W: Sink>(&mut self, bytes: &[u8], writer: &mut W) -> Result<(), ScriptFault>
         requires room { self.old.lines < 2 ^ 64 - 1 }
         requires unbroken { IsUnbroken bytes.now }
         requires first { self.old.begun.items ≡ [] }
         ensures taken { AppendsTaken (W.contents writer.old) (W.contents writer.new)
             (place_of self.old) (bytes.now ++ 10 ∷ []) result (place_of self.new) }
+        ensures outside { EndsLine W.calls writer.new result }
         ensures count { self.new.lines ≤ self.old.lines + 1 }
     {
         let line = without_return(bytes);
@@ -91,6 +95,7 @@ impl Script {
         requires room { self.old.lines < 2 ^ 64 - 1 }
         requires unbroken { IsUnbroken bytes.now }
         ensures taken { Takes (place_of self.old) bytes.now [] result (place_of self.new) }
+        ensures cause { IfErr result (λ fault. fault.cause ≡ Cause.LineTooLong) }
         ensures count { self.new.lines ≡ self.old.lines }
     {
         if bytes.len() > self.begun.remaining_capacity() {
@@ -101,10 +106,11 @@ impl Script {
     }
 
     // A line feed came behind the bytes that were kept.
-    fn end_line<W: Write>(&mut self, writer: &mut W) -> Result<(), ScriptFault>
+    fn end_line<W: Sink>(&mut self, writer: &mut W) -> Result<(), ScriptFault>
         requires { self.old.lines < 2 ^ 64 - 1 }
         ensures taken { AppendsTaken (W.contents writer.old) (W.contents writer.new)
             (place_of self.old) (10 ∷ []) result (place_of self.new) }
+        ensures outside { EndsLine W.calls writer.new result }
         ensures count { self.new.lines ≤ self.old.lines + 1 }
     {
         let line = without_return(self.begun.as_slice());
@@ -117,10 +123,11 @@ impl Script {
     }
 
     /// Runs the line that has begun, if it has a byte: the script is at its end.
-    pub fn finish<W: Write>(&mut self, writer: &mut W) -> Result<Summary, ScriptFault>
+    pub fn finish<W: Sink>(&mut self, writer: &mut W) -> Result<Summary, ScriptFault>
         requires { self.old.lines < 2 ^ 64 - 1 }
         ensures ran { AppendsRun (W.contents writer.old) (W.contents writer.new)
             (place_of self.old) result }
+        ensures outside { EndsLine W.calls writer.new result }
         ensures counted { IfOk result (λ summary. summary.lines ≡ self.new.lines) }
         ensures count { self.new.lines ≤ self.old.lines + 1 }
     {
@@ -150,7 +157,7 @@ impl Script {
         ensures { (result.line ≡ self.now.lines + 1) × (result.cause ≡ cause) }
     {
         ScriptFault {
-            line: self.lines + 1,
+            line: self.lines as usize + 1,
             cause,
         }
     }

@@ -3,7 +3,8 @@
 
 use crate::play::{QUIET, play};
 use crate::verdict::{holds, none_is_wrong};
-use hid_script::{Cause, ReportFault, ScriptFault, StepFault, Summary};
+use hid_cells::ReportFault;
+use hid_script::{Cause, ScriptFault, StepFault, Summary};
 use std::alloc::Global;
 use std::cell::RefCell;
 use std::io;
@@ -176,7 +177,7 @@ fn what_was_told_is_flushed_before_each_read(rt: HostRuntime) -> Result<(), Fail
 }
 
 /// How a run ends: behind so many lines, or at a line for a cause.
-type End = Result<u64, (u64, Cause)>;
+type End = Result<u64, (usize, Cause)>;
 
 fn ending(end: End) -> Result<Summary, ScriptFault> {
     match end {
@@ -269,10 +270,10 @@ fn an_interrupted_read_counts_as_a_read(rt: HostRuntime) -> Result<(), Fail> {
 const TWO_LAYOUTS: [Given; 2] = [Given::Piece("layout\n"), Given::Piece("layout\n")];
 
 /// Behind how many flushes one fails, and the line at which it ends the run.
-const UNREAD: [(usize, u64); 3] = [(0, 1), (1, 2), (2, 3)];
+const UNREAD: [(usize, usize); 3] = [(0, 1), (1, 2), (2, 3)];
 
 /// Whether the flush behind so many ends a run that fails there, before the next read.
-fn is_unread(alloc: Global, given: &[Given], flushes: usize, line: u64) -> bool {
+fn is_unread(alloc: Global, given: &[Given], flushes: usize, line: usize) -> bool {
     let calls = RefCell::new(Vec::new(alloc));
     let end = recorded(alloc, given, flushes, &calls);
     let lost = ScriptFault {
@@ -285,7 +286,7 @@ fn is_unread(alloc: Global, given: &[Given], flushes: usize, line: u64) -> bool 
 }
 
 /// The first row that it doesn't end so.
-fn first_read(alloc: Global, given: &[Given], rows: &[(usize, u64)]) -> Option<usize> {
+fn first_read(alloc: Global, given: &[Given], rows: &[(usize, usize)]) -> Option<usize> {
     for (at, (flushes, line)) in rows.iter().enumerate() {
         if !is_unread(alloc, given, *flushes, *line) {
             return Some(at);
@@ -303,7 +304,7 @@ fn a_flush_that_fails_before_a_read_ends_the_run_at_the_line_that_is_read(
 
 /// How runs end: what reads give, how many there are, whether the writer takes bytes, the line, and the cause if there is
 /// one.
-type Ends = (&'static [Given], Given, usize, bool, u64, Option<Cause>);
+type Ends = (&'static [Given], Given, usize, bool, usize, Option<Cause>);
 
 /// A script that is accepted, X1 to X6 and X9, and a script without a line.
 #[rattlefmt::skip]
@@ -342,7 +343,7 @@ fn flushed(
 }
 
 /// Whether a run was ended by a write, at this line.
-fn is_lost(end: &Result<Summary, ScriptFault>, line: u64) -> bool {
+fn is_lost(end: &Result<Summary, ScriptFault>, line: usize) -> bool {
     let lost = ScriptFault {
         line,
         cause: Cause::Write,

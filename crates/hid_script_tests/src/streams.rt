@@ -111,7 +111,7 @@ impl Read for Endless {
 }
 
 /// Whether a run ended at this line, for this cause.
-fn is_fault(end: &Result<Summary, ScriptFault>, line: u64, cause: Cause) -> bool {
+fn is_fault(end: &Result<Summary, ScriptFault>, line: usize, cause: Cause) -> bool {
     *end == Err(ScriptFault { line, cause })
 }
 
@@ -168,7 +168,7 @@ fn is_left(alloc: Global, sample: &Sample, left: usize) -> bool {
     let ended = ended_in(sample.script.as_bytes(), left);
     match sample.breaks.get(ended) {
         Some(text) => {
-            is_fault(&end, ended as u64 + 1, Cause::Read) && is_front(sample, &written, *text)
+            is_fault(&end, ended + 1, Cause::Read) && is_front(sample, &written, *text)
         }
         None => false,
     }
@@ -202,7 +202,7 @@ fn is_taken(alloc: Global, sample: &Sample, room: usize, fails: bool) -> bool {
     };
     let end = play(alloc, &mut reader, &mut writer, sample.options);
     let ended = sample.ends.iter().filter(|end| **end <= room).count();
-    is_fault(&end, ended as u64 + 1, Cause::Write) && is_front(sample, &writer.taken, room)
+    is_fault(&end, ended + 1, Cause::Write) && is_front(sample, &writer.taken, room)
 }
 
 /// The first number of bytes behind which it leaves others.

@@ -54,7 +54,8 @@ fn run_script(rt: &HostRuntime, options: Options) -> ExitCode {
     match run_buffered(rt, options) {
         Ok(_) => ExitCode::SUCCESS,
         Err(fault) => {
-            let _ = eprintln!(rt; "{fault}");
+            let ScriptFault { line, cause } = fault;
+            let _ = eprintln!(rt; "line {line}: {cause}");
             ExitCode::from(exit_of(&fault))
         }
     }

@@ -1,11 +1,13 @@
-use Rattle.std.proofs.Common.{[], refl, arith, ◌++◌, take}
+use Rattle.std.proofs.Common.{[], refl, arith, ◌++◌, take, add-one, append-nil, ◌∙◌}
 use Rattle.std.proofs.lemmas.List.{length-take}
 use Rattle.std.proofs.KnownBytes.{Appends-nil, Appends-trans, Consumes-nil, Consumes-trans, Consumes-kept}
 use Rattle.hid_script.specs.Runs.{ending_of}
 use Rattle.hid_script.specs.Script.{place_of}
 use Rattle.hid_script.proofs.PlaceLemmas.{whole_run, piece_stops, outside_run, advances_nothing, advances_more}
 use Rattle.hid_script.proofs.FlushLemmas.{kept_written, cut_run}
-use Rattle.hid_script.proofs.runs.run_pieces.Goals.{in-Ok+in_ok-feed-in-Ok, in-Err}
+use Rattle.hid_script.specs.Streams.{Gave, Interrupted}
+use Rattle.hid_script.proofs.StreamLemmas.{stands_in, no_reads, one_read, interrupted_read, all_reads, some_given, ends_at, line_reads, line_writes}
+use Rattle.hid_script.proofs.runs.run_pieces.Goals.{in-Bytes+in_ok-feed-in-Bytes, in-Interrupted}
 use Rattle.hid_script.proofs.runs.run_pieces.Goals as goal
 
 pub returns-then-is_err-clause-ran : goal.returns-then-is_err-clause-ran
@@ -13,45 +15,46 @@ returns-then-is_err-clause-ran g c =
     let before = c.loop.invariant.0 in
     cut_run (place_of c.args.script.now) _ _ _ _ _ before.0 before.1 (place_of c.loop.script) c.fault.result before.2 before.3 before.4 c.flush.ensures.bytes c.fault.ensures.1 c.fault.ensures.0
 
-pub returns-in-Ok-eq0-clause-ran : goal.returns-in-Ok-eq0-clause-ran
-returns-in-Ok-eq0-clause-ran g c =
+pub returns-in-Bytes-eq0-clause-ran : goal.returns-in-Bytes-eq0-clause-ran
+returns-in-Bytes-eq0-clause-ran g c =
     let before = c.loop.invariant.0 in
     let kept = kept_written _ _ _ before.1 before.3 c.flush.ensures.bytes in
     let told = c.finish.ensures.ran in
-    let given = rw c.in-Ok-eq0.is at c.read.ensures.bytes in
-    whole_run (place_of c.args.script.now) _ _ _ _ _ _ before.0 before.1 told.0 _ (place_of c.loop.script) _ before.2 kept before.4 given.0 (rw c.in-Ok-eq0.field-0-test refl) (given.1 c.in-Ok-eq0.field-0-test (omega arith)) told.1 told.2
+    let given = rw c.in-Bytes-eq0.is at c.read.ensures.bytes in
+    whole_run (place_of c.args.script.now) _ _ _ _ _ _ before.0 before.1 told.0 _ (place_of c.loop.script) _ before.2 kept before.4 given.0 (rw c.in-Bytes-eq0.field-0-test refl) (given.1 c.in-Bytes-eq0.field-0-test (omega arith)) told.1 told.2
 
-pub returns-in_err-feed-in-Ok-clause-ran : goal.returns-in_err-feed-in-Ok-clause-ran
-returns-in_err-feed-in-Ok-clause-ran g c =
+pub returns-in_err-feed-in-Bytes-clause-ran : goal.returns-in_err-feed-in-Bytes-clause-ran
+returns-in_err-feed-in-Bytes-clause-ran g c =
     let before = c.loop.invariant.0 in
     let kept = kept_written _ _ _ before.1 before.3 c.flush.ensures.bytes in
-    let told = c.in_err-feed-in-Ok.ensures.taken in
-    piece_stops (place_of c.args.script.now) _ _ _ _ _ _ before.0 before.1 told.0 _ (place_of c.loop.script) c.in_err-feed-in-Ok.field-0.0 _ before.2 kept before.4 c.in-Ok.ensures.bytes.0 told.1 told.2 c.from_residual.ensures.1
+    let told = c.in_err-feed-in-Bytes.ensures.taken in
+    piece_stops (place_of c.args.script.now) _ _ _ _ _ _ before.0 before.1 told.0 _ (place_of c.loop.script) c.in_err-feed-in-Bytes.field-0.0 _ before.2 kept before.4 c.in-Bytes.ensures.bytes.0 told.1 told.2 c.from_residual.ensures.1
 
-pub returns-in-Err-2-clause-ran : goal.returns-in-Err-2-clause-ran
+pub returns-in-Failed-clause-ran : goal.returns-in-Failed-clause-ran
 unfolding ending_of
-returns-in-Err-2-clause-ran g c =
+returns-in-Failed-clause-ran g c =
     let before = c.loop.invariant.0 in
     let kept = kept_written _ _ _ before.1 before.3 c.flush.ensures.bytes in
-    outside_run (place_of c.args.script.now) _ _ _ _ before.0 before.1 (place_of c.loop.script) c.fault-in-Err-2.result before.2 kept before.4 (rw c.fault-in-Err-2.ensures.1 refl) c.fault-in-Err-2.ensures.0
+    outside_run (place_of c.args.script.now) _ _ _ _ before.0 before.1 (place_of c.loop.script) c.fault-in-Failed.result before.2 kept before.4 (rw c.fault-in-Failed.ensures.1 refl) c.fault-in-Failed.ensures.0
 
 pub loop-preserved : goal.loop-preserved
 loop-preserved g c =
     let before = c.loop.invariant.0 in
     let kept = kept_written _ _ _ before.1 before.3 c.flush.ensures.bytes in
     elim c.match-read.branch [
-      | in-Ok+in_ok-feed-in-Ok w ↦
-          let told = w.in_ok-feed-in-Ok.ensures.taken in rw (w.writer-is, w.script-is) (
+      | in-Bytes+in_ok-feed-in-Bytes w ↦
+          let told = w.in_ok-feed-in-Bytes.ensures.taken in rw (w.writer-is, w.script-is) (
             (
-              before.0 ++ take w.in-Ok.n c.read.new.buf,
+              before.0 ++ take w.in-Bytes.n c.read.new.buf,
               before.1 ++ told.0,
-              Consumes-trans _ _ _ _ _ before.2 w.in-Ok.ensures.bytes.0,
+              Consumes-trans _ _ _ _ _ before.2 w.in-Bytes.ensures.bytes.0,
               Appends-trans _ _ _ _ _ kept told.1,
               advances_more _ (place_of c.loop.script) _ _ _ _ _ before.4 told.2,
+              rw add-one (one_read _ _ _ _ _ before.0 (Gave (take w.in-Bytes.n c.read.new.buf)) before.5 w.in-Bytes.ensures.answer (some_given _ _ w.in-Bytes.n-test.1 w.in-Bytes.ensures.bound.0)),
             ),
-            omega (arith, w.in_ok-feed-in-Ok.ensures.count, length-take w.in-Ok.n c.read.new.buf),
+            omega (arith, w.in_ok-feed-in-Bytes.ensures.count, length-take w.in-Bytes.n c.read.new.buf),
           )
-      | in-Err w ↦ rw (w.writer-is, w.script-is) ((before.0, before.1, Consumes-kept _ _ _ before.0 before.2 w.in-Err.ensures.bytes, kept, before.4), omega (arith, c.loop.invariant.1))
+      | in-Interrupted w ↦ rw (w.writer-is, w.script-is) ((before.0, before.1, Consumes-kept _ _ _ before.0 before.2 w.in-Interrupted.ensures.bytes, kept, before.4, rw add-one (interrupted_read _ _ _ _ _ before.0 before.5 w.in-Interrupted.ensures.answer)), omega (arith, c.loop.invariant.1))
     ]
 
 pub returns-clause-ran : goal.returns-clause-ran
@@ -61,4 +64,33 @@ returns-clause-ran g c =
     outside_run (place_of c.args.script.now) _ _ _ _ before.0 before.1 (place_of c.loop.script) c.fault-2.result before.2 before.3 before.4 (rw c.fault-2.ensures.1 refl) c.fault-2.ensures.0
 
 pub loop-init : goal.loop-init
-loop-init g c = (([], [], Consumes-nil _, Appends-nil _, advances_nothing (place_of c.args.script.now)), omega (arith, c.requires))
+loop-init g c = (([], [], Consumes-nil _, Appends-nil _, advances_nothing (place_of c.args.script.now), no_reads _ _), omega (arith, c.requires.first))
+
+-- ---- what ends a run from outside
+
+pub returns-then-is_err-clause-reads : goal.returns-then-is_err-clause-reads
+returns-then-is_err-clause-reads g c = rw c.fault.ensures.1 tt
+
+pub returns-in-Bytes-eq0-clause-reads : goal.returns-in-Bytes-eq0-clause-reads
+returns-in-Bytes-eq0-clause-reads g c = line_reads g.R.Source.reads c.args.reader.now c.read.new.self g.W.Sink.calls c.finish.new.writer _ c.finish.ensures.outside
+
+pub returns-in-Bytes-eq0-clause-writes : goal.returns-in-Bytes-eq0-clause-writes
+returns-in-Bytes-eq0-clause-writes g c = line_writes g.W.Sink.calls c.finish.new.writer _ c.finish.ensures.outside
+
+pub returns-in_err-feed-in-Bytes-clause-reads : goal.returns-in_err-feed-in-Bytes-clause-reads
+returns-in_err-feed-in-Bytes-clause-reads g c = line_reads g.R.Source.reads c.args.reader.now c.read.new.self g.W.Sink.calls c.feed.new.writer _ (ends_at g.W.Sink.calls c.feed.new.writer c.in_err-feed-in-Bytes.field-0.0 _ c.in_err-feed-in-Bytes.ensures.outside c.from_residual.ensures.1)
+
+pub returns-in_err-feed-in-Bytes-clause-writes : goal.returns-in_err-feed-in-Bytes-clause-writes
+returns-in_err-feed-in-Bytes-clause-writes g c = line_writes g.W.Sink.calls c.feed.new.writer _ (ends_at g.W.Sink.calls c.feed.new.writer c.in_err-feed-in-Bytes.field-0.0 _ c.in_err-feed-in-Bytes.ensures.outside c.from_residual.ensures.1)
+
+pub returns-in-Failed-clause-reads : goal.returns-in-Failed-clause-reads
+returns-in-Failed-clause-reads g c =
+    let before = c.loop.invariant.0 in
+    let line = c.fault-in-Failed.ensures.0 ∙ stands_in (place_of c.args.script.now) (place_of c.loop.script) before.0 before.1 c.requires.none c.requires.first c.loop.script.unbroken before.4 in
+    rw c.fault-in-Failed.ensures.1 (c.loop.counter, before.0, c.loop.reader, before.5, c.in-Failed.ensures.answer, line)
+
+pub returns-clause-reads : goal.returns-clause-reads
+returns-clause-reads g c =
+    let before = c.loop.invariant.0 in
+    let line = c.fault-2.ensures.0 ∙ stands_in (place_of c.args.script.now) (place_of c.loop.script) before.0 before.1 c.requires.none c.requires.first c.loop.script.unbroken before.4 in
+    rw c.fault-2.ensures.1 (before.0, all_reads _ _ _ _ _ before.5 c.loop.auto.counter-end c.loop-test.false, line)

@@ -3,46 +3,46 @@ use Rattle.std.proofs.lemmas.Int.{to_z-of_z}
 use Rattle.hid_script.specs.Telling.{Once}
 use Rattle.hid_script.proofs.interpreter.Interpreter.carry_out_once.Goals as goal
 
-pub returns-in-Press : goal.returns-in-Press
+pub returns-in-Press-clause-told : goal.returns-in-Press-clause-told
 unfolding Once
-returns-in-Press g c = rw c.in-Press.is c.change.ensures
+returns-in-Press-clause-told g c = rw c.in-Press.is c.change.ensures.told
 
-pub returns-in-Release : goal.returns-in-Release
+pub returns-in-Release-clause-told : goal.returns-in-Release-clause-told
 unfolding Once
-returns-in-Release g c = rw c.in-Release.is c.change-in-Release.ensures
+returns-in-Release-clause-told g c = rw c.in-Release.is c.change-in-Release.ensures.told
 
-pub returns-in-Null : goal.returns-in-Null
+pub returns-in-Null-clause-told : goal.returns-in-Null-clause-told
 unfolding Once
-returns-in-Null g c = rw c.in-Null.is c.change-in-Null.ensures
+returns-in-Null-clause-told g c = rw c.in-Null.is c.change-in-Null.ensures.told
 
-pub returns-in-Set : goal.returns-in-Set
+pub returns-in-Set-clause-told : goal.returns-in-Set-clause-told
 unfolding Once
-returns-in-Set g c =
+returns-in-Set-clause-told g c =
     let kept : to_z w64 (of_z w64 c.in-Set.value) ≡ c.in-Set.value = search (rules, to_z-of_z) in
-    rw c.in-Set.is (rw kept at c.change-in-Set.ensures)
+    rw c.in-Set.is (rw kept at c.change-in-Set.ensures.told)
 
-pub returns-in-Move : goal.returns-in-Move
+pub returns-in-Move-clause-told : goal.returns-in-Move-clause-told
 unfolding Once
-returns-in-Move g c =
+returns-in-Move-clause-told g c =
     let kept : to_z w32 (of_z w32 c.in-Move.by) ≡ c.in-Move.by = search (rules, to_z-of_z) in
-    rw c.in-Move.is (rw kept at c.change-in-Move.ensures)
+    rw c.in-Move.is (rw kept at c.change-in-Move.ensures.told)
 
-pub returns-in-Poll : goal.returns-in-Poll
+pub returns-in-Poll-clause-told : goal.returns-in-Poll-clause-told
 unfolding Once
-returns-in-Poll g c = rw c.in-Poll.is c.poll.ensures
+returns-in-Poll-clause-told g c = rw c.in-Poll.is c.poll.ensures.told
 
-pub returns-in-Control : goal.returns-in-Control
+pub returns-in-Control-clause-told : goal.returns-in-Control-clause-told
 unfolding Once
-returns-in-Control g c = rw c.in-Control.is c.control.ensures
+returns-in-Control-clause-told g c = rw c.in-Control.is c.control.ensures.told
 
-pub returns-in-Frame : goal.returns-in-Frame
+pub returns-in-Frame-clause-told : goal.returns-in-Frame-clause-told
 unfolding Once
-returns-in-Frame g c = rw c.in-Frame.is c.frame.ensures
+returns-in-Frame-clause-told g c = rw c.in-Frame.is c.frame.ensures.told
 
-pub returns-in-Reset : goal.returns-in-Reset
+pub returns-in-Reset-clause-told : goal.returns-in-Reset-clause-told
 unfolding Once
-returns-in-Reset g c = rw c.in-Reset.is c.reset.ensures
+returns-in-Reset-clause-told g c = rw c.in-Reset.is c.reset.ensures.told
 
-pub returns-in-Halt : goal.returns-in-Halt
+pub returns-in-Halt-clause-told : goal.returns-in-Halt-clause-told
 unfolding Once
-returns-in-Halt g c = rw c.in-Halt.is c.halt.ensures
+returns-in-Halt-clause-told g c = rw c.in-Halt.is c.halt.ensures.told

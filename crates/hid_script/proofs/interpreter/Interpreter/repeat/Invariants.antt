@@ -8,5 +8,5 @@ use Rattle.hid_script.proofs.interpreter.Interpreter.repeat.Given as goal
 
 -- what is written was told by the times so far
 abbrev pub invariant-loop : goal.invariant-loop
-invariant-loop g l = (written : List ℕ) × Appends (g.W.Write.contents l.fn.writer) (g.W.Write.contents l.writer) written
+invariant-loop g l = (written : List ℕ) × Appends (g.W.Sink.contents l.fn.writer) (g.W.Sink.contents l.writer) written
     × Repeats l.counter (Once (line_of l.line)) (session_of l.fn.self) (accepted written (session_of l.self))

@@ -3,5 +3,5 @@ use Rattle.hid_script.specs.Interpreter.{session_of}
 use Rattle.hid_script.proofs.SessionLemmas.{line_written}
 use Rattle.hid_script.proofs.interpreter.Interpreter.run_line.Goals as goal
 
-pub returns-in-Some : goal.returns-in-Some
-returns-in-Some g c = line_written _ _ (session_of c.args.self.now) c.args.line.now (line_of c.in-Some.line) _ _ c.in-Some.ensures c.repeat.ensures
+pub returns-in-Some-clause-told : goal.returns-in-Some-clause-told
+returns-in-Some-clause-told g c = line_written _ _ (session_of c.args.self.now) c.args.line.now (line_of c.in-Some.line) _ _ c.in-Some.ensures c.repeat.ensures.told

@@ -1,0 +1,93 @@
+//! What a run reads and writes, by traits whose contracts name what each call answered.
+
+ghost use Rattle.std.specs.Prelude.{◌≡◌, ◌<◌, ℕ, List, Option, None, IfOk};
+ghost use Rattle.std.specs.Io.{ReadsAtMost, WritesAtMost};
+ghost use Rattle.std.specs.Io.KnownBytes.{Keeps, ReadConsumes, WriteAppends};
+ghost use Rattle.hid_script.specs.Streams.{Answer, answer_of, count_of, TellsAnswer, Reply, write_reply, flush_reply, TellsReply};
+
+use std::io::{ErrorKind, Read, Write};
+
+/// What a read answered.
+#[derive(Clone, Copy)]
+pub enum Given {
+    /// So many bytes stand first in the buffer. None end a script.
+    Bytes(usize),
+    /// It was interrupted, and may be tried again.
+    Interrupted,
+    /// It failed.
+    Failed,
+}
+
+/// A write or a flush failed, or a write took no byte.
+#[derive(Clone, Copy)]
+pub struct Lost;
+
+/// A reader, of which contracts name what each read answered. Each [`Read`] is one.
+pub trait Source {
+    // The bytes that reads will give from here on, where they are known.
+    ghost remaining: { Self → Option (List ℕ) } = { λ _. None };
+
+    // A read from one state may answer so, and leave the other.
+    ghost reads: { Self → Answer → Self → Type 0 };
+
+    /// Reads some bytes into the first places of a buffer.
+    fn read(&mut self, buf: &mut [u8]) -> Given
+        ensures bound { ReadsAtMost (count_of result) buf.new }
+        ensures bytes { ReadConsumes (remaining self.old) (remaining self.new) (count_of result) buf.new }
+        ensures answer { reads self.old (answer_of result buf.new) self.new };
+}
+
+impl<R: Read> Source for R {
+    ghost remaining = { R.remaining };
+
+    ghost reads = { λ before answer after. TellsAnswer (R.remaining before) answer (R.remaining after) };
+
+    fn read(&mut self, buf: &mut [u8]) -> Given {
+        match Read::read(self, buf) {
+            Ok(n) => Given::Bytes(n),
+            Err(error) if error.kind() == ErrorKind::Interrupted => Given::Interrupted,
+            Err(_) => Given::Failed,
+        }
+    }
+}
+
+/// A writer, of which contracts name what each call answered. Each [`Write`] is one.
+pub trait Sink {
+    // The bytes that the writer holds, where they are known.
+    ghost contents: { Self → Option (List ℕ) } = { λ _. None };
+
+    // A call in one state may answer so, and leave the other.
+    ghost calls: { Self → Reply → Self → Type 0 };
+
+    /// Takes some of the first bytes of a text, one at least.
+    fn write(&mut self, text: &[u8]) -> Result<usize, Lost>
+        ensures bound { WritesAtMost result text.now }
+        ensures some { IfOk result (λ n. 0 < n) }
+        ensures bytes { WriteAppends (contents self.old) (contents self.new) result text.now }
+        ensures call { calls self.old (write_reply result text.now) self.new };
+
+    /// Hands on all that it took.
+    fn flush(&mut self) -> Result<(), Lost>
+        ensures bytes { Keeps (contents self.old) (contents self.new) }
+        ensures call { calls self.old (flush_reply result) self.new };
+}
+
+impl<W: Write> Sink for W {
+    ghost contents = { W.contents };
+
+    ghost calls = { λ before reply after. TellsReply (W.contents before) reply (W.contents after) };
+
+    fn write(&mut self, text: &[u8]) -> Result<usize, Lost> {
+        match Write::write(self, text) {
+            Ok(0) | Err(_) => Err(Lost),
+            Ok(n) => Ok(n),
+        }
+    }
+
+    fn flush(&mut self) -> Result<(), Lost> {
+        match Write::flush(self) {
+            Ok(()) => Ok(()),
+            Err(_) => Err(Lost),
+        }
+    }
+}
