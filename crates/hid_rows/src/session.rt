@@ -11,7 +11,7 @@ use test_sheets::{
 };
 
 /// The most places of a table.
-const PLACES: usize = 8;
+const PLACES: usize = 128;
 
 const NO_EVENT: HidEvent = HidEvent {
     value: 0,

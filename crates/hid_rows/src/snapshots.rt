@@ -110,11 +110,11 @@ pub fn fix(
 fn encoded<F: FieldCodec>(layout: &Layout, parts: &Shown, report: usize) -> ArrayVec<u8, 256>
     requires { FitsShown (items_of layout.now) parts.now }
 {
-    let mut bytes = ArrayVec::new();
     if is_input(layout, report) && has_zeros(layout) && has_empty_codes(layout) {
-        encode_report::<F>(layout, report, parts, &mut bytes);
+        encode_report::<F>(layout, report, parts)
+    } else {
+        ArrayVec::new()
     }
-    bytes
 }
 
 /// The bytes of a report's part, by both codecs.

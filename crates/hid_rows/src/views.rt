@@ -169,7 +169,7 @@ fn tell_changes(
     requires new { FitsView (items_of layout.now) new.now }
 {
     let mut events = room_of(alloc, layout)?;
-    changes(layout, old.cells(), new.cells(), &mut events);
+    changes(layout, old, new, &mut events);
     tell_events(told, &events)
 }
 
@@ -219,14 +219,7 @@ fn tell_drops(
         return tell(told, "no report");
     }
     let mut events = room_of(alloc, layout)?;
-    changes_and_drops(
-        layout,
-        view.cells(),
-        initial.cells(),
-        report,
-        parts,
-        &mut events,
-    );
+    changes_and_drops(layout, view, initial, report, parts, &mut events);
     tell_events(told, &events)
 }
 

@@ -1,1 +1,1 @@
-pub mod ElementLemmas
+pub mod Vectors

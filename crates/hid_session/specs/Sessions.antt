@@ -2,7 +2,8 @@
 use Rattle.std.specs.Prelude.{◌≡◌, ℕ, ◌<◌, ◌≤◌, List, ◌++◌, length, map, drop, Result, Ok, Err}
 use Rattle.hid_descriptor.specs.Items.{Spelled}
 use Rattle.hid_descriptor.specs.Faults.{Accepts}
-use Rattle.hid_layout.specs.Layout.{layout_of}
+use Rattle.hid_descriptor.specs.declared.fault.LayoutFault.{LayoutFault}
+use Rattle.hid_layout.specs.Layout.{Contents, layout_of}
 use Rattle.hid_layout.specs.Controls.{items_of, max_events}
 use Rattle.hid_cells.specs.Cells.{blank}
 use Rattle.hid_views.specs.Reading.{report_named}
@@ -18,6 +19,11 @@ abbrev pub IsFirst : List ℕ → State → Type 0
 IsFirst bytes s =
     (before : List Spelled) × Accepts bytes before × (s.layout ≡ layout_of before)
     × (s.view ≡ blank (items_of s.layout))
+
+-- the session of a layout, with a blank view; of a fault there is none
+abbrev pub IsFirstOf : Result Contents LayoutFault → State → Type 0
+IsFirstOf (Ok layout) s = (s.layout ≡ layout) × (s.view ≡ blank (items_of layout))
+IsFirstOf (Err fault) s = ⊥
 
 -- the most events that a report of the device tells
 abbrev pub room_of : State → ℕ

@@ -138,7 +138,7 @@ fn told_element(
         item: item as u64,
         index: j as u64,
         collections: layout.path(item).len() as u64,
-        bit: first + element.bit,
+        bit: first + element.bit as u32,
         width: element.width,
         usages: usage_count(entries) as u32,
         page: usage.page,

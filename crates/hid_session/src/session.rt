@@ -1,13 +1,14 @@
 //! A device whose reports are read: its descriptor once, then one report at a time.
 
-ghost use Rattle.std.specs.Prelude.{◌≡◌, ◌≤◌, IfOk, IfErr, IfSome, vec_capacity};
+ghost use Rattle.std.specs.Prelude.{◌≡◌, ◌≤◌, Ok, Err, IfOk, IfErr, IfSome, vec_capacity};
 ghost use Rattle.hid_descriptor.specs.Faults.{Explains};
+ghost use Rattle.hid_layout.specs.Layout.{Contents};
 ghost use Rattle.hid_layout.specs.Controls.{items_of, max_events};
 ghost use Rattle.hid_layout.specs.Reports.{IsLayout};
 ghost use Rattle.hid_cells.specs.Cells.{FitsView, blank};
 ghost use Rattle.hid_cells.specs.Snapshots.{is_pressed, cell_at};
 ghost use Rattle.hid_cells.specs.Views.{value_in};
-ghost use Rattle.hid_session.specs.Sessions.{IsFirst, Feeds};
+ghost use Rattle.hid_session.specs.Sessions.{IsFirst, IsFirstOf, Feeds};
 
 use crate::event::{HidEvent, put_events};
 use hid_fields::WordCodec;
@@ -75,7 +76,16 @@ impl Session {
         // Memory was wanting, or this is the one refusal.
         ensures err { IfErr result (λ f. Explains descriptor.now f.cause f.at) }
     {
-        let layout = Layout::parse(alloc, descriptor)?;
+        Session::of_layout(alloc, Layout::parse(alloc, descriptor))
+    }
+
+    /// A session of the layout, with a blank view. A fault in the layout's place is handed on as it is.
+    fn of_layout(alloc: Global, laid: Result<Layout, LayoutFault>) -> Result<Session, LayoutFault>
+        ensures ok { IfOk result (λ session. IsFirstOf laid session) }
+        ensures fault { (f : LayoutFault) → laid ≡ Err f → result ≡ Err f }
+        ensures memory { (c : Contents) → laid ≡ Ok c → IfErr result (λ f. f ≡ record { cause = Cause.Memory; at = 0 }) }
+    {
+        let layout = laid?;
         match blank(alloc, &layout) {
             Some((view, events)) => Ok(Session {
                 reader: Reader::new(layout, view),

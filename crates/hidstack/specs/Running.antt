@@ -56,6 +56,8 @@ Misses options script out out' fault fault' ran =
     (written : List ℕ) × (answer : Result Summary ScriptFault) × RunsScript options script written answer
     × (out' ≡ out) × (fault' ≡ fault) × (ran ≡ ran_as answer written) × IsShort written out (fault_told answer) fault
 
--- memory was wanting for the line that names the fault, and nothing is written
-abbrev pub Wants : List ℕ → List ℕ → List ℕ → List ℕ → HidRan → Type 0
-Wants out out' fault fault' ran = (out' ≡ out) × (fault' ≡ fault) × (ran ≡ record { line = 0; told = 0; fault = 0 })
+-- the run ended early, memory was wanting for the line that names its fault, and nothing is written
+abbrev pub Wants : Options → List ℕ → List ℕ → List ℕ → List ℕ → List ℕ → HidRan → Type 0
+Wants options script out out' fault fault' ran =
+    ((written : List ℕ) × (wrong : ScriptFault) × RunsScript options script written (Err wrong))
+    × (out' ≡ out) × (fault' ≡ fault) × (ran ≡ record { line = 0; told = 0; fault = 0 })

@@ -21,12 +21,12 @@ TellsText text out status out' told =
 abbrev pub Leaves : ℕ → List ℕ → ℕ → List ℕ → ℕ → Type 0
 Leaves why out status out' told = (status ≡ why) × (out' ≡ out) × (told ≡ 0)
 
--- the code of the cause with this number; none has it, or memory was wanting
+-- the code of the cause with this number, or memory was wanting for it; or none has that number
 abbrev pub TellsCause : ℕ → List ℕ → ℕ → List ℕ → ℕ → Type 0
 TellsCause number out status out' told =
-    ((cause : Cause) × (cause_number cause ≡ number) × TellsText (code_of cause) out status out' told)
-    ⊎ ((((cause : Cause) → cause_number cause ≡ number → ⊥) × Leaves NONE out status out' told)
-    ⊎ Leaves MEMORY out status out' told)
+    ((cause : Cause) × (cause_number cause ≡ number)
+    × (TellsText (code_of cause) out status out' told ⊎ Leaves MEMORY out status out' told))
+    ⊎ (((cause : Cause) → cause_number cause ≡ number → ⊥) × Leaves NONE out status out' told)
 
 -- the text of a usage, or memory was wanting
 abbrev pub TellsUsage : List ℕ → List ℕ → ℕ → List ℕ → ℕ → Type 0

@@ -84,7 +84,8 @@ pub extern "C" fn hidstack_run(
         fault.old fault.new ran.new }
     ensures missed { result ≡ NO_ROOM → Misses (options_of options) script.now out.old out.new
         fault.old fault.new ran.new }
-    ensures memory { result ≡ MEMORY → Wants out.old out.new fault.old fault.new ran.new }
+    ensures memory { result ≡ MEMORY → Wants (options_of options) script.now out.old out.new
+        fault.old fault.new ran.new }
 {
     *ran = HidRan {
         line: 0,
@@ -103,7 +104,7 @@ pub extern "C" fn hidstack_run(
         }
         Err(wrong) => match fault_line(alloc, &wrong) {
             Ok(text) => {
-                ran.line = wrong.line;
+                ran.line = wrong.line as u64;
                 ran.told = told.len() as u64;
                 ran.fault = text.len() as u64;
                 if put_both(&told, &text, out, fault) {

@@ -1,0 +1,40 @@
+-- The numbers of include/hidstack.h, written out: a constant of another value fails the check.
+use Rattle.std.specs.Prelude.{◌≡◌, true, false, refl}
+use Rattle.hid_script.specs.declared.fault.Options.{Options}
+use Rattle.hidstack.specs.declared.status.TheConstants.{OK, REFUSED, BUSY, CLOSED, NO_ROOM, SHORT, UNKNOWN, NONE, MEMORY}
+use Rattle.hidstack.specs.Running.{options_of}
+
+-- option 1 tells layouts
+option_of_layouts : options_of 1 ≡ record { layout = true; trace = false }
+option_of_layouts = refl
+
+-- option 2 tells polls
+option_of_polls : options_of 2 ≡ record { layout = false; trace = true }
+option_of_polls = refl
+
+ok : OK ≡ 0
+ok = refl
+
+refused : REFUSED ≡ 1
+refused = refl
+
+busy : BUSY ≡ 2
+busy = refl
+
+closed : CLOSED ≡ 3
+closed = refl
+
+no_room : NO_ROOM ≡ 4
+no_room = refl
+
+short : SHORT ≡ 5
+short = refl
+
+unknown : UNKNOWN ≡ 6
+unknown = refl
+
+none : NONE ≡ 7
+none = refl
+
+memory : MEMORY ≡ 8
+memory = refl
