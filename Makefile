@@ -20,11 +20,11 @@ run: $(HIDRUN)
 	$(HIDRUN) < examples/layouts/mouse.script
 
 # Looks whether all that documents cite is there, each wrong body finds its text and each file is in the layout; proves,
-# tests and builds everything from nothing, and runs each example on the program that it built, and those of the C library
-# where there is a C compiler.
+# tests and builds everything from nothing, fails where a wrong body couldn't be tried, and runs each example on the program
+# that it built, and those of the C library where there is a C compiler.
 test:
 	$(MAKE) --no-print-directory documents layout
-	rt ci
+	tools/gate
 	$(MAKE) --no-print-directory hidrun hidplay hidmap examples memory
 	if tools/archive hidstack; then $(MAKE) --no-print-directory library-test; fi
 
@@ -168,10 +168,11 @@ examples: $(HIDRUN) $(HIDPLAY) $(HIDMAP) $(BENCH)
 	tools/check-rows $(HIDRUN)
 
 # Looks whether each file, function, clause, definition and wrong body that documents cite is there, and then whether it
-# tells a wrong name.
+# tells a wrong name; and whether tools/compare-statements tells a statement that was weakened.
 documents:
 	tools/check-documents
 	tools/check-documents --self-test
+	tools/compare-statements --self-test
 
 # Looks whether each file of code, definitions and proofs is as `rt fmt` writes it, which the gate says only when it comes to
 # the crate.

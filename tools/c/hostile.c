@@ -376,6 +376,18 @@ static void words(void)
         }
 }
 
+/* A script of 1,500 empty lines, and one that is refused behind them. */
+static void late_line(void)
+{
+    static const char fault[] = "line 1501: X1\n";
+    uint8_t script[1501], line[sizeof fault - 1];
+    struct hidstack_ran ran;
+    memset(script, '\n', sizeof script);
+    script[sizeof script - 1] = 'x';
+    want("a late line", hidstack_run(script, sizeof script, 0, NULL, 0, line, sizeof line, &ran), HIDSTACK_REFUSED);
+    want("its number", ran.line == 1501 && ran.fault == sizeof line && memcmp(line, fault, sizeof line) == 0, 1);
+}
+
 static void runs(void)
 {
     static const char script[] = "layout 05 01 09 30 15 81 25 7F 75 08 95 01 81 06\nvalues 81\nnonsense\n";
@@ -391,6 +403,8 @@ static void runs(void)
     want("too little room", hidstack_run(bytes, sizeof script - 1, 0, out, sizeof out - 1, line, sizeof line, &ran), HIDSTACK_NO_ROOM);
     want("all three are told", ran.told == sizeof out && ran.fault == sizeof line && ran.line == 3, 1);
     want("no line", hidstack_run(NULL, 0, 0, NULL, 0, NULL, 0, &ran), HIDSTACK_OK);
+    want("options that there aren't", hidstack_run(bytes, sizeof script - 10, ~3u, out, sizeof out, NULL, 0, &ran), HIDSTACK_OK);
+    late_line();
 }
 
 int main(void)
