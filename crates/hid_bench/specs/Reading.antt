@@ -1,7 +1,7 @@
 -- What a host has read of a device, and what reading one report makes of it (HID 1.11, 5.6 and 8).
 use Rattle.std.specs.Prelude.{◌≡◌, ℕ, List, length, Result, Ok, Err}
 use Rattle.hid_layout.specs.Layout.{Contents}
-use Rattle.hid_cells.specs.declared.cell.Cell.{Cell}
+use Rattle.hid_snapshots.specs.declared.cell.Cell.{Cell}
 use Rattle.hid_views.specs.Reading.{report_named}
 use Rattle.hid_views.specs.Taking.{read_view, read_events}
 use Rattle.hid_bench.specs.declared.fault.BenchFault.{BenchFault}

@@ -2,8 +2,8 @@
 
 ghost use Rattle.std.specs.Prelude.{◌≡◌, ◌<◌, true, IfOk};
 ghost use Rattle.hid_layout.specs.Controls.{items_of};
-ghost use Rattle.hid_cells.specs.Parts.{IsInput, has_zeros};
-ghost use Rattle.hid_cells.specs.Codes.{has_empty_codes};
+ghost use Rattle.hid_snapshots.specs.Parts.{IsInput, has_zeros};
+ghost use Rattle.hid_snapshots.specs.Codes.{has_empty_codes};
 ghost use Rattle.hid_usages.specs.Cells.{FitsSnapshot, FitsShown};
 
 use crate::fault::BenchFault;
@@ -11,7 +11,7 @@ use crate::reading::parsed;
 use arrayvec::ArrayVec;
 use hid_fields::WordCodec;
 use hid_layout::{Control, ControlId, ControlKind, Layout, Usage};
-use hid_parts::write_report;
+use hid_snapshots::write_report;
 use hid_usages::{Shown, Snapshot, has_empty_codes, has_zeros, is_input};
 use std::alloc::Global;
 use std::marker::Model;
@@ -28,8 +28,8 @@ impl Model for Writing {
     ghost use Rattle.std.specs.Prelude.{◌≡◌, true};
     ghost use Rattle.hid_layout.specs.Controls.{items_of};
     ghost use Rattle.hid_usages.specs.Cells.{FitsShown};
-    ghost use Rattle.hid_cells.specs.Parts.{IsInput, has_zeros};
-    ghost use Rattle.hid_cells.specs.Codes.{has_empty_codes};
+    ghost use Rattle.hid_snapshots.specs.Parts.{IsInput, has_zeros};
+    ghost use Rattle.hid_snapshots.specs.Codes.{has_empty_codes};
     ghost use Rattle.hid_bench.specs.Writing.{Part};
 
     ghost Value = { Part };
@@ -89,7 +89,7 @@ pub fn control_of(layout: &Layout, word: &[u8]) -> Result<ControlId, BenchFault>
 }
 
 impl Writing {
-    ghost use Rattle.hid_parts.specs.Encoded.{part_bytes};
+    ghost use Rattle.hid_snapshots.specs.Encoded.{part_bytes};
 
     /// Reads a report descriptor, changes the controls of these usages, and shows them in the report of the first one.
     pub fn open(

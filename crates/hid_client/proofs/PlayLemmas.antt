@@ -2,7 +2,7 @@
 use Rattle.std.proofs.Common.{◌≡◌, ◌++◌, ◌+◌, ◌∙◌, ◌∷◌, ℕ, Bool, List, [], Ok, Some, refl, replicate, length, sym, ap, subst}
 use Rattle.hid_layout.specs.declared.control.ControlId.{ControlId}
 use Rattle.hid_layout.specs.Controls.{Item, items_of}
-use Rattle.hid_cells.specs.declared.cell.Cell.{Cell}
+use Rattle.hid_snapshots.specs.declared.cell.Cell.{Cell}
 use Rattle.hid_usages.specs.Cells.{blank}
 use Rattle.hid_usages.specs.Snapshots.{is_pressed, cell_at}
 use Rattle.hid_device.specs.declared.config.Config.{Config}

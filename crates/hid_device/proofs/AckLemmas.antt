@@ -4,9 +4,9 @@ use Rattle.std.specs.Prelude.{IfSome, nat_le, unwrap_or, if◌then◌else◌}
 use Rattle.std.proofs.lemmas.Bool.Decides.{nat_tests}
 use Rattle.hid_layout.specs.Controls.{Item, items_of}
 use Rattle.hid_layout.specs.Layout.{Contents}
-use Rattle.hid_cells.specs.declared.cell.Cell.{Cell}
-use Rattle.hid_cells.specs.Pieces.{piece_of, pieces_of}
-use Rattle.hid_parts.specs.Encoded.{part_bytes}
+use Rattle.hid_snapshots.specs.declared.cell.Cell.{Cell}
+use Rattle.hid_snapshots.specs.Pieces.{piece_of, pieces_of}
+use Rattle.hid_snapshots.specs.Encoded.{part_bytes}
 use Rattle.usb_transact.specs.Device.{toggle_behind}
 use Rattle.hid_device.specs.Inputs.{input_count}
 use Rattle.hid_device.specs.Standing.{Standing, cut_at}

@@ -2,10 +2,10 @@
 use Rattle.std.proofs.Common.{◌≡◌, ℕ, Bool, true, false, List, Option, Some, None, refl, ap}
 use Rattle.std.specs.Prelude.{if◌then◌else◌, Result, Ok, Err}
 use Rattle.hid_layout.specs.Controls.{items_of}
-use Rattle.hid_cells.specs.declared.cell.Cell.{Cell}
-use Rattle.hid_cells.specs.declared.change.Change.{Change}
-use Rattle.hid_cells.specs.declared.change.ChangeFault.{ChangeFault}
-use Rattle.hid_cells.specs.Snapshots.{changed}
+use Rattle.hid_snapshots.specs.declared.cell.Cell.{Cell}
+use Rattle.hid_snapshots.specs.declared.change.Change.{Change}
+use Rattle.hid_snapshots.specs.declared.change.ChangeFault.{ChangeFault}
+use Rattle.hid_snapshots.specs.Snapshots.{changed}
 use Rattle.usb_packet.specs.declared.packet.Packet.{Packet}
 use Rattle.usb_packet.specs.declared.packet.Packet.TheVariants.{Token, Data, Ack, Nak, Stall}
 use Rattle.usb_control.specs.SetupBytes.{setup_of}

@@ -3,7 +3,7 @@ use Rattle.std.proofs.Common.{◌≡◌, ℕ, zero, suc, ◌+◌, ◌-◌, ◌<�
 use Rattle.std.specs.Prelude.{nat_eq, ◌||◌}
 use Rattle.std.specs.List.{find, range_with_len}
 use Rattle.hid_layout.specs.Controls.{Item}
-use Rattle.hid_cells.specs.Parts.{is_changed}
+use Rattle.hid_snapshots.specs.Parts.{is_changed}
 use Rattle.hid_device.specs.Standing.{Standing, is_due, due_where, first_due}
 use Rattle.std.proofs.lemmas.Grind.{common_steps}
 

@@ -13,10 +13,10 @@ use Rattle.hid_descriptor.specs.Kinds.{same_kind}
 use Rattle.hid_layout.specs.Controls.{is_input, is_input_report}
 use Rattle.hid_layout.specs.Layout.{Contents}
 use Rattle.hid_layout.specs.Reports.{report_bytes}
-use Rattle.hid_cells.proofs.FillLemmas.{fill_next}
-use Rattle.hid_cells.proofs.ItemLemmas.{set_here, set_there}
-use Rattle.hid_cells.proofs.ListLemmas.{map_at}
-use Rattle.hid_parts.specs.Encoding.{bare_report}
+use Rattle.hid_snapshots.proofs.FillLemmas.{fill_next}
+use Rattle.hid_snapshots.proofs.ItemLemmas.{set_here, set_there}
+use Rattle.hid_snapshots.proofs.ListLemmas.{map_at}
+use Rattle.hid_snapshots.specs.Encoding.{bare_report}
 use Rattle.usb_control.specs.declared.device.TheConstants.{MAX_WRITE}
 use Rattle.hid_requests.specs.declared.class.Protocol.{Protocol}
 use Rattle.hid_device.specs.Core.{CoreState, IsSound}

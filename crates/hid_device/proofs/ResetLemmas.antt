@@ -2,7 +2,7 @@
 use Rattle.std.proofs.Common.{◌≡◌, ℕ, Bool, false, List, length, replicate, ap, ◌∙◌}
 use Rattle.std.proofs.lemmas.List.{length-replicate}
 use Rattle.hid_layout.specs.Controls.{items_of}
-use Rattle.hid_cells.specs.Parts.{blank_parts}
+use Rattle.hid_snapshots.specs.Parts.{blank_parts}
 use Rattle.hid_device.specs.Standing.{no_idle}
 use Rattle.hid_device.specs.Inputs.{input_count}
 use Rattle.hid_device.specs.Core.{CoreState, IsSound, reset_core}

@@ -3,14 +3,14 @@
 use Rattle.std.specs.Prelude.{◌≡◌, ℕ, ◌+◌, ◌<◌, Bool, true, false, not, if◌then◌else◌, List, length, unwrap_or, Option, Some, None, IfSome}
 use Rattle.hid_layout.specs.Layout.{Contents}
 use Rattle.hid_layout.specs.Controls.{Item, items_of}
-use Rattle.hid_cells.specs.declared.cell.Cell.{Cell}
-use Rattle.hid_cells.specs.declared.change.Change.{Change}
-use Rattle.hid_cells.specs.Cells.{FitsSnapshot, FitsShown}
-use Rattle.hid_cells.specs.Codes.{has_empty_codes}
-use Rattle.hid_cells.specs.Pieces.{is_last_piece, piece_of, pieces_of}
-use Rattle.hid_parts.specs.Encoded.{part_bytes}
-use Rattle.hid_parts.specs.Encoding.{IsEncoding, AreBytes, part_numbers}
-use Rattle.hid_cells.specs.Parts.{has_zeros, is_changed}
+use Rattle.hid_snapshots.specs.declared.cell.Cell.{Cell}
+use Rattle.hid_snapshots.specs.declared.change.Change.{Change}
+use Rattle.hid_snapshots.specs.Cells.{FitsSnapshot, FitsShown}
+use Rattle.hid_snapshots.specs.Codes.{has_empty_codes}
+use Rattle.hid_snapshots.specs.Pieces.{is_last_piece, piece_of, pieces_of}
+use Rattle.hid_snapshots.specs.Encoded.{part_bytes}
+use Rattle.hid_snapshots.specs.Encoding.{IsEncoding, AreBytes, part_numbers}
+use Rattle.hid_snapshots.specs.Parts.{has_zeros, is_changed}
 use Rattle.usb_packet.specs.declared.packet.Packet.{Packet}
 use Rattle.usb_transact.specs.Device.{answer_with}
 use Rattle.hid_device.specs.declared.config.Config.{Config}

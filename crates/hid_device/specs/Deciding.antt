@@ -5,8 +5,8 @@ use Rattle.std.specs.Option.{option_and_then}
 use Rattle.hid_descriptor.specs.declared.report.ReportKind.{ReportKind}
 use Rattle.hid_descriptor.specs.declared.report.ReportKind.TheVariants.{Input, Output, Feature}
 use Rattle.hid_layout.specs.Controls.{items_of}
-use Rattle.hid_cells.specs.Parts.{blank_parts, still}
-use Rattle.hid_parts.specs.Encoded.{part_bytes}
+use Rattle.hid_snapshots.specs.Parts.{blank_parts, still}
+use Rattle.hid_snapshots.specs.Encoded.{part_bytes}
 use Rattle.usb_control.specs.declared.device.TheConstants.{MAX_WRITE}
 use Rattle.usb_control.specs.declared.setup.Setup.{Setup}
 use Rattle.usb_control.specs.declared.descriptors.DeviceInfo.{DeviceInfo}

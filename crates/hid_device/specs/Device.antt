@@ -1,7 +1,7 @@
 -- What a contract sees of a device, and what it makes of each packet that arrives (USB 2.0, 8.4.6.1, 8.5.3, 8.5.4 and
 -- 8.6).
 use Rattle.std.specs.Prelude.{ℕ, Bool, true, false, not, ◌&&◌, ◌==◌, if◌then◌else◌, is_some, Option, Some, None}
-use Rattle.hid_cells.specs.declared.change.Change.{Change}
+use Rattle.hid_snapshots.specs.declared.change.Change.{Change}
 use Rattle.usb_packet.specs.declared.packet.Packet.{Packet}
 use Rattle.usb_packet.specs.declared.packet.Packet.TheVariants.{Token, Data, Ack, Nak, Stall}
 use Rattle.usb_packet.specs.declared.packet.TokenKind.TheVariants.{Out, In, Setup}

@@ -3,11 +3,11 @@ use Rattle.std.specs.Prelude.{◌≡◌, ℕ, true, false, List, replicate, None
 use Rattle.hid_descriptor.specs.Faults.{Explains}
 use Rattle.hid_layout.specs.Layout.{Contents}
 use Rattle.hid_layout.specs.Controls.{items_of}
-use Rattle.hid_cells.specs.declared.cell.Cell.{Cell}
-use Rattle.hid_cells.specs.Full.{IsFull}
-use Rattle.hid_cells.specs.Cells.{blank, FitsSnapshot, FitsShown}
-use Rattle.hid_cells.specs.Codes.{has_empty_codes}
-use Rattle.hid_cells.specs.Parts.{blank_parts, has_zeros}
+use Rattle.hid_snapshots.specs.declared.cell.Cell.{Cell}
+use Rattle.hid_snapshots.specs.Full.{IsFull}
+use Rattle.hid_snapshots.specs.Cells.{blank, FitsSnapshot, FitsShown}
+use Rattle.hid_snapshots.specs.Codes.{has_empty_codes}
+use Rattle.hid_snapshots.specs.Parts.{blank_parts, has_zeros}
 use Rattle.hid_device.specs.declared.config.Config.{Config}
 use Rattle.hid_requests.specs.declared.fault.DeviceCause.{DeviceCause}
 use Rattle.hid_requests.specs.declared.fault.DeviceCause.TheVariants.{BadConfig, Layout, NoEmptyCode, RelativeWithoutZero, Memory}

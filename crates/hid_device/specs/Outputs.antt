@@ -6,7 +6,7 @@ use Rattle.hid_descriptor.specs.declared.report.ReportKind.{ReportKind}
 use Rattle.hid_descriptor.specs.Kinds.{same_kind}
 use Rattle.hid_layout.specs.Layout.{Contents}
 use Rattle.hid_layout.specs.Reports.{report_bytes}
-use Rattle.hid_parts.specs.Encoding.{bare_report}
+use Rattle.hid_snapshots.specs.Encoding.{bare_report}
 use Rattle.hid_device.specs.Inputs.{input_count}
 
 -- a report of this kind and ID

@@ -3,7 +3,7 @@
 ghost use Rattle.std.specs.Prelude.{◌≡◌, true, IfSome};
 ghost use Rattle.std.specs.Option.{option_copied};
 ghost use Rattle.hid_layout.specs.Controls.{items_of};
-ghost use Rattle.hid_cells.specs.Snapshots.{Changes};
+ghost use Rattle.hid_snapshots.specs.Snapshots.{Changes};
 ghost use Rattle.usb_packet.specs.Lent.{owned, IsShort};
 ghost use Rattle.usb_packet.specs.Spelling.{Fits};
 ghost use Rattle.hid_device.specs.Core.{IsSound, armed_of, opening_of, piece_at, poll_answer, round_of};
@@ -13,10 +13,9 @@ ghost use Rattle.hid_device.specs.Making.{MakesDevice};
 
 use crate::config::{Config, is_config};
 use crate::state::Core;
-use hid_cells::{Change, ChangeFault};
 use hid_layout::{Layout, ReportKind};
-use hid_parts::Shown;
 use hid_requests::{DeviceCause, DeviceFault, REPORT_ENDPOINT};
+use hid_snapshots::{Change, ChangeFault, Shown};
 use std::alloc::Global;
 use std::marker::Model;
 use std::mem;

@@ -1,6 +1,6 @@
 //! What follows for the two endpoints of a device.
 ghost use Rattle.std.specs.Prelude.{◌≡◌, true, false};
-ghost use Rattle.hid_cells.specs.declared.change.Change.{Change};
+ghost use Rattle.hid_snapshots.specs.declared.change.Change.{Change};
 ghost use Rattle.usb_packet.specs.declared.packet.Packet.{Packet};
 ghost use Rattle.usb_control.specs.Computed.{control_after};
 ghost use Rattle.usb_control.specs.Device.{Effect};

@@ -3,14 +3,14 @@
 ghost use Rattle.std.specs.Prelude.{◌≡◌, ◌<◌, ◌≤◌, length, position, IfOk, IfSome, true};
 ghost use Rattle.hid_layout.specs.Controls.{is_input};
 ghost use Rattle.hid_descriptor.specs.declared.report.ReportKind.TheVariants.{Input};
-ghost use Rattle.hid_cells.specs.Full.{IsFull};
-ghost use Rattle.hid_parts.specs.Encoding.{bare_report};
+ghost use Rattle.hid_snapshots.specs.Full.{IsFull};
+ghost use Rattle.hid_snapshots.specs.Encoding.{bare_report};
 ghost use Rattle.hid_device.specs.Outputs.{bare_outputs, in_place_of, is_named, kept_place, kept_reports, number_of};
 
 use crate::inputs::input_count;
 use arrayvec::ArrayVec;
 use hid_layout::{Layout, Report, ReportKind};
-use hid_parts::bare_report;
+use hid_snapshots::bare_report;
 use std::alloc::{AllocError, Global};
 use std::marker::Model;
 

@@ -2,17 +2,16 @@
 
 ghost use Rattle.std.specs.Prelude.{◌≡◌, replicate, false, IfOk, IfErr};
 ghost use Rattle.hid_layout.specs.Controls.{items_of};
-ghost use Rattle.hid_cells.specs.Full.{IsFull};
-ghost use Rattle.hid_cells.specs.Cells.{blank, FitsSnapshot, FitsShown};
-ghost use Rattle.hid_cells.specs.Parts.{blank_parts};
+ghost use Rattle.hid_snapshots.specs.Full.{IsFull};
+ghost use Rattle.hid_snapshots.specs.Cells.{blank, FitsSnapshot, FitsShown};
+ghost use Rattle.hid_snapshots.specs.Parts.{blank_parts};
 ghost use Rattle.hid_device.specs.Making.{no_memory, IsRoom};
 
 use crate::inputs::input_count;
 use crate::outputs::{KeptReport, bare_outputs};
-use hid_cells::{MemoryFault, full_from, full_of};
 use hid_layout::Layout;
-use hid_parts::{Shown, Snapshot};
 use hid_requests::{DeviceCause, DeviceFault};
+use hid_snapshots::{MemoryFault, Shown, Snapshot, full_from, full_of};
 use std::alloc::{AllocError, Global};
 
 /// The controls of a device, and room for the parts that its reports show of them.

@@ -3,11 +3,11 @@
 ghost use Rattle.std.specs.Prelude.{◌≡◌, ◌<◌, ◌≤◌, false, length, slice_get, None, IfSome, IfOk, IfErr};
 ghost use Rattle.std.specs.Option.{option_copied};
 ghost use Rattle.hid_layout.specs.Controls.{items_of};
-ghost use Rattle.hid_cells.specs.Full.{IsFull};
-ghost use Rattle.hid_cells.specs.Cells.{FitsSnapshot};
-ghost use Rattle.hid_parts.specs.Encoding.{AreBytes};
-ghost use Rattle.hid_cells.specs.Parts.{is_changed};
-ghost use Rattle.hid_cells.specs.Snapshots.{Changes};
+ghost use Rattle.hid_snapshots.specs.Full.{IsFull};
+ghost use Rattle.hid_snapshots.specs.Cells.{FitsSnapshot};
+ghost use Rattle.hid_snapshots.specs.Encoding.{AreBytes};
+ghost use Rattle.hid_snapshots.specs.Parts.{is_changed};
+ghost use Rattle.hid_snapshots.specs.Snapshots.{Changes};
 ghost use Rattle.usb_packet.specs.Lent.{owned, IsShort};
 ghost use Rattle.usb_packet.specs.Spelling.{Fits};
 ghost use Rattle.hid_device.specs.Standing.{cut_at, is_due, due_where};
@@ -24,13 +24,15 @@ use crate::frames::{count_frame, is_idle_over, set_idle};
 use crate::outputs::{KeptReport, input_with, kept_place, reset_outputs};
 use crate::room::Room;
 use arrayvec::ArrayVec;
-use hid_cells::{Change, ChangeFault, has_empty_codes, has_zeros, piece_of, pieces_of};
 use hid_fields::WordCodec;
 use hid_layout::{Layout, ReportKind};
-use hid_parts::{Shown, Snapshot, write_report};
 use hid_requests::{
     Asked, DeviceCause, DeviceFault, Protocol, configuration, device_descriptor, hid_descriptor,
     what_is_asked,
+};
+use hid_snapshots::{
+    Change, ChangeFault, Shown, Snapshot, has_empty_codes, has_zeros, piece_of, pieces_of,
+    write_report,
 };
 use std::alloc::Global;
 use std::marker::Model;

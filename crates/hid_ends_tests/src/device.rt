@@ -17,9 +17,9 @@
 
 use crate::told::Told;
 use crate::words::{control_of, kind_of, number, small, spell};
-use hid_cells::Change;
 use hid_device::Device;
 use hid_layout::{ControlId, ReportKind};
+use hid_snapshots::Change;
 use std::alloc::Global;
 use usb_control::{HostTransfer, Outcome, Requests, Setup};
 use usb_packet::{decode, encode};

@@ -9,10 +9,10 @@ use Rattle.hid_layout.specs.Controls.{items_of, max_events}
 use Rattle.hid_descriptor.specs.Faults.{Explains, Refuses}
 use Rattle.hid_layout.specs.Layout.{Contents}
 use Rattle.hid_layout.specs.Reports.{IsLayout}
-use Rattle.hid_cells.specs.declared.cell.Cell.{Cell}
-use Rattle.hid_cells.specs.declared.event.Event.{Event}
-use Rattle.hid_cells.specs.Cells.{FitsView}
-use Rattle.hid_cells.specs.declared.fault.ReportFault.{ReportFault}
+use Rattle.hid_snapshots.specs.declared.cell.Cell.{Cell}
+use Rattle.hid_snapshots.specs.declared.event.Event.{Event}
+use Rattle.hid_snapshots.specs.Cells.{FitsView}
+use Rattle.hid_snapshots.specs.declared.fault.ReportFault.{ReportFault}
 use Rattle.hid_views.specs.Reading.{report_named}
 use Rattle.hid_views.specs.Taking.{TakesReport, read_events, read_view}
 use Rattle.hid_host.specs.Ready.{Known, bytes_with, collected_with, data_read, ends_with, events_read, events_with, is_whole, read_or_fault, view_read, view_with}

@@ -3,11 +3,11 @@
 use Rattle.std.specs.Prelude.{◌≡◌, ℕ, ◌%◌, ◌<◌, Bool, false, ◌||◌, nat_le, nat_lt, if◌then◌else◌, List, [], ◌++◌, length, Result, Ok, Err}
 use Rattle.hid_layout.specs.Layout.{Contents}
 use Rattle.hid_layout.specs.Controls.{items_of}
-use Rattle.hid_cells.specs.declared.cell.Cell.{Cell}
-use Rattle.hid_cells.specs.declared.event.Event.{Event}
-use Rattle.hid_cells.specs.declared.fault.ReportFault.{ReportFault}
+use Rattle.hid_snapshots.specs.declared.cell.Cell.{Cell}
+use Rattle.hid_snapshots.specs.declared.event.Event.{Event}
+use Rattle.hid_snapshots.specs.declared.fault.ReportFault.{ReportFault}
 use Rattle.hid_descriptor.specs.declared.limits.TheConstants.{MAX_REPORT_BYTES}
-use Rattle.hid_cells.specs.Cells.{blank}
+use Rattle.hid_snapshots.specs.Cells.{blank}
 use Rattle.hid_views.specs.Reading.{bytes_awaited, report_named}
 use Rattle.hid_views.specs.Taking.{read_view, read_events}
 use Rattle.usb_transact.specs.declared.host.Took.{Took}

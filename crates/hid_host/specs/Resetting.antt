@@ -4,12 +4,12 @@ use Rattle.std.specs.Prelude.{ℕ, Bool, not, ◌||◌, if◌then◌else◌, Lis
 use Rattle.std.specs.Bool.{beq}
 use Rattle.hid_layout.specs.Layout.{Contents}
 use Rattle.hid_layout.specs.Controls.{Item, items_of}
-use Rattle.hid_cells.specs.declared.cell.Cell.{Cell}
-use Rattle.hid_cells.specs.declared.event.Event.{Event}
-use Rattle.hid_cells.specs.Cells.{blank, FitsShown}
-use Rattle.hid_cells.specs.Parts.{IsInput}
-use Rattle.hid_cells.specs.Views.{changes_between, drops_between}
-use Rattle.hid_cells.specs.Pieces.{is_last_piece}
+use Rattle.hid_snapshots.specs.declared.cell.Cell.{Cell}
+use Rattle.hid_snapshots.specs.declared.event.Event.{Event}
+use Rattle.hid_snapshots.specs.Cells.{blank, FitsShown}
+use Rattle.hid_snapshots.specs.Parts.{IsInput}
+use Rattle.hid_snapshots.specs.Views.{changes_between, drops_between}
+use Rattle.hid_snapshots.specs.Pieces.{is_last_piece}
 use Rattle.hid_host.specs.declared.phase.HostPhase.{HostPhase}
 use Rattle.hid_host.specs.declared.phase.HostPhase.TheVariants.{Ready}
 use Rattle.hid_host.specs.Ready.{Known}

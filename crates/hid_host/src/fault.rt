@@ -4,9 +4,9 @@ ghost use Rattle.hid_host.specs.Faults.{descriptor_text, stack_text};
 ghost use Rattle.hid_host.specs.declared.fault.DescriptorFault.TheVariants.{Info};
 ghost use Rattle.hid_host.specs.declared.fault.StackFault.TheVariants.{BadDescriptor, Memory as NoMemory};
 
-use hid_cells::{ChangeFault, MemoryFault, ReportFault};
 use hid_layout::LayoutFault;
 use hid_requests::DeviceFault;
+use hid_snapshots::{ChangeFault, MemoryFault, ReportFault};
 use std::fmt;
 use usb_control::{ControlFault, InfoFault};
 

@@ -9,8 +9,7 @@ use Rattle.std.proofs.Math.Numerals.{one-add}
 use Rattle.std.proofs.Math.Nat.{add-zero}
 use Rattle.std.specs.Prelude.{filter, position}
 use Rattle.std.specs.Option.{unwrap_or}
-use Rattle.std.specs.List.{slice_split, onto_first, position_or_len}
-use Rattle.std.specs.List.{slice_index}
+use Rattle.std.specs.List.{slice_split, onto_first, position_or_len, slice_index}
 use Rattle.hid_lines.specs.declared.line.Line.TheVariants.{Nothing}
 use Rattle.hid_lines.specs.declared.fault.LineFault.TheVariants.{LineTooLong}
 use Rattle.hid_lines.specs.Line.{meaning_of, words_said, keyword_said, keyword_of}

@@ -5,12 +5,12 @@ use Rattle.std.specs.List.{find, range_with_len}
 use Rattle.std.proofs.lemmas.Bool.Decides.{nat_tests, Decides-eqb}
 use Rattle.std.proofs.lemmas.List.{get_or-set_same, get_or-set_other, length-map, length-replicate}
 use Rattle.hid_layout.specs.Controls.{Item}
-use Rattle.hid_cells.specs.declared.cell.Cell.{Cell}
-use Rattle.hid_cells.specs.declared.change.Change.{Change}
-use Rattle.hid_cells.specs.declared.change.ChangeFault.{ChangeFault}
-use Rattle.hid_cells.specs.Parts.{is_changed}
-use Rattle.hid_cells.specs.Snapshots.{changed}
-use Rattle.hid_cells.proofs.FillLemmas.{set_length}
+use Rattle.hid_snapshots.specs.declared.cell.Cell.{Cell}
+use Rattle.hid_snapshots.specs.declared.change.Change.{Change}
+use Rattle.hid_snapshots.specs.declared.change.ChangeFault.{ChangeFault}
+use Rattle.hid_snapshots.specs.Parts.{is_changed}
+use Rattle.hid_snapshots.specs.Snapshots.{changed}
+use Rattle.hid_snapshots.proofs.FillLemmas.{set_length}
 use Rattle.usb_transact.specs.declared.transaction.Fate.{Fate}
 use Rattle.usb_transact.specs.declared.transaction.Fate.TheVariants.{Clean, TokenLost, ReplyLost, AckLost}
 use Rattle.hid_lives.specs.Standing.{Standing, after_change, after_frame, cut_at, due_where, is_due, is_idle_over, most_frames}

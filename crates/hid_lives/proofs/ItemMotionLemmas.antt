@@ -15,21 +15,21 @@ use Rattle.hid_layout.specs.declared.control.ControlKind.{ControlKind}
 use Rattle.hid_layout.specs.declared.control.ControlKind.TheVariants.{Switch, Value, NullValue, Relative}
 use Rattle.hid_descriptor.specs.declared.usage.Usage.{Usage}
 use Rattle.hid_layout.specs.Controls.{Form, NoControls, Elements, Keys, Key, control_in, control_of_key, head_of}
-use Rattle.hid_cells.specs.declared.cell.Cell.{Cell}
-use Rattle.hid_cells.specs.declared.cell.Cell.TheVariants.{Vacant, Pressed, Holding, Moved, RolledOver}
-use Rattle.hid_cells.specs.declared.change.Change.{Change}
-use Rattle.hid_cells.specs.declared.change.Change.TheVariants.{Press, Release, Set, Null, Move}
-use Rattle.hid_cells.specs.declared.change.ChangeFault.{ChangeFault}
-use Rattle.hid_cells.specs.declared.change.ChangeFault.TheVariants.{NoDirection, MotionFull}
-use Rattle.hid_cells.specs.declared.event.Event.{Event}
-use Rattle.hid_cells.specs.declared.event.Event.TheVariants as event
-use Rattle.hid_cells.specs.Cells.{is_i32, blank_cell, HasRoom, pressed_count}
-use Rattle.hid_cells.specs.Events.{at, switch_event, value_event, motion_event, up_event, down_event, ups, downs, each, element_events, key_events, key_usages, change_events}
-use Rattle.hid_cells.specs.Parts.{clamp, shown_cell, differences, minus_motion}
-use Rattle.hid_cells.specs.Snapshots.{OrFault, unless, motion_in, with_pressed, with_value, with_motion, has_direction, changed_cell, target}
-use Rattle.hid_cells.specs.Views.{motions_told}
-use Rattle.hid_cells.proofs.ItemLemmas.{set_here, set_there}
-use Rattle.hid_cells.proofs.FillLemmas.{set_length}
+use Rattle.hid_snapshots.specs.declared.cell.Cell.{Cell}
+use Rattle.hid_snapshots.specs.declared.cell.Cell.TheVariants.{Vacant, Pressed, Holding, Moved, RolledOver}
+use Rattle.hid_snapshots.specs.declared.change.Change.{Change}
+use Rattle.hid_snapshots.specs.declared.change.Change.TheVariants.{Press, Release, Set, Null, Move}
+use Rattle.hid_snapshots.specs.declared.change.ChangeFault.{ChangeFault}
+use Rattle.hid_snapshots.specs.declared.change.ChangeFault.TheVariants.{NoDirection, MotionFull}
+use Rattle.hid_snapshots.specs.declared.event.Event.{Event}
+use Rattle.hid_snapshots.specs.declared.event.Event.TheVariants as event
+use Rattle.hid_snapshots.specs.Cells.{is_i32, blank_cell, HasRoom, pressed_count}
+use Rattle.hid_snapshots.specs.Events.{at, switch_event, value_event, motion_event, up_event, down_event, ups, downs, each, element_events, key_events, key_usages, change_events}
+use Rattle.hid_snapshots.specs.Parts.{clamp, shown_cell, differences, minus_motion}
+use Rattle.hid_snapshots.specs.Snapshots.{OrFault, unless, motion_in, with_pressed, with_value, with_motion, has_direction, changed_cell, target}
+use Rattle.hid_snapshots.specs.Views.{motions_told}
+use Rattle.hid_snapshots.proofs.ItemLemmas.{set_here, set_there}
+use Rattle.hid_snapshots.proofs.FillLemmas.{set_length}
 use Rattle.hid_lives.specs.Motion.{kept_motions, relative_controls, given_motion, is_same_control}
 
 -- a cell with room for an item's controls moves as they do

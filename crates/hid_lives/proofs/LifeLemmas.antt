@@ -3,17 +3,17 @@ use Rattle.std.proofs.Common.{◌≡◌, ◌++◌, ℕ, suc, ◌+◌, ◌<◌, �
 use Rattle.std.specs.Prelude.{if◌then◌else◌, nat_le}
 use Rattle.std.proofs.lemmas.Bool.Decides.{nat_tests}
 use Rattle.hid_layout.specs.Controls.{Item}
-use Rattle.hid_cells.specs.declared.cell.Cell.{Cell}
-use Rattle.hid_cells.specs.declared.change.Change.{Change}
-use Rattle.hid_cells.specs.declared.change.ChangeFault.{ChangeFault}
-use Rattle.hid_cells.specs.declared.event.Event.{Event}
-use Rattle.hid_cells.specs.Cells.{blank}
-use Rattle.hid_cells.specs.Pieces.{pieces_of}
-use Rattle.hid_cells.specs.Snapshots.{changed}
-use Rattle.hid_cells.specs.Views.{seen, changes_between, drops_between}
+use Rattle.hid_snapshots.specs.declared.cell.Cell.{Cell}
+use Rattle.hid_snapshots.specs.declared.change.Change.{Change}
+use Rattle.hid_snapshots.specs.declared.change.ChangeFault.{ChangeFault}
+use Rattle.hid_snapshots.specs.declared.event.Event.{Event}
+use Rattle.hid_snapshots.specs.Cells.{blank}
+use Rattle.hid_snapshots.specs.Pieces.{pieces_of}
+use Rattle.hid_snapshots.specs.Snapshots.{changed}
+use Rattle.hid_snapshots.specs.Views.{seen, changes_between, drops_between}
 use Rattle.usb_transact.specs.declared.transaction.Fate.{Fate}
 use Rattle.usb_transact.specs.declared.transaction.Fate.TheVariants.{Clean, TokenLost, ReplyLost, AckLost}
-use Rattle.hid_cells.proofs.PieceLemmas.{some_piece}
+use Rattle.hid_snapshots.proofs.PieceLemmas.{some_piece}
 use Rattle.hid_lives.specs.Standing.{Standing, configured, first_due, due_where, after_change, after_frame, with_idle, no_idle, cut_at, after_opening}
 use Rattle.hid_lives.specs.Rounds.{Changes, Frame, Polls, Round, Course, new_round, is_clean, closed_in, ahead_after, ahead_in, crossed_with, pieces_closed, pieces_crossed, has_crossed, has_closed, polled, part_events, fresh_course, opened_if, closed_by_poll, after_poll}
 use Rattle.hid_lives.specs.Stations.{Station, Open, is_whole, fresh, open_first, opened_by, answered, round_events}

@@ -9,19 +9,19 @@ use Rattle.std.proofs.lemmas.Option.{slice_get_within}
 use Rattle.hid_layout.specs.declared.control.Control.{Control}
 use Rattle.hid_layout.specs.declared.control.ControlId.{ControlId}
 use Rattle.hid_layout.specs.Controls.{Form, NoControls, Elements, Keys, Item, control_of, form_at, head_of}
-use Rattle.hid_cells.specs.declared.cell.Cell.{Cell}
-use Rattle.hid_cells.specs.declared.cell.Cell.TheVariants.{Vacant}
-use Rattle.hid_cells.specs.declared.change.Change.{Change}
-use Rattle.hid_cells.specs.declared.change.Change.TheVariants.{Press, Release, Set, Null, Move}
-use Rattle.hid_cells.specs.Cells.{HasRoom, Suits, InSnapshot, InPart, FitsSnapshot, FitsShown, FitsView, blank_cell, blank}
-use Rattle.hid_cells.specs.Events.{at, change_events}
-use Rattle.hid_cells.specs.Parts.{blank_parts, is_of, item_at, by_item, shown_cell, shown_of, shown, minus_motion, taken_of, taken, motion_of}
-use Rattle.hid_cells.specs.Snapshots.{OrFault, motion_in, changed_cell, target, cell_at, with_cell, changed_at, changed}
-use Rattle.hid_cells.specs.Views.{seen_of, seen, motions_told, part_of, events_from, events_between, changes_from, changes_between, drops_between, as_dropped}
-use Rattle.hid_cells.proofs.ItemLemmas.{got, control_found, set_here, set_there}
-use Rattle.hid_cells.proofs.PartLemmas.{by_item_length}
-use Rattle.hid_cells.specs.declared.event.Event.{Event}
-use Rattle.hid_cells.specs.declared.event.Event.TheVariants as event
+use Rattle.hid_snapshots.specs.declared.cell.Cell.{Cell}
+use Rattle.hid_snapshots.specs.declared.cell.Cell.TheVariants.{Vacant}
+use Rattle.hid_snapshots.specs.declared.change.Change.{Change}
+use Rattle.hid_snapshots.specs.declared.change.Change.TheVariants.{Press, Release, Set, Null, Move}
+use Rattle.hid_snapshots.specs.Cells.{HasRoom, Suits, InSnapshot, InPart, FitsSnapshot, FitsShown, FitsView, blank_cell, blank}
+use Rattle.hid_snapshots.specs.Events.{at, change_events}
+use Rattle.hid_snapshots.specs.Parts.{blank_parts, is_of, item_at, by_item, shown_cell, shown_of, shown, minus_motion, taken_of, taken, motion_of}
+use Rattle.hid_snapshots.specs.Snapshots.{OrFault, motion_in, changed_cell, target, cell_at, with_cell, changed_at, changed}
+use Rattle.hid_snapshots.specs.Views.{seen_of, seen, motions_told, part_of, events_from, events_between, changes_from, changes_between, drops_between, as_dropped}
+use Rattle.hid_snapshots.proofs.ItemLemmas.{got, control_found, set_here, set_there}
+use Rattle.hid_snapshots.proofs.PartLemmas.{by_item_length}
+use Rattle.hid_snapshots.specs.declared.event.Event.{Event}
+use Rattle.hid_snapshots.specs.declared.event.Event.TheVariants as event
 use Rattle.usb_transact.specs.declared.transaction.Fate.{Fate}
 use Rattle.usb_transact.specs.declared.transaction.Fate.TheVariants.{Clean, TokenLost, ReplyLost, AckLost}
 use Rattle.hid_lives.specs.Motion.{Conserves, open_motion, accepted_in, AreBetweenRounds, KeepsThroughLife, given_by, given_motion, moved_by_change, moved_motion, station_motion, is_done, is_accepted, step_if, accepted, are_accepted, KeepsEach, HasMotions, kept_motions, relative_controls, KeepsMotion, KeepsAccepted}

@@ -4,10 +4,10 @@ use Rattle.std.specs.Prelude.{nat_le, IfSome}
 use Rattle.std.specs.List.{list_any}
 use Rattle.std.proofs.lemmas.Bool.Decides.{nat_tests}
 use Rattle.hid_layout.specs.Controls.{Item}
-use Rattle.hid_cells.specs.declared.cell.Cell.{Cell}
-use Rattle.hid_cells.specs.Pieces.{pieces_for, pieces_of}
-use Rattle.hid_cells.specs.Views.{seen}
-use Rattle.hid_cells.proofs.PieceLemmas.{some_piece}
+use Rattle.hid_snapshots.specs.declared.cell.Cell.{Cell}
+use Rattle.hid_snapshots.specs.Pieces.{pieces_for, pieces_of}
+use Rattle.hid_snapshots.specs.Views.{seen}
+use Rattle.hid_snapshots.proofs.PieceLemmas.{some_piece}
 use Rattle.usb_transact.specs.declared.transaction.Fate.{Fate}
 use Rattle.usb_transact.specs.declared.transaction.Fate.TheVariants.{Clean, TokenLost, ReplyLost, AckLost}
 use Rattle.hid_lives.specs.Standing.{Standing, due_where}

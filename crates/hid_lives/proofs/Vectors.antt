@@ -1,15 +1,15 @@
 -- Worked schedules of known devices, their rounds, their events and their stations: each is worked out by hand, and a wrong one fails the check.
 use Rattle.std.specs.Prelude.{◌≡◌, ℕ, Bool, true, false, List, [], ◌∷◌, ◌++◌, map, length, replicate, Some, None, ℤ, pos, negsuc, refl}
 use Rattle.hid_layout.specs.Controls.{Item}
-use Rattle.hid_cells.specs.declared.cell.Cell.TheVariants.{Vacant, Pressed, Moved}
-use Rattle.hid_cells.specs.declared.change.Change.TheVariants as change
-use Rattle.hid_cells.specs.declared.event.Event.{Event}
-use Rattle.hid_cells.specs.declared.event.Event.TheVariants as event
+use Rattle.hid_snapshots.specs.declared.cell.Cell.TheVariants.{Vacant, Pressed, Moved}
+use Rattle.hid_snapshots.specs.declared.change.Change.TheVariants as change
+use Rattle.hid_snapshots.specs.declared.event.Event.{Event}
+use Rattle.hid_snapshots.specs.declared.event.Event.TheVariants as event
 use Rattle.usb_transact.specs.declared.transaction.Fate.TheVariants.{Clean, TokenLost, ReplyLost, AckLost}
-use Rattle.hid_cells.specs.Cells.{blank}
-use Rattle.hid_cells.specs.Events.{at}
-use Rattle.hid_cells.specs.Parts.{blank_parts}
-use Rattle.hid_cells.specs.Samples.{usage, keyboard, mouse, hat, wheel_and_button}
+use Rattle.hid_snapshots.specs.Cells.{blank}
+use Rattle.hid_snapshots.specs.Events.{at}
+use Rattle.hid_snapshots.specs.Parts.{blank_parts}
+use Rattle.hid_snapshots.specs.Samples.{usage, keyboard, mouse, hat, wheel_and_button}
 use Rattle.hid_lives.specs.Standing.{configured, first_due, after_frame}
 use Rattle.hid_lives.specs.Rounds.{OwnStep, Changes, Frame, Polls, Course, has_crossed, has_closed, after_steps, fresh_course, rounds, crossed_rounds, events_of_epoch}
 use Rattle.hid_lives.specs.Lives.{flips}

@@ -3,8 +3,8 @@ use Rattle.std.specs.Prelude.{◌≡◌, ℕ, ◌+◌, Bool, false, List, [], �
 use Rattle.std.specs.List.{filter}
 use Rattle.std.specs.Option.{option_map}
 use Rattle.hid_layout.specs.Controls.{Item}
-use Rattle.hid_cells.specs.declared.cell.Cell.{Cell}
-use Rattle.hid_cells.specs.declared.event.Event.{Event}
+use Rattle.hid_snapshots.specs.declared.cell.Cell.{Cell}
+use Rattle.hid_snapshots.specs.declared.event.Event.{Event}
 use Rattle.usb_transact.specs.declared.transaction.Fate.{Fate}
 use Rattle.hid_lives.specs.Rounds.{OwnStep, Polls, Round, Course, ahead_in, pieces_closed, pieces_crossed, has_crossed, rounds, after_steps, view_of}
 use Rattle.hid_lives.specs.Stations.{Station, Open, after, events_at, expected}

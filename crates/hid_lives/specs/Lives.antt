@@ -2,10 +2,10 @@
 -- 9.1.1, 9.4.5 and 9.4.7; HID 1.11, 7.2.4; our choice).
 use Rattle.std.specs.Prelude.{ℕ, zero, suc, Bool, true, false, not, if◌then◌else◌, List, [], ◌∷◌, ◌++◌, map, Option, Some, None}
 use Rattle.hid_layout.specs.Controls.{Item}
-use Rattle.hid_cells.specs.declared.cell.Cell.{Cell}
-use Rattle.hid_cells.specs.declared.event.Event.{Event}
-use Rattle.hid_cells.specs.Cells.{blank}
-use Rattle.hid_cells.specs.Views.{seen, changes_between, drops_between}
+use Rattle.hid_snapshots.specs.declared.cell.Cell.{Cell}
+use Rattle.hid_snapshots.specs.declared.event.Event.{Event}
+use Rattle.hid_snapshots.specs.Cells.{blank}
+use Rattle.hid_snapshots.specs.Views.{seen, changes_between, drops_between}
 use Rattle.hid_lives.specs.Standing.{with_idle, no_idle, cut_at}
 use Rattle.hid_lives.specs.Rounds.{OwnStep, Round, Course, has_crossed, round_report, fresh_course, after_step, closed_by, still_open, part_events}
 use Rattle.hid_lives.specs.Stations.{Station, report_open, is_whole, fresh, after, events_at}

@@ -1,13 +1,13 @@
 -- Worked lives of known devices, by what is told of them (USB 2.0, 8.5.4, 8.6, 9.4.5 and 9.4.7).
 use Rattle.std.specs.Prelude.{◌≡◌, ℕ, Bool, false, List, [], ◌∷◌, map, ℤ}
 use Rattle.hid_layout.specs.Controls.{Item}
-use Rattle.hid_cells.specs.declared.change.Change.TheVariants as change
-use Rattle.hid_cells.specs.declared.event.Event.{Event}
-use Rattle.hid_cells.specs.declared.event.Event.TheVariants as event
-use Rattle.hid_cells.specs.Cells.{blank}
-use Rattle.hid_cells.specs.Events.{at}
-use Rattle.hid_cells.specs.Samples.{usage}
-use Rattle.hid_cells.specs.Parts.{blank_parts}
+use Rattle.hid_snapshots.specs.declared.change.Change.TheVariants as change
+use Rattle.hid_snapshots.specs.declared.event.Event.{Event}
+use Rattle.hid_snapshots.specs.declared.event.Event.TheVariants as event
+use Rattle.hid_snapshots.specs.Cells.{blank}
+use Rattle.hid_snapshots.specs.Events.{at}
+use Rattle.hid_snapshots.specs.Samples.{usage}
+use Rattle.hid_snapshots.specs.Parts.{blank_parts}
 use Rattle.hid_lives.specs.Standing.{Standing}
 use Rattle.hid_lives.specs.Rounds.{OwnStep, Changes, fresh_course}
 use Rattle.hid_lives.specs.Stations.{Station, Open, fresh, after_all}

@@ -3,10 +3,10 @@
 use Rattle.std.specs.Prelude.{ℕ, ◌+◌, ◌*◌, Bool, true, false, if◌then◌else◌, ◌&&◌, ◌||◌, nat_lt, nat_le, min, List, map, length, slice_index, slice_index_or, slice_set, replicate, Option, Some, None, Ok, Err}
 use Rattle.std.specs.List.{find, range_with_len}
 use Rattle.hid_layout.specs.Controls.{Item}
-use Rattle.hid_cells.specs.declared.cell.Cell.{Cell}
-use Rattle.hid_cells.specs.declared.change.Change.{Change}
-use Rattle.hid_cells.specs.Snapshots.{changed}
-use Rattle.hid_cells.specs.Parts.{blank_parts, shown, taken, is_changed}
+use Rattle.hid_snapshots.specs.declared.cell.Cell.{Cell}
+use Rattle.hid_snapshots.specs.declared.change.Change.{Change}
+use Rattle.hid_snapshots.specs.Snapshots.{changed}
+use Rattle.hid_snapshots.specs.Parts.{blank_parts, shown, taken, is_changed}
 
 -- The controls as they are now; the parts that were fixed last, blank where none was; and for each Input report the
 -- frames since its last round opened, or since the configuration, its idle time in units of four frames, and whether

@@ -3,9 +3,9 @@
 ghost use Rattle.std.specs.Prelude.{◌≡◌, ◌≤◌, ℕ, List, None, Some, true, false};
 ghost use Rattle.std.specs.List.{filter, list_any};
 ghost use Rattle.hid_layout.specs.Controls.{Item};
-ghost use Rattle.hid_cells.specs.declared.cell.Cell.{Cell};
-ghost use Rattle.hid_cells.specs.Cells.{blank, FitsSnapshot, FitsShown, FitsView};
-ghost use Rattle.hid_cells.specs.Pieces.{pieces_for};
+ghost use Rattle.hid_snapshots.specs.declared.cell.Cell.{Cell};
+ghost use Rattle.hid_snapshots.specs.Cells.{blank, FitsSnapshot, FitsShown, FitsView};
+ghost use Rattle.hid_snapshots.specs.Pieces.{pieces_for};
 ghost use Rattle.usb_transact.specs.declared.transaction.Fate.{Fate};
 ghost use Rattle.hid_lives.specs.Following.{IsQuietPoll, LivesOn, StandsByRounds, StandsInEpoch, course_from};
 ghost use Rattle.hid_lives.specs.Halting.{HasCuts, OpensNext, StaysDue};

@@ -1,8 +1,8 @@
 //! Worked lives: each row is worked out by hand, and a wrong one fails the check.
 
 ghost use Rattle.std.specs.Prelude.{◌≡◌, [], ◌∷◌, ◌++◌, replicate, true, false, Some, None, pos};
-ghost use Rattle.hid_cells.specs.Events.{at};
-ghost use Rattle.hid_cells.specs.Samples.{keyboard, mouse, wheel_and_button, byte_values, byte_motions};
+ghost use Rattle.hid_snapshots.specs.Events.{at};
+ghost use Rattle.hid_snapshots.specs.Samples.{keyboard, mouse, wheel_and_button, byte_values, byte_motions};
 ghost use Rattle.usb_transact.specs.declared.transaction.Fate.TheVariants as fate;
 ghost use Rattle.hid_lives.specs.Lives.{Clears, Configures, Halts, Idles, Resets, owns};
 ghost use Rattle.hid_lives.specs.Motion.{station_motion};

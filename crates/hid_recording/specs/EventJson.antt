@@ -4,8 +4,8 @@ use Rattle.std.specs.Fmt.{decimal, signed_decimal}
 use Rattle.json.specs.Token.{Token, begin_object, end_object, key, string, number}
 use Rattle.json.specs.Print.{print}
 use Rattle.hid_descriptor.specs.declared.usage.Usage.{Usage}
-use Rattle.hid_cells.specs.declared.event.Event.{Event}
-use Rattle.hid_cells.specs.declared.event.Event.TheVariants.{Down, Up, Value, Null, Motion, Dropped}
+use Rattle.hid_snapshots.specs.declared.event.Event.{Event}
+use Rattle.hid_snapshots.specs.declared.event.Event.TheVariants.{Down, Up, Value, Null, Motion, Dropped}
 use Rattle.hid_names.specs.Names.{Name, name_of, name_text}
 
 -- the usage of an event's control

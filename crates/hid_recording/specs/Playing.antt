@@ -1,6 +1,6 @@
 -- What a report of a device makes of it, and adds to a text: for proofs (our choice).
 use Rattle.std.specs.Prelude.{⊤, ◌≡◌, ℕ, List, ◌++◌, length, set, slice_get, Option, None, Some, Result, Ok, Err}
-use Rattle.hid_cells.specs.declared.fault.ReportFault.{ReportFault}
+use Rattle.hid_snapshots.specs.declared.fault.ReportFault.{ReportFault}
 use Rattle.hid_usages.specs.Reading.{report_named}
 use Rattle.hid_recording.specs.declared.fault.Options.{Options}
 use Rattle.hid_recording.specs.declared.fault.Cause.{Cause}

@@ -4,8 +4,8 @@ use Rattle.std.specs.Fmt.{decimal}
 use Rattle.hid_descriptor.specs.declared.fault.Cause as layouts
 use Rattle.hid_descriptor.specs.declared.fault.Cause.TheVariants.{Memory}
 use Rattle.hid_descriptor.specs.Codes.{layout_fault_text}
-use Rattle.hid_cells.specs.declared.fault.ReportFault.{ReportFault}
-use Rattle.hid_cells.specs.declared.fault.ReportFault.TheVariants.{Short, UnknownReport}
+use Rattle.hid_snapshots.specs.declared.fault.ReportFault.{ReportFault}
+use Rattle.hid_snapshots.specs.declared.fault.ReportFault.TheVariants.{Short, UnknownReport}
 use Rattle.hid_notation.specs.Causes.{layout_words}
 use Rattle.hid_usages.specs.Faults.{report_code}
 use Rattle.hid_recording.specs.EventJson.{refusal_tokens, json_text}

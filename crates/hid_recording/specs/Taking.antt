@@ -1,6 +1,6 @@
 -- What the bytes of a report make of a device of a recording (HID 1.11, 5.6 and 6.2.2.5).
 use Rattle.std.specs.Prelude.{ℕ, List}
-use Rattle.hid_cells.specs.declared.event.Event.{Event}
+use Rattle.hid_snapshots.specs.declared.event.Event.{Event}
 use Rattle.hid_usages.specs.Taking.{read_view, read_events}
 use Rattle.hid_recording.specs.Session.{Member}
 

@@ -7,14 +7,16 @@
 
 ghost use Rattle.std.specs.Prelude.{IfOk};
 ghost use Rattle.hid_layout.specs.Controls.{items_of};
-ghost use Rattle.hid_cells.specs.Cells.{FitsSnapshot, FitsShown};
+ghost use Rattle.hid_snapshots.specs.Cells.{FitsSnapshot, FitsShown};
 
 use crate::words::control_of;
 use arrayvec::ArrayVec;
-use hid_cells::{Change, ChangeFault, has_empty_codes, has_keys, has_zeros, is_input};
 use hid_fields::{BitCodec, FieldCodec, WordCodec};
 use hid_layout::Layout;
-use hid_parts::{Shown, Snapshot, encode_report};
+use hid_snapshots::{
+    Change, ChangeFault, Shown, Snapshot, encode_report, has_empty_codes, has_keys, has_zeros,
+    is_input,
+};
 use std::alloc::Global;
 use test_sheets::{
     RowFault, number_of, signed_of, split, tell, tell_bytes, tell_debug, tell_number, tell_shown,

@@ -6,7 +6,7 @@ use Rattle.std.specs.Io.KnownBytes.{Appends, Consumes, Keeps}
 use Rattle.hid_descriptor.specs.declared.usage.Usage.{Usage}
 use Rattle.hid_layout.specs.declared.control.ControlId.{ControlId}
 use Rattle.hid_layout.specs.Layout.{Contents}
-use Rattle.hid_cells.specs.declared.fault.ReportFault.{ReportFault}
+use Rattle.hid_snapshots.specs.declared.fault.ReportFault.{ReportFault}
 use Rattle.hid_views.specs.Reading.{report_named}
 use Rattle.hid_requests.specs.declared.boot.Boot.{Boot}
 use Rattle.hid_requests.specs.declared.start.Start.{Start}

@@ -6,8 +6,8 @@ use Rattle.std.proofs.lemmas.List.{replicate-append-replicate}
 use Rattle.std.proofs.lemmas.Option.{slice_get_within}
 use Rattle.hid_descriptor.specs.declared.usage.Usage.{Usage}
 use Rattle.hid_layout.specs.Layout.{Contents, layout_of}
-use Rattle.hid_cells.specs.declared.event.Event.{Event}
-use Rattle.hid_cells.specs.declared.fault.ReportFault.{ReportFault}
+use Rattle.hid_snapshots.specs.declared.event.Event.{Event}
+use Rattle.hid_snapshots.specs.declared.fault.ReportFault.{ReportFault}
 use Rattle.hid_views.specs.Reading.{report_named}
 use Rattle.hid_requests.specs.declared.boot.Boot.{Boot}
 use Rattle.hid_requests.specs.declared.start.Start.{Start}

@@ -2,7 +2,7 @@
 use Rattle.std.specs.Prelude.{ℕ, List, [], ◌∷◌, ◌++◌, codes}
 use Rattle.std.specs.Fmt.{decimal}
 use Rattle.hid_descriptor.specs.Codes.{layout_fault_text}
-use Rattle.hid_cells.specs.Faults.{report_code}
+use Rattle.hid_snapshots.specs.Faults.{report_code}
 use Rattle.hid_host.specs.Faults.{stack_text}
 use Rattle.hid_script.specs.declared.fault.StepFault.{StepFault}
 use Rattle.hid_script.specs.declared.fault.StepFault.TheVariants.{Layout, Report, Stack}

@@ -3,7 +3,7 @@
 use Rattle.std.specs.Prelude.{◌≡◌, ◌⊎◌, ℕ, ◌+◌, List, [], ◌∷◌, ◌++◌, length, map, replicate, Some, None, Result, Ok, Err}
 use Rattle.hid_descriptor.specs.declared.usage.Usage.{Usage}
 use Rattle.hid_layout.specs.declared.control.ControlId.{ControlId}
-use Rattle.hid_cells.specs.declared.event.Event.{Event}
+use Rattle.hid_snapshots.specs.declared.event.Event.{Event}
 use Rattle.hid_requests.specs.declared.boot.Boot.{Boot}
 use Rattle.hid_requests.specs.declared.start.Start.{Start}
 use Rattle.hid_steps.specs.declared.step.Step.TheVariants as step

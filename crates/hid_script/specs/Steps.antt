@@ -6,9 +6,9 @@ use Rattle.hid_descriptor.specs.Faults.{Accepts, Refuses}
 use Rattle.hid_descriptor.specs.declared.fault.LayoutFault.{LayoutFault}
 use Rattle.hid_descriptor.specs.declared.usage.Usage.{Usage}
 use Rattle.hid_layout.specs.declared.control.ControlId.{ControlId}
-use Rattle.hid_cells.specs.declared.fault.ReportFault.{ReportFault}
-use Rattle.hid_cells.specs.declared.change.Change.{Change as OneChange}
-use Rattle.hid_cells.specs.declared.change.Change.TheVariants as changes
+use Rattle.hid_snapshots.specs.declared.fault.ReportFault.{ReportFault}
+use Rattle.hid_snapshots.specs.declared.change.Change.{Change as OneChange}
+use Rattle.hid_snapshots.specs.declared.change.Change.TheVariants as changes
 use Rattle.hid_views.specs.Reading.{report_named}
 use Rattle.hid_requests.specs.declared.boot.Boot.{Boot}
 use Rattle.hid_requests.specs.declared.start.Start.{Start}

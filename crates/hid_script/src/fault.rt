@@ -2,9 +2,9 @@
 
 ghost use Rattle.std.specs.Prelude.{◌≡◌};
 
-use hid_cells::ReportFault;
 use hid_layout::LayoutFault;
 use hid_lines::LineFault;
+use hid_snapshots::ReportFault;
 use hid_stack::StackFault;
 use std::alloc::AllocError;
 use thiserror::Error;

@@ -3,8 +3,8 @@
 ghost use Rattle.std.specs.Prelude.{◌≡◌};
 ghost use Rattle.hid_script.specs.Steps.{change_of};
 
-use hid_cells::Change;
 use hid_layout::ControlId;
+use hid_snapshots::Change;
 
 /// A change, without the control that changes.
 #[derive(Clone, Copy)]

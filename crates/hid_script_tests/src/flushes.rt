@@ -3,8 +3,8 @@
 
 use crate::play::{QUIET, play};
 use crate::verdict::{holds, none_is_wrong};
-use hid_cells::ReportFault;
 use hid_script::{Cause, ScriptFault, StepFault, Summary};
+use hid_snapshots::ReportFault;
 use std::alloc::Global;
 use std::cell::RefCell;
 use std::io;

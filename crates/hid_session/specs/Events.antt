@@ -2,8 +2,8 @@
 use Rattle.std.specs.Prelude.{ℕ, ℤ, pos}
 use Rattle.hid_descriptor.specs.declared.usage.Usage.{Usage}
 use Rattle.hid_layout.specs.declared.control.ControlId.{ControlId}
-use Rattle.hid_cells.specs.declared.event.Event.{Event}
-use Rattle.hid_cells.specs.declared.event.Event.TheVariants.{Down, Up, Value, Null, Motion, Dropped}
+use Rattle.hid_snapshots.specs.declared.event.Event.{Event}
+use Rattle.hid_snapshots.specs.declared.event.Event.TheVariants.{Down, Up, Value, Null, Motion, Dropped}
 use Rattle.hid_session.specs.declared.event.HidEvent.{HidEvent}
 use Rattle.hid_session.specs.declared.event.TheConstants.{UP, DOWN, VALUE, NULL, MOTION, DROPPED}
 

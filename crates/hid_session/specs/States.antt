@@ -1,7 +1,7 @@
 -- What is seen of a session (our choice).
 use Rattle.std.specs.Prelude.{List}
 use Rattle.hid_layout.specs.Layout.{Contents}
-use Rattle.hid_cells.specs.declared.cell.Cell.{Cell}
+use Rattle.hid_snapshots.specs.declared.cell.Cell.{Cell}
 
 -- a device's layout, and what a host has read of it
 pub record State : Type 0 where

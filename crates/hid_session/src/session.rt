@@ -5,9 +5,9 @@ ghost use Rattle.hid_descriptor.specs.Faults.{Explains};
 ghost use Rattle.hid_layout.specs.Layout.{Contents};
 ghost use Rattle.hid_layout.specs.Controls.{items_of, max_events};
 ghost use Rattle.hid_layout.specs.Reports.{IsLayout};
-ghost use Rattle.hid_cells.specs.Cells.{FitsView, blank};
-ghost use Rattle.hid_cells.specs.Snapshots.{is_pressed, cell_at};
-ghost use Rattle.hid_cells.specs.Views.{value_in};
+ghost use Rattle.hid_snapshots.specs.Cells.{FitsView, blank};
+ghost use Rattle.hid_snapshots.specs.Snapshots.{is_pressed, cell_at};
+ghost use Rattle.hid_snapshots.specs.Views.{value_in};
 ghost use Rattle.hid_session.specs.Sessions.{IsFirst, IsFirstOf, Feeds};
 
 use crate::event::{HidEvent, put_events};

@@ -8,11 +8,11 @@ use Rattle.hid_descriptor.specs.Faults.{Explains, Refuses}
 use Rattle.hid_layout.specs.Finding.{shown_at}
 use Rattle.hid_descriptor.specs.Laws.{HasOneReading, AcceptsNoRefused, HasOneCause, HasOnePlace}
 use Rattle.hid_layout.specs.Layout.{Contents, layout_of}
-use Rattle.hid_cells.specs.declared.change.ChangeFault.TheVariants as change
+use Rattle.hid_snapshots.specs.declared.change.ChangeFault.TheVariants as change
 use Rattle.usb_transact.specs.declared.transaction.Fate.{Fate}
 use Rattle.usb_transact.specs.declared.transaction.Fate.TheVariants.{Clean, TokenLost, ReplyLost, AckLost}
-use Rattle.hid_cells.specs.Codes.{has_empty_codes}
-use Rattle.hid_cells.specs.Parts.{has_zeros}
+use Rattle.hid_snapshots.specs.Codes.{has_empty_codes}
+use Rattle.hid_snapshots.specs.Parts.{has_zeros}
 use Rattle.hid_device.specs.declared.config.Config.{Config}
 use Rattle.hid_requests.specs.declared.fault.DeviceCause.{DeviceCause}
 use Rattle.hid_requests.specs.declared.fault.DeviceCause.TheVariants as causes

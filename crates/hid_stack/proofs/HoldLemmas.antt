@@ -1,6 +1,6 @@
 -- Each host of a bus holds its toggle while its endpoint is halted or a Clear is pending, whatever befalls its device.
-use Rattle.std.proofs.Common.{◌≡◌, ◌∙◌, ◌++◌, ℕ, Bool, true, false, List, [], ◌∷◌, Option, Some, None, refl, ap, sym, subst}
-use Rattle.std.specs.Prelude.{if◌then◌else◌, ◌||◌, is_some, IfSome}
+use Rattle.std.proofs.Common.{◌≡◌, ◌∙◌, ◌++◌, ℕ, Bool, true, false, List, [], ◌∷◌, Option, Some, None, refl, ap, sym, subst, cond, eqb, ◌-◌, Result, Ok, Err, OnOk, IfErr}
+use Rattle.std.specs.Prelude.{if◌then◌else◌, ◌||◌, is_some, IfSome, slice_get}
 use Rattle.usb_transact.specs.declared.transaction.Fate.{Fate}
 use Rattle.usb_transact.specs.declared.transaction.Fate.TheVariants.{Clean, TokenLost, ReplyLost, AckLost}
 use Rattle.usb_control.specs.declared.host.HostStage.{HostStage}
@@ -26,8 +26,6 @@ use Rattle.hid_host.specs.Host.{clearing_behind, clearing_with, cuts_round, runn
 use Rattle.hid_host.specs.Phase.{may_begin, may_poll}
 use Rattle.hid_steps.specs.declared.step.Step.{Step}
 use Rattle.hid_stack.specs.Expecting.{AllHoldToggles, HoldsToggle}
-use Rattle.std.proofs.Common.{cond, eqb, ◌-◌, Result, Ok, Err, OnOk, IfErr}
-use Rattle.std.specs.Prelude.{slice_get}
 use Rattle.std.proofs.lemmas.List.Elements.{All-get_or, All-map, All-push, All-set, All-weaker}
 use Rattle.std.proofs.lemmas.Option.{get_or_from_slice_get, slice_get_within}
 use Rattle.hid_device.specs.declared.config.Config.{Config}

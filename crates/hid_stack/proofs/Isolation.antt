@@ -9,8 +9,8 @@ use Rattle.std.proofs.lemmas.Bool.Decides.{nat_tests}
 use Rattle.std.proofs.lemmas.Bool.{cases_Bool}
 use Rattle.hid_layout.specs.Controls.{items_of}
 use Rattle.hid_layout.specs.Layout.{Contents}
-use Rattle.hid_cells.specs.declared.event.Event.{Event}
-use Rattle.hid_cells.proofs.ItemLemmas.{set_here, set_there}
+use Rattle.hid_snapshots.specs.declared.event.Event.{Event}
+use Rattle.hid_snapshots.proofs.ItemLemmas.{set_here, set_there}
 use Rattle.hid_lives.specs.Rounds.{OwnStep, Changes, Polls}
 use Rattle.hid_lives.specs.Rounds as own_steps
 use Rattle.hid_lives.specs.Following.{FollowsLife, course_from}

@@ -8,18 +8,17 @@ use Rattle.arrayvec.specs.declared.array_vec.ArrayVec.{ArrayVec}
 use Rattle.hid_descriptor.specs.declared.limits.TheConstants.{MAX_REPORT_BYTES}
 use Rattle.hid_layout.specs.Controls.{items_of}
 use Rattle.hid_layout.specs.Layout.{Contents, report_bytes}
-use Rattle.hid_cells.specs.declared.cell.Cell.{Cell}
-use Rattle.hid_cells.specs.declared.event.Event.{Event}
-use Rattle.hid_cells.specs.declared.fault.ReportFault.{ReportFault}
-use Rattle.hid_cells.specs.declared.fault.ReportFault.TheVariants.{Short}
-use Rattle.hid_cells.specs.Pieces.{piece_of, pieces_for, pieces_of}
-use Rattle.hid_cells.proofs.PieceLemmas.{collected_all, collected_more, full_piece, more_to_come}
+use Rattle.hid_snapshots.specs.declared.cell.Cell.{Cell}
+use Rattle.hid_snapshots.specs.declared.event.Event.{Event}
+use Rattle.hid_snapshots.specs.declared.fault.ReportFault.{ReportFault}
+use Rattle.hid_snapshots.specs.declared.fault.ReportFault.TheVariants.{Short}
+use Rattle.hid_snapshots.specs.Pieces.{piece_of, pieces_for, pieces_of, is_last_piece}
+use Rattle.hid_snapshots.proofs.PieceLemmas.{collected_all, collected_more, full_piece, more_to_come}
 use Rattle.hid_views.specs.Crossing.{ReadsAsShown}
 use Rattle.hid_views.specs.Reading.{bytes_awaited, first_byte, is_input_with, report_begun, report_named, whole_report}
 use Rattle.hid_views.specs.Taking.{read_view, read_events}
-use Rattle.hid_cells.specs.Views.{seen}
+use Rattle.hid_snapshots.specs.Views.{seen}
 use Rattle.usb_transact.specs.declared.host.Took.TheVariants.{Fresh}
-use Rattle.hid_cells.specs.Pieces.{is_last_piece}
 use Rattle.hid_lives.specs.Rounds.{part_events}
 use Rattle.hid_host.specs.Ready.{Known, bytes_with, collected_with, data_read, ends_with, events_behind, events_read, is_whole, known_behind, read_or_fault, told_of, told_read, view_read, view_with}
 

@@ -3,15 +3,15 @@ use Rattle.std.proofs.Common.{◌≡◌, ◌∙◌, ◌+◌, ◌++◌, ℕ, Bool
 use Rattle.std.specs.Prelude.{if◌then◌else◌, ◌&&◌, ◌||◌}
 use Rattle.std.specs.Bool.{beq}
 use Rattle.hid_layout.specs.Controls.{Item, items_of}
-use Rattle.hid_cells.specs.Cells.{blank}
-use Rattle.hid_cells.specs.declared.cell.Cell.{Cell}
-use Rattle.hid_cells.specs.declared.event.Event.{Event}
-use Rattle.hid_cells.specs.Views.{changes_between, changes_from, drops_between}
+use Rattle.hid_snapshots.specs.Cells.{blank}
+use Rattle.hid_snapshots.specs.declared.cell.Cell.{Cell}
+use Rattle.hid_snapshots.specs.declared.event.Event.{Event}
+use Rattle.hid_snapshots.specs.Views.{changes_between, changes_from, drops_between}
 use Rattle.hid_views.proofs.CrossingLemmas.{same_cell}
 use Rattle.hid_lives.specs.Lives.{befallen, reset_events}
 use Rattle.hid_lives.specs.Lives as lives
 use Rattle.hid_lives.specs.Stations.{Station, is_whole}
-use Rattle.hid_cells.specs.Pieces.{is_last_piece}
+use Rattle.hid_snapshots.specs.Pieces.{is_last_piece}
 use Rattle.hid_device.specs.Core.{CoreState, IsSound, piece_at, reset_core, round_of}
 use Rattle.hid_device.specs.Device.{DeviceState, core_of, reset_device}
 use Rattle.hid_host.specs.declared.phase.HostPhase.{HostPhase}

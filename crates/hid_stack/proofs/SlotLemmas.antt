@@ -8,18 +8,18 @@ use Rattle.hid_requests.specs.declared.request.Request.{Request}
 use Rattle.hid_requests.specs.declared.request.Request.TheVariants as requests
 use Rattle.hid_requests.specs.declared.start.Start.{Start}
 use Rattle.hid_requests.specs.declared.start.Start.TheVariants as starts
-use Rattle.hid_cells.specs.declared.cell.Cell.{Cell}
-use Rattle.hid_cells.specs.declared.event.Event.{Event}
+use Rattle.hid_snapshots.specs.declared.cell.Cell.{Cell}
+use Rattle.hid_snapshots.specs.declared.event.Event.{Event}
 use Rattle.hid_layout.specs.Controls.{Item, items_of, max_events}
-use Rattle.hid_cells.specs.declared.change.Change.{Change}
-use Rattle.hid_cells.specs.declared.change.ChangeFault.{ChangeFault}
-use Rattle.hid_cells.specs.Snapshots.{changed}
+use Rattle.hid_snapshots.specs.declared.change.Change.{Change}
+use Rattle.hid_snapshots.specs.declared.change.ChangeFault.{ChangeFault}
+use Rattle.hid_snapshots.specs.Snapshots.{changed}
 use Rattle.hid_lives.specs.Standing.{Standing, after_change}
 use Rattle.hid_descriptor.specs.Laws.{HasOneReading, AcceptsNoRefused}
 use Rattle.hid_layout.specs.Layout.{Contents, layout_of}
 use Rattle.hid_layout.specs.Reports.{IsLayout}
 use Rattle.hid_layout.proofs.WellFormed.{layout_of_accepted}
-use Rattle.hid_cells.proofs.BlankLemmas.{initial_fits}
+use Rattle.hid_snapshots.proofs.BlankLemmas.{initial_fits}
 use Rattle.hid_device.specs.declared.config.Config.{Config}
 use Rattle.hid_device.specs.Core.{CoreState, IsSound}
 use Rattle.hid_layout.specs.Laying.{Lays}

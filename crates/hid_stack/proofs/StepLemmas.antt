@@ -6,10 +6,10 @@ use Rattle.std.proofs.lemmas.Bool.Decides.{nat_tests}
 use Rattle.hid_layout.specs.Layout.{Contents}
 use Rattle.hid_layout.specs.Controls.{items_of, max_events}
 use Rattle.hid_layout.specs.Reports.{IsLayout}
-use Rattle.hid_cells.specs.declared.event.Event.{Event}
-use Rattle.hid_cells.specs.Cells.{FitsView}
-use Rattle.hid_cells.specs.Pieces.{pieces_for}
-use Rattle.hid_cells.proofs.PieceLemmas.{pieces_are}
+use Rattle.hid_snapshots.specs.declared.event.Event.{Event}
+use Rattle.hid_snapshots.specs.Cells.{FitsView}
+use Rattle.hid_snapshots.specs.Pieces.{pieces_for}
+use Rattle.hid_snapshots.proofs.PieceLemmas.{pieces_are}
 use Rattle.hid_views.proofs.CrossingLemmas.{parts_back}
 use Rattle.usb_packet.specs.declared.packet.Packet.{Packet}
 use Rattle.usb_packet.specs.declared.packet.Packet.TheVariants as packets

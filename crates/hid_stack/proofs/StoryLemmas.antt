@@ -15,7 +15,7 @@ use Rattle.hid_lives.specs.Lives.{befallen_all, course_behind, happenings, told_
 use Rattle.hid_lives.specs.Rounds.{Polls}
 use Rattle.hid_lives.specs.Stations.{Station}
 use Rattle.hid_lives.proofs.LifeLemmas.{lives_on}
-use Rattle.hid_cells.specs.declared.event.Event.{Event}
+use Rattle.hid_snapshots.specs.declared.event.Event.{Event}
 use Rattle.hid_steps.specs.declared.step.Step.{Step}
 use Rattle.hid_steps.specs.declared.step.Step.TheVariants.{Change, Frame, Poll, Begin, Control, Halt, Reset}
 use Rattle.hid_steps.specs.declared.step.Delivered.{Delivered}

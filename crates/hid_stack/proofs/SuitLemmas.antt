@@ -2,7 +2,7 @@
 use Rattle.std.proofs.Common.{ℕ, Bool, Option, Some, None, sym, subst}
 use Rattle.std.specs.Prelude.{IfSome}
 use Rattle.hid_layout.specs.Layout.{Contents}
-use Rattle.hid_cells.specs.Parts.{IsInput}
+use Rattle.hid_snapshots.specs.Parts.{IsInput}
 use Rattle.usb_control.specs.Device.{DevControlState}
 use Rattle.hid_device.specs.Inputs.{AreInputsFirst, input_count}
 use Rattle.hid_device.specs.Core.{CoreState, IsBelow, IsSound, round_of}

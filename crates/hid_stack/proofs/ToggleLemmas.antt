@@ -21,11 +21,10 @@ use Rattle.hid_requests.specs.declared.request.Request.{Request}
 use Rattle.hid_requests.specs.declared.request.Request.TheVariants as requests
 use Rattle.hid_requests.specs.Asking.{sends_of}
 use Rattle.hid_requests.proofs.AskedLemmas.{sends_so, spelled_so}
-use Rattle.hid_lives.specs.Rounds.{Changes, Course, Frame, Polls, Round, pieces_crossed}
+use Rattle.hid_lives.specs.Rounds.{Changes, Course, Frame, Polls, Round, pieces_crossed, still_open}
 use Rattle.hid_lives.specs.Stations.{Open, Station, after, expected}
 use Rattle.hid_lives.specs.Lives.{Configures, Deed, Ended, Began, Cut, Evened, Gone, Happening, Idles, Own, befallen_all, course_after, course_behind, ended, flips, happenings, happens_by, toggle_from, toggle_past}
 use Rattle.hid_lives.specs.Lives as lives
-use Rattle.hid_lives.specs.Rounds.{still_open}
 use Rattle.hid_lives.specs.Following.{course_from}
 use Rattle.hid_lives.proofs.LifeLemmas.{lives_on}
 use Rattle.hid_requests.specs.declared.codes.TheConstants.{REPORT_ENDPOINT as ENDPOINT}
@@ -33,7 +32,7 @@ use Rattle.hid_device.specs.declared.decisions.Pending.TheVariants as pendings
 use Rattle.hid_device.specs.Core.{CoreState}
 use Rattle.hid_device.specs.Deciding.{core_table}
 use Rattle.hid_host.specs.declared.fault.StackFault.{StackFault}
-use Rattle.hid_cells.specs.declared.change.Change.{Change}
+use Rattle.hid_snapshots.specs.declared.change.Change.{Change}
 use Rattle.hid_host.specs.declared.host.Transfer.{Transfer}
 use Rattle.hid_host.specs.declared.phase.HostState.{HostState}
 use Rattle.hid_host.specs.declared.phase.HostState.TheVariants as states

@@ -4,7 +4,7 @@ use Rattle.hid_descriptor.specs.declared.shape.Shape.TheVariants.{Variable}
 use Rattle.hid_descriptor.specs.declared.report.ReportKind.TheVariants.{Input}
 use Rattle.hid_layout.specs.Layout.{Contents}
 use Rattle.hid_layout.specs.Controls.{items_from, spread}
-use Rattle.hid_cells.specs.Samples.{usage}
+use Rattle.hid_snapshots.specs.Samples.{usage}
 use Rattle.usb_transact.specs.declared.transaction.Fate.TheVariants.{Clean, ReplyLost, AckLost}
 use Rattle.hid_requests.specs.declared.request.Request.TheVariants.{Clear}
 use Rattle.hid_requests.specs.Asked.{asked_of}

@@ -1,13 +1,13 @@
 -- What a try of a transfer leaves of a device and its host, as their member (USB 2.0, 8.5.3 and 9.1.1).
 use Rattle.std.proofs.Common.{◌≡◌, ◌∙◌, ℕ, Bool, true, false, List, [], Option, Some, None, refl, ap, sym, subst}
 use Rattle.std.specs.Prelude.{◌||◌}
-use Rattle.hid_cells.specs.declared.cell.Cell.{Cell}
+use Rattle.hid_snapshots.specs.declared.cell.Cell.{Cell}
 use Rattle.std.specs.Option.{option_map}
 use Rattle.hid_layout.specs.Controls.{Item, items_of}
 use Rattle.hid_layout.specs.Layout.{Contents}
 use Rattle.hid_layout.specs.Reports.{IsLayout}
 use Rattle.hid_layout.proofs.WellFormed.{layout_of_accepted}
-use Rattle.hid_cells.proofs.BlankLemmas.{initial_fits}
+use Rattle.hid_snapshots.proofs.BlankLemmas.{initial_fits}
 use Rattle.usb_transact.specs.declared.transaction.Fate.{Fate}
 use Rattle.usb_transact.specs.declared.transaction.Fate.TheVariants.{Clean, TokenLost, ReplyLost, AckLost}
 use Rattle.usb_control.specs.declared.device.Heard.{Heard}

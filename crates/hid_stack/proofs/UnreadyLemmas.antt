@@ -2,9 +2,9 @@
 use Rattle.std.proofs.Common.{◌≡◌, ◌≢◌, ◌∙◌, ◌++◌, ℕ, Bool, true, false, List, [], map, Option, Some, None, Result, Ok, Err, refl, ap, sym, subst, append-nil}
 use Rattle.std.specs.Prelude.{if◌then◌else◌, OnOk, OnErr}
 use Rattle.hid_layout.specs.Controls.{Item, items_of}
-use Rattle.hid_cells.specs.declared.event.Event.{Event}
-use Rattle.hid_cells.specs.Cells.{blank}
-use Rattle.hid_cells.specs.Views.{changes_between, drops_between}
+use Rattle.hid_snapshots.specs.declared.event.Event.{Event}
+use Rattle.hid_snapshots.specs.Cells.{blank}
+use Rattle.hid_snapshots.specs.Views.{changes_between, drops_between}
 use Rattle.usb_transact.specs.declared.transaction.Fate.{Fate}
 use Rattle.hid_lives.specs.Lives.{Deed, Own, Idles, Configures, cut_events, reset_events}
 use Rattle.hid_lives.specs.Lives as lives

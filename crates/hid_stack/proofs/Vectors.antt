@@ -3,7 +3,7 @@ use Rattle.std.specs.Prelude.{◌≡◌, ℕ, true, false, List, [], ◌∷◌, 
 use Rattle.usb_transact.specs.declared.host.Took.TheVariants.{Fresh, Again, Nak, Silent}
 use Rattle.usb_transact.specs.declared.transaction.Fate.{Fate}
 use Rattle.usb_transact.specs.declared.transaction.Fate.TheVariants.{Clean, TokenLost, ReplyLost, AckLost}
-use Rattle.hid_cells.specs.Samples.{keyboard}
+use Rattle.hid_snapshots.specs.Samples.{keyboard}
 use Rattle.hid_lives.specs.Rounds.{OwnStep, Polls}
 use Rattle.hid_steps.specs.declared.step.Told.{Told}
 use Rattle.hid_steps.specs.declared.step.Told.TheVariants.{Polled}

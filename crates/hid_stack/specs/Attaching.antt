@@ -6,7 +6,7 @@ use Rattle.hid_descriptor.specs.declared.usage.Usage.{Usage}
 use Rattle.hid_layout.specs.Controls.{items_of}
 use Rattle.hid_layout.specs.Finding.{shown_at}
 use Rattle.hid_layout.specs.Layout.{Contents}
-use Rattle.hid_cells.specs.declared.change.ChangeFault.TheVariants.{NoSuchControl}
+use Rattle.hid_snapshots.specs.declared.change.ChangeFault.TheVariants.{NoSuchControl}
 use Rattle.hid_device.specs.declared.config.Config.{Config}
 use Rattle.hid_requests.specs.declared.fault.DeviceCause.{DeviceCause}
 use Rattle.hid_requests.specs.declared.fault.DeviceCause.TheVariants as causes

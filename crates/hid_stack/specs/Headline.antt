@@ -1,8 +1,8 @@
 -- What is promised of a device over its own steps, by the rounds of those steps (USB 2.0, 8.5.4, 8.6 and 9.4.7).
 use Rattle.std.specs.Prelude.{◌≡◌, ℕ, true, false, List, ◌++◌, Some, None}
 use Rattle.hid_layout.specs.Controls.{items_of}
-use Rattle.hid_cells.specs.declared.cell.Cell.{Cell}
-use Rattle.hid_cells.specs.declared.event.Event.{Event}
+use Rattle.hid_snapshots.specs.declared.cell.Cell.{Cell}
+use Rattle.hid_snapshots.specs.declared.event.Event.{Event}
 use Rattle.hid_lives.specs.Following.{FollowsLife, StandsByRounds, course_from}
 use Rattle.hid_lives.specs.Lives.{Deed, course_behind, happenings}
 use Rattle.hid_lives.specs.Rounds.{events_of_epoch}

@@ -2,7 +2,7 @@
 -- 8.5.4 and 8.6; our choice).
 use Rattle.std.specs.Prelude.{◌≡◌, ◌⊎◌, ◌+◌, Bool, true, false, ◌&&◌, [], Option, Some, None}
 use Rattle.hid_layout.specs.Controls.{items_of}
-use Rattle.hid_cells.specs.Views.{seen}
+use Rattle.hid_snapshots.specs.Views.{seen}
 use Rattle.usb_transact.specs.declared.transaction.Fate.{Fate}
 use Rattle.hid_lives.specs.Rounds.{Polls, part_events, reaches_host}
 use Rattle.hid_lives.specs.Stations.{Open, Station, arrived, completes}

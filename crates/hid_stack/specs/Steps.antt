@@ -1,7 +1,7 @@
 -- One step of the bus, whole: what it tells, where it leaves the bus and the events, and when it is refused (our choice).
 use Rattle.std.specs.Prelude.{◌≡◌, ◌≢◌, ◌≤◌, ◌+◌, ◌++◌, ℕ, List, [], ◌∷◌, Option, Some, None, Result, Err, IfOk, IfErr, OnOk, OnErr}
 use Rattle.hid_layout.specs.Controls.{items_of}
-use Rattle.hid_cells.specs.Cells.{blank}
+use Rattle.hid_snapshots.specs.Cells.{blank}
 use Rattle.hid_host.specs.declared.fault.StackFault.{StackFault}
 use Rattle.hid_host.specs.declared.fault.StackFault.TheVariants.{Memory}
 use Rattle.hid_host.specs.declared.phase.HostState.TheVariants.{Ready}

@@ -16,9 +16,9 @@ use crate::laws::{
     rounds_suit_their_hosts,
 };
 use crate::slot::is_sound;
-use hid_cells::Event;
 use hid_device::Device;
 use hid_host::{HostDevice, StackFault};
+use hid_snapshots::Event;
 use usb_control::Progress;
 use usb_transact::Fate;
 

@@ -11,7 +11,7 @@ ghost use Rattle.hid_requests.specs.declared.request.Request.{Request};
 ghost use Rattle.hid_requests.specs.declared.request.Request.TheVariants.{Clear};
 ghost use Rattle.hid_requests.specs.Asking.{FitsRequest};
 ghost use Rattle.hid_layout.specs.Laying.{Lays};
-ghost use Rattle.hid_cells.specs.declared.change.Change.{Change};
+ghost use Rattle.hid_snapshots.specs.declared.change.Change.{Change};
 ghost use Rattle.hid_device.specs.Core.{CoreState, IsSound, changed_core, closed_core, configured_core, framed_core, halted_core, opening_of, round_of};
 ghost use Rattle.hid_device.specs.Deciding.{core_table};
 ghost use Rattle.hid_host.specs.declared.fault.StackFault.{StackFault};

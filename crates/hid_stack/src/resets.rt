@@ -9,9 +9,9 @@ ghost use Rattle.hid_stack.specs.Slot.{StandTogether, joint, station_of};
 
 use crate::laws::{hosts_know_their_devices, rounds_suit_their_hosts};
 use crate::slot::is_sound;
-use hid_cells::Event;
 use hid_device::Device;
 use hid_host::HostDevice;
+use hid_snapshots::Event;
 
 /// Resets a device and its own host. What changes for the host is told, until its view is the initial one again, and the
 /// motion of an open round that hasn't crossed, which is dropped.

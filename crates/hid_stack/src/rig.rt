@@ -15,10 +15,10 @@ ghost use Rattle.hid_stack.specs.Tells.{Tells};
 
 use crate::fault::RunFault;
 use crate::slot::Slot;
-use hid_cells::ChangeFault;
 use hid_device::{Config, Device};
 use hid_host::{HostDevice, StackFault, Start};
 use hid_layout::{ControlId, Usage};
+use hid_snapshots::ChangeFault;
 use hid_steps::{Delivered, Step, Told};
 use std::alloc::Global;
 use std::marker::Model;

@@ -1,7 +1,7 @@
 -- What was delivered of one device, by two lists.
 use Rattle.std.proofs.Common.{◌≡◌, ◌++◌, ℕ, List, [], ◌∷◌, Option, Some, None, refl, ap}
 use Rattle.std.specs.List.{cons_option}
-use Rattle.hid_cells.specs.declared.event.Event.{Event}
+use Rattle.hid_snapshots.specs.declared.event.Event.{Event}
 use Rattle.hid_steps.specs.declared.step.Delivered.{Delivered}
 use Rattle.hid_steps.specs.Delivered.{from_device, own_event}
 

@@ -1,7 +1,7 @@
 -- What was delivered of one device (our choice).
 use Rattle.std.specs.Prelude.{ℕ, ◌==◌, if◌then◌else◌, List, Option, Some, None}
 use Rattle.std.specs.List.{filter_map}
-use Rattle.hid_cells.specs.declared.event.Event.{Event}
+use Rattle.hid_snapshots.specs.declared.event.Event.{Event}
 use Rattle.hid_steps.specs.declared.step.Delivered.{Delivered}
 
 -- what was delivered of a device

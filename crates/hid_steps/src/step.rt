@@ -1,7 +1,7 @@
 //! The steps of a bus, and what they tell and deliver.
 use arrayvec::ArrayVec;
-use hid_cells::{Change, Event};
 use hid_requests::Request;
+use hid_snapshots::{Change, Event};
 use usb_control::Progress;
 use usb_transact::{Fate, Took};
 

@@ -4,8 +4,8 @@ use Rattle.std.specs.List.{list_any}
 use Rattle.std.specs.Fmt.{decimal, digits, digits_onto, digit_glyph}
 use Rattle.std.proofs.lemmas.Fmt.{decimal_digit}
 use Rattle.std.proofs.lemmas.Bool.{and_parts, and_from, and_left, and_right, le-leb, leb-true, ne_eqb, eq-eqb, cond_both, cond-true, cond-false, cases_lt, cases_eq, lt-ltb}
-use Rattle.hid_cells.specs.declared.event.Event.{Event}
-use Rattle.hid_cells.specs.declared.event.Event.TheVariants.{Down, Up, Value, Null, Motion, Dropped}
+use Rattle.hid_snapshots.specs.declared.event.Event.{Event}
+use Rattle.hid_snapshots.specs.declared.event.Event.TheVariants.{Down, Up, Value, Null, Motion, Dropped}
 use Rattle.hid_text.specs.EventText.{event_text}
 use Rattle.hid_text.specs.EventLines.{begins_with, words_of_events, is_event_line}
 

@@ -8,7 +8,7 @@ use Rattle.hid_descriptor.specs.declared.shape.Shape.TheVariants.{Variable}
 use Rattle.hid_notation.specs.Text.{hex_text, range_text}
 use Rattle.hid_text.specs.LayoutText.{item_head, item_line}
 use Rattle.hid_text.specs.ValuesText.{value_line}
-use Rattle.hid_cells.specs.declared.event.Event.TheVariants.{Up, Dropped}
+use Rattle.hid_snapshots.specs.declared.event.Event.TheVariants.{Up, Dropped}
 use Rattle.hid_text.specs.EventLines.{event_lines}
 use Rattle.hid_text.specs.StepText.{events_text}
 use Rattle.hid_text.specs.TransferText.{transfer_text}

@@ -3,8 +3,8 @@
 ghost use Rattle.std.specs.Prelude.{Some};
 ghost use Rattle.hid_text.specs.EventText.{event_text};
 
-use hid_cells::Event;
 use hid_notation::UsageText;
+use hid_snapshots::Event;
 use std::fmt;
 
 /// What a device's number tells, as one line without its end: `1 down 07:04`.

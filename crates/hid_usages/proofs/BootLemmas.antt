@@ -19,21 +19,21 @@ use Rattle.hid_descriptor.specs.declared.shape.Shape.TheVariants.{Array}
 use Rattle.hid_descriptor.specs.declared.usage.Usage.{Usage}
 use Rattle.hid_layout.specs.Controls.{Item, Key, input_item, Elements, Keys, items_of, items_from, keys_from, rollover_from, spread, control_of_key, head_of}
 use Rattle.hid_layout.specs.Finding.{shown_at}
-use Rattle.hid_cells.specs.declared.cell.Cell.{Cell}
-use Rattle.hid_cells.specs.declared.cell.Cell.TheVariants.{Vacant, Pressed, Holding, Moved, RolledOver}
+use Rattle.hid_snapshots.specs.declared.cell.Cell.{Cell}
+use Rattle.hid_snapshots.specs.declared.cell.Cell.TheVariants.{Vacant, Pressed, Holding, Moved, RolledOver}
 use Rattle.hid_usages.specs.declared.boot.KeyboardReport.{KeyboardReport}
 use Rattle.hid_usages.specs.Boot.{field, keyboard_layout, mouse_layout, keyboard_of, mouse_of, motion_in, is_held, is_rolled, names, buttons_in, TellsKeys, TellsButtons}
-use Rattle.hid_cells.specs.Cells.{is_in, FitsView, HasRoom, InView}
-use Rattle.hid_parts.specs.Encoding.{AreBytes}
-use Rattle.hid_parts.specs.Numbers.{number_at, numbers_in}
+use Rattle.hid_snapshots.specs.Cells.{is_in, FitsView, HasRoom, InView}
+use Rattle.hid_snapshots.specs.Encoding.{AreBytes}
+use Rattle.hid_snapshots.specs.Numbers.{number_at, numbers_in}
 use Rattle.hid_views.specs.Reading.{read_switch, read_motion, names_rollover, names_key, named_from, report_named, is_rollover_at}
-use Rattle.hid_cells.specs.Samples.{usage, keyboard, mouse}
-use Rattle.hid_cells.specs.Snapshots.{is_pressed, cell_at}
-use Rattle.hid_cells.specs.declared.event.Event.{Event}
-use Rattle.hid_cells.specs.Events.{at, switch_events, motion_event, motion_events, change_events}
+use Rattle.hid_snapshots.specs.Samples.{usage, keyboard, mouse}
+use Rattle.hid_snapshots.specs.Snapshots.{is_pressed, cell_at}
+use Rattle.hid_snapshots.specs.declared.event.Event.{Event}
+use Rattle.hid_snapshots.specs.Events.{at, switch_events, motion_event, motion_events, change_events}
 use Rattle.hid_views.specs.Taking.{read_view, read_by_report, told_by_report, read_events}
-use Rattle.hid_cells.proofs.CodeLemmas.{test_true}
-use Rattle.hid_cells.proofs.ItemLemmas.{got}
+use Rattle.hid_snapshots.proofs.CodeLemmas.{test_true}
+use Rattle.hid_snapshots.proofs.ItemLemmas.{got}
 use Rattle.hid_views.proofs.KeyLemmas.{rollover_named}
 use Rattle.hid_views.proofs.TakeLemmas.{read_view-at}
 use Rattle.std.proofs.lemmas.Option.{slice_get_past}

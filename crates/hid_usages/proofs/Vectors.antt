@@ -1,22 +1,22 @@
 -- Values of the definitions, worked out by hand.
 use Rattle.std.specs.Prelude.{◌≡◌, ℕ, Bool, true, false, List, [], ◌∷◌, None, Ok, Err, pos, negsuc, refl}
 use Rattle.hid_layout.specs.Controls.{Item}
-use Rattle.hid_cells.specs.declared.cell.Cell.{Cell}
-use Rattle.hid_cells.specs.declared.cell.Cell.TheVariants.{Vacant, Pressed, Holding, Moved}
-use Rattle.hid_cells.specs.declared.change.Change.{Change}
-use Rattle.hid_cells.specs.declared.change.Change.TheVariants as change
-use Rattle.hid_cells.specs.declared.change.ChangeFault.TheVariants as fault
-use Rattle.hid_cells.specs.declared.event.Event.{Event}
-use Rattle.hid_cells.specs.declared.event.Event.TheVariants as event
-use Rattle.hid_cells.specs.Cells.{blank}
-use Rattle.hid_cells.specs.Snapshots.{OrFault, changed}
-use Rattle.hid_cells.specs.Parts.{blank_parts, shown, taken, is_changed}
+use Rattle.hid_snapshots.specs.declared.cell.Cell.{Cell}
+use Rattle.hid_snapshots.specs.declared.cell.Cell.TheVariants.{Vacant, Pressed, Holding, Moved}
+use Rattle.hid_snapshots.specs.declared.change.Change.{Change}
+use Rattle.hid_snapshots.specs.declared.change.Change.TheVariants as change
+use Rattle.hid_snapshots.specs.declared.change.ChangeFault.TheVariants as fault
+use Rattle.hid_snapshots.specs.declared.event.Event.{Event}
+use Rattle.hid_snapshots.specs.declared.event.Event.TheVariants as event
+use Rattle.hid_snapshots.specs.Cells.{blank}
+use Rattle.hid_snapshots.specs.Snapshots.{OrFault, changed}
+use Rattle.hid_snapshots.specs.Parts.{blank_parts, shown, taken, is_changed}
 use Rattle.hid_usages.specs.Boot.{keyboard_of, is_held, mouse_in}
-use Rattle.hid_cells.specs.Events.{at}
-use Rattle.hid_cells.specs.Views.{seen, events_between}
-use Rattle.hid_cells.specs.Words.{words_in}
-use Rattle.hid_cells.specs.Keys.{key_words}
-use Rattle.hid_cells.specs.Samples.{usage, keyboard, mouse, hat, wheel_and_button}
+use Rattle.hid_snapshots.specs.Events.{at}
+use Rattle.hid_snapshots.specs.Views.{seen, events_between}
+use Rattle.hid_snapshots.specs.Words.{words_in}
+use Rattle.hid_snapshots.specs.Keys.{key_words}
+use Rattle.hid_snapshots.specs.Samples.{usage, keyboard, mouse, hat, wheel_and_button}
 
 -- the snapshot after these changes of a blank one, one behind the other
 abbrev after : List Item → OrFault (List Cell) → List Change → OrFault (List Cell)

@@ -4,14 +4,14 @@ ghost use Rattle.std.specs.Prelude.{◌≡◌, ◌≤◌, ℕ, List, length};
 ghost use Rattle.hid_fields.specs.Value.{pattern_for};
 ghost use Rattle.hid_layout.specs.Controls.{items_of};
 ghost use Rattle.hid_usages.specs.Boot.{keyboard_in, keyboard_bytes, is_rolled, is_held, mouse_in, mouse_bytes, motion_in, keyboard_layout, mouse_layout, GivesOnly, TellsKeys, TellsButtons, KeyboardReadsBack, MouseReadsBack};
-ghost use Rattle.hid_cells.specs.Cells.{FitsView};
-ghost use Rattle.hid_parts.specs.Encoding.{AreBytes};
-ghost use Rattle.hid_cells.specs.declared.cell.Cell.{Cell};
+ghost use Rattle.hid_snapshots.specs.Cells.{FitsView};
+ghost use Rattle.hid_snapshots.specs.Encoding.{AreBytes};
+ghost use Rattle.hid_snapshots.specs.declared.cell.Cell.{Cell};
 
-use hid_cells::ReportFault;
 use hid_fields::{to_pattern, to_value};
 pub use hid_layout::boot::{KEYBOARD, MOUSE};
 use hid_layout::laws::one_reading;
+use hid_snapshots::ReportFault;
 
 /// The Input report of the boot keyboard (HID 1.11, B.1).
 #[derive(Clone, Copy, Debug, PartialEq, Eq)]

@@ -22,11 +22,10 @@
 
 pub mod boot;
 
-pub use hid_cells::{
-    Change, ChangeFault, Event, MemoryFault, ReportFault, has_empty_codes, has_keys, has_zeros,
-    is_input,
+pub use hid_snapshots::{
+    Change, ChangeFault, Event, MemoryFault, ReportFault, Shown, Snapshot, encode_report,
+    has_empty_codes, has_keys, has_zeros, is_input,
 };
-pub use hid_parts::{Shown, Snapshot, encode_report};
 pub use hid_views::{
     Reader, View, bytes_awaited, changes, changes_and_drops, element_value, input_report, laws,
 };

@@ -6,15 +6,15 @@ use Rattle.hid_layout.specs.declared.control.Controls.TheVariants as head
 use Rattle.hid_layout.specs.declared.control.ControlKind.{ControlKind}
 use Rattle.hid_layout.specs.declared.control.ControlKind.TheVariants.{Switch, Value, NullValue, Relative}
 use Rattle.hid_layout.specs.Controls.{Form, NoControls, Elements, Keys, Item, form_at, head_of, max_events}
-use Rattle.hid_cells.specs.declared.cell.Cell.{Cell}
-use Rattle.hid_cells.specs.declared.cell.Cell.TheVariants.{Vacant, Pressed, Holding, Moved, RolledOver}
-use Rattle.hid_cells.specs.declared.event.Event.{Event}
-use Rattle.hid_cells.specs.Cells.{blank, blank_cell, first_value, FitsShown, FitsView, HasRoom, InView}
-use Rattle.hid_cells.specs.Events.{at, each, switch_event, up_event, down_event, ups, usages_of, key_usages, element_events, change_events}
-use Rattle.hid_cells.specs.Views.{changes_between}
-use Rattle.hid_cells.proofs.BlankLemmas.{blank_in_view, blank_room, suits_all}
-use Rattle.hid_cells.proofs.ItemLemmas.{got, form_at-is}
-use Rattle.hid_cells.proofs.ListLemmas.{map_at}
+use Rattle.hid_snapshots.specs.declared.cell.Cell.{Cell}
+use Rattle.hid_snapshots.specs.declared.cell.Cell.TheVariants.{Vacant, Pressed, Holding, Moved, RolledOver}
+use Rattle.hid_snapshots.specs.declared.event.Event.{Event}
+use Rattle.hid_snapshots.specs.Cells.{blank, blank_cell, first_value, FitsShown, FitsView, HasRoom, InView}
+use Rattle.hid_snapshots.specs.Events.{at, each, switch_event, up_event, down_event, ups, usages_of, key_usages, element_events, change_events}
+use Rattle.hid_snapshots.specs.Views.{changes_between}
+use Rattle.hid_snapshots.proofs.BlankLemmas.{blank_in_view, blank_room, suits_all}
+use Rattle.hid_snapshots.proofs.ItemLemmas.{got, form_at-is}
+use Rattle.hid_snapshots.proofs.ListLemmas.{map_at}
 use Rattle.hid_views.specs.Dropping.{drops_from}
 use Rattle.hid_views.proofs.DropLemmas.{drops_are, drops_few}
 use Rattle.hid_views.proofs.ViewLemmas.{changes_few}

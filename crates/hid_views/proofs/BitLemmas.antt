@@ -12,24 +12,23 @@ use Rattle.std.proofs.lemmas.Bool.Decides.{nat_tests, Decides-int_eq}
 use Rattle.std.proofs.lemmas.Option.{get_or_from_slice_get, slice_get_within}
 use Rattle.hid_fields.specs.Field.{bit_of, pattern_of}
 use Rattle.hid_fields.proofs.WordLemmas.{bit_at-pattern_of}
-use Rattle.hid_parts.specs.Numbers.{number_at, numbers_in}
-use Rattle.hid_parts.proofs.NumberLemmas.{numbers_in-length, one_bit}
-use Rattle.hid_parts.proofs.NumberLemmas.{numbers_in-at}
-use Rattle.hid_cells.specs.Words.{bits_in, is_on, is_unlike, IsFirst}
-use Rattle.hid_cells.proofs.WordLemmas.{bits_in-at, bits_in-length}
-use Rattle.hid_cells.proofs.FillLemmas.{map_zip_at, length_map_zip}
-use Rattle.hid_cells.proofs.ItemLemmas.{got}
+use Rattle.hid_snapshots.specs.Numbers.{number_at, numbers_in}
+use Rattle.hid_snapshots.proofs.NumberLemmas.{numbers_in-length, one_bit, numbers_in-at}
+use Rattle.hid_snapshots.specs.Words.{bits_in, is_on, is_unlike, IsFirst}
+use Rattle.hid_snapshots.proofs.WordLemmas.{bits_in-at, bits_in-length}
+use Rattle.hid_snapshots.proofs.FillLemmas.{map_zip_at, length_map_zip}
+use Rattle.hid_snapshots.proofs.ItemLemmas.{got}
 use Rattle.hid_descriptor.specs.declared.usage.Usage.{Usage}
-use Rattle.hid_cells.specs.declared.event.Event.{Event}
-use Rattle.hid_cells.specs.declared.event.Event.TheVariants as event
-use Rattle.hid_cells.specs.Events.{at, switch_event, usages_of, usages_at, element_events, change_events}
+use Rattle.hid_snapshots.specs.declared.event.Event.{Event}
+use Rattle.hid_snapshots.specs.declared.event.Event.TheVariants as event
+use Rattle.hid_snapshots.specs.Events.{at, switch_event, usages_of, usages_at, element_events, change_events}
 use Rattle.hid_views.specs.Reading.{read_switch, read_cell, motion_cell, item_numbers}
 use Rattle.hid_views.specs.Bits.{is_variable, are_bits, read_bits}
 use Rattle.hid_layout.specs.ControlKinds.{is_switch}
-use Rattle.hid_cells.specs.Views.{motions_told}
+use Rattle.hid_snapshots.specs.Views.{motions_told}
 use Rattle.hid_views.specs.Taking.{list_at, IsFormOf, read_by_numbers, told_by_numbers}
 use Rattle.hid_views.proofs.TakeLemmas.{list_at-is}
-use Rattle.hid_parts.proofs.SendLemmas.{spread-length}
+use Rattle.hid_snapshots.proofs.SendLemmas.{spread-length}
 use Rattle.hid_fields.specs.Value.{is_negative}
 use Rattle.hid_descriptor.specs.Flags.{has_flag, RELATIVE, NULL_STATE}
 use Rattle.hid_layout.specs.declared.main_item.MainItem.{MainItem}
@@ -42,10 +41,10 @@ use Rattle.hid_layout.specs.Layout.{Contents}
 use Rattle.hid_descriptor.specs.Fields.{is_padding}
 use Rattle.hid_layout.specs.Reports.{IsLayout, first_bit}
 use Rattle.hid_layout.specs.Controls.{Form, Elements, form_of, form_at, items_of, head_of, element_kind, has_outside, least_of, greatest_of, spread}
-use Rattle.hid_cells.specs.declared.cell.Cell.{Cell}
-use Rattle.hid_cells.specs.declared.cell.Cell.TheVariants.{Vacant, Pressed, Holding, Moved, RolledOver}
-use Rattle.hid_cells.specs.Cells.{HasRoom}
-use Rattle.hid_cells.proofs.CodeLemmas.{both_true}
+use Rattle.hid_snapshots.specs.declared.cell.Cell.{Cell}
+use Rattle.hid_snapshots.specs.declared.cell.Cell.TheVariants.{Vacant, Pressed, Holding, Moved, RolledOver}
+use Rattle.hid_snapshots.specs.Cells.{HasRoom}
+use Rattle.hid_snapshots.proofs.CodeLemmas.{both_true}
 use Rattle.hid_views.proofs.EventLemmas.{TellsBy, length_zip, zip_parts}
 use Rattle.hid_views.proofs.RoomLemmas.{off_past}
 

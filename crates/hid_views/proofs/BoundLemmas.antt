@@ -18,14 +18,14 @@ use Rattle.hid_layout.specs.declared.control.ControlKind.TheVariants.{Switch, Va
 use Rattle.hid_layout.specs.Layout.{Contents}
 use Rattle.hid_layout.specs.Controls.{Form, Elements, element_kind, form_at, form_of, items_of, is_encodable, least_of, greatest_of, spread}
 use Rattle.hid_layout.proofs.CodeLemmas.{inside, under, above}
-use Rattle.hid_cells.specs.declared.cell.Cell.{Cell}
-use Rattle.hid_cells.specs.declared.cell.Cell.TheVariants.{Vacant, Pressed, Holding, Moved, RolledOver}
-use Rattle.hid_cells.specs.Cells.{has_null}
-use Rattle.hid_cells.specs.Events.{change_events, element_events, usages_at, usages_of}
-use Rattle.hid_cells.specs.Views.{motions_of, motions_told}
-use Rattle.hid_parts.specs.Numbers.{number_at, numbers_in}
-use Rattle.hid_parts.proofs.NumberLemmas.{numbers_in-at, numbers_in-length}
-use Rattle.hid_parts.proofs.SendLemmas.{pattern_fits}
+use Rattle.hid_snapshots.specs.declared.cell.Cell.{Cell}
+use Rattle.hid_snapshots.specs.declared.cell.Cell.TheVariants.{Vacant, Pressed, Holding, Moved, RolledOver}
+use Rattle.hid_snapshots.specs.Cells.{has_null}
+use Rattle.hid_snapshots.specs.Events.{change_events, element_events, usages_at, usages_of}
+use Rattle.hid_snapshots.specs.Views.{motions_of, motions_told}
+use Rattle.hid_snapshots.specs.Numbers.{number_at, numbers_in}
+use Rattle.hid_snapshots.proofs.NumberLemmas.{numbers_in-at, numbers_in-length}
+use Rattle.hid_snapshots.proofs.SendLemmas.{pattern_fits}
 use Rattle.hid_views.specs.Reading.{is_in, FitsFields, read_value, read_motion, read_elements, motion_elements, read_cell, motion_cell}
 use Rattle.hid_views.specs.Taking.{list_at, IsFormOf, read_by_numbers, told_by_numbers}
 

@@ -27,13 +27,13 @@ use Rattle.hid_layout.specs.Controls.{Elements, Keys, least_of, greatest_of, is_
 use Rattle.hid_descriptor.specs.Usages.{tells_error, is_rollover}
 use Rattle.hid_layout.specs.Sent.{is_in, at_zero, place_named, number_of, first_passing, least_pattern, names_nothing, null_number, empty_number, rollover_number}
 use Rattle.hid_layout.proofs.PatternLemmas.{greatest_at, least_at, plain, low, high}
-use Rattle.hid_cells.specs.declared.cell.Cell.{Cell}
-use Rattle.hid_cells.specs.declared.cell.Cell.TheVariants.{Vacant, Pressed, Holding, Moved, RolledOver}
-use Rattle.hid_cells.specs.Cells.{has_null, are_pressable, HasRoom, InPart}
+use Rattle.hid_snapshots.specs.declared.cell.Cell.{Cell}
+use Rattle.hid_snapshots.specs.declared.cell.Cell.TheVariants.{Vacant, Pressed, Holding, Moved, RolledOver}
+use Rattle.hid_snapshots.specs.Cells.{has_null, are_pressable, HasRoom, InPart}
 use Rattle.hid_views.specs.Reading.{is_rollover_at, names_rollover}
-use Rattle.hid_parts.specs.Sending.{or_zero, placed_from, pressed_count}
+use Rattle.hid_snapshots.specs.Sending.{or_zero, placed_from, pressed_count}
 use Rattle.hid_views.specs.Law.{names_no_key, IsPart}
-use Rattle.hid_cells.proofs.CodeLemmas.{test_true, true_test, both_true}
+use Rattle.hid_snapshots.proofs.CodeLemmas.{test_true, true_test, both_true}
 use Rattle.hid_views.proofs.KeyLemmas.{rollover_named}
 use Rattle.hid_views.proofs.LawLemmas.{any_of_same}
 

@@ -18,30 +18,30 @@ use Rattle.hid_layout.specs.Layout.{Contents}
 use Rattle.hid_layout.specs.Reports.{IsLayout, report_bytes}
 use Rattle.hid_layout.specs.Controls.{Form, NoControls, Elements, Keys, Item, items_of, item_of, form_of, form_at, head_of, is_input, input_item, no_item}
 use Rattle.hid_layout.specs.Sent.{empty_number}
-use Rattle.hid_cells.specs.declared.cell.Cell.{Cell}
-use Rattle.hid_cells.specs.declared.cell.Cell.TheVariants.{Vacant, Pressed, Holding, Moved, RolledOver}
-use Rattle.hid_cells.specs.declared.event.Event.{Event}
-use Rattle.hid_cells.specs.declared.event.Event.TheVariants as event
-use Rattle.hid_cells.specs.Cells.{HasRoom, InPart, InView}
-use Rattle.hid_cells.specs.Codes.{is_array, has_empty_code, empty_codes_from, has_empty_codes}
-use Rattle.hid_parts.specs.Encoding.{IsData, part_numbers}
-use Rattle.hid_cells.specs.Events.{at, each, switch_event, value_event, change_events}
+use Rattle.hid_snapshots.specs.declared.cell.Cell.{Cell}
+use Rattle.hid_snapshots.specs.declared.cell.Cell.TheVariants.{Vacant, Pressed, Holding, Moved, RolledOver}
+use Rattle.hid_snapshots.specs.declared.event.Event.{Event}
+use Rattle.hid_snapshots.specs.declared.event.Event.TheVariants as event
+use Rattle.hid_snapshots.specs.Cells.{HasRoom, InPart, InView}
+use Rattle.hid_snapshots.specs.Codes.{is_array, has_empty_code, empty_codes_from, has_empty_codes}
+use Rattle.hid_snapshots.specs.Encoding.{IsData, part_numbers}
+use Rattle.hid_snapshots.specs.Events.{at, each, switch_event, value_event, change_events}
 use Rattle.hid_views.specs.Law.{IsPart, IsLike}
-use Rattle.hid_cells.specs.Parts.{IsInput, is_of, by_item}
-use Rattle.hid_cells.specs.declared.fault.ReportFault.{ReportFault}
+use Rattle.hid_snapshots.specs.Parts.{IsInput, is_of, by_item}
+use Rattle.hid_snapshots.specs.declared.fault.ReportFault.{ReportFault}
 use Rattle.hid_views.specs.Reading.{report_named, read_cell, motion_cell, is_data_in, item_numbers}
-use Rattle.hid_parts.specs.Sending.{sent}
+use Rattle.hid_snapshots.specs.Sending.{sent}
 use Rattle.hid_views.specs.Taking.{list_at, read_by_numbers, told_by_numbers, read_by_report, told_by_report, read_from, told_from, read_view, read_events}
-use Rattle.hid_cells.specs.Views.{seen_cell, seen_of, motions_of, motions_told, part_of, events_from}
+use Rattle.hid_snapshots.specs.Views.{seen_cell, seen_of, motions_of, motions_told, part_of, events_from}
 use Rattle.hid_views.specs.Crossing.{PartsAreReadBack, PartsAreTaken, SeenIsView}
-use Rattle.hid_cells.proofs.CodeLemmas.{both_true}
+use Rattle.hid_snapshots.proofs.CodeLemmas.{both_true}
 use Rattle.hid_views.proofs.CodePartLemmas.{is_part}
-use Rattle.hid_parts.proofs.EncodingLemmas.{cell_numbers, data_if}
-use Rattle.hid_cells.proofs.ItemLemmas.{items_from-at, items_of-length, got}
+use Rattle.hid_snapshots.proofs.EncodingLemmas.{cell_numbers, data_if}
+use Rattle.hid_snapshots.proofs.ItemLemmas.{items_from-at, items_of-length, got}
 use Rattle.hid_views.proofs.LawLemmas.{reads_back, motions_back}
 use Rattle.hid_views.proofs.NamingLemmas.{names_report}
-use Rattle.hid_parts.proofs.ReportLemmas.{sent_at-is, form_in_input}
-use Rattle.hid_cells.proofs.ShownLemmas.{suits_by}
+use Rattle.hid_snapshots.proofs.ReportLemmas.{sent_at-is, form_in_input}
+use Rattle.hid_snapshots.proofs.ShownLemmas.{suits_by}
 use Rattle.hid_views.proofs.TakeLemmas.{list_at-is, form_of_item}
 use Rattle.hid_views.proofs.ViewLemmas.{same_keys}
 

@@ -5,18 +5,18 @@ use Rattle.hid_descriptor.specs.declared.report.ReportKind.TheVariants.{Input, O
 use Rattle.hid_layout.specs.Layout.{Contents}
 use Rattle.hid_layout.specs.Controls.{items_of, items_from, spread, keys_from, rollover_from}
 use Rattle.hid_layout.specs.Sent.{first_passing}
-use Rattle.hid_cells.specs.declared.cell.Cell.{Cell}
-use Rattle.hid_cells.specs.declared.cell.Cell.TheVariants.{Vacant, Pressed, Moved, RolledOver}
-use Rattle.hid_cells.specs.declared.event.Event.TheVariants as event
-use Rattle.hid_cells.specs.Cells.{blank}
-use Rattle.hid_parts.specs.Encoding.{part_numbers}
-use Rattle.hid_parts.specs.Encoded.{part_bytes}
-use Rattle.hid_cells.specs.Parts.{still}
-use Rattle.hid_cells.specs.Events.{at}
+use Rattle.hid_snapshots.specs.declared.cell.Cell.{Cell}
+use Rattle.hid_snapshots.specs.declared.cell.Cell.TheVariants.{Vacant, Pressed, Moved, RolledOver}
+use Rattle.hid_snapshots.specs.declared.event.Event.TheVariants as event
+use Rattle.hid_snapshots.specs.Cells.{blank}
+use Rattle.hid_snapshots.specs.Encoding.{part_numbers}
+use Rattle.hid_snapshots.specs.Encoded.{part_bytes}
+use Rattle.hid_snapshots.specs.Parts.{still}
+use Rattle.hid_snapshots.specs.Events.{at}
 use Rattle.hid_views.specs.Reading.{report_named}
-use Rattle.hid_cells.specs.Samples.{usage}
+use Rattle.hid_snapshots.specs.Samples.{usage}
 use Rattle.hid_views.specs.Taking.{read_view, read_events}
-use Rattle.hid_cells.specs.Views.{seen}
+use Rattle.hid_snapshots.specs.Views.{seen}
 
 abbrev mouse : Contents
 mouse = record {

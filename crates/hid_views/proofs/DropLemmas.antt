@@ -10,16 +10,16 @@ use Rattle.hid_layout.specs.declared.control.ControlId.{ControlId}
 use Rattle.hid_layout.specs.declared.control.ControlKind.{ControlKind}
 use Rattle.hid_layout.specs.declared.control.ControlKind.TheVariants.{Switch, Value, NullValue, Relative}
 use Rattle.hid_layout.specs.Controls.{Form, NoControls, Elements, Keys, Item, form_at, head_of, events_in, max_events}
-use Rattle.hid_cells.specs.declared.cell.Cell.{Cell}
-use Rattle.hid_cells.specs.declared.cell.Cell.TheVariants.{Vacant, Pressed, Holding, Moved, RolledOver}
-use Rattle.hid_cells.specs.declared.event.Event.{Event}
-use Rattle.hid_cells.specs.declared.event.Event.TheVariants as event
-use Rattle.hid_cells.specs.Cells.{HasRoom, InView, InPart, Suits}
-use Rattle.hid_cells.specs.Events.{at, each, switch_event, value_event, motion_event, up_event, down_event, ups, downs, key_usages, element_events, key_events, change_events}
-use Rattle.hid_cells.specs.Parts.{is_of, item_at}
-use Rattle.hid_cells.specs.Snapshots.{cell_at, motion_in}
-use Rattle.hid_cells.specs.Views.{as_dropped, motions_told, part_of, events_from, drops_between}
-use Rattle.hid_cells.proofs.ItemLemmas.{got, form_at-is}
+use Rattle.hid_snapshots.specs.declared.cell.Cell.{Cell}
+use Rattle.hid_snapshots.specs.declared.cell.Cell.TheVariants.{Vacant, Pressed, Holding, Moved, RolledOver}
+use Rattle.hid_snapshots.specs.declared.event.Event.{Event}
+use Rattle.hid_snapshots.specs.declared.event.Event.TheVariants as event
+use Rattle.hid_snapshots.specs.Cells.{HasRoom, InView, InPart, Suits}
+use Rattle.hid_snapshots.specs.Events.{at, each, switch_event, value_event, motion_event, up_event, down_event, ups, downs, key_usages, element_events, key_events, change_events}
+use Rattle.hid_snapshots.specs.Parts.{is_of, item_at}
+use Rattle.hid_snapshots.specs.Snapshots.{cell_at, motion_in}
+use Rattle.hid_snapshots.specs.Views.{as_dropped, motions_told, part_of, events_from, drops_between}
+use Rattle.hid_snapshots.proofs.ItemLemmas.{got, form_at-is}
 use Rattle.hid_views.specs.Dropping.{motions_in, drop_event, drop_events, drops_told, drops_from}
 use Rattle.hid_views.proofs.EventLemmas.{drop_at}
 use Rattle.hid_views.proofs.ViewLemmas.{each_few, element_few, change_few, suits_tail, sum_cons}

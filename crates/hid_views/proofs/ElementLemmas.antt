@@ -2,20 +2,20 @@
 use Rattle.std.proofs.Common.{Vec, vec_len, vec_capacity, ◌≡◌, ℕ, zero, suc, ◌+◌, ◌-◌, ◌*◌, ◌<◌, ◌≤◌, ◌==◌, ◌⊎◌, inl, inr, not, Bool, true, false, Option, unwrap_or, ℤ, pos, List, [], ◌++◌, length, take, drop, map, Some, None, refl, sym, ap, ◌∙◌, subst, arith}
 use Rattle.std.specs.List.{slice_get, slice_set, zip}
 use Rattle.hid_descriptor.specs.declared.usage.Usage.{Usage}
-use Rattle.hid_cells.specs.declared.event.Event.{Event}
-use Rattle.hid_cells.specs.Events.{each, switch_event, value_event}
+use Rattle.hid_snapshots.specs.declared.event.Event.{Event}
+use Rattle.hid_snapshots.specs.Events.{each, switch_event, value_event}
 use Rattle.hid_layout.specs.declared.control.ControlId.{ControlId}
 use Rattle.std.specs.Ordering.{int_eq}
 use Rattle.std.proofs.lemmas.Bool.Decides.{Decides-int_eq}
-use Rattle.hid_cells.proofs.FillLemmas.{filled, length_map_zip, map_zip_at, set_length, zip_next, zip_there}
+use Rattle.hid_snapshots.proofs.FillLemmas.{filled, length_map_zip, map_zip_at, set_length, zip_next, zip_there}
 use Rattle.hid_views.specs.Appending.{Appends}
-use Rattle.hid_cells.proofs.ItemLemmas.{got, set_same}
+use Rattle.hid_snapshots.proofs.ItemLemmas.{got, set_same}
 use Rattle.hid_views.specs.Keeping.{AreKept}
 use Rattle.hid_views.specs.Reading.{read_switch}
 use Rattle.hid_views.proofs.BitLemmas.{switch_of}
-use Rattle.hid_parts.specs.Numbers.{IsWordOf}
-use Rattle.hid_cells.specs.Words.{is_on, is_unlike}
-use Rattle.hid_cells.proofs.WordLemmas.{on_within}
+use Rattle.hid_snapshots.specs.Numbers.{IsWordOf}
+use Rattle.hid_snapshots.specs.Words.{is_on, is_unlike}
+use Rattle.hid_snapshots.proofs.WordLemmas.{on_within}
 use Rattle.std.specs.Bool.{beq}
 use Rattle.std.specs.Option.{option_eq}
 use Rattle.std.specs.Int.{bit_at}

@@ -3,21 +3,21 @@ use Rattle.std.proofs.Common.{Vec, vec_capacity, ◌≡◌, ℕ, zero, suc, ◌+
 use Rattle.std.specs.List.{slice_get, zip}
 use Rattle.hid_descriptor.specs.declared.usage.Usage.{Usage}
 use Rattle.hid_layout.specs.declared.control.ControlId.{ControlId}
-use Rattle.hid_cells.specs.declared.event.Event.{Event}
-use Rattle.hid_cells.specs.declared.event.Event.TheVariants as event
-use Rattle.hid_cells.specs.Words.{is_on, is_alone, IsFirst}
-use Rattle.hid_cells.proofs.ItemLemmas.{got}
+use Rattle.hid_snapshots.specs.declared.event.Event.{Event}
+use Rattle.hid_snapshots.specs.declared.event.Event.TheVariants as event
+use Rattle.hid_snapshots.specs.Words.{is_on, is_alone, IsFirst}
+use Rattle.hid_snapshots.proofs.ItemLemmas.{got}
 use Rattle.std.proofs.lemmas.List.{length-map, drop_all}
 use Rattle.hid_layout.specs.declared.control.Controls.TheVariants as head
 use Rattle.hid_layout.specs.declared.control.ControlKind.{ControlKind}
 use Rattle.hid_layout.specs.declared.control.ControlKind.TheVariants.{Switch, Value, NullValue, Relative}
 use Rattle.hid_layout.specs.Controls.{Form, NoControls, Elements, Keys, head_of}
-use Rattle.hid_cells.specs.declared.cell.Cell.{Cell}
-use Rattle.hid_cells.specs.declared.cell.Cell.TheVariants.{Vacant, Pressed, Holding, Moved, RolledOver}
-use Rattle.hid_cells.specs.Cells.{HasRoom}
-pub use Rattle.hid_cells.proofs.ListLemmas.{drop_at, zip_at}
+use Rattle.hid_snapshots.specs.declared.cell.Cell.{Cell}
+use Rattle.hid_snapshots.specs.declared.cell.Cell.TheVariants.{Vacant, Pressed, Holding, Moved, RolledOver}
+use Rattle.hid_snapshots.specs.Cells.{HasRoom}
+pub use Rattle.hid_snapshots.proofs.ListLemmas.{drop_at, zip_at}
 use Rattle.hid_views.specs.Appending.{HasSpace, Appends}
-use Rattle.hid_cells.specs.Events.{at, switch_event, up_event, down_event, each, usages_of, element_events, key_events, change_events, HasPlaces}
+use Rattle.hid_snapshots.specs.Events.{at, switch_event, up_event, down_event, each, usages_of, element_events, key_events, change_events, HasPlaces}
 
 -- the events from one element on
 pub each-from : {C : Type 0} (f : ℕ → Usage → C → List Event) (us : List Usage) (cs : List C) (j : ℕ) (u : Usage) (c : C) → slice_get us j ≡ Some u → slice_get cs j ≡ Some c

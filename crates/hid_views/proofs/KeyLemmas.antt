@@ -14,15 +14,15 @@ use Rattle.hid_layout.specs.declared.control.ControlKind.TheVariants.{Switch}
 use Rattle.hid_layout.specs.Layout.{Contents}
 use Rattle.hid_layout.specs.Controls.{Form, NoControls, Elements, Keys, Key, Item, items_of, control_in, control_of}
 use Rattle.hid_views.specs.Reading.{at_zero, is_rollover_at, names_rollover, names_key, named_from, keys_of, keys_at}
-use Rattle.hid_cells.proofs.CodeLemmas.{test_true, true_test, both_true}
+use Rattle.hid_snapshots.proofs.CodeLemmas.{test_true, true_test, both_true}
 use Rattle.std.specs.Int.Signed.{le_z}
 use Rattle.hid_descriptor.specs.declared.usage.Usage.{Usage}
 use Rattle.hid_descriptor.specs.Usages.{is_rollover}
-use Rattle.hid_cells.specs.Cells.{is_in, pressed_count}
+use Rattle.hid_snapshots.specs.Cells.{is_in, pressed_count}
 use Rattle.std.proofs.Math.Seq.{take-length}
-use Rattle.hid_cells.proofs.BlankLemmas.{none_pressed}
-use Rattle.hid_cells.proofs.ListLemmas.{map_at, cons_count, take_at}
-use Rattle.hid_cells.proofs.ItemLemmas.{got}
+use Rattle.hid_snapshots.proofs.BlankLemmas.{none_pressed}
+use Rattle.hid_snapshots.proofs.ListLemmas.{map_at, cons_count, take_at}
+use Rattle.hid_snapshots.proofs.ItemLemmas.{got}
 
 -- no number names a key
 pub named_none : (item : MainItem) (i : ℕ) (keys : List Key) → replicate (length keys) false ≡ named_from item [] i keys

@@ -9,11 +9,11 @@ use Rattle.std.proofs.lemmas.Bool.Decides.{Decides-int_eq}
 use Rattle.hid_layout.specs.declared.main_item.MainItem.{MainItem}
 use Rattle.hid_descriptor.specs.declared.usage.Usage.{Usage}
 use Rattle.hid_layout.specs.Controls.{NoControls, Elements, Keys, Key}
-use Rattle.hid_cells.specs.Cells.{is_value, are_values, are_motions, are_pressable}
+use Rattle.hid_snapshots.specs.Cells.{is_value, are_values, are_motions, are_pressable}
 use Rattle.hid_views.specs.Law.{names_no_key, ReadsBack}
-use Rattle.hid_cells.specs.declared.cell.Cell.TheVariants.{Vacant, Pressed, Holding, Moved, RolledOver}
+use Rattle.hid_snapshots.specs.declared.cell.Cell.TheVariants.{Vacant, Pressed, Holding, Moved, RolledOver}
 use Rattle.hid_views.specs.Reading.{read_cell, has_null, names_rollover, is_in, read_switch, read_value, read_motion, names_key, named_from}
-use Rattle.hid_parts.specs.Sending.{switch_number, placed_from, pressed_count, sent, or_zero, null_number, empty_number, rollover_number}
+use Rattle.hid_snapshots.specs.Sending.{switch_number, placed_from, pressed_count, sent, or_zero, null_number, empty_number, rollover_number}
 
 int_same : (x : ℤ) → int_eq x x ≡ true
 int_same x = (Decides-int_eq x x).1 refl

@@ -3,7 +3,7 @@ use Rattle.std.proofs.Common.{◌≡◌, ℕ, suc, ◌+◌, List, [], ◌∷◌,
 use Rattle.hid_layout.specs.declared.main_item.MainItem.{MainItem}
 use Rattle.hid_layout.specs.Controls.{Key}
 use Rattle.hid_views.specs.Reading.{named_from}
-use Rattle.hid_cells.proofs.FillLemmas.{fill_next, filled, length_map_zip}
+use Rattle.hid_snapshots.proofs.FillLemmas.{fill_next, filled, length_map_zip}
 
 pub named_length : (item : MainItem) (vs : List ℤ) (i : ℕ) (keys : List Key) → length (named_from item vs i keys) ≡ length keys
 named_length item vs i [] = refl

@@ -14,14 +14,14 @@ use Rattle.hid_descriptor.specs.Kinds.{same_kind}
 use Rattle.hid_layout.specs.Layout.{Contents}
 use Rattle.hid_layout.specs.Reports.{IsLayout, first_bit, report_bytes, report_id, bits_of}
 use Rattle.hid_descriptor.proofs.Shares.{kinds_equal}
-use Rattle.hid_cells.specs.declared.fault.ReportFault.{ReportFault}
-use Rattle.hid_cells.specs.declared.fault.ReportFault.TheVariants.{Short}
-use Rattle.hid_parts.specs.Encoding.{AreBytes, IsEncoding, bare_report}
-use Rattle.hid_cells.specs.Parts.{IsInput}
+use Rattle.hid_snapshots.specs.declared.fault.ReportFault.{ReportFault}
+use Rattle.hid_snapshots.specs.declared.fault.ReportFault.TheVariants.{Short}
+use Rattle.hid_snapshots.specs.Encoding.{AreBytes, IsEncoding, bare_report}
+use Rattle.hid_snapshots.specs.Parts.{IsInput}
 use Rattle.hid_views.specs.Reading.{is_input_with, first_byte, whole_report, report_named}
-use Rattle.hid_cells.proofs.CodeLemmas.{both_true}
-use Rattle.hid_cells.proofs.ItemLemmas.{got}
-use Rattle.hid_cells.proofs.PlanLemmas.{input_there}
+use Rattle.hid_snapshots.proofs.CodeLemmas.{both_true}
+use Rattle.hid_snapshots.proofs.ItemLemmas.{got}
+use Rattle.hid_snapshots.proofs.PlanLemmas.{input_there}
 
 -- the one place that passes
 only_place : {A : Type 0} (test : A → Bool) (xs : List A) (r : ℕ) (x : A) → slice_get xs r ≡ Some x → test x ≡ true → ((k : ℕ) (y : A) → slice_get xs k ≡ Some y → test y ≡ true → k ≡ r) → position test xs ≡ Some r

@@ -5,16 +5,16 @@ use Rattle.std.proofs.lemmas.Option.{slice_get_within}
 use Rattle.std.proofs.lemmas.Bool.Decides.{nat_tests}
 use Rattle.hid_layout.specs.declared.main_item.MainItem.{MainItem}
 use Rattle.hid_layout.specs.Controls.{Item, items_of, item_of}
-use Rattle.hid_cells.specs.declared.cell.Cell.{Cell}
-use Rattle.hid_cells.specs.declared.cell.Cell.TheVariants.{Vacant}
-use Rattle.hid_cells.specs.declared.event.Event.{Event}
-use Rattle.hid_parts.specs.Encoding.{IsData, sent_at}
-use Rattle.hid_cells.specs.Events.{change_events}
+use Rattle.hid_snapshots.specs.declared.cell.Cell.{Cell}
+use Rattle.hid_snapshots.specs.declared.cell.Cell.TheVariants.{Vacant}
+use Rattle.hid_snapshots.specs.declared.event.Event.{Event}
+use Rattle.hid_snapshots.specs.Encoding.{IsData, sent_at}
+use Rattle.hid_snapshots.specs.Events.{change_events}
 use Rattle.hid_views.specs.OneReport.{AgreeOn, SeesOneReport, TellsOneReport, ShowsOneReport}
-use Rattle.hid_cells.specs.Parts.{is_of, by_item}
-use Rattle.hid_cells.specs.Views.{seen_cell, seen_of, part_of, motions_told, events_from}
-use Rattle.hid_cells.proofs.ItemLemmas.{items_from-at, got}
-use Rattle.hid_cells.proofs.PartLemmas.{item_at-is, of_report}
+use Rattle.hid_snapshots.specs.Parts.{is_of, by_item}
+use Rattle.hid_snapshots.specs.Views.{seen_cell, seen_of, part_of, motions_told, events_from}
+use Rattle.hid_snapshots.proofs.ItemLemmas.{items_from-at, got}
+use Rattle.hid_snapshots.proofs.PartLemmas.{item_at-is, of_report}
 
 agree_tail : (r : ℕ) (item : Item) (items : List Item) (p q : Cell) (ps qs : List Cell) → AgreeOn (item ∷ items) r (p ∷ ps) (q ∷ qs) → AgreeOn items r ps qs
 agree_tail r item items p q ps qs agree = record { one_each = (let e = agree.one_each in omega arith); same = λ i it h own. agree.same (suc i) it h own }

@@ -19,13 +19,13 @@ use Rattle.hid_layout.specs.Layout.{Contents}
 use Rattle.hid_layout.specs.Controls.{Form, Keys, Key, head_of, form_of, form_at, items_of, has_place, rollover_from, is_key, is_encodable}
 use Rattle.hid_layout.proofs.FormLemmas.{key-get, keys-length}
 use Rattle.hid_layout.proofs.CodeLemmas.{inside}
-use Rattle.hid_cells.proofs.CodeLemmas.{both_true}
-use Rattle.hid_cells.proofs.ListLemmas.{map_at}
-use Rattle.hid_cells.specs.declared.cell.Cell.{Cell}
-use Rattle.hid_cells.specs.declared.cell.Cell.TheVariants.{Pressed}
-use Rattle.hid_cells.specs.Cells.{HasRoom}
-use Rattle.hid_cells.specs.Events.{change_events, key_events, key_usages, usages_at, usages_of, HasPlaces}
-use Rattle.hid_cells.specs.Views.{motions_told}
+use Rattle.hid_snapshots.proofs.CodeLemmas.{both_true}
+use Rattle.hid_snapshots.proofs.ListLemmas.{map_at}
+use Rattle.hid_snapshots.specs.declared.cell.Cell.{Cell}
+use Rattle.hid_snapshots.specs.declared.cell.Cell.TheVariants.{Pressed}
+use Rattle.hid_snapshots.specs.Cells.{HasRoom}
+use Rattle.hid_snapshots.specs.Events.{change_events, key_events, key_usages, usages_at, usages_of, HasPlaces}
+use Rattle.hid_snapshots.specs.Views.{motions_told}
 use Rattle.hid_views.proofs.EventLemmas.{has_places}
 use Rattle.hid_views.specs.Reading.{FitsFields, motion_cell, read_cell, array_keys, keys_of, keys_at, named_from, names_rollover, read_keys}
 use Rattle.hid_views.proofs.BoundLemmas.{in_range}

@@ -11,18 +11,18 @@ use Rattle.hid_layout.specs.declared.control.ControlId.{ControlId}
 use Rattle.hid_layout.specs.Layout.{Contents}
 use Rattle.hid_layout.specs.Reports.{IsLayout}
 use Rattle.hid_layout.specs.Controls.{Form, NoControls, Elements, Keys, items_of, form_at, head_of}
-use Rattle.hid_cells.specs.declared.cell.Cell.{Cell}
-use Rattle.hid_cells.specs.declared.cell.Cell.TheVariants.{Vacant, Pressed, Holding, Moved, RolledOver}
-use Rattle.hid_cells.specs.declared.event.Event.{Event}
-use Rattle.hid_cells.specs.Cells.{HasRoom, FitsView}
-use Rattle.hid_cells.specs.Events.{at, each, switch_event, value_event, up_event, down_event, usages_of, key_events, key_usages, change_events, HasPlaces}
-use Rattle.hid_cells.specs.Parts.{IsInput}
-use Rattle.hid_cells.proofs.ItemLemmas.{got, form_at-is}
+use Rattle.hid_snapshots.specs.declared.cell.Cell.{Cell}
+use Rattle.hid_snapshots.specs.declared.cell.Cell.TheVariants.{Vacant, Pressed, Holding, Moved, RolledOver}
+use Rattle.hid_snapshots.specs.declared.event.Event.{Event}
+use Rattle.hid_snapshots.specs.Cells.{HasRoom, FitsView}
+use Rattle.hid_snapshots.specs.Events.{at, each, switch_event, value_event, up_event, down_event, usages_of, key_events, key_usages, change_events, HasPlaces}
+use Rattle.hid_snapshots.specs.Parts.{IsInput}
+use Rattle.hid_snapshots.proofs.ItemLemmas.{got, form_at-is}
 use Rattle.hid_views.specs.Reading.{read_cell, names_rollover, read_named, is_data_in, item_numbers}
 use Rattle.hid_views.specs.Taking.{TakesReport, list_at, read_by_report, told_by_report, read_by_numbers, told_by_numbers, read_from, told_from, read_view, read_events}
 use Rattle.hid_views.proofs.EventLemmas.{has_places}
 use Rattle.hid_views.specs.Reader.{IsStill, IsReader, kept_of}
-use Rattle.hid_cells.proofs.CodeLemmas.{both_true}
+use Rattle.hid_snapshots.proofs.CodeLemmas.{both_true}
 use Rattle.hid_views.proofs.TakeLemmas.{named_input, read_view-at, read_view_fits}
 
 -- of events of which there are none, none stand in front and none behind

@@ -9,12 +9,12 @@ use Rattle.hid_layout.specs.declared.control.Controls.{Controls}
 use Rattle.hid_layout.specs.declared.control.Controls.TheVariants as head
 use Rattle.hid_layout.specs.declared.control.ControlKind.TheVariants.{Switch, Value, NullValue, Relative}
 use Rattle.hid_layout.specs.Controls.{Item, head_of}
-use Rattle.hid_cells.specs.declared.cell.Cell.{Cell}
-use Rattle.hid_cells.specs.declared.cell.Cell.TheVariants.{Vacant, Pressed, Holding, Moved, RolledOver}
-use Rattle.hid_cells.specs.Cells.{FitsView, HasRoom}
-use Rattle.hid_cells.specs.Events.{at, up_event, down_event, each, ups, downs}
-use Rattle.hid_cells.specs.Words.{is_on, is_alone, IsFirst}
-use Rattle.hid_cells.proofs.ItemLemmas.{got}
+use Rattle.hid_snapshots.specs.declared.cell.Cell.{Cell}
+use Rattle.hid_snapshots.specs.declared.cell.Cell.TheVariants.{Vacant, Pressed, Holding, Moved, RolledOver}
+use Rattle.hid_snapshots.specs.Cells.{FitsView, HasRoom}
+use Rattle.hid_snapshots.specs.Events.{at, up_event, down_event, each, ups, downs}
+use Rattle.hid_snapshots.specs.Words.{is_on, is_alone, IsFirst}
+use Rattle.hid_snapshots.proofs.ItemLemmas.{got}
 use Rattle.hid_views.specs.Taking.{flag_places, NamesNone}
 
 -- ---- flags behind the keys of an array

@@ -14,35 +14,35 @@ use Rattle.hid_descriptor.specs.Fields.{is_padding}
 use Rattle.hid_layout.specs.Layout.{Contents}
 use Rattle.hid_layout.specs.Reports.{IsLayout, HasElements, first_bit, report_bytes}
 use Rattle.hid_layout.specs.Controls.{Form, NoControls, Elements, Keys, Item, items_of, item_of, form_of, form_at, head_of, array_keys, max_events, Key, has_place, rollover_from, element_kind, least_of, greatest_of, events_in, is_input_report}
-use Rattle.hid_cells.specs.Events.{usages_of, usages_at, element_events, key_events, key_usages, change_events}
+use Rattle.hid_snapshots.specs.Events.{usages_of, usages_at, element_events, key_events, key_usages, change_events}
 use Rattle.hid_views.specs.Reading.{keys_of, keys_at, read_motion, names_rollover, named_from, read_elements, read_named, read_keys, read_cell, motion_elements, motion_cell, is_data_in, item_numbers, first_byte, is_input_with, whole_report, report_named}
 use Rattle.hid_views.specs.Taking.{list_at, IsFormOf, read_by_report, told_by_report, read_from, told_from, read_view, read_events, read_by_numbers, told_by_numbers}
-use Rattle.hid_cells.proofs.PlanLemmas.{Skips}
-use Rattle.hid_cells.specs.declared.cell.Cell.{Cell}
-use Rattle.hid_cells.specs.declared.event.Event.{Event}
-use Rattle.hid_cells.specs.Views.{motions_of, motions_told}
+use Rattle.hid_snapshots.proofs.PlanLemmas.{Skips}
+use Rattle.hid_snapshots.specs.declared.cell.Cell.{Cell}
+use Rattle.hid_snapshots.specs.declared.event.Event.{Event}
+use Rattle.hid_snapshots.specs.Views.{motions_of, motions_told}
 use Rattle.hid_views.proofs.EventLemmas.{drop_at}
-use Rattle.hid_cells.proofs.FillLemmas.{unfilled_at, fill_next, length_map_zip}
+use Rattle.hid_snapshots.proofs.FillLemmas.{unfilled_at, fill_next, length_map_zip}
 use Rattle.hid_layout.specs.declared.control.ControlKind.TheVariants.{Switch, Value, NullValue, Relative}
-use Rattle.hid_cells.specs.declared.cell.Cell.TheVariants.{Vacant, Pressed, Holding, Moved, RolledOver}
-use Rattle.hid_cells.specs.Cells.{pressed_count, HasRoom, InView, Suits}
+use Rattle.hid_snapshots.specs.declared.cell.Cell.TheVariants.{Vacant, Pressed, Holding, Moved, RolledOver}
+use Rattle.hid_snapshots.specs.Cells.{pressed_count, HasRoom, InView, Suits}
 use Rattle.hid_views.proofs.NamedLemmas.{named_length}
 use Rattle.hid_views.proofs.KeyLemmas.{named_count}
 use Rattle.hid_views.proofs.ViewLemmas.{sum_cons, element_few, motions_few, change_few}
-use Rattle.hid_cells.specs.Parts.{IsInput}
+use Rattle.hid_snapshots.specs.Parts.{IsInput}
 use Rattle.hid_fields.specs.Value.{is_negative}
-use Rattle.hid_parts.proofs.NumberLemmas.{numbers_in-length}
-use Rattle.hid_parts.proofs.EncodingLemmas.{data_if}
+use Rattle.hid_snapshots.proofs.NumberLemmas.{numbers_in-length}
+use Rattle.hid_snapshots.proofs.EncodingLemmas.{data_if}
 use Rattle.hid_descriptor.specs.declared.report.Report.{Report}
 use Rattle.hid_descriptor.specs.declared.report.ReportKind.TheVariants.{Input}
-use Rattle.hid_cells.specs.declared.fault.ReportFault.{ReportFault}
-use Rattle.hid_cells.specs.declared.fault.ReportFault.TheVariants.{Short}
+use Rattle.hid_snapshots.specs.declared.fault.ReportFault.{ReportFault}
+use Rattle.hid_snapshots.specs.declared.fault.ReportFault.TheVariants.{Short}
 use Rattle.std.proofs.lemmas.List.Quantifiers.{position-Some}
-use Rattle.hid_cells.proofs.CodeLemmas.{both_true}
-use Rattle.hid_parts.specs.Encoding.{IsData}
-use Rattle.hid_cells.proofs.ItemLemmas.{items_of-length, set_same, got, items_from-at, form_at-is}
-use Rattle.hid_parts.proofs.ReportLemmas.{form_in_input}
-use Rattle.hid_parts.proofs.SendLemmas.{spread-length, places_few}
+use Rattle.hid_snapshots.proofs.CodeLemmas.{both_true}
+use Rattle.hid_snapshots.specs.Encoding.{IsData}
+use Rattle.hid_snapshots.proofs.ItemLemmas.{items_of-length, set_same, got, items_from-at, form_at-is}
+use Rattle.hid_snapshots.proofs.ReportLemmas.{form_in_input}
+use Rattle.hid_snapshots.proofs.SendLemmas.{spread-length, places_few}
 
 pub list_at-is : (layout : Contents) (i : ℕ) (es : List Entry) → slice_get layout.entries i ≡ Some es → list_at layout i ≡ usage_list es
 list_at-is layout i es h = ap (λ (o : Option (List Entry)). elim o as (λ _. List Usage) [ None ↦ [] | Some fs ↦ usage_list fs ]) h

@@ -13,9 +13,9 @@ use Rattle.hid_descriptor.specs.Fields.{is_padding}
 use Rattle.hid_layout.specs.Layout.{Contents}
 use Rattle.hid_layout.specs.Reports.{IsLayout, usage_of, report_bytes}
 use Rattle.hid_layout.specs.Controls.{Form, NoControls, Item, items_of, item_of, form_of, form_at, is_input, spread, keys_from, key_places, input_item, no_item}
-use Rattle.hid_cells.specs.Events.{usage_place, usages_of, usages_at, key_usages}
-pub use Rattle.hid_cells.proofs.ItemLemmas.{same_entries, same_item}
-use Rattle.hid_cells.proofs.ItemLemmas.{items_from-at, items_from-short, items_of-length, form_at-is, got}
+use Rattle.hid_snapshots.specs.Events.{usage_place, usages_of, usages_at, key_usages}
+pub use Rattle.hid_snapshots.proofs.ItemLemmas.{same_entries, same_item}
+use Rattle.hid_snapshots.proofs.ItemLemmas.{items_from-at, items_from-short, items_of-length, form_at-is, got}
 
 pub spread-at : (n : ℕ) (us : List Usage) (j : ℕ) → 0 < length us → j < n → slice_get (spread n us) j ≡ slice_get us (min j (length us - 1))
 unfolding spread

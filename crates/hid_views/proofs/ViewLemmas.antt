@@ -4,19 +4,19 @@ use Rattle.std.specs.List.{slice_get, zip}
 use Rattle.std.proofs.lemmas.Option.{unwrap_or-slice_get}
 use Rattle.hid_descriptor.specs.declared.usage.Usage.{Usage}
 use Rattle.hid_layout.specs.Controls.{Form, NoControls, Elements, Keys, Key, Item, form_at, head_of, events_in, max_events}
-use Rattle.hid_cells.specs.declared.cell.Cell.{Cell}
-use Rattle.hid_cells.specs.declared.cell.Cell.TheVariants.{Vacant, Pressed, Holding, Moved, RolledOver}
-use Rattle.hid_cells.specs.declared.event.Event.{Event}
-use Rattle.hid_cells.specs.declared.event.Event.TheVariants as event
+use Rattle.hid_snapshots.specs.declared.cell.Cell.{Cell}
+use Rattle.hid_snapshots.specs.declared.cell.Cell.TheVariants.{Vacant, Pressed, Holding, Moved, RolledOver}
+use Rattle.hid_snapshots.specs.declared.event.Event.{Event}
+use Rattle.hid_snapshots.specs.declared.event.Event.TheVariants as event
 use Rattle.std.specs.Ordering.{int_eq}
 use Rattle.std.proofs.lemmas.List.Sums.{sum_by-append}
-use Rattle.hid_cells.specs.Cells.{pressed_count, HasRoom, InView, Suits}
-use Rattle.hid_cells.specs.Events.{at, each, switch_event, value_event, motion_event, up_event, down_event, motion_events, ups, downs, key_usages, element_events, key_events, change_events}
-use Rattle.hid_cells.specs.Snapshots.{cell_at}
-use Rattle.hid_cells.specs.Views.{changes_from}
+use Rattle.hid_snapshots.specs.Cells.{pressed_count, HasRoom, InView, Suits}
+use Rattle.hid_snapshots.specs.Events.{at, each, switch_event, value_event, motion_event, up_event, down_event, motion_events, ups, downs, key_usages, element_events, key_events, change_events}
+use Rattle.hid_snapshots.specs.Snapshots.{cell_at}
+use Rattle.hid_snapshots.specs.Views.{changes_from}
 use Rattle.hid_views.proofs.EventLemmas.{drop_at}
-use Rattle.hid_cells.proofs.ItemLemmas.{got, form_at-is}
-use Rattle.hid_cells.proofs.ListLemmas.{cons_count}
+use Rattle.hid_snapshots.proofs.ItemLemmas.{got, form_at-is}
+use Rattle.hid_snapshots.proofs.ListLemmas.{cons_count}
 
 -- one item more
 pub changes_from-next : (items : List Item) (bs xs : List Cell) (i : ℕ) (b a : Cell) → i < length items → slice_get bs i ≡ Some b → slice_get xs i ≡ Some a

@@ -5,9 +5,9 @@ use Rattle.hid_layout.specs.declared.main_item.MainItem.{MainItem}
 use Rattle.hid_descriptor.specs.declared.shape.Shape.{Shape}
 use Rattle.hid_descriptor.specs.declared.shape.Shape.TheVariants.{Padding, Variable, Array}
 use Rattle.hid_layout.specs.Controls.{element_kind}
-use Rattle.hid_cells.specs.declared.cell.Cell.{Cell}
-use Rattle.hid_cells.specs.declared.cell.Cell.TheVariants.{Vacant, Pressed, Holding, Moved, RolledOver}
-use Rattle.hid_cells.specs.Words.{bits_in}
+use Rattle.hid_snapshots.specs.declared.cell.Cell.{Cell}
+use Rattle.hid_snapshots.specs.declared.cell.Cell.TheVariants.{Vacant, Pressed, Holding, Moved, RolledOver}
+use Rattle.hid_snapshots.specs.Words.{bits_in}
 
 -- an item of this shape has an element for each control
 abbrev pub is_variable : Shape → Bool

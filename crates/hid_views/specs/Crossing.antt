@@ -4,16 +4,16 @@ use Rattle.std.specs.Prelude.{◌≡◌, ◌++◌, ℕ, true, List, Result, Ok}
 use Rattle.hid_layout.specs.Layout.{Contents}
 use Rattle.hid_layout.specs.Reports.{IsLayout}
 use Rattle.hid_layout.specs.Controls.{Item, items_of}
-use Rattle.hid_cells.specs.declared.cell.Cell.{Cell}
-use Rattle.hid_cells.specs.declared.event.Event.{Event}
-use Rattle.hid_cells.specs.declared.fault.ReportFault.{ReportFault}
-use Rattle.hid_cells.specs.Cells.{FitsShown, FitsView}
-use Rattle.hid_cells.specs.Codes.{has_empty_codes}
-use Rattle.hid_parts.specs.Encoding.{AreBytes, IsEncoding, part_numbers}
-use Rattle.hid_cells.specs.Parts.{IsInput}
+use Rattle.hid_snapshots.specs.declared.cell.Cell.{Cell}
+use Rattle.hid_snapshots.specs.declared.event.Event.{Event}
+use Rattle.hid_snapshots.specs.declared.fault.ReportFault.{ReportFault}
+use Rattle.hid_snapshots.specs.Cells.{FitsShown, FitsView}
+use Rattle.hid_snapshots.specs.Codes.{has_empty_codes}
+use Rattle.hid_snapshots.specs.Encoding.{AreBytes, IsEncoding, part_numbers}
+use Rattle.hid_snapshots.specs.Parts.{IsInput}
 use Rattle.hid_views.specs.Reading.{report_named}
 use Rattle.hid_views.specs.Taking.{read_view, read_events, TakesReport}
-use Rattle.hid_cells.specs.Views.{seen, events_between}
+use Rattle.hid_snapshots.specs.Views.{seen, events_between}
 
 -- The bytes name their report, and a view that reads them sees the part of that report and is told
 -- its changes and its motions.

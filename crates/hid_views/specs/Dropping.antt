@@ -4,13 +4,13 @@ use Rattle.hid_descriptor.specs.declared.usage.Usage.{Usage}
 use Rattle.hid_layout.specs.declared.control.ControlId.{ControlId}
 use Rattle.hid_layout.specs.Layout.{Contents}
 use Rattle.hid_layout.specs.Controls.{Form, NoControls, Elements, Keys, Item, form_at, items_of}
-use Rattle.hid_cells.specs.declared.cell.Cell.{Cell}
-use Rattle.hid_cells.specs.declared.cell.Cell.TheVariants.{Vacant, Pressed, Holding, Moved, RolledOver}
-use Rattle.hid_cells.specs.declared.event.Event.{Event}
-use Rattle.hid_cells.specs.Events.{at, each, motion_event, change_events}
-use Rattle.hid_cells.specs.Parts.{item_at}
-use Rattle.hid_cells.specs.Snapshots.{cell_at}
-use Rattle.hid_cells.specs.Views.{as_dropped, part_of}
+use Rattle.hid_snapshots.specs.declared.cell.Cell.{Cell}
+use Rattle.hid_snapshots.specs.declared.cell.Cell.TheVariants.{Vacant, Pressed, Holding, Moved, RolledOver}
+use Rattle.hid_snapshots.specs.declared.event.Event.{Event}
+use Rattle.hid_snapshots.specs.Events.{at, each, motion_event, change_events}
+use Rattle.hid_snapshots.specs.Parts.{item_at}
+use Rattle.hid_snapshots.specs.Snapshots.{cell_at}
+use Rattle.hid_snapshots.specs.Views.{as_dropped, part_of}
 
 -- the motions of a cell
 abbrev pub motions_in : Cell → List ℤ

@@ -5,12 +5,12 @@ use Rattle.std.specs.List.{list_any}
 use Rattle.hid_layout.specs.declared.main_item.MainItem.{MainItem}
 use Rattle.hid_descriptor.specs.declared.usage.Usage.{Usage}
 use Rattle.hid_layout.specs.Controls.{Form, NoControls, Elements, Keys, Key}
-use Rattle.hid_cells.specs.declared.cell.Cell.{Cell}
-use Rattle.hid_cells.specs.declared.cell.Cell.TheVariants.{Vacant, Pressed, Holding, Moved, RolledOver}
-use Rattle.hid_cells.specs.Views.{seen_cell}
-use Rattle.hid_cells.specs.Cells.{are_values, are_motions, are_pressable}
+use Rattle.hid_snapshots.specs.declared.cell.Cell.{Cell}
+use Rattle.hid_snapshots.specs.declared.cell.Cell.TheVariants.{Vacant, Pressed, Holding, Moved, RolledOver}
+use Rattle.hid_snapshots.specs.Views.{seen_cell}
+use Rattle.hid_snapshots.specs.Cells.{are_values, are_motions, are_pressable}
 use Rattle.hid_views.specs.Reading.{is_in, has_null, read_cell, names_rollover}
-use Rattle.hid_parts.specs.Sending.{sent, or_zero, null_number, empty_number, rollover_number}
+use Rattle.hid_snapshots.specs.Sending.{sent, or_zero, null_number, empty_number, rollover_number}
 
 -- the code names no key
 abbrev pub names_no_key : ℤ → ℤ → ℕ → List Key → Type 0

@@ -1,6 +1,6 @@
 pub mod Appending
-pub use Rattle.hid_cells.specs.Events
-pub use Rattle.hid_cells.specs.Views
+pub use Rattle.hid_snapshots.specs.Events
+pub use Rattle.hid_snapshots.specs.Views
 pub mod Reading
 pub mod Taking
 pub mod Law

@@ -4,10 +4,10 @@ use Rattle.std.specs.Prelude.{◌≡◌, ℕ, true, List, length, slice_get, Som
 use Rattle.hid_layout.specs.Layout.{Contents}
 use Rattle.hid_layout.specs.Reports.{IsLayout}
 use Rattle.hid_layout.specs.Controls.{Item, items_of}
-use Rattle.hid_cells.specs.declared.cell.Cell.{Cell}
-use Rattle.hid_parts.specs.Encoding.{IsEncoding, part_numbers}
-use Rattle.hid_cells.specs.Parts.{IsInput, is_of}
-use Rattle.hid_cells.specs.Views.{seen, events_between}
+use Rattle.hid_snapshots.specs.declared.cell.Cell.{Cell}
+use Rattle.hid_snapshots.specs.Encoding.{IsEncoding, part_numbers}
+use Rattle.hid_snapshots.specs.Parts.{IsInput, is_of}
+use Rattle.hid_snapshots.specs.Views.{seen, events_between}
 
 -- these parts are the same for the items of a report
 pub record AgreeOn (items : List Item) (r : ℕ) (parts others : List Cell) : Type 0 where

@@ -13,21 +13,21 @@ use Rattle.hid_descriptor.specs.declared.report.ReportKind.TheVariants.{Input}
 use Rattle.hid_descriptor.specs.Fields.{same_kind}
 use Rattle.hid_layout.specs.Layout.{Contents}
 use Rattle.hid_layout.specs.Reports.{first_bit, report_bytes}
-use Rattle.hid_parts.specs.Numbers.{number_at, numbers_in}
-use Rattle.hid_cells.specs.declared.fault.ReportFault.{ReportFault}
-use Rattle.hid_cells.specs.declared.fault.ReportFault.TheVariants.{Short, UnknownReport}
+use Rattle.hid_snapshots.specs.Numbers.{number_at, numbers_in}
+use Rattle.hid_snapshots.specs.declared.fault.ReportFault.{ReportFault}
+use Rattle.hid_snapshots.specs.declared.fault.ReportFault.TheVariants.{Short, UnknownReport}
 use Rattle.hid_descriptor.specs.declared.usage.Usage.{Usage}
 use Rattle.hid_layout.specs.declared.control.ControlKind.{ControlKind}
 use Rattle.hid_layout.specs.declared.control.ControlKind.TheVariants.{Switch, Value, NullValue, Relative}
 use Rattle.hid_layout.specs.Controls.{Form, NoControls, Elements, Keys, Key}
 use Rattle.hid_descriptor.specs.Usages.{is_rollover}
 pub use Rattle.hid_layout.specs.Controls.{array_keys}
-pub use Rattle.hid_cells.specs.Cells.{is_in, has_null}
+pub use Rattle.hid_snapshots.specs.Cells.{is_in, has_null}
 pub use Rattle.hid_layout.specs.Sent.{at_zero, place_named}
-pub use Rattle.hid_parts.specs.Encoding.{is_data_in}
-pub use Rattle.hid_cells.specs.Keys.{keys_of, keys_at}
-use Rattle.hid_cells.specs.declared.cell.Cell.{Cell}
-use Rattle.hid_cells.specs.declared.cell.Cell.TheVariants.{Vacant, Pressed, Holding, Moved}
+pub use Rattle.hid_snapshots.specs.Encoding.{is_data_in}
+pub use Rattle.hid_snapshots.specs.Keys.{keys_of, keys_at}
+use Rattle.hid_snapshots.specs.declared.cell.Cell.{Cell}
+use Rattle.hid_snapshots.specs.declared.cell.Cell.TheVariants.{Vacant, Pressed, Holding, Moved}
 
 -- a switch is released by 0, pressed by 1, and stays for another number
 abbrev pub read_switch : Bool → ℤ → Bool

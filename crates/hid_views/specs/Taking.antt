@@ -1,18 +1,18 @@
 -- What the numbers of one listed item's elements make of a view, and what they tell (our choice).
 use Rattle.std.specs.Prelude.{◌≡◌, ℕ, ◌+◌, ◌≤◌, Bool, false, List, [], ◌∷◌, ◌++◌, length, replicate, if◌then◌else◌, Some, None, Result, Ok, Err, ℤ, slice_get}
-use Rattle.hid_cells.specs.declared.fault.ReportFault.{ReportFault}
+use Rattle.hid_snapshots.specs.declared.fault.ReportFault.{ReportFault}
 use Rattle.hid_layout.specs.declared.main_item.MainItem.{MainItem}
 use Rattle.hid_descriptor.specs.declared.usage.Usage.{Usage}
 use Rattle.hid_descriptor.specs.Usages.{usage_list}
 use Rattle.hid_layout.specs.Layout.{Contents}
 use Rattle.hid_layout.specs.Controls.{Form, Key, items_of, form_at, form_of}
-use Rattle.hid_cells.specs.declared.cell.Cell.{Cell}
-use Rattle.hid_cells.specs.declared.cell.Cell.TheVariants.{Vacant, Pressed, Holding, Moved, RolledOver}
-use Rattle.hid_cells.specs.declared.event.Event.{Event}
+use Rattle.hid_snapshots.specs.declared.cell.Cell.{Cell}
+use Rattle.hid_snapshots.specs.declared.cell.Cell.TheVariants.{Vacant, Pressed, Holding, Moved, RolledOver}
+use Rattle.hid_snapshots.specs.declared.event.Event.{Event}
 use Rattle.hid_views.specs.declared.take.Listed.{Listed}
 use Rattle.hid_views.specs.declared.take.Carried.{Carried}
-use Rattle.hid_cells.specs.Events.{change_events, usages_at}
-use Rattle.hid_cells.specs.Views.{motions_told}
+use Rattle.hid_snapshots.specs.Events.{change_events, usages_at}
+use Rattle.hid_snapshots.specs.Views.{motions_told}
 use Rattle.hid_views.specs.Reading.{read_cell, motion_cell, read_elements, motion_elements, keys_at, is_data_in, item_numbers, report_named}
 
 -- the usage list of a listed item

@@ -2,20 +2,20 @@
 
 ghost use Rattle.std.specs.Prelude.{◌≡◌, ◌<◌, ◌≤◌, ◌++◌, false, length, replicate};
 ghost use Rattle.hid_layout.specs.Controls.{items_of, form_at, head_of};
-ghost use Rattle.hid_cells.specs.declared.cell.Cell.{Cell as CellValue};
-ghost use Rattle.hid_cells.specs.Cells.{HasRoom, FitsShown, FitsView, blank, blank_cell};
-ghost use Rattle.hid_cells.specs.Events.{change_events, element_events, usages_at, value_events};
-ghost use Rattle.hid_cells.specs.Parts.{IsInput};
-ghost use Rattle.hid_cells.specs.Snapshots.{cell_at};
-ghost use Rattle.hid_cells.specs.Views.{changes_between};
+ghost use Rattle.hid_snapshots.specs.declared.cell.Cell.{Cell as CellValue};
+ghost use Rattle.hid_snapshots.specs.Cells.{HasRoom, FitsShown, FitsView, blank, blank_cell};
+ghost use Rattle.hid_snapshots.specs.Events.{change_events, element_events, usages_at, value_events};
+ghost use Rattle.hid_snapshots.specs.Parts.{IsInput};
+ghost use Rattle.hid_snapshots.specs.Snapshots.{cell_at};
+ghost use Rattle.hid_snapshots.specs.Views.{changes_between};
 ghost use Rattle.hid_views.specs.Appending.{HasSpace, Appends};
 ghost use Rattle.hid_views.specs.Dropping.{drops_at, drops_from};
 ghost use Rattle.hid_views.specs.Taking.{flag_places, NamesNone};
 
 use crate::differences::{releases, tell_value};
 use crate::drops::{Dropped, item_drops};
-use hid_cells::{Cell, Event, Flags, Values, cell_at, first_value, item_count};
 use hid_layout::{Controls, Layout};
+use hid_snapshots::{Cell, Event, Flags, Values, cell_at, first_value, item_count};
 
 /// The events of values that all become the same, by rising index.
 fn tell_values(

@@ -3,14 +3,14 @@
 ghost use Rattle.std.specs.Prelude.{◌≡◌, ◌<◌, ◌≤◌, ◌^◌, ◌==◌, length};
 ghost use Rattle.std.specs.Int.{bit_at};
 ghost use Rattle.hid_layout.specs.Reports.{HasElements};
-ghost use Rattle.hid_cells.specs.Words.{bits_in};
+ghost use Rattle.hid_snapshots.specs.Words.{bits_in};
 ghost use Rattle.hid_views.specs.Appending.{HasSpace, Appends};
-ghost use Rattle.hid_cells.specs.Events.{usages_at, switch_events};
+ghost use Rattle.hid_snapshots.specs.Events.{usages_at, switch_events};
 ghost use Rattle.hid_views.specs.Bits.{are_bits};
 
 use crate::differences::tell_switch;
-use hid_cells::{Event, Flags};
 use hid_layout::{Layout, MainItem, Shape};
+use hid_snapshots::{Event, Flags};
 
 /// Whether the elements of an item with data are up to 32 switches of one bit each.
 pub(crate) fn are_bits(item: &MainItem) -> bool

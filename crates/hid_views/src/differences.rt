@@ -5,21 +5,20 @@ ghost use Rattle.hid_descriptor.specs.declared.usage.Usage.{Usage as UsageValue}
 ghost use Rattle.hid_descriptor.specs.Usages.{usage_list};
 ghost use Rattle.hid_layout.specs.Reports.{usage_of};
 ghost use Rattle.hid_layout.specs.Controls.{items_of, form_at, head_of};
-ghost use Rattle.hid_cells.specs.Cells.{HasRoom, FitsView};
-ghost use Rattle.hid_cells.specs.Words.{is_on};
+ghost use Rattle.hid_snapshots.specs.Cells.{HasRoom, FitsView};
+ghost use Rattle.hid_snapshots.specs.Words.{is_on};
 ghost use Rattle.hid_views.specs.Appending.{HasSpace, Appends};
-ghost use Rattle.hid_cells.specs.Views.{changes_between};
-ghost use Rattle.hid_cells.specs.Events.{element_events, key_events, change_events, HasPlaces, at, usages_at, usage_place, switch_event, value_event, motion_event, switch_events, value_events, motion_events, ups, downs};
+ghost use Rattle.hid_snapshots.specs.Views.{changes_between};
+ghost use Rattle.hid_snapshots.specs.Events.{element_events, key_events, change_events, HasPlaces, at, usages_at, usage_place, switch_event, value_event, motion_event, switch_events, value_events, motion_events, ups, downs};
 ghost use Rattle.hid_views.specs.Reading.{read_motion};
 
 use crate::bounds::Bounds;
-use hid_cells::{Cell, Event, Flags, Values, cell_at, item_at, item_count};
 use hid_descriptor::entry_count;
 use hid_fields::FieldCodec;
 use hid_layout::{
     ControlId, Controls, Layout, MainItem, Shape, Usage, usage_at as usage_in, usage_count,
 };
-use hid_parts::FieldRun;
+use hid_snapshots::{Cell, Event, FieldRun, Flags, Values, cell_at, item_at, item_count};
 
 /// The place in an item's usage list that has the usage of an element, or of a place of an array's list: an element
 /// behind the last usage has that one.

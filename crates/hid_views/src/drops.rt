@@ -4,17 +4,16 @@ ghost use Rattle.std.specs.Prelude.{◌≡◌, ◌<◌, ◌++◌, length, pos};
 ghost use Rattle.hid_layout.specs.Controls.{items_of, form_at, head_of};
 ghost use Rattle.hid_layout.specs.declared.control.Controls.TheVariants as head;
 ghost use Rattle.hid_layout.specs.declared.control.ControlKind.TheVariants as ControlKind;
-ghost use Rattle.hid_cells.specs.Cells.{HasRoom, FitsShown, FitsView};
-ghost use Rattle.hid_cells.specs.Events.{change_events, usages_at};
-ghost use Rattle.hid_cells.specs.Parts.{IsInput};
-ghost use Rattle.hid_cells.specs.Snapshots.{cell_at};
+ghost use Rattle.hid_snapshots.specs.Cells.{HasRoom, FitsShown, FitsView};
+ghost use Rattle.hid_snapshots.specs.Events.{change_events, usages_at};
+ghost use Rattle.hid_snapshots.specs.Parts.{IsInput};
+ghost use Rattle.hid_snapshots.specs.Snapshots.{cell_at};
 ghost use Rattle.hid_views.specs.Appending.{HasSpace, Appends};
 ghost use Rattle.hid_views.specs.Dropping.{motions_in, drop_event, drop_events, drops_at, drops_from};
 
 use crate::differences::{item_changes, usage_at};
-use hid_cells::{Cell, Event, cell_at, is_of, item_count};
 use hid_layout::{ControlId, ControlKind, Controls, Layout, Usage};
-use hid_parts::Shown;
+use hid_snapshots::{Cell, Event, Shown, cell_at, is_of, item_count};
 
 /// A report whose motion is dropped, with the parts that are shown, and their layout.
 #[derive(Clone, Copy)]

@@ -4,18 +4,17 @@ ghost use Rattle.std.specs.Prelude.{◌≡◌, ◌+◌, ◌*◌, ◌^◌, ◌<�
 ghost use Rattle.std.specs.Bool.{OnTrue};
 ghost use Rattle.std.specs.List.{zip};
 ghost use Rattle.hid_descriptor.specs.declared.usage.Usage.{Usage as UsageValue};
-ghost use Rattle.hid_cells.specs.Events.{at, usages_at, switch_event, switch_events, value_event, value_events};
+ghost use Rattle.hid_snapshots.specs.Events.{at, usages_at, switch_event, switch_events, value_event, value_events};
 ghost use Rattle.hid_views.specs.Appending.{HasSpace, Appends};
 ghost use Rattle.hid_views.specs.Reading.{read_switch, read_value};
 ghost use Rattle.hid_views.specs.Keeping.{FindsKept};
-ghost use Rattle.hid_parts.specs.Numbers.{IsWordOf};
+ghost use Rattle.hid_snapshots.specs.Numbers.{IsWordOf};
 
 use crate::bounds::Bounds;
 use crate::differences::{tell_switch, tell_value};
-use hid_cells::{Event, Flags, Values};
 use hid_fields::FieldCodec;
 use hid_layout::Layout;
-use hid_parts::FieldRun;
+use hid_snapshots::{Event, FieldRun, Flags, Values};
 
 /// A switch, as an element's number leaves it.
 fn read_switch(before: bool, number: &i64) -> bool

@@ -4,9 +4,9 @@ ghost use Rattle.std.specs.Prelude.{◌≡◌, ◌*◌, ◌<◌, ◌≤◌, fals
 ghost use Rattle.hid_layout.specs.Reports.{element_of, report_bytes};
 ghost use Rattle.hid_views.specs.Reading.{is_input_with, whole_report, report_named, report_begun, bytes_awaited, element_number, IsInside};
 
-use hid_cells::ReportFault;
 use hid_fields::{FieldCodec, to_value};
 use hid_layout::{Element, Layout, MAX_REPORT_BYTES, Report, ReportKind};
+use hid_snapshots::ReportFault;
 
 fn is_input_with(report: &Report, id: u8) -> bool
     ensures { result ≡ is_input_with id report.now }

@@ -4,14 +4,13 @@ ghost use Rattle.std.specs.Prelude.{All, ◌≡◌, ◌<◌, ℕ, false, length,
 ghost use Rattle.std.specs.List.{list_any};
 ghost use Rattle.hid_descriptor.specs.Usages.{usage_list, is_rollover};
 ghost use Rattle.hid_layout.specs.Controls.{is_key};
-ghost use Rattle.hid_cells.specs.Words.{is_on};
+ghost use Rattle.hid_snapshots.specs.Words.{is_on};
 ghost use Rattle.hid_views.specs.Reading.{array_keys, FitsFields, named_from, names_rollover};
 ghost use Rattle.hid_views.specs.Keeping.{NamesNoneAnew};
 
-use hid_cells::Flags;
 use hid_fields::FieldCodec;
 use hid_layout::{MAX_KEYS, MainItem, Usage, usage_at, usage_count};
-use hid_parts::FieldRun;
+use hid_snapshots::{FieldRun, Flags};
 
 /// The place that an element of this number names, of so many.
 fn place_of(item: &MainItem, number: &i64, count: usize) -> Option<usize>

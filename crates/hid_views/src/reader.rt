@@ -4,15 +4,15 @@ ghost use Rattle.std.specs.Prelude.{◌≡◌, ◌<◌, ◌≤◌, ◌+◌, leng
 ghost use Rattle.std.specs.Bool.{OnTrue};
 ghost use Rattle.hid_layout.specs.Controls.{items_of, max_events};
 ghost use Rattle.hid_layout.specs.Reports.{IsLayout};
-ghost use Rattle.hid_cells.specs.Cells.{FitsView};
+ghost use Rattle.hid_snapshots.specs.Cells.{FitsView};
 ghost use Rattle.hid_views.specs.Taking.{TakesReport};
 ghost use Rattle.hid_views.specs.Reader.{kept_of};
 
 use crate::view::View;
 use arrayvec::ArrayVec;
-use hid_cells::{Event, ReportFault};
 use hid_fields::FieldCodec;
 use hid_layout::Layout;
+use hid_snapshots::{Event, ReportFault};
 use std::marker::Model;
 
 /// The layout of a device's reports, and a host's view of its controls. A contract sees both.

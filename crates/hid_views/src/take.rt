@@ -8,15 +8,15 @@ ghost use Rattle.hid_descriptor.specs.Fields.{is_padding};
 ghost use Rattle.hid_layout.specs.Reports.{IsLayout, report_bytes};
 ghost use Rattle.hid_views.specs.Appending.{HasSpace, Appends};
 ghost use Rattle.hid_views.specs.Taking.{IsFormOf, IsInReport, usages_in, keys_in, form_in, read_in, told_in, read_carried, motion_carried, read_by_report, told_by_report, read_view, read_events, flag_places, NamesNone};
-ghost use Rattle.hid_cells.specs.Parts.{IsInput};
-ghost use Rattle.hid_cells.specs.Words.{is_on};
+ghost use Rattle.hid_snapshots.specs.Parts.{IsInput};
+ghost use Rattle.hid_snapshots.specs.Words.{is_on};
 ghost use Rattle.hid_layout.specs.declared.control.Controls.TheVariants as head;
-ghost use Rattle.hid_cells.specs.Cells.{HasRoom, FitsView};
-ghost use Rattle.hid_cells.specs.Events.{element_events, key_events, ups, downs, usages_at, HasPlaces};
-ghost use Rattle.hid_cells.specs.Views.{motions_of};
+ghost use Rattle.hid_snapshots.specs.Cells.{HasRoom, FitsView};
+ghost use Rattle.hid_snapshots.specs.Events.{element_events, key_events, ups, downs, usages_at, HasPlaces};
+ghost use Rattle.hid_snapshots.specs.Views.{motions_of};
 ghost use Rattle.hid_views.specs.Reading.{FitsFields, array_keys, keys_at, read_keys, item_numbers};
 ghost use Rattle.hid_views.specs.Bits.{read_bits};
-ghost use Rattle.hid_parts.specs.Encoding.{IsData};
+ghost use Rattle.hid_snapshots.specs.Encoding.{IsData};
 ghost use Rattle.hid_layout.specs.declared.control.ControlKind.TheVariants as ControlKind;
 
 use crate::bits::{are_bits, take_bits};
@@ -24,10 +24,9 @@ use crate::bounds::Bounds;
 use crate::differences::{flag_changes, motions};
 use crate::elements::{Carriable, take_switches, take_values};
 use crate::read::{KeyArray, read_keys};
-use hid_cells::{Cell, Event, Flags, item_at};
 use hid_fields::FieldCodec;
 use hid_layout::{ControlKind, Layout, MainItem, Shape, Usage};
-use hid_parts::{FieldRun, first_bit};
+use hid_snapshots::{Cell, Event, FieldRun, Flags, first_bit, item_at};
 
 /// The bytes of an Input report, with its layout and its number there.
 #[derive(Clone, Copy)]

@@ -2,27 +2,26 @@
 
 ghost use Rattle.std.specs.Prelude.{◌≡◌, ◌≤◌, ◌+◌, ◌++◌, ℕ, true, length, slice_get, Some, IfOk, vec_len, vec_capacity};
 ghost use Rattle.hid_layout.specs.Controls.{items_of, max_events};
-ghost use Rattle.hid_cells.specs.declared.cell.Cell.{Cell as CellValue};
-ghost use Rattle.hid_cells.specs.Full.{IsFull};
-ghost use Rattle.hid_cells.specs.Cells.{blank, FitsShown, FitsView};
-ghost use Rattle.hid_cells.specs.Parts.{IsInput};
-ghost use Rattle.hid_cells.specs.Snapshots.{is_pressed, cell_at};
-ghost use Rattle.hid_cells.specs.Keys.{keys_at, has_keys_at, key_words, AreKeyWords};
+ghost use Rattle.hid_snapshots.specs.declared.cell.Cell.{Cell as CellValue};
+ghost use Rattle.hid_snapshots.specs.Full.{IsFull};
+ghost use Rattle.hid_snapshots.specs.Cells.{blank, FitsShown, FitsView};
+ghost use Rattle.hid_snapshots.specs.Parts.{IsInput};
+ghost use Rattle.hid_snapshots.specs.Snapshots.{is_pressed, cell_at};
+ghost use Rattle.hid_snapshots.specs.Keys.{keys_at, has_keys_at, key_words, AreKeyWords};
 ghost use Rattle.hid_views.specs.Taking.{TakesReport, flag_places};
-ghost use Rattle.hid_cells.specs.Views.{value_in, changes_between, drops_between};
+ghost use Rattle.hid_snapshots.specs.Views.{value_in, changes_between, drops_between};
 
 use crate::back::{all_changes_back, all_changes_back_and_drops};
 use crate::differences::all_changes;
 use crate::drops::{Dropped, all_changes_and_drops};
 use crate::input::input_report;
 use crate::take::{Received, take_items};
-use hid_cells::{
-    Cell, Event, Flags, MemoryFault, ReportFault, blank_cells, cell_at as cell_in, key_words,
-    plan_of,
-};
 use hid_fields::FieldCodec;
 use hid_layout::{ControlId, Layout};
-use hid_parts::Shown;
+use hid_snapshots::{
+    Cell, Event, Flags, MemoryFault, ReportFault, Shown, blank_cells, cell_at as cell_in,
+    key_words, plan_of,
+};
 use std::alloc::Global;
 use std::marker::Model;
 
@@ -40,7 +39,7 @@ pub struct View {
 
 impl Model for View {
     ghost use Rattle.std.specs.Prelude.{List};
-    ghost use Rattle.hid_cells.specs.declared.cell.Cell.{Cell};
+    ghost use Rattle.hid_snapshots.specs.declared.cell.Cell.{Cell};
 
     ghost Value = { List Cell };
 
@@ -159,7 +158,7 @@ impl View {
 
     /// The held keys of an Input array, by place in its usage list: bit i mod 64 of word i div 64 is 1 exactly where the
     /// key at place i is held.
-    #[tactic(auto, using(hid_cells::proofs::KeyWordLemmas::view_words))]
+    #[tactic(auto, using(hid_snapshots::proofs::KeyWordLemmas::view_words))]
     pub fn key_words(&self, layout: &Layout, item: usize) -> &[u64]
         requires fits { FitsView (items_of layout.now) self.now }
         requires array { has_keys_at (items_of layout.now) item ≡ true }

@@ -1,6 +1,6 @@
 -- What a report makes of a handle (our choice).
 use Rattle.std.specs.Prelude.{◌≡◌, ℕ, List, Option, Some, None, Result, Ok, Err}
-use Rattle.hid_cells.specs.declared.fault.ReportFault.TheVariants.{Short, UnknownReport}
+use Rattle.hid_snapshots.specs.declared.fault.ReportFault.TheVariants.{Short, UnknownReport}
 use Rattle.hid_session.specs.declared.event.HidEvent.{HidEvent}
 use Rattle.hid_session.specs.declared.session.FeedFault.{FeedFault}
 use Rattle.hid_session.specs.declared.session.FeedFault.TheVariants.{NoRoom, Refused}

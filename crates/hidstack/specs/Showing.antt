@@ -1,6 +1,6 @@
 -- What a call that reads a handle answers (our choice).
 use Rattle.std.specs.Prelude.{◌≡◌, ℕ, List, Option, Some, None}
-use Rattle.hid_cells.specs.declared.cell.Cell.{Cell}
+use Rattle.hid_snapshots.specs.declared.cell.Cell.{Cell}
 use Rattle.hid_layout.specs.Layout.{Contents}
 use Rattle.hid_session.specs.States.{State}
 use Rattle.hidstack.specs.declared.status.TheConstants.{OK, CLOSED, NONE}

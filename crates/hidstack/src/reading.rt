@@ -1,8 +1,8 @@
 //! What a handle's view shows: held switches and keys, and values.
 
 ghost use Rattle.std.specs.Prelude.{◌≡◌, Some};
-ghost use Rattle.hid_cells.specs.Snapshots.{is_pressed, cell_at};
-ghost use Rattle.hid_cells.specs.Views.{value_in};
+ghost use Rattle.hid_snapshots.specs.Snapshots.{is_pressed, cell_at};
+ghost use Rattle.hid_snapshots.specs.Views.{value_in};
 ghost use Rattle.hid_session.specs.Elements.{one_of};
 ghost use Rattle.hidstack.specs.Showing.{ShowsView};
 

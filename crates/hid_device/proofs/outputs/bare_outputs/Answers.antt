@@ -1,7 +1,7 @@
 use Rattle.std.proofs.Common.{◌≡◌, ◌≤◌, ℕ, ◌+◌, ◌-◌, ◌<◌, ◌++◌, List, ◌∷◌, [], length, map, ap, subst, sym, ◌∙◌, arith}
 use Rattle.std.specs.List.{range_with_len}
 use Rattle.std.proofs.lemmas.List.FromFn.{map-range_with_len_more}
-use Rattle.hid_parts.specs.Encoding.{bare_report}
+use Rattle.hid_snapshots.specs.Encoding.{bare_report}
 use Rattle.hid_device.specs.Inputs.{input_count}
 use Rattle.hid_device.proofs.outputs.bare_outputs.Goals as goal
 

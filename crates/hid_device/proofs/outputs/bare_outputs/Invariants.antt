@@ -1,6 +1,6 @@
 use Rattle.std.proofs.Common.{◌≡◌, ◌≤◌, ◌-◌, map, length, vec_capacity}
 use Rattle.std.specs.List.{range_with_len}
-use Rattle.hid_parts.specs.Encoding.{bare_report}
+use Rattle.hid_snapshots.specs.Encoding.{bare_report}
 use Rattle.hid_device.specs.Inputs.{input_count}
 use Rattle.hid_device.proofs.outputs.bare_outputs.Given as goal
 

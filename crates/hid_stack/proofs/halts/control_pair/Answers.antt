@@ -1,6 +1,6 @@
 use Rattle.std.proofs.Common.{◌≡◌, ◌∙◌, ◌≤◌, Bool, List, length, ap, refl, subst, sym}
 use Rattle.std.specs.Prelude.{is_some}
-use Rattle.hid_cells.specs.declared.event.Event.{Event}
+use Rattle.hid_snapshots.specs.declared.event.Event.{Event}
 use Rattle.hid_layout.specs.Controls.{items_of, max_events}
 use Rattle.hid_host.specs.Host.{may_cut, running}
 use Rattle.hid_lives.specs.Lives.{cut_events}

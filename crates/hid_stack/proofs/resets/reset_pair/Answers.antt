@@ -1,5 +1,5 @@
 use Rattle.std.proofs.Common.{◌++◌, ◌∙◌, List, ap}
-use Rattle.hid_cells.specs.declared.event.Event.{Event}
+use Rattle.hid_snapshots.specs.declared.event.Event.{Event}
 use Rattle.hid_device.specs.Core.{piece_at, round_of}
 use Rattle.hid_device.specs.Device.{core_of}
 use Rattle.hid_host.specs.Resetting.{reset_told}

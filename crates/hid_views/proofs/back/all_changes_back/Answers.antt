@@ -1,8 +1,8 @@
 use Rattle.std.proofs.Common.{◌∙◌, List, drop, ap, arith}
 use Rattle.std.proofs.lemmas.List.{drop_all}
 use Rattle.hid_layout.specs.Controls.{Item, items_of}
-use Rattle.hid_cells.specs.Cells.{blank}
-use Rattle.hid_cells.specs.Views.{changes_from}
+use Rattle.hid_snapshots.specs.Cells.{blank}
+use Rattle.hid_snapshots.specs.Views.{changes_from}
 use Rattle.hid_views.proofs.EventLemmas.{all_appended, room_for, room_left, told}
 use Rattle.hid_views.proofs.ViewLemmas.{changes_from-next, room_at}
 use Rattle.hid_views.proofs.BackLemmas.{blank_there}

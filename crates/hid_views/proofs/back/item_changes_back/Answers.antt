@@ -1,10 +1,10 @@
 use Rattle.std.proofs.Common.{◌≤◌, ◌∙◌, List, length, sym, ap, subst, arith}
 use Rattle.hid_layout.specs.Controls.{form_at, head_of, items_of}
-use Rattle.hid_cells.specs.declared.cell.Cell.{Cell}
-use Rattle.hid_cells.specs.declared.cell.Cell.TheVariants.{Pressed}
-use Rattle.hid_cells.specs.declared.event.Event.{Event}
-use Rattle.hid_cells.specs.Cells.{HasRoom, blank_cell}
-use Rattle.hid_cells.specs.Events.{change_events}
+use Rattle.hid_snapshots.specs.declared.cell.Cell.{Cell}
+use Rattle.hid_snapshots.specs.declared.cell.Cell.TheVariants.{Pressed}
+use Rattle.hid_snapshots.specs.declared.event.Event.{Event}
+use Rattle.hid_snapshots.specs.Cells.{HasRoom, blank_cell}
+use Rattle.hid_snapshots.specs.Events.{change_events}
 use Rattle.hid_views.specs.Appending.{Appends}
 use Rattle.hid_views.specs.Taking.{flag_places}
 use Rattle.hid_views.proofs.BackLemmas.{pressed_back}

@@ -1,6 +1,6 @@
 use Rattle.std.proofs.Common.{◌≡◌, ◌≤◌, ◌+◌, ◌++◌, length, replicate, drop, vec_len, vec_capacity}
 use Rattle.std.specs.List.{zip}
-use Rattle.hid_cells.specs.Events.{usages_at, at, value_event, value_events, each}
+use Rattle.hid_snapshots.specs.Events.{usages_at, at, value_event, value_events, each}
 use Rattle.hid_views.proofs.back.tell_values.Given as goal
 
 abbrev pub invariant-loop-index : goal.invariant-loop-index

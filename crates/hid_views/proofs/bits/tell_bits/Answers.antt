@@ -1,11 +1,11 @@
 use Rattle.std.proofs.Common.{◌≡◌, ◌+◌, ◌<◌, ◌≤◌, ◌==◌, ◌∙◌, not, subst, sym, ap, ℕ, Bool, false, List, [], ◌∷◌, ◌++◌, drop, length, arith}
 use Rattle.std.specs.Int.{bit_at}
 use Rattle.std.specs.List.{zip}
-use Rattle.hid_cells.specs.declared.event.Event.{Event}
-use Rattle.hid_cells.specs.Words.{bits_in, is_unlike}
-use Rattle.hid_cells.specs.Events.{usages_at, at, each, switch_event}
-use Rattle.hid_cells.proofs.ItemLemmas.{got}
-use Rattle.hid_cells.proofs.WordLemmas.{bits_in-length}
+use Rattle.hid_snapshots.specs.declared.event.Event.{Event}
+use Rattle.hid_snapshots.specs.Words.{bits_in, is_unlike}
+use Rattle.hid_snapshots.specs.Events.{usages_at, at, each, switch_event}
+use Rattle.hid_snapshots.proofs.ItemLemmas.{got}
+use Rattle.hid_snapshots.proofs.WordLemmas.{bits_in-length}
 use Rattle.hid_views.proofs.BitLemmas.{turned, turns, turns_by, unlike_first}
 use Rattle.hid_views.proofs.EventLemmas.{all_appended, each_next, each_done, room_for, room_left, told}
 use Rattle.hid_views.proofs.bits.tell_bits.Goals as goal

@@ -1,7 +1,7 @@
 use Rattle.std.proofs.Common.{◌∙◌, List, drop, ap, arith}
 use Rattle.std.proofs.lemmas.List.{drop_all}
 use Rattle.hid_layout.specs.Controls.{Item, items_of}
-use Rattle.hid_cells.specs.Views.{changes_from}
+use Rattle.hid_snapshots.specs.Views.{changes_from}
 use Rattle.hid_views.proofs.EventLemmas.{all_appended, room_for, room_left, told}
 use Rattle.hid_views.proofs.ViewLemmas.{changes_from-next, room_at}
 use Rattle.hid_views.proofs.differences.all_changes.Goals as goal

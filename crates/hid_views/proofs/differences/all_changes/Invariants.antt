@@ -1,6 +1,6 @@
 use Rattle.std.proofs.Common.{◌≡◌, ◌≤◌, ◌+◌, ◌++◌, length, drop, vec_len, vec_capacity}
 use Rattle.hid_layout.specs.Controls.{items_of}
-use Rattle.hid_cells.specs.Views.{changes_from, changes_between}
+use Rattle.hid_snapshots.specs.Views.{changes_from, changes_between}
 use Rattle.hid_views.proofs.differences.all_changes.Given as goal
 
 abbrev pub invariant-loop-i : goal.invariant-loop-i

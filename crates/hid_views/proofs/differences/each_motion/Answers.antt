@@ -1,9 +1,9 @@
 use Rattle.std.proofs.Common.{arith, drop, ◌≡◌, ◌∙◌, ap, sym, map, Some, ℤ, to_z, of_z, w64, rules}
 use Rattle.std.specs.List.{slice_get}
 use Rattle.std.proofs.lemmas.Int.{to_z-of_z}
-use Rattle.hid_cells.proofs.ItemLemmas.{got}
+use Rattle.hid_snapshots.proofs.ItemLemmas.{got}
 use Rattle.hid_views.specs.Reading.{read_motion}
-use Rattle.hid_cells.specs.Events.{usages_at, at, motion_event}
+use Rattle.hid_snapshots.specs.Events.{usages_at, at, motion_event}
 use Rattle.hid_views.proofs.EventLemmas.{all_appended, each-from, each_end, room_for, room_left, told}
 use Rattle.hid_views.proofs.differences.each_motion.Goals as goal
 

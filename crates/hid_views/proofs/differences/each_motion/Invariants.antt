@@ -1,6 +1,6 @@
 use Rattle.std.proofs.Common.{◌≡◌, ◌≤◌, ◌+◌, ◌++◌, length, drop, vec_len, vec_capacity, map}
 use Rattle.hid_views.specs.Reading.{read_motion}
-use Rattle.hid_cells.specs.Events.{usages_at, at, motion_event, motion_events, each}
+use Rattle.hid_snapshots.specs.Events.{usages_at, at, motion_event, motion_events, each}
 use Rattle.hid_views.proofs.differences.each_motion.Given as goal
 
 abbrev pub invariant-loop-index : goal.invariant-loop-index

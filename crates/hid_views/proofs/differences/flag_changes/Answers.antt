@@ -1,4 +1,4 @@
-use Rattle.hid_cells.specs.Events.{ups, downs, usages_at}
+use Rattle.hid_snapshots.specs.Events.{ups, downs, usages_at}
 use Rattle.hid_views.proofs.EventLemmas.{space_first, space_second, both_appended}
 use Rattle.hid_views.proofs.differences.flag_changes.Goals as goal
 

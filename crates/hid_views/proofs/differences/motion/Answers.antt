@@ -1,6 +1,6 @@
 use Rattle.std.proofs.Common.{◌≡◌, ◌∙◌, Some, ℤ, ap, sym, to_z, of_z, w64, rules}
 use Rattle.std.proofs.lemmas.Int.{to_z-of_z}
-use Rattle.hid_cells.proofs.ListLemmas.{map_at}
+use Rattle.hid_snapshots.proofs.ListLemmas.{map_at}
 use Rattle.hid_views.specs.Reading.{read_motion}
 use Rattle.hid_views.proofs.differences.motion.Goals as goal
 

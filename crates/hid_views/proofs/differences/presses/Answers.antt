@@ -1,8 +1,8 @@
 use Rattle.std.proofs.Common.{◌+◌, ◌≤◌, ◌∙◌, length, List, [], ◌∷◌, vec_len, vec_capacity, arith}
-use Rattle.hid_cells.specs.declared.event.Event.{Event}
-use Rattle.hid_cells.specs.declared.event.Event.TheVariants as event
-use Rattle.hid_cells.specs.Words.{is_alone}
-use Rattle.hid_cells.specs.Events.{usages_at, at, down_event}
+use Rattle.hid_snapshots.specs.declared.event.Event.{Event}
+use Rattle.hid_snapshots.specs.declared.event.Event.TheVariants as event
+use Rattle.hid_snapshots.specs.Words.{is_alone}
+use Rattle.hid_snapshots.specs.Events.{usages_at, at, down_event}
 use Rattle.hid_views.proofs.EventLemmas.{all_appended, downs_by, each_next, each_done, room_for, room_left, told}
 use Rattle.hid_views.proofs.RoomLemmas.{alone_within, first_within}
 use Rattle.hid_views.proofs.differences.presses.Goals as goal

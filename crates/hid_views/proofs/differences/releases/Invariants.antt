@@ -1,6 +1,6 @@
 use Rattle.std.proofs.Common.{◌≡◌, ◌≤◌, ◌+◌, ◌-◌, ◌++◌, length, drop, vec_len, vec_capacity}
 use Rattle.std.specs.List.{zip}
-use Rattle.hid_cells.specs.Events.{usages_at, at, up_event, ups, each}
+use Rattle.hid_snapshots.specs.Events.{usages_at, at, up_event, ups, each}
 use Rattle.hid_views.proofs.differences.releases.Given as goal
 
 abbrev pub invariant-loop-index : goal.invariant-loop-index

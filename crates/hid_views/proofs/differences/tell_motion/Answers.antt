@@ -1,6 +1,6 @@
 use Rattle.std.proofs.Common.{◌≡◌, sym, subst, ℤ, to_z, of_z, w64, rules}
 use Rattle.std.proofs.lemmas.Int.{to_z-of_z}
-use Rattle.hid_cells.specs.Events.{at, motion_event}
+use Rattle.hid_snapshots.specs.Events.{at, motion_event}
 use Rattle.hid_views.specs.Appending.{HasSpace}
 use Rattle.hid_views.proofs.differences.tell_motion.Goals as goal
 

@@ -1,6 +1,6 @@
 use Rattle.std.proofs.Common.{◌≡◌, ◌∙◌, Some, None, sym, ap, length, arith}
 use Rattle.hid_descriptor.specs.Usages.{usage_list}
-use Rattle.hid_cells.proofs.ItemLemmas.{got}
+use Rattle.hid_snapshots.proofs.ItemLemmas.{got}
 use Rattle.hid_views.proofs.UsageLemmas.{usage_there, usage_found, usages_within, same_entries, usage_of-is}
 use Rattle.hid_views.proofs.differences.usage_past.Goals as goal
 

@@ -1,7 +1,7 @@
 use Rattle.std.proofs.Common.{◌∙◌, drop, arith}
 use Rattle.std.specs.List.{zip}
-use Rattle.hid_cells.proofs.ItemLemmas.{got}
-use Rattle.hid_cells.specs.Events.{usages_at, at, value_event}
+use Rattle.hid_snapshots.proofs.ItemLemmas.{got}
+use Rattle.hid_snapshots.specs.Events.{usages_at, at, value_event}
 use Rattle.hid_views.proofs.EventLemmas.{all_appended, each-from, each_end, zip_at, room_for, room_left, told}
 use Rattle.hid_views.proofs.differences.value_changes.Goals as goal
 

@@ -2,11 +2,11 @@ use Rattle.std.proofs.Common.{◌∙◌, List, Option, ap, drop, subst, sym, ari
 use Rattle.std.specs.Prelude.{unwrap_or}
 use Rattle.std.proofs.lemmas.List.{drop_all}
 use Rattle.hid_layout.specs.Controls.{Item, form_at, head_of, items_of}
-use Rattle.hid_cells.specs.declared.cell.Cell.{Cell}
-use Rattle.hid_cells.specs.declared.cell.Cell.TheVariants.{Vacant}
-use Rattle.hid_cells.specs.Cells.{HasRoom}
+use Rattle.hid_snapshots.specs.declared.cell.Cell.{Cell}
+use Rattle.hid_snapshots.specs.declared.cell.Cell.TheVariants.{Vacant}
+use Rattle.hid_snapshots.specs.Cells.{HasRoom}
 use Rattle.hid_views.specs.Dropping.{drops_from}
-use Rattle.hid_cells.proofs.ItemLemmas.{got}
+use Rattle.hid_snapshots.proofs.ItemLemmas.{got}
 use Rattle.hid_views.proofs.DropLemmas.{drops_from-next}
 use Rattle.hid_views.proofs.EventLemmas.{all_appended, room_for, room_left, told}
 use Rattle.hid_views.proofs.ViewLemmas.{room_at}

@@ -1,5 +1,5 @@
 use Rattle.hid_layout.specs.Controls.{items_of, form_at}
-use Rattle.hid_cells.specs.Events.{change_events}
+use Rattle.hid_snapshots.specs.Events.{change_events}
 use Rattle.hid_views.specs.Dropping.{drops_at}
 use Rattle.hid_views.proofs.EventLemmas.{space_first, space_second, both_appended}
 use Rattle.hid_views.proofs.drops.item_changes_and_drops.Goals as goal

@@ -1,8 +1,8 @@
 use Rattle.std.proofs.Common.{◌∙◌, ap, sym, Bool, cond}
 use Rattle.hid_layout.specs.Controls.{items_of, form_at}
-use Rattle.hid_cells.specs.declared.cell.Cell.TheVariants.{Vacant}
-use Rattle.hid_cells.specs.Parts.{is_of, item_at}
-use Rattle.hid_cells.specs.Snapshots.{cell_at}
+use Rattle.hid_snapshots.specs.declared.cell.Cell.TheVariants.{Vacant}
+use Rattle.hid_snapshots.specs.Parts.{is_of, item_at}
+use Rattle.hid_snapshots.specs.Snapshots.{cell_at}
 use Rattle.hid_views.specs.Dropping.{drops_told}
 use Rattle.hid_views.proofs.DropLemmas.{no_drops, none_told}
 use Rattle.hid_views.proofs.EventLemmas.{nothing_appended}

@@ -1,8 +1,8 @@
 use Rattle.std.proofs.Common.{arith, drop, ◌≡◌, ◌∙◌, ap, sym, Some, ℤ, to_z, of_z, w64, rules}
 use Rattle.std.specs.List.{slice_get}
 use Rattle.std.proofs.lemmas.Int.{to_z-of_z}
-use Rattle.hid_cells.specs.Events.{usages_at, at}
-use Rattle.hid_cells.specs.Snapshots.{cell_at}
+use Rattle.hid_snapshots.specs.Events.{usages_at, at}
+use Rattle.hid_snapshots.specs.Snapshots.{cell_at}
 use Rattle.hid_views.specs.Dropping.{motions_in, drop_event}
 use Rattle.hid_views.proofs.DropLemmas.{motion_there}
 use Rattle.hid_views.proofs.EventLemmas.{all_appended, each-from, each_end, room_for, room_left, told}

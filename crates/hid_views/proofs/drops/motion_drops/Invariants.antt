@@ -1,6 +1,6 @@
 use Rattle.std.proofs.Common.{◌≡◌, ◌≤◌, ◌+◌, ◌++◌, length, drop, vec_len, vec_capacity}
-use Rattle.hid_cells.specs.Events.{usages_at, at, each}
-use Rattle.hid_cells.specs.Snapshots.{cell_at}
+use Rattle.hid_snapshots.specs.Events.{usages_at, at, each}
+use Rattle.hid_snapshots.specs.Snapshots.{cell_at}
 use Rattle.hid_views.specs.Dropping.{motions_in, drop_event, drop_events}
 use Rattle.hid_views.proofs.drops.motion_drops.Given as goal
 

@@ -1,8 +1,8 @@
 use Rattle.std.proofs.Common.{◌≡◌, ◌∙◌, ◌<◌, Option, ℤ, to_z, of_z, w64, Some, length, sym, refl, ap, rules, arith}
 use Rattle.std.specs.List.{slice_get}
 use Rattle.std.proofs.lemmas.Int.{to_z-of_z}
-use Rattle.hid_cells.proofs.ItemLemmas.{got}
-use Rattle.hid_cells.specs.Events.{at, usages_at, value_event}
+use Rattle.hid_snapshots.proofs.ItemLemmas.{got}
+use Rattle.hid_snapshots.specs.Events.{at, usages_at, value_event}
 use Rattle.hid_views.specs.Reading.{read_value}
 use Rattle.hid_views.proofs.ElementLemmas.{room_next, taken_next, taken_to, all_taken, value_stays}
 use Rattle.hid_views.proofs.elements.take_each_value.Goals as goal

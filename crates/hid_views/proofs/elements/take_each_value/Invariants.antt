@@ -1,5 +1,5 @@
 use Rattle.std.proofs.Common.{◌≡◌, ◌≤◌, ◌-◌, length, Option, ℤ, ◌++◌, vec_len, vec_capacity}
-use Rattle.hid_cells.specs.Events.{usages_at, at, value_event, value_events}
+use Rattle.hid_snapshots.specs.Events.{usages_at, at, value_event, value_events}
 use Rattle.hid_views.specs.Reading.{read_value}
 use Rattle.hid_views.proofs.ElementLemmas.{AreTaken, read_all}
 use Rattle.hid_views.proofs.elements.take_each_value.Given as goal

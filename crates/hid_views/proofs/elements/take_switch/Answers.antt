@@ -1,6 +1,6 @@
 use Rattle.std.proofs.Common.{◌≡◌, ◌∙◌, Bool, sym, subst, ap}
 use Rattle.std.specs.List.{slice_set}
-use Rattle.hid_cells.specs.Events.{at, switch_event}
+use Rattle.hid_snapshots.specs.Events.{at, switch_event}
 use Rattle.hid_views.specs.Appending.{Appends}
 use Rattle.hid_views.specs.Reading.{read_switch}
 use Rattle.hid_views.proofs.elements.take_switch.Goals as goal

@@ -1,6 +1,6 @@
 use Rattle.std.proofs.Common.{◌≡◌, ◌∙◌, Option, ℤ, sym, subst, ap}
 use Rattle.std.specs.List.{slice_set}
-use Rattle.hid_cells.specs.Events.{at, value_event}
+use Rattle.hid_snapshots.specs.Events.{at, value_event}
 use Rattle.hid_views.specs.Appending.{Appends}
 use Rattle.hid_views.specs.Reading.{read_value}
 use Rattle.hid_views.proofs.elements.take_value.Goals as goal

@@ -2,7 +2,7 @@ use Rattle.std.proofs.Common.{◌≡◌, ◌&&◌, ◌∙◌, sym, ap, true, fal
 use Rattle.std.specs.List.{slice_get}
 use Rattle.hid_descriptor.specs.Usages.{usage_list, is_rollover}
 use Rattle.hid_layout.proofs.FormLemmas.{keys-length}
-use Rattle.hid_cells.proofs.ItemLemmas.{got}
+use Rattle.hid_snapshots.proofs.ItemLemmas.{got}
 use Rattle.hid_views.specs.Reading.{array_keys}
 use Rattle.hid_views.proofs.KeyLemmas.{no_rollover_named, no_place_added}
 use Rattle.hid_views.proofs.PressLemmas.{tells}

@@ -4,7 +4,7 @@ use Rattle.std.proofs.Math.Seq.{take-set-lt}
 use Rattle.hid_descriptor.specs.Usages.{usage_list}
 use Rattle.hid_layout.specs.Controls.{is_key}
 use Rattle.hid_views.proofs.PressLemmas.{key_place, pressed, not_pressed}
-use Rattle.hid_cells.specs.Words.{is_on}
+use Rattle.hid_snapshots.specs.Words.{is_on}
 use Rattle.hid_views.specs.Reading.{array_keys}
 use Rattle.hid_views.proofs.RoomLemmas.{on_elsewhere}
 use Rattle.hid_views.proofs.read.press.Goals as goal

@@ -3,8 +3,8 @@ use Rattle.std.specs.List.{slice_get, list_any}
 use Rattle.std.proofs.lemmas.Int.{to_z-of_z}
 use Rattle.std.proofs.lemmas.List.{drop_all, take-replicate}
 use Rattle.hid_descriptor.specs.Usages.{usage_list}
-use Rattle.hid_cells.proofs.ListLemmas.{take_at}
-use Rattle.hid_cells.proofs.FillLemmas.{any_from_hit, any_from_miss}
+use Rattle.hid_snapshots.proofs.ListLemmas.{take_at}
+use Rattle.hid_snapshots.proofs.FillLemmas.{any_from_hit, any_from_miss}
 use Rattle.hid_views.specs.Reading.{array_keys, named_from, names_rollover}
 use Rattle.hid_views.proofs.BoundLemmas.{fits_at}
 use Rattle.hid_views.proofs.KeyLemmas.{named_none, named_again}

@@ -1,6 +1,6 @@
 use Rattle.std.proofs.Common.{◌≡◌, ◌≤◌, ℕ, false, take, drop, length, IfSome}
 use Rattle.std.specs.List.{list_any}
-use Rattle.hid_cells.specs.Words.{is_on}
+use Rattle.hid_snapshots.specs.Words.{is_on}
 use Rattle.hid_descriptor.specs.Usages.{usage_list}
 use Rattle.hid_views.specs.Reading.{array_keys, named_from, names_rollover}
 use Rattle.hid_views.specs.Keeping.{NamesNoneAnew}

@@ -1,15 +1,15 @@
 use Rattle.std.proofs.Common.{◌≡◌, ◌*◌, ◌^◌, ◌<◌, ◌∙◌, ℕ, ℤ, true, List, All, ap, sym, subst, length, arith, rules}
-use Rattle.hid_cells.specs.declared.cell.Cell.{Cell}
-use Rattle.hid_cells.specs.declared.event.Event.{Event}
+use Rattle.hid_snapshots.specs.declared.cell.Cell.{Cell}
+use Rattle.hid_snapshots.specs.declared.event.Event.{Event}
 use Rattle.hid_views.specs.Appending.{HasSpace, Appends}
-use Rattle.hid_cells.specs.Events.{usages_at, element_events}
+use Rattle.hid_snapshots.specs.Events.{usages_at, element_events}
 use Rattle.hid_views.specs.Reading.{FitsFields, item_numbers}
 use Rattle.hid_views.specs.Taking.{read_by_numbers, told_by_numbers}
 use Rattle.hid_views.specs.Bits.{are_bits, read_bits}
 use Rattle.hid_views.proofs.BoundLemmas.{numbers_fit}
 use Rattle.hid_views.proofs.BitLemmas.{pattern_in, has_bits, reads_as_bits}
-use Rattle.hid_parts.proofs.EncodingLemmas.{place_inside}
-use Rattle.hid_parts.proofs.NumberLemmas.{numbers_in-length}
+use Rattle.hid_snapshots.proofs.EncodingLemmas.{place_inside}
+use Rattle.hid_snapshots.proofs.NumberLemmas.{numbers_in-length}
 use Rattle.hid_views.proofs.take.take_fields.Goals as goal
 
 pub are_bits-requires : goal.are_bits-requires

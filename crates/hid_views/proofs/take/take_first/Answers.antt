@@ -3,8 +3,8 @@ use Rattle.std.specs.Bool.{beq}
 use Rattle.std.specs.Cmp.{booleans_Decides}
 use Rattle.std.specs.Cmp.Lexicographic.{pointwise}
 use Rattle.std.proofs.lemmas.Slice.Eq.{slice_eq-Decides}
-use Rattle.hid_cells.specs.declared.cell.Cell.TheVariants.{Pressed}
-use Rattle.hid_cells.specs.Events.{usages_at, ups, downs}
+use Rattle.hid_snapshots.specs.declared.cell.Cell.TheVariants.{Pressed}
+use Rattle.hid_snapshots.specs.Events.{usages_at, ups, downs}
 use Rattle.hid_views.proofs.EventLemmas.{nothing_appended}
 use Rattle.hid_views.proofs.ViewLemmas.{same_keys}
 use Rattle.hid_views.proofs.RoomLemmas.{first_told}

@@ -1,6 +1,6 @@
 use Rattle.std.proofs.Common.{ap, arith, rules}
 use Rattle.hid_layout.specs.Reports.{report_bytes}
-use Rattle.hid_parts.specs.Encoding.{IsData}
+use Rattle.hid_snapshots.specs.Encoding.{IsData}
 use Rattle.hid_views.proofs.TakeLemmas.{form_of_item}
 use Rattle.hid_views.proofs.take.take_item.Goals as goal
 

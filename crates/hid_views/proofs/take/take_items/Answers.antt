@@ -1,10 +1,10 @@
 use Rattle.std.proofs.Common.{◌≡◌, ◌<◌, ◌∙◌, Bool, false, Some, List, get_or, length, replicate, ap, sym, subst, arith, vec_len, vec_capacity}
 use Rattle.hid_layout.specs.Controls.{items_of}
-use Rattle.hid_cells.specs.Cells.{InView}
+use Rattle.hid_snapshots.specs.Cells.{InView}
 use Rattle.hid_views.specs.Taking.{read_view}
 use Rattle.hid_views.proofs.EventLemmas.{appends, room_for, room_left, told}
-use Rattle.hid_cells.proofs.FillLemmas.{filled}
-use Rattle.hid_cells.proofs.PlanLemmas.{along_next, along_step, along_end}
+use Rattle.hid_snapshots.proofs.FillLemmas.{filled}
+use Rattle.hid_snapshots.proofs.PlanLemmas.{along_next, along_step, along_end}
 use Rattle.hid_views.proofs.TakeLemmas.{read_start, read_next, told_from-next, read_from-length, taking_skips, all_told}
 use Rattle.hid_views.proofs.ViewLemmas.{room_at}
 use Rattle.hid_views.proofs.BitLemmas.{same_number}

@@ -1,5 +1,5 @@
 use Rattle.std.proofs.Common.{◌≡◌, vec_len, vec_capacity}
-use Rattle.hid_cells.proofs.PlanLemmas.{IsAlong}
+use Rattle.hid_snapshots.proofs.PlanLemmas.{IsAlong}
 use Rattle.hid_views.proofs.TakeLemmas.{HasTaken}
 use Rattle.hid_views.proofs.take.take_items.Given as goal
 

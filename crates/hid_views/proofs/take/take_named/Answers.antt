@@ -1,11 +1,11 @@
 use Rattle.std.proofs.Common.{◌≡◌, ◌∙◌, ◌++◌, ℕ, true, false, Bool, List, ap, sym, subst, take, length, arith, rules}
 use Rattle.std.specs.List.{list_any}
-use Rattle.hid_cells.specs.declared.cell.Cell.{Cell}
-use Rattle.hid_cells.specs.declared.cell.Cell.TheVariants.{Pressed}
-use Rattle.hid_cells.specs.declared.event.Event.{Event}
+use Rattle.hid_snapshots.specs.declared.cell.Cell.{Cell}
+use Rattle.hid_snapshots.specs.declared.cell.Cell.TheVariants.{Pressed}
+use Rattle.hid_snapshots.specs.declared.event.Event.{Event}
 use Rattle.hid_descriptor.specs.Usages.{usage_list}
 use Rattle.hid_layout.specs.Controls.{Key}
-use Rattle.hid_cells.specs.Events.{usages_at, key_events, ups, downs}
+use Rattle.hid_snapshots.specs.Events.{usages_at, key_events, ups, downs}
 use Rattle.hid_views.specs.Appending.{Appends}
 use Rattle.hid_views.specs.Reading.{array_keys, keys_at, named_from, names_rollover, read_keys}
 use Rattle.hid_views.proofs.EventLemmas.{nothing_appended}

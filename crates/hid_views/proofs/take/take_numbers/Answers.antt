@@ -5,10 +5,10 @@ use Rattle.hid_layout.specs.Controls.{element_kind, least_of, greatest_of}
 use Rattle.hid_views.proofs.TakeLemmas.{usages_count, variable_controls, variable_elements}
 use Rattle.hid_views.proofs.BoundLemmas.{in_range, reads_within}
 use Rattle.hid_views.proofs.PressLemmas.{reads_keys}
-use Rattle.hid_cells.specs.declared.event.Event.{Event}
-use Rattle.hid_cells.specs.declared.cell.Cell.{Cell}
-use Rattle.hid_cells.specs.Events.{element_events, key_events, usages_at}
-use Rattle.hid_cells.specs.Views.{motions_of}
+use Rattle.hid_snapshots.specs.declared.event.Event.{Event}
+use Rattle.hid_snapshots.specs.declared.cell.Cell.{Cell}
+use Rattle.hid_snapshots.specs.Events.{element_events, key_events, usages_at}
+use Rattle.hid_snapshots.specs.Views.{motions_of}
 use Rattle.hid_views.specs.Appending.{HasSpace, Appends}
 use Rattle.hid_views.specs.Reading.{motion_elements}
 use Rattle.hid_views.specs.Taking.{read_by_numbers}

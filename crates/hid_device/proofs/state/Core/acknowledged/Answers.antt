@@ -1,6 +1,6 @@
 use Rattle.std.proofs.Common.{◌≡◌, ◌∙◌, ℕ, Bool, List, None, Some, ap, sym, subst}
 use Rattle.hid_layout.specs.Controls.{items_of}
-use Rattle.hid_cells.specs.Pieces.{piece_of}
+use Rattle.hid_snapshots.specs.Pieces.{piece_of}
 use Rattle.usb_transact.specs.Device.{DevPipeState, toggle_behind}
 use Rattle.hid_device.specs.contracts.state.Core.{the_view}
 use Rattle.hid_device.specs.Core.{IsSound, closed_core, next_of}

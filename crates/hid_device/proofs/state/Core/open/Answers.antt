@@ -2,10 +2,10 @@ use Rattle.std.proofs.Common.{◌≡◌, ◌<◌, ℕ, List, length, false, Opti
 use Rattle.std.specs.Prelude.{IsNone}
 use Rattle.std.proofs.lemmas.List.{length-set}
 use Rattle.hid_layout.specs.Controls.{items_of}
-use Rattle.hid_cells.specs.Pieces.{piece_of}
-use Rattle.hid_cells.proofs.PieceLemmas.{some_piece}
-use Rattle.hid_parts.specs.Encoded.{part_bytes}
-use Rattle.hid_parts.specs.Encoding.{AreBytes}
+use Rattle.hid_snapshots.specs.Pieces.{piece_of}
+use Rattle.hid_snapshots.proofs.PieceLemmas.{some_piece}
+use Rattle.hid_snapshots.specs.Encoded.{part_bytes}
+use Rattle.hid_snapshots.specs.Encoding.{AreBytes}
 use Rattle.usb_transact.specs.Device.{DevPipeState}
 use Rattle.hid_device.specs.Core.{AreBytesOf, CoreState, piece_armed}
 use Rattle.hid_device.specs.contracts.state.Core.{the_view}

@@ -1,8 +1,8 @@
 use Rattle.std.proofs.Common.{ℕ, ◌+◌, ◌≤◌, List, Ok, Err, refl, sym, ap, subst, rules, arith}
 use Rattle.std.specs.Vec.{vec_len, vec_capacity}
 use Rattle.hid_layout.specs.Controls.{items_of, max_events}
-use Rattle.hid_cells.specs.declared.cell.Cell.{Cell}
-use Rattle.hid_cells.specs.Cells.{FitsView}
+use Rattle.hid_snapshots.specs.declared.cell.Cell.{Cell}
+use Rattle.hid_snapshots.specs.Cells.{FitsView}
 use Rattle.hid_views.specs.Taking.{TakesReport}
 use Rattle.hid_views.specs.Reader.{Seen, IsReader}
 use Rattle.hid_views.proofs.ReaderLemmas.{still_taken, reader_after}

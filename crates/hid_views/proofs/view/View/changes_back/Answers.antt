@@ -1,8 +1,8 @@
 use Rattle.std.proofs.Common.{◌∙◌, List, ◌++◌, sym, ap, subst, arith}
 use Rattle.hid_layout.specs.Controls.{items_of}
-use Rattle.hid_cells.specs.declared.cell.Cell.{Cell}
-use Rattle.hid_cells.specs.Cells.{FitsView, blank}
-use Rattle.hid_cells.specs.Views.{changes_between}
+use Rattle.hid_snapshots.specs.declared.cell.Cell.{Cell}
+use Rattle.hid_snapshots.specs.Cells.{FitsView, blank}
+use Rattle.hid_snapshots.specs.Views.{changes_between}
 use Rattle.hid_views.specs.Taking.{NamesNone}
 use Rattle.hid_views.proofs.BackLemmas.{changes_back_few}
 use Rattle.hid_views.proofs.view.View.changes_back.Goals as goal

@@ -1,7 +1,7 @@
 use Rattle.std.proofs.Common.{◌≡◌, ◌∙◌, false, sym, ap, rules, arith}
-use Rattle.hid_cells.specs.declared.cell.Cell.{Cell}
-use Rattle.hid_cells.specs.declared.cell.Cell.TheVariants.{Vacant}
-use Rattle.hid_cells.specs.Snapshots.{is_pressed}
+use Rattle.hid_snapshots.specs.declared.cell.Cell.{Cell}
+use Rattle.hid_snapshots.specs.declared.cell.Cell.TheVariants.{Vacant}
+use Rattle.hid_snapshots.specs.Snapshots.{is_pressed}
 use Rattle.hid_views.proofs.ViewLemmas.{cell_there}
 use Rattle.hid_views.proofs.view.View.held.Goals as goal
 

@@ -1,9 +1,9 @@
 use Rattle.std.proofs.Common.{◌≡◌, ◌∙◌, sym, ap, subst, ℕ, List, length}
 use Rattle.hid_layout.specs.Controls.{items_of}
-use Rattle.hid_cells.specs.declared.cell.Cell.{Cell}
-use Rattle.hid_cells.specs.Snapshots.{is_pressed, cell_at}
-use Rattle.hid_cells.specs.Keys.{keys_at, key_words, AreKeyWords}
-use Rattle.hid_cells.proofs.KeyWordLemmas.{view_words}
+use Rattle.hid_snapshots.specs.declared.cell.Cell.{Cell}
+use Rattle.hid_snapshots.specs.Snapshots.{is_pressed, cell_at}
+use Rattle.hid_snapshots.specs.Keys.{keys_at, key_words, AreKeyWords}
+use Rattle.hid_snapshots.proofs.KeyWordLemmas.{view_words}
 use Rattle.hid_views.proofs.view.View.key_words.Goals as goal
 
 pub returns-clause-keys : goal.returns-clause-keys

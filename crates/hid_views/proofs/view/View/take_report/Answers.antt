@@ -2,8 +2,8 @@ use Rattle.std.proofs.Common.{◌≡◌, ◌++◌, ◌∙◌, ℕ, List, take, d
 use Rattle.std.proofs.Math.Seq.{take-append_seam}
 use Rattle.hid_layout.specs.Layout.{Contents}
 use Rattle.hid_layout.specs.Controls.{items_of}
-use Rattle.hid_cells.specs.declared.cell.Cell.{Cell}
-use Rattle.hid_cells.specs.Cells.{InView, Suits}
+use Rattle.hid_snapshots.specs.declared.cell.Cell.{Cell}
+use Rattle.hid_snapshots.specs.Cells.{InView, Suits}
 use Rattle.hid_views.specs.Taking.{read_view, read_events, NamesNone}
 use Rattle.hid_views.proofs.TakeLemmas.{named_input, read_view_fits, read_events_few}
 use Rattle.hid_views.proofs.RoomLemmas.{names_stay}

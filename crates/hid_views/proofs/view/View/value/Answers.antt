@@ -1,7 +1,7 @@
 use Rattle.std.proofs.Common.{◌≡◌, ◌∙◌, None, sym, ap, rules, arith}
-use Rattle.hid_cells.specs.declared.cell.Cell.{Cell}
-use Rattle.hid_cells.specs.declared.cell.Cell.TheVariants.{Vacant}
-use Rattle.hid_cells.specs.Views.{value_in}
+use Rattle.hid_snapshots.specs.declared.cell.Cell.{Cell}
+use Rattle.hid_snapshots.specs.declared.cell.Cell.TheVariants.{Vacant}
+use Rattle.hid_snapshots.specs.Views.{value_in}
 use Rattle.hid_views.proofs.ViewLemmas.{cell_there}
 use Rattle.hid_views.proofs.view.View.value.Goals as goal
 

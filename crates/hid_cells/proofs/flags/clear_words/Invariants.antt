@@ -1,5 +1,0 @@
-use Rattle.std.proofs.Common.{◌≡◌, ◌++◌, length, replicate, take, drop}
-use Rattle.hid_cells.proofs.flags.clear_words.Given as goal
-
-abbrev pub invariant-loop-k : goal.invariant-loop-k
-invariant-loop-k l = l.words ≡ take l.k (replicate (length l.fn.words) 0) ++ drop l.k l.fn.words

@@ -1,0 +1,12 @@
+use Rattle.std.proofs.Common.{◌≡◌, take, length, vec_capacity}
+use Rattle.hid_layout.specs.Controls.{items_of}
+use Rattle.hid_snapshots.specs.Parts.{blank_parts}
+use Rattle.hid_snapshots.proofs.blank.blank_parts.Given as goal
+
+abbrev pub invariant-loop-i : goal.invariant-loop-i
+invariant-loop-i l = record {
+  cells : l.cells.items ≡ blank_parts (take l.i (items_of l.layout));
+  count_is : l.count ≡ length (items_of l.layout);
+  long : length l.cells.items ≡ l.i;
+  room : vec_capacity l.cells ≡ l.count;
+}

@@ -1,0 +1,120 @@
+-- What is kept of a listed item: which cells suit its controls, and how they are at first
+-- (HID 1.11, 5.10 and 6.2.2.5).
+use Rattle.std.specs.Prelude.{◌≡◌, ℕ, ◌≤◌, Bool, true, false, if◌then◌else◌, List, [], ◌∷◌, length, map, replicate, slice_get, count_by, Option, Some, None, ℤ, pos, negsuc}
+use Rattle.hid_layout.specs.declared.control.Controls.{Controls}
+use Rattle.hid_layout.specs.declared.control.Controls.TheVariants as head
+use Rattle.hid_layout.specs.declared.control.ControlKind.{ControlKind}
+use Rattle.hid_layout.specs.declared.control.ControlKind.TheVariants.{Switch, Value, NullValue, Relative}
+use Rattle.hid_layout.specs.Controls.{Form, Elements, Keys, Item, Key, head_of}
+pub use Rattle.hid_layout.specs.Sent.{is_in}
+pub use Rattle.hid_layout.specs.ControlKinds.{has_null}
+use Rattle.hid_snapshots.specs.declared.cell.Cell.{Cell}
+use Rattle.hid_snapshots.specs.declared.cell.Cell.TheVariants.{Vacant, Pressed, Holding, Moved, RolledOver}
+
+-- motion that isn't reported yet is kept as an i32
+abbrev pub is_i32 : ℤ → Bool
+is_i32 v = is_in (negsuc 0x7FFF_FFFF) (pos 0x7FFF_FFFF) v
+
+-- how many are pressed
+abbrev pub pressed_count : List Bool → ℕ
+pressed_count ps = count_by (λ p. p) ps
+
+-- At first a value is null where it has null, else 0 where 0 can be sent, else the least value that can be sent.
+abbrev pub first_value : ControlKind → ℤ → ℤ → Option ℤ
+first_value NullValue least greatest = None
+first_value Switch least greatest = Some (if is_in least greatest (pos 0) then pos 0 else least)
+first_value Value least greatest = Some (if is_in least greatest (pos 0) then pos 0 else least)
+first_value Relative least greatest = Some (if is_in least greatest (pos 0) then pos 0 else least)
+
+-- At first nothing is pressed and nothing has moved.
+abbrev pub blank_cell : Controls → Cell
+blank_cell head.None = Vacant
+blank_cell (head.Elements Switch least greatest count) = Pressed (replicate count false)
+blank_cell (head.Elements Value least greatest count) = Holding (replicate count (first_value Value least greatest))
+blank_cell (head.Elements NullValue least greatest count) =
+    Holding (replicate count (first_value NullValue least greatest))
+blank_cell (head.Elements Relative least greatest count) = Moved (replicate count (pos 0))
+blank_cell (head.Keys elements rolls_over count) = Pressed (replicate count false)
+
+-- the cells of a layout of which nothing is pressed and nothing has moved
+abbrev pub blank : List Item → List Cell
+blank items = map (λ item. blank_cell (head_of item.form)) items
+
+-- a cell has the room that the controls of its item need: one place for each element, or for each
+-- place of the usage list
+abbrev pub HasRoom : Controls → Cell → Type 0
+HasRoom head.None Vacant = Unit {0}
+HasRoom (head.Elements Switch least greatest count) (Pressed ps) = length ps ≡ count
+HasRoom (head.Elements Value least greatest count) (Holding vs) = length vs ≡ count
+HasRoom (head.Elements NullValue least greatest count) (Holding vs) = length vs ≡ count
+HasRoom (head.Elements Relative least greatest count) (Moved ms) = length ms ≡ count
+HasRoom (head.Keys elements rolls_over count) (Pressed ps) = length ps ≡ count
+HasRoom (head.Keys elements rolls_over count) (RolledOver ps) = length ps ≡ count
+HasRoom _ _ = ⊥
+
+-- a value that an element can carry; null only where the control has it
+abbrev pub is_value : Bool → ℤ → ℤ → Option ℤ → Type 0
+is_value null least greatest None = null ≡ true
+is_value null least greatest (Some v) = is_in least greatest v ≡ true
+
+-- each is a value that an element can carry, or null
+abbrev pub are_values : Bool → ℤ → ℤ → List (Option ℤ) → Type 0
+are_values null least greatest [] = Unit {0}
+are_values null least greatest (v ∷ vs) = is_value null least greatest v × are_values null least greatest vs
+
+-- each motion lies in this range
+abbrev pub are_motions : ℤ → ℤ → List ℤ → Type 0
+are_motions least greatest [] = Unit {0}
+are_motions least greatest (m ∷ ms) = (is_in least greatest m ≡ true) × are_motions least greatest ms
+
+-- only keys that an element can name are pressed
+abbrev pub are_pressable : List Key → List Bool → Type 0
+are_pressable [] [] = Unit {0}
+are_pressable [] (p ∷ ps) = ⊥
+are_pressable (key ∷ keys) [] = ⊥
+are_pressable (key ∷ keys) (p ∷ ps) = (p ≡ true → key.is_switch ≡ true) × are_pressable keys ps
+
+-- What a snapshot keeps of an item: values that its elements can carry, motions of 32 bits, and no
+-- more keys than elements where no code tells of more.
+abbrev pub InSnapshot : Form → Cell → Type 0
+InSnapshot (Elements kind least greatest usages) (Holding vs) = are_values (has_null kind) least greatest vs
+InSnapshot (Elements kind least greatest usages) (Moved ms) = are_motions (negsuc 0x7FFF_FFFF) (pos 0x7FFF_FFFF) ms
+InSnapshot (Keys elements rolls_over keys) (Pressed ps) =
+    are_pressable keys ps × (rolls_over ≡ false → pressed_count ps ≤ elements)
+InSnapshot (Keys elements rolls_over keys) (RolledOver ps) = ⊥
+InSnapshot form cell = Unit {0}
+
+-- What a part shows of an item: values and motions that its elements can carry, and keys that have
+-- an element each, unless a code tells of more.
+abbrev pub InPart : Form → Cell → Type 0
+InPart (Elements kind least greatest usages) (Holding vs) = are_values (has_null kind) least greatest vs
+InPart (Elements kind least greatest usages) (Moved ms) = are_motions least greatest ms
+InPart (Keys elements rolls_over keys) (Pressed ps) = are_pressable keys ps × (pressed_count ps ≤ elements)
+InPart (Keys elements rolls_over keys) (RolledOver ps) = rolls_over ≡ true
+InPart form cell = Unit {0}
+
+-- What a view keeps of an item: a key for each element at most.
+abbrev pub InView : Form → Cell → Type 0
+InView (Keys elements rolls_over keys) (Pressed ps) = pressed_count ps ≤ elements
+InView (Keys elements rolls_over keys) (RolledOver ps) = ⊥
+InView form cell = Unit {0}
+
+-- There is one cell for each item, with room for its controls, and what stands in it suits them.
+pub record Suits (stands : Form → Cell → Type 0) (items : List Item) (cells : List Cell) : Type 0 where
+  pub one_each : length cells ≡ length items
+  pub room : (i : ℕ) (item : Item) (cell : Cell) → slice_get items i ≡ Some item
+      → slice_get cells i ≡ Some cell → HasRoom (head_of item.form) cell
+  pub suits : (i : ℕ) (item : Item) (cell : Cell) → slice_get items i ≡ Some item
+      → slice_get cells i ≡ Some cell → stands item.form cell
+
+-- the cells of a snapshot suit these items
+abbrev pub FitsSnapshot : List Item → List Cell → Type 0
+FitsSnapshot items cells = Suits InSnapshot items cells
+
+-- the parts that reports show suit these items
+abbrev pub FitsShown : List Item → List Cell → Type 0
+FitsShown items cells = Suits InPart items cells
+
+-- the cells of a view suit these items
+abbrev pub FitsView : List Item → List Cell → Type 0
+FitsView items cells = Suits InView items cells

@@ -1,0 +1,54 @@
+-- The pressed and held keys of an array, as words (our choice).
+use Rattle.std.specs.Prelude.{◌≡◌, ℕ, Bool, true, false, List, [], length}
+use Rattle.std.specs.Int.{div_ceil}
+use Rattle.hid_layout.specs.Layout.{Contents}
+use Rattle.hid_layout.specs.Controls.{Form, NoControls, Elements, Keys, Key, Item, form_at, items_of}
+use Rattle.hid_layout.specs.declared.control.Controls.{Controls}
+use Rattle.hid_layout.specs.declared.control.Controls.TheVariants as head
+use Rattle.hid_snapshots.specs.declared.cell.Cell.{Cell}
+use Rattle.hid_snapshots.specs.declared.cell.Cell.TheVariants.{Vacant, Pressed, Holding, Moved, RolledOver}
+use Rattle.hid_snapshots.specs.Words.{words_of, is_bit}
+use Rattle.hid_snapshots.specs.Snapshots.{cell_at}
+
+-- the places of an array's usage list
+abbrev pub keys_of : Form → List Key
+keys_of NoControls = []
+keys_of (Elements kind least greatest usages) = []
+keys_of (Keys elements rolls keys) = keys
+
+-- the places of the usage list of the listed item at a place
+abbrev pub keys_at : Contents → ℕ → List Key
+keys_at layout i = keys_of (form_at (items_of layout) i)
+
+-- the controls are the keys of an array
+abbrev pub has_keys : Form → Bool
+has_keys NoControls = false
+has_keys (Elements kind least greatest usages) = false
+has_keys (Keys elements rolls keys) = true
+
+-- a listed item is an Input array
+abbrev pub has_keys_at : List Item → ℕ → Bool
+has_keys_at items i = has_keys (form_at items i)
+
+-- of a cell, which places are pressed
+abbrev pub pressed_places : Cell → List Bool
+pressed_places (Pressed ps) = ps
+pressed_places Vacant = []
+pressed_places (Holding vs) = []
+pressed_places (Moved ms) = []
+pressed_places (RolledOver ps) = []
+
+-- the words of what is pressed at a listed item
+abbrev pub key_words : List Cell → ℕ → List ℕ
+key_words cells i = words_of (pressed_places (cell_at cells i))
+
+-- Bit i mod 64 of word i div 64 is 1 exactly where key i is pressed, and there are as many words as the places need.
+pub record AreKeyWords (places : ℕ) (pressed : ℕ → Bool) (words : List ℕ) : Type 0 where
+  pub count : length words ≡ div_ceil places 64
+  pub bits : (i : ℕ) → is_bit words i ≡ pressed i
+
+-- the same, of controls without their usages
+abbrev pub is_array_head : Controls → Bool
+is_array_head head.None = false
+is_array_head (head.Elements kind least greatest count) = false
+is_array_head (head.Keys elements rolls count) = true

@@ -1,0 +1,17 @@
+pub mod Full
+pub mod Faults
+pub mod Words
+pub mod Cells
+pub mod Snapshots
+pub mod Parts
+pub mod Pieces
+pub mod Samples
+pub mod Codes
+pub mod Keys
+pub mod Events
+pub mod Views
+pub mod Numbers
+pub mod Sending
+pub mod Sources
+pub mod Encoding
+pub mod Encoded
