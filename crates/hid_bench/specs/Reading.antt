@@ -2,8 +2,8 @@
 use Rattle.std.specs.Prelude.{◌≡◌, ℕ, List, length, Result, Ok, Err}
 use Rattle.hid_layout.specs.Layout.{Contents}
 use Rattle.hid_snapshots.specs.declared.cell.Cell.{Cell}
-use Rattle.hid_views.specs.Reading.{report_named}
-use Rattle.hid_views.specs.Taking.{read_view, read_events}
+use Rattle.hid_usages.specs.Reading.{report_named}
+use Rattle.hid_usages.specs.Taking.{read_view, read_events}
 use Rattle.hid_bench.specs.declared.fault.BenchFault.{BenchFault}
 
 -- a device's layout, and what a host has read of it

@@ -13,10 +13,10 @@ use Rattle.hid_snapshots.specs.declared.cell.Cell.{Cell}
 use Rattle.hid_snapshots.specs.declared.event.Event.{Event}
 use Rattle.hid_snapshots.specs.Cells.{FitsView}
 use Rattle.hid_snapshots.specs.declared.fault.ReportFault.{ReportFault}
-use Rattle.hid_views.specs.Reading.{report_named}
-use Rattle.hid_views.specs.Taking.{TakesReport, read_events, read_view}
+use Rattle.hid_usages.specs.Reading.{report_named}
+use Rattle.hid_usages.specs.Taking.{TakesReport, read_events, read_view}
 use Rattle.hid_host.specs.Ready.{Known, bytes_with, collected_with, data_read, ends_with, events_read, events_with, is_whole, read_or_fault, view_read, view_with}
-use Rattle.hid_views.proofs.TakeLemmas.{named_input, read_events_few}
+use Rattle.hid_usages.proofs.TakeLemmas.{named_input, read_events_few}
 
 -- memory aside, a descriptor without a layout is refused
 pub refused_unless : (bytes : List ℕ) (cause : Cause) (at : ℕ) → (cause ≡ Memory → ⊥) → Explains bytes cause at → Refuses bytes cause at

@@ -8,8 +8,8 @@ use Rattle.hid_snapshots.specs.declared.event.Event.{Event}
 use Rattle.hid_snapshots.specs.declared.fault.ReportFault.{ReportFault}
 use Rattle.hid_descriptor.specs.declared.limits.TheConstants.{MAX_REPORT_BYTES}
 use Rattle.hid_snapshots.specs.Cells.{blank}
-use Rattle.hid_views.specs.Reading.{bytes_awaited, report_named}
-use Rattle.hid_views.specs.Taking.{read_view, read_events}
+use Rattle.hid_usages.specs.Reading.{bytes_awaited, report_named}
+use Rattle.hid_usages.specs.Taking.{read_view, read_events}
 use Rattle.usb_transact.specs.declared.host.Took.{Took}
 use Rattle.usb_transact.specs.declared.host.Took.TheVariants.{Fresh, Again, Nak, Stall, Silent}
 use Rattle.usb_transact.specs.Host.{HostPipeState, host_at_start}

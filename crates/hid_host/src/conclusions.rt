@@ -12,7 +12,7 @@ use crate::phase::HostPhase;
 use crate::ready::ReadyHost;
 use hid_layout::{Cause, Layout, LayoutFault};
 use hid_requests::Request;
-use hid_views::View;
+use hid_usages::View;
 use std::alloc::Global;
 use std::mem;
 use usb_control::{ConfigInfo, DeviceInfo};

@@ -19,7 +19,7 @@ use crate::phase::{HostPhase, HostState};
 use crate::ready::ReadyHost;
 use hid_requests::{REPORT_ENDPOINT, Request};
 use hid_snapshots::{Event, Shown};
-use hid_views::View;
+use hid_usages::View;
 use std::alloc::Global;
 use std::marker::Model;
 use usb_control::{ControlFault, DevControl, HostTransfer, Outcome, Progress, Requests};

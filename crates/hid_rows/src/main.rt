@@ -1,5 +1,5 @@
 //! Plays the tables of standard input (`stdin`), which are the tests of items, fields, names, layouts, snapshots, views, boot
-//! reports and sessions: of `hid_items`, `hid_fields`, `hid_names`, `hid_layout`, `hid_snapshots`, `hid_snapshots`, `hid_views`,
+//! reports and sessions: of `hid_items`, `hid_fields`, `hid_names`, `hid_layout`, `hid_snapshots`, `hid_snapshots`, `hid_usages`,
 //! `hid_usages` and `hid_session`, by what they export.
 //! ```text
 //!   stdin --> test_sheets::judge --> each row that is wrong, and `52 tables, 456 rows, 0 wrong`

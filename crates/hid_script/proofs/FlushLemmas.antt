@@ -7,7 +7,7 @@ use Rattle.hid_descriptor.specs.declared.usage.Usage.{Usage}
 use Rattle.hid_layout.specs.declared.control.ControlId.{ControlId}
 use Rattle.hid_layout.specs.Layout.{Contents}
 use Rattle.hid_snapshots.specs.declared.fault.ReportFault.{ReportFault}
-use Rattle.hid_views.specs.Reading.{report_named}
+use Rattle.hid_usages.specs.Reading.{report_named}
 use Rattle.hid_requests.specs.declared.boot.Boot.{Boot}
 use Rattle.hid_requests.specs.declared.start.Start.{Start}
 use Rattle.hid_host.specs.declared.fault.StackFault.{StackFault}

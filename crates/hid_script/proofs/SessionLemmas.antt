@@ -15,7 +15,7 @@ use Rattle.hid_layout.specs.Reports.{report_bytes}
 use Rattle.hid_descriptor.specs.Faults.{Accepts, Explains}
 use Rattle.hid_snapshots.specs.declared.fault.ReportFault.{ReportFault}
 use Rattle.hid_snapshots.specs.declared.fault.ReportFault.TheVariants.{Short}
-use Rattle.hid_views.specs.Reading.{first_byte, is_input_with, whole_report, report_named}
+use Rattle.hid_usages.specs.Reading.{first_byte, is_input_with, whole_report, report_named}
 use Rattle.hid_requests.specs.declared.boot.Boot.{Boot}
 use Rattle.hid_requests.specs.declared.start.Start.{Start}
 use Rattle.hid_requests.specs.declared.start.Start.TheVariants.{Ready, Cold}

@@ -9,7 +9,7 @@ use Rattle.hid_layout.specs.declared.control.ControlId.{ControlId}
 use Rattle.hid_snapshots.specs.declared.fault.ReportFault.{ReportFault}
 use Rattle.hid_snapshots.specs.declared.change.Change.{Change as OneChange}
 use Rattle.hid_snapshots.specs.declared.change.Change.TheVariants as changes
-use Rattle.hid_views.specs.Reading.{report_named}
+use Rattle.hid_usages.specs.Reading.{report_named}
 use Rattle.hid_requests.specs.declared.boot.Boot.{Boot}
 use Rattle.hid_requests.specs.declared.start.Start.{Start}
 use Rattle.hid_device.specs.declared.config.Config.{Config}

@@ -18,7 +18,7 @@ use hid_layout::{Layout, Usage};
 use hid_lines::{Line, ShortLine, read_line, read_short, says_nothing};
 use hid_stack::{Delivered, Request, Rig, Start, Step};
 use hid_text::{print_layout, print_step, print_values};
-use hid_views::input_report;
+use hid_usages::input_report;
 use std::alloc::Global;
 use usb_control::Outcome;
 use usb_transact::Fate;

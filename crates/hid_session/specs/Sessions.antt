@@ -6,8 +6,8 @@ use Rattle.hid_descriptor.specs.declared.fault.LayoutFault.{LayoutFault}
 use Rattle.hid_layout.specs.Layout.{Contents, layout_of}
 use Rattle.hid_layout.specs.Controls.{items_of, max_events}
 use Rattle.hid_snapshots.specs.Cells.{blank}
-use Rattle.hid_views.specs.Reading.{report_named}
-use Rattle.hid_views.specs.Taking.{read_view, read_events}
+use Rattle.hid_usages.specs.Reading.{report_named}
+use Rattle.hid_usages.specs.Taking.{read_view, read_events}
 use Rattle.hid_session.specs.declared.event.HidEvent.{HidEvent}
 use Rattle.hid_session.specs.declared.session.FeedFault.{FeedFault}
 use Rattle.hid_session.specs.declared.session.FeedFault.TheVariants.{NoRoom, Refused}

@@ -14,9 +14,9 @@ use Rattle.hid_snapshots.specs.declared.fault.ReportFault.{ReportFault}
 use Rattle.hid_snapshots.specs.declared.fault.ReportFault.TheVariants.{Short}
 use Rattle.hid_snapshots.specs.Pieces.{piece_of, pieces_for, pieces_of, is_last_piece}
 use Rattle.hid_snapshots.proofs.PieceLemmas.{collected_all, collected_more, full_piece, more_to_come}
-use Rattle.hid_views.specs.Crossing.{ReadsAsShown}
-use Rattle.hid_views.specs.Reading.{bytes_awaited, first_byte, is_input_with, report_begun, report_named, whole_report}
-use Rattle.hid_views.specs.Taking.{read_view, read_events}
+use Rattle.hid_usages.specs.Crossing.{ReadsAsShown}
+use Rattle.hid_usages.specs.Reading.{bytes_awaited, first_byte, is_input_with, report_begun, report_named, whole_report}
+use Rattle.hid_usages.specs.Taking.{read_view, read_events}
 use Rattle.hid_snapshots.specs.Views.{seen}
 use Rattle.usb_transact.specs.declared.host.Took.TheVariants.{Fresh}
 use Rattle.hid_lives.specs.Rounds.{part_events}

@@ -10,7 +10,7 @@ use Rattle.hid_snapshots.specs.Pieces.{is_last_piece, piece_of, pieces_of}
 use Rattle.hid_snapshots.specs.Encoded.{part_bytes}
 use Rattle.hid_snapshots.specs.Cells.{FitsView}
 use Rattle.hid_snapshots.specs.Views.{seen}
-use Rattle.hid_views.proofs.CrossingLemmas.{seen_is_view}
+use Rattle.hid_usages.proofs.CrossingLemmas.{seen_is_view}
 use Rattle.usb_packet.specs.declared.packet.Packet.{Packet}
 use Rattle.usb_packet.specs.declared.packet.Packet.TheVariants as packets
 use Rattle.usb_packet.specs.Spelling.{spelling}

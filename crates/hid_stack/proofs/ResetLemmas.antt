@@ -7,7 +7,7 @@ use Rattle.hid_snapshots.specs.Cells.{blank}
 use Rattle.hid_snapshots.specs.declared.cell.Cell.{Cell}
 use Rattle.hid_snapshots.specs.declared.event.Event.{Event}
 use Rattle.hid_snapshots.specs.Views.{changes_between, changes_from, drops_between}
-use Rattle.hid_views.proofs.CrossingLemmas.{same_cell}
+use Rattle.hid_usages.proofs.CrossingLemmas.{same_cell}
 use Rattle.hid_lives.specs.Lives.{befallen, reset_events}
 use Rattle.hid_lives.specs.Lives as lives
 use Rattle.hid_lives.specs.Stations.{Station, is_whole}

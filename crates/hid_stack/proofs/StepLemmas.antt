@@ -10,7 +10,7 @@ use Rattle.hid_snapshots.specs.declared.event.Event.{Event}
 use Rattle.hid_snapshots.specs.Cells.{FitsView}
 use Rattle.hid_snapshots.specs.Pieces.{pieces_for}
 use Rattle.hid_snapshots.proofs.PieceLemmas.{pieces_are}
-use Rattle.hid_views.proofs.CrossingLemmas.{parts_back}
+use Rattle.hid_usages.proofs.CrossingLemmas.{parts_back}
 use Rattle.usb_packet.specs.declared.packet.Packet.{Packet}
 use Rattle.usb_packet.specs.declared.packet.Packet.TheVariants as packets
 use Rattle.usb_packet.specs.Spelling.{spelling}

@@ -20,7 +20,7 @@ use Rattle.hid_layout.specs.declared.main_item.MainItem.{MainItem}
 use Rattle.hid_layout.specs.Layout.{Contents}
 use Rattle.hid_layout.specs.Reports.{report_bytes, element_in}
 use Rattle.hid_snapshots.specs.declared.event.Event.{Event}
-use Rattle.hid_views.specs.Reading.{element_number}
+use Rattle.hid_usages.specs.Reading.{element_number}
 use Rattle.usb_control.specs.Fault.{control_code_of}
 use Rattle.usb_control.specs.declared.fault.ControlFault.{ControlFault}
 use Rattle.usb_control.specs.declared.fault.ControlFault.TheVariants as faults

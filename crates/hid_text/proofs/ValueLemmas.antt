@@ -12,7 +12,7 @@ use Rattle.hid_layout.specs.declared.main_item.Element.{Element}
 use Rattle.hid_descriptor.specs.Fields.{is_padding}
 use Rattle.hid_layout.specs.Layout.{Contents}
 use Rattle.hid_descriptor.specs.Usages.{Entry, usage_list}
-use Rattle.hid_views.specs.Reading.{IsInside, element_number}
+use Rattle.hid_usages.specs.Reading.{IsInside, element_number}
 use Rattle.hid_notation.specs.Text.{joined_below}
 use Rattle.hid_text.specs.ValuesText.{usage_shown, value_line, value_at, element_line, values_in, values_at}
 use Rattle.hid_layout.specs.Reports.{IsLayout, report_bytes, field_at, element_in, element_of}

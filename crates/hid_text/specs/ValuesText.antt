@@ -9,7 +9,7 @@ use Rattle.hid_layout.specs.Layout.{Contents}
 use Rattle.hid_layout.specs.declared.main_item.Element.{Element}
 use Rattle.hid_layout.specs.Reports.{element_in}
 use Rattle.hid_descriptor.specs.Usages.{Entry, usage_list}
-use Rattle.hid_views.specs.Reading.{usage_named, element_number}
+use Rattle.hid_usages.specs.Reading.{usage_named, element_number}
 use Rattle.hid_notation.specs.Text.{usage_or_dash, joined_below}
 
 -- a variable item has a usage for each element, and where it has fewer the last one is for the rest (HID 1.11, 6.2.2.8)

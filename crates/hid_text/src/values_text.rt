@@ -5,13 +5,13 @@ ghost use Rattle.std.specs.Fmt.{decimal, signed_decimal};
 ghost use Rattle.hid_descriptor.specs.Usages.{usage_list};
 ghost use Rattle.hid_layout.specs.Reports.{report_bytes};
 ghost use Rattle.hid_notation.specs.Text.{joined_below, usage_or_dash};
-ghost use Rattle.hid_views.specs.Reading.{usage_named};
+ghost use Rattle.hid_usages.specs.Reading.{usage_named};
 ghost use Rattle.hid_text.specs.ValuesText.{usage_of_element, usage_shown, value_line, value_at, values_at, values_text};
 
 use hid_fields::WordCodec;
 use hid_layout::{Layout, MainItem, Shape, Usage, usage_at, usage_count};
 use hid_notation::{print_number, print_signed, print_usage_or_dash};
-use hid_views::element_value;
+use hid_usages::element_value;
 use std::alloc::AllocError;
 
 /// The usage of an element of a variable item.

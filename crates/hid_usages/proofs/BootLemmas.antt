@@ -26,16 +26,16 @@ use Rattle.hid_usages.specs.Boot.{field, keyboard_layout, mouse_layout, keyboard
 use Rattle.hid_snapshots.specs.Cells.{is_in, FitsView, HasRoom, InView}
 use Rattle.hid_snapshots.specs.Encoding.{AreBytes}
 use Rattle.hid_snapshots.specs.Numbers.{number_at, numbers_in}
-use Rattle.hid_views.specs.Reading.{read_switch, read_motion, names_rollover, names_key, named_from, report_named, is_rollover_at}
+use Rattle.hid_usages.specs.Reading.{read_switch, read_motion, names_rollover, names_key, named_from, report_named, is_rollover_at}
 use Rattle.hid_snapshots.specs.Samples.{usage, keyboard, mouse}
 use Rattle.hid_snapshots.specs.Snapshots.{is_pressed, cell_at}
 use Rattle.hid_snapshots.specs.declared.event.Event.{Event}
 use Rattle.hid_snapshots.specs.Events.{at, switch_events, motion_event, motion_events, change_events}
-use Rattle.hid_views.specs.Taking.{read_view, read_by_report, told_by_report, read_events}
+use Rattle.hid_usages.specs.Taking.{read_view, read_by_report, told_by_report, read_events}
 use Rattle.hid_snapshots.proofs.CodeLemmas.{test_true}
 use Rattle.hid_snapshots.proofs.ItemLemmas.{got}
-use Rattle.hid_views.proofs.KeyLemmas.{rollover_named}
-use Rattle.hid_views.proofs.TakeLemmas.{read_view-at}
+use Rattle.hid_usages.proofs.KeyLemmas.{rollover_named}
+use Rattle.hid_usages.proofs.TakeLemmas.{read_view-at}
 use Rattle.std.proofs.lemmas.Option.{slice_get_past}
 
 -- The numbers of the fields.

@@ -25,10 +25,10 @@ use Rattle.hid_snapshots.specs.declared.cell.Cell.TheVariants.{Pressed}
 use Rattle.hid_snapshots.specs.declared.fault.ReportFault.{ReportFault}
 use Rattle.hid_snapshots.specs.declared.fault.ReportFault.TheVariants.{Short}
 use Rattle.hid_snapshots.specs.Events.{at, switch_events, motion_event}
-use Rattle.hid_views.specs.Reading.{report_named}
+use Rattle.hid_usages.specs.Reading.{report_named}
 use Rattle.hid_snapshots.specs.Samples.{usage}
 use Rattle.hid_snapshots.specs.Snapshots.{is_pressed, cell_at}
-use Rattle.hid_views.specs.Taking.{read_view, read_events}
+use Rattle.hid_usages.specs.Taking.{read_view, read_events}
 
 -- Byte 0 has a bit for each of the modifiers 07:E0 to 07:E7, byte 1 is reserved, and bytes 2 to 7 name keys (B.1).
 abbrev pub keyboard_of : List ℕ → KeyboardReport

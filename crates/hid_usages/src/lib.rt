@@ -1,5 +1,5 @@
-//! Snapshots of a device's controls, the reports that show them, and a host's view of them (HID 1.11, 5.10, 6.2.2.5
-//! and 8).
+//! The host's side of a layout: a view of a device's controls, and the events of the reports that it takes (HID 1.11, 5.6, 5.10,
+//! 6.2.2.5 and 8). It exports the device's side, `hid_snapshots`.
 //! ```text
 //!   press, move, set --> Snapshot --shown--> Shown --encode_report--> 02 00 04 00 00 00 00 00
 //!                                                                        |
@@ -8,7 +8,7 @@
 //!   an element of 07:01 in an array    the keys of that array stay as they were
 //!   a number out of its range          null where the control has null, else nothing changes
 //! ```
-//! Each of the three keeps one cell for each listed item of its layout, so a control's ID addresses its state.
+//! Each of the three keeps one [`Cell`] for each listed item of its layout, so a control's ID addresses its state.
 //! The rule to know: a call with a layout is given the one with which its other values were made, which the conditions
 //! `FitsSnapshot`, `FitsShown` and `FitsView` say; `blank` and `initial` make them, and every call keeps them.
 //! Pressed and held keys are kept as words of 64 bits: `key_words` of a [`Snapshot`] and of a [`View`].
@@ -20,12 +20,24 @@
 //! without a layout: [`boot::laws`].
 #![tactic(auto)]
 
+mod back;
+mod bits;
 pub mod boot;
+mod bounds;
+mod differences;
+mod drops;
+mod elements;
+mod input;
+pub mod laws;
+mod read;
+mod reader;
+mod take;
+mod view;
 
 pub use hid_snapshots::{
     Change, ChangeFault, Event, MemoryFault, ReportFault, Shown, Snapshot, encode_report,
     has_empty_codes, has_keys, has_zeros, is_input,
 };
-pub use hid_views::{
-    Reader, View, bytes_awaited, changes, changes_and_drops, element_value, input_report, laws,
-};
+pub use input::{bytes_awaited, element_value, input_report};
+pub use reader::Reader;
+pub use view::{View, changes, changes_and_drops};

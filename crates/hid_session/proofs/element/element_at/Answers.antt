@@ -1,5 +1,5 @@
 use Rattle.std.proofs.Common.{sym, ◌∙◌}
-use Rattle.hid_views.proofs.PlaceLemmas.{bit_short}
+use Rattle.hid_usages.proofs.PlaceLemmas.{bit_short}
 use Rattle.hid_session.proofs.element.element_at.Goals as goal
 
 -- an element lies in its report, which is short

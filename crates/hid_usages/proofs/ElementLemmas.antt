@@ -1,0 +1,191 @@
+-- The elements of a variable item are read in place, one after another, and each tells its change.
+use Rattle.std.proofs.Common.{Vec, vec_len, vec_capacity, ◌≡◌, ℕ, zero, suc, ◌+◌, ◌-◌, ◌*◌, ◌<◌, ◌≤◌, ◌==◌, ◌⊎◌, inl, inr, not, Bool, true, false, Option, unwrap_or, ℤ, pos, List, [], ◌++◌, length, take, drop, map, Some, None, refl, sym, ap, ◌∙◌, subst, arith}
+use Rattle.std.specs.List.{slice_get, slice_set, zip}
+use Rattle.hid_descriptor.specs.declared.usage.Usage.{Usage}
+use Rattle.hid_snapshots.specs.declared.event.Event.{Event}
+use Rattle.hid_snapshots.specs.Events.{each, switch_event, value_event}
+use Rattle.hid_layout.specs.declared.control.ControlId.{ControlId}
+use Rattle.std.specs.Ordering.{int_eq}
+use Rattle.std.proofs.lemmas.Bool.Decides.{Decides-int_eq}
+use Rattle.hid_snapshots.proofs.FillLemmas.{filled, length_map_zip, map_zip_at, set_length, zip_next, zip_there}
+use Rattle.hid_usages.specs.Appending.{Appends}
+use Rattle.hid_snapshots.proofs.ItemLemmas.{got, set_same}
+use Rattle.hid_usages.specs.Keeping.{AreKept}
+use Rattle.hid_usages.specs.Reading.{read_switch}
+use Rattle.hid_usages.proofs.BitLemmas.{switch_of}
+use Rattle.hid_snapshots.specs.Numbers.{IsWordOf}
+use Rattle.hid_snapshots.specs.Words.{is_on, is_unlike}
+use Rattle.hid_snapshots.proofs.WordLemmas.{on_within}
+use Rattle.std.specs.Bool.{beq}
+use Rattle.std.specs.Option.{option_eq}
+use Rattle.std.specs.Int.{bit_at}
+use Rattle.std.proofs.lemmas.Nat.Bits.{bit_at-lt}
+use Rattle.std.proofs.lemmas.Bool.{cases_Bool, cases_lt}
+use Rattle.std.proofs.lemmas.Option.{slice_get_within}
+use Rattle.hid_usages.proofs.EventLemmas.{all_appended, each-from, each_end, no_switch, nothing_appended, room_for, room_left, told, zip_at}
+
+-- what is kept of each element once its number is read
+abbrev pub read_all : {A : Type 0} → (A × ℤ → A) → List A → List ℤ → List A
+read_all read start numbers = map read (zip start numbers)
+
+-- what is left to be told from an element on
+abbrev pub left_from : {A : Type 0} → (A × ℤ → A) → (ℕ → Usage → A × A → List Event) → List Usage → List A → List ℤ → ℕ → List Event
+left_from read tell us start numbers i = each tell i (drop i us) (drop i (zip start (read_all read start numbers)))
+
+-- the first elements are read, and have told their events
+pub record AreTaken {A : Type 0} (read : A × ℤ → A) (tell : ℕ → Usage → A × A → List Event) (us : List Usage) (start : List A) (numbers : List ℤ) (now : List A) (all done : List Event) (len room i : ℕ) : Type 0 where
+  pub so_far : now ≡ take i (read_all read start numbers) ++ drop i start
+  pub same_length : length now ≡ length start
+  pub events : done ++ left_from read tell us start numbers i ≡ all
+  pub fits : len + length (left_from read tell us start numbers i) ≤ room
+
+-- the element that is read next, as it was and as its number leaves it
+pub one_taken : {A : Type 0} (read : A × ℤ → A) (start now : List A) (numbers : List ℤ) (i : ℕ) (b : A) (v : ℤ) → length start ≡ length numbers
+    → now ≡ take i (read_all read start numbers) ++ drop i start → slice_get now i ≡ Some b → slice_get numbers i ≡ Some v
+    → slice_get (zip start (read_all read start numbers)) i ≡ Some (b, read (b, v))
+one_taken read start now numbers i b v same so_far here number =
+    let there = zip_there read start now numbers i b same so_far here in
+    zip_at start (read_all read start numbers) i b (read (b, v)) there (map_zip_at read start numbers i b v (read (b, v)) there number refl)
+
+-- what is left to be told begins with what it tells
+pub left_next : {A : Type 0} (read : A × ℤ → A) (tell : ℕ → Usage → A × A → List Event) (us : List Usage) (start now : List A) (numbers : List ℤ) (i : ℕ) (u : Usage) (b : A) (v : ℤ) → length start ≡ length numbers
+    → now ≡ take i (read_all read start numbers) ++ drop i start → slice_get us i ≡ Some u → slice_get now i ≡ Some b → slice_get numbers i ≡ Some v
+    → left_from read tell us start numbers i ≡ tell i u (b, read (b, v)) ++ left_from read tell us start numbers (i + 1)
+left_next read tell us start now numbers i u b v same so_far usage here number =
+    each-from tell us (zip start (read_all read start numbers)) i u (b, read (b, v)) usage (one_taken read start now numbers i b v same so_far here number)
+
+-- there is room for it
+pub room_next : {A : Type 0} (read : A × ℤ → A) (tell : ℕ → Usage → A × A → List Event) (us : List Usage) (start now : List A) (numbers : List ℤ) (all done : List Event) (len room i : ℕ) (u : Usage) (b : A) (v : ℤ) → length start ≡ length numbers
+    → AreTaken read tell us start numbers now all done len room i → slice_get us i ≡ Some u → slice_get now i ≡ Some b → slice_get numbers i ≡ Some v
+    → len + length (tell i u (b, read (b, v))) ≤ room
+room_next read tell us start now numbers all done len room i u b v same taken usage here number =
+    room_for len room _ (tell i u (b, read (b, v))) _ (left_next read tell us start now numbers i u b v same taken.so_far usage here number) taken.fits
+
+-- one element more is read
+pub taken_next : {A : Type 0} {Z : Type 0} (read : A × ℤ → A) (tell : ℕ → Usage → A × A → List Event) (us : List Usage) (start now new : List A) (numbers : List ℤ) (all : List Event) (out out' : Vec Event Z) (i : ℕ) (u : Usage) (b : A) (v : ℤ) → length start ≡ length numbers
+    → AreTaken read tell us start numbers now all out.items (vec_len out) (vec_capacity out) i → slice_get us i ≡ Some u → slice_get now i ≡ Some b → slice_get numbers i ≡ Some v → i < length start
+    → new ≡ slice_set now i (read (b, v)) → Appends out (tell i u (b, read (b, v))) out'
+    → AreTaken read tell us start numbers new all out'.items (vec_len out') (vec_capacity out') (i + 1)
+taken_next read tell us start now new numbers all out out' i u b v same taken usage here number within is appends =
+    let step = left_next read tell us start now numbers i u b v same taken.so_far usage here number in
+    record {
+      so_far = is ∙ zip_next read start now numbers i b v (read (b, v)) same taken.so_far here number within refl;
+      same_length = ap length is ∙ set_length now i (read (b, v)) ∙ taken.same_length;
+      events = told _ _ _ _ _ _ step taken.events appends.items;
+      fits = room_left _ _ _ _ _ _ _ step taken.fits appends.len appends.room;
+    }
+
+-- an element that stays tells nothing
+pub switch_stays : (c : ControlId) (u : Usage) (x : Bool) → switch_event c u x x ≡ []
+switch_stays c u x = no_switch c u x x refl
+
+pub value_stays : (c : ControlId) (u : Usage) (x : Option ℤ) → value_event c u x x ≡ []
+value_stays c u None = refl
+value_stays c u (Some v) =
+    let same : int_eq v v ≡ true = (Decides-int_eq v v).1 refl in
+    rw same refl
+
+-- elements that stay, and tell nothing, are passed over
+pub taken_over : {A : Type 0} {Z : Type 0} (read : A × ℤ → A) (tell : ℕ → Usage → A × A → List Event) (us : List Usage) (start now : List A) (numbers : List ℤ) (all : List Event) (out : Vec Event Z) (i n : ℕ) → length start ≡ length numbers → length us ≡ length start
+    → i + n ≤ length start → ((j : ℕ) (u : Usage) (x : A) → tell j u (x, x) ≡ []) → AreKept read now numbers i (i + n)
+    → AreTaken read tell us start numbers now all out.items (vec_len out) (vec_capacity out) i → AreTaken read tell us start numbers now all out.items (vec_len out) (vec_capacity out) (i + n)
+taken_over read tell us start now numbers all out i zero same long within quiet kept taken =
+    let e : i ≡ i + 0 = omega arith in
+    subst (λ (k : ℕ). AreTaken read tell us start numbers now all out.items (vec_len out) (vec_capacity out) k) e taken
+taken_over read tell us start now numbers all out i (suc n) same long within quiet kept taken =
+    let e : (i + 1) + n ≡ i + suc n = omega arith in
+    let u = got us i (omega arith) in
+    let b = got now i (omega (arith, taken.same_length)) in
+    let v = got numbers i (omega arith) in
+    let stays = kept i b.0 v.0 (omega arith) (omega arith) b.1 v.1 in
+    let is = sym (set_same now i b.0 b.1) ∙ ap (λ x. slice_set now i x) (sym stays) in
+    let none = ap (λ x. tell i u.0 (b.0, x)) stays ∙ quiet i u.0 b.0 in
+    let next = taken_next read tell us start now now numbers all out out i u.0 b.0 v.0 same taken u.1 b.1 v.1 (omega arith) is (nothing_appended out _ none) in
+    subst (λ (k : ℕ). AreTaken read tell us start numbers now all out.items (vec_len out) (vec_capacity out) k) e
+    (taken_over read tell us start now numbers all out (i + 1) n same long (omega arith) quiet (λ j x w a l h g. kept j x w (omega arith) (omega arith) h g) next)
+
+-- up to the next element that its number changes
+pub taken_to : {A : Type 0} {Z : Type 0} (read : A × ℤ → A) (tell : ℕ → Usage → A × A → List Event) (us : List Usage) (start now : List A) (numbers : List ℤ) (all : List Event) (out : Vec Event Z) (i k : ℕ) → length start ≡ length numbers → length us ≡ length start
+    → i ≤ k → k ≤ length start → ((j : ℕ) (u : Usage) (x : A) → tell j u (x, x) ≡ []) → AreKept read now numbers i k
+    → AreTaken read tell us start numbers now all out.items (vec_len out) (vec_capacity out) i → AreTaken read tell us start numbers now all out.items (vec_len out) (vec_capacity out) k
+taken_to read tell us start now numbers all out i k same long low within quiet kept taken =
+    let e : i + (k - i) ≡ k = omega arith in
+    subst (λ (j : ℕ). AreTaken read tell us start numbers now all out.items (vec_len out) (vec_capacity out) j) e
+    (taken_over read tell us start now numbers all out i (k - i) same long (omega arith) quiet (λ j x w a l h g. kept j x w a (omega arith) h g) taken)
+
+-- all elements are read
+pub all_taken : {A : Type 0} {Z : Type 0} (read : A × ℤ → A) (tell : ℕ → Usage → A × A → List Event) (us : List Usage) (start now : List A) (numbers : List ℤ) (all : List Event) (before out : Vec Event Z) (i : ℕ) → length start ≡ length numbers → i ≡ length start → length us ≤ i
+    → AreTaken read tell us start numbers now (before.items ++ all) out.items (vec_len out) (vec_capacity out) i → vec_capacity out ≡ vec_capacity before
+    → (now ≡ read_all read start numbers) × Appends before all out
+all_taken read tell us start now numbers all before out i same done past taken room =
+    let len : length (read_all read start numbers) ≡ length start = length_map_zip read start numbers (sym same) in (
+      taken.so_far ∙ filled (read_all read start numbers) start i (omega (arith, len)) (sym len),
+      all_appended before out _ all (each_end tell us (drop i (zip start (read_all read start numbers))) i past) taken.events room,
+    )
+
+-- one element more stays
+pub kept_next : {A : Type 0} (read : A × ℤ → A) (held : List A) (numbers : List ℤ) (from i : ℕ) (b : A) (w : ℤ) → AreKept read held numbers from i → slice_get held i ≡ Some b → slice_get numbers i ≡ Some w → read (b, w) ≡ b
+    → AreKept read held numbers from (i + 1)
+kept_next read held numbers from i b w kept here number stays = λ j x v low high h k.
+    elim (cases_lt j i) [
+      | inl lt ↦ kept j x v low lt h k
+      | inr ge ↦
+          let e : j ≡ i = omega arith in
+          let there : Some x ≡ Some b = sym h ∙ ap (λ (n : ℕ). slice_get held n) e ∙ here in
+          let other : Some v ≡ Some w = sym k ∙ ap (λ (n : ℕ). slice_get numbers n) e ∙ number in
+          let same : x ≡ b = cc in
+          let same' : v ≡ w = cc in
+          rw (same, same') stays
+    ]
+
+-- those up to one, and those from it on, stay
+pub kept_on : {A : Type 0} (read : A × ℤ → A) (held : List A) (numbers : List ℤ) (from mid from' end end' : ℕ) → AreKept read held numbers from mid → AreKept read held numbers from' end → from' ≤ from ⊎ from' ≤ mid → ((j : ℕ) → j < length held → j < end' → j < end)
+    → AreKept read held numbers from end'
+kept_on read held numbers from mid from' end end' before after joined within = λ j x v low high h k.
+    let there = slice_get_within held j x h in
+    elim (cases_lt j mid) [
+      | inl lt ↦ before j x v low lt h k
+      | inr ge ↦ after j x v (elim joined [ inl a ↦ omega arith | inr b ↦ omega arith ]) (within j there high) h k
+    ]
+
+pub same_flag : (a b : Bool) → not (beq a b) ≡ false → a ≡ b
+same_flag true true h = refl
+same_flag false false h = refl
+same_flag true false h = absurd (cc)
+same_flag false true h = absurd (cc)
+
+same_numbers : (a b : ℤ) → not (int_eq a b) ≡ false → a ≡ b
+same_numbers a b h = elim (cases_Bool (int_eq a b)) [
+  | inl e ↦ (Decides-int_eq a b).0 e
+  | inr e ↦ let other : not (int_eq a b) ≡ true = ap (λ (x : Bool). not x) e in absurd (cc)
+]
+
+pub same_option : (a b : Option ℤ) → not (option_eq int_eq a b) ≡ false → a ≡ b
+same_option None None h = refl
+same_option None (Some b) h = absurd (cc)
+same_option (Some a) None h = absurd (cc)
+same_option (Some a) (Some b) h = ap (λ (n : ℤ). Some n) (same_numbers a b h)
+
+-- a switch stays where it is the bit of its number
+pub bit_kept : (held : List Bool) (numbers : List ℤ) (index word b j : ℕ) (x : Bool) (v : ℤ) → IsWordOf numbers index word → 64 * index + b ≡ j → b < 64 → slice_get held j ≡ Some x → slice_get numbers j ≡ Some v
+    → is_unlike held index word b ≡ false → read_switch x v ≡ x
+bit_kept held numbers index word b j x v is place low here number stays =
+    let within : 64 * index + b < length numbers = omega (arith, slice_get_within numbers j v number) in
+    let there : Some v ≡ Some (pos (bit_at word b)) = sym number ∙ ap (λ (n : ℕ). slice_get numbers n) (sym place) ∙ is.bits b low within in
+    let bit : v ≡ pos (bit_at word b) = cc in
+    let on : is_on held (64 * index + b) ≡ x = ap (λ (n : ℕ). is_on held n) place ∙ ap (λ (o : Option Bool). unwrap_or o false) here in
+    ap (λ (w : ℤ). read_switch x w) bit ∙ sym (switch_of x (bit_at word b) (bit_at-lt word b))
+    ∙ sym (same_flag (is_on held (64 * index + b)) (bit_at word b == 1) stays) ∙ on
+
+-- a bit that isn't the same as a switch is one of a number
+pub unlike_within : (held : List Bool) (numbers : List ℤ) (index word b : ℕ) → IsWordOf numbers index word → length numbers ≡ length held → is_unlike held index word b ≡ true → 64 * index + b < length held
+unlike_within held numbers index word b is same hit = elim (cases_Bool (is_on held (64 * index + b))) [
+  | inl on ↦ on_within held (64 * index + b) on
+  | inr off ↦ elim (cases_lt (64 * index + b) (length held)) [
+    | inl within ↦ within
+    | inr past ↦
+        let none : bit_at word b ≡ 0 = is.behind b (omega arith) in
+        let no : is_unlike held index word b ≡ false = ap (λ (o : Bool). not (beq o (bit_at word b == 1))) off ∙ ap (λ (n : ℕ). not (beq false (n == 1))) none in
+        absurd (cc)
+  ]
+]

@@ -1,0 +1,239 @@
+-- The keys that the elements of an array name.
+use Rattle.std.proofs.Common.{◌≡◌, ◌≢◌, ℕ, zero, suc, ◌+◌, ◌<◌, ◌≤◌, ◌⊎◌, inl, inr, ◌&&◌, ◌||◌, Bool, true, false, cond, List, [], ◌∷◌, ◌++◌, length, map, replicate, take, Option, Some, None, ℤ, pos, negsuc, ◌+ℤ◌, ◌-ℤ◌, ◌≤ℤ◌, refl, sym, ap, ◌∙◌, subst, arith}
+use Rattle.std.proofs.lemmas.Bool.{cases_Bool}
+use Rattle.std.specs.List.{slice_get, slice_set}
+use Rattle.std.specs.Option.{is_some}
+use Rattle.std.specs.Ordering.{int_eq}
+use Rattle.std.proofs.lemmas.Int.{ints}
+use Rattle.std.proofs.lemmas.List.Folds.{list_any-append}
+use Rattle.std.proofs.lemmas.Bool.Decides.{Decides-int_eq}
+use Rattle.std.proofs.lemmas.Option.{slice_get_within}
+use Rattle.hid_layout.specs.declared.main_item.MainItem.{MainItem}
+use Rattle.hid_layout.specs.declared.control.Control.{Control}
+use Rattle.hid_layout.specs.declared.control.ControlKind.TheVariants.{Switch}
+use Rattle.hid_layout.specs.Layout.{Contents}
+use Rattle.hid_layout.specs.Controls.{Form, NoControls, Elements, Keys, Key, Item, items_of, control_in, control_of}
+use Rattle.hid_usages.specs.Reading.{at_zero, is_rollover_at, names_rollover, names_key, named_from, keys_of, keys_at}
+use Rattle.hid_snapshots.proofs.CodeLemmas.{test_true, true_test, both_true}
+use Rattle.std.specs.Int.Signed.{le_z}
+use Rattle.hid_descriptor.specs.declared.usage.Usage.{Usage}
+use Rattle.hid_descriptor.specs.Usages.{is_rollover}
+use Rattle.hid_snapshots.specs.Cells.{is_in, pressed_count}
+use Rattle.std.proofs.Math.Seq.{take-length}
+use Rattle.hid_snapshots.proofs.BlankLemmas.{none_pressed}
+use Rattle.hid_snapshots.proofs.ListLemmas.{map_at, cons_count, take_at}
+use Rattle.hid_snapshots.proofs.ItemLemmas.{got}
+
+-- no number names a key
+pub named_none : (item : MainItem) (i : ℕ) (keys : List Key) → replicate (length keys) false ≡ named_from item [] i keys
+named_none item i [] = refl
+named_none item i (key ∷ keys) = ap (λ t. false ∷ t) (named_none item (i + 1) keys) ∙ ap (λ b. b ∷ named_from item [] (i + 1) keys) (no_key key.is_switch)
+  where
+    no_key : (b : Bool) → false ≡ (b && false)
+    no_key true = refl
+    no_key false = refl
+
+names_more : (item : MainItem) (vs : List ℤ) (v : ℤ) (i : ℕ) → names_key item (vs ++ v ∷ []) i ≡ (names_key item vs i || int_eq v (item.min +ℤ pos i))
+names_more item vs v i = list_any-append (λ w. int_eq w (item.min +ℤ pos i)) vs (v ∷ []) ∙ last (int_eq v (item.min +ℤ pos i)) (names_key item vs i)
+  where
+    last : (b a : Bool) → (a || (b || false)) ≡ (a || b)
+    last true a = refl
+    last false a = refl
+
+not_named : (item : MainItem) (v : ℤ) (i : ℕ) → v ≢ (item.min +ℤ pos i) → int_eq v (item.min +ℤ pos i) ≡ false
+not_named item v i ne = elim (cases_Bool (int_eq v (item.min +ℤ pos i))) [ inl e ↦ absurd (ne ((Decides-int_eq v (item.min +ℤ pos i)).0 e)) | inr e ↦ e ]
+
+-- a number that names no key adds none
+pub named_same : (item : MainItem) (vs : List ℤ) (v : ℤ) (i : ℕ) (keys : List Key) → ((j : ℕ) (key : Key) → slice_get keys j ≡ Some key → v ≡ item.min +ℤ pos (i + j) → key.is_switch ≡ false)
+    → named_from item vs i keys ≡ named_from item (vs ++ v ∷ []) i keys
+named_same item vs v i [] h = refl
+named_same item vs v i (key ∷ keys) h =
+    let rest = named_same item vs v (i + 1) keys (λ j k g e. h (suc j) k g (let n : i + suc j ≡ (i + 1) + j = omega arith in rw n e)) in
+    ap (λ t. (key.is_switch && names_key item vs i) ∷ t) rest ∙ ap (λ b. b ∷ named_from item (vs ++ v ∷ []) (i + 1) keys) (here (cases_Bool (int_eq v (item.min +ℤ pos i))))
+  where
+    with_named : (s n : Bool) → s ≡ false → (s && n) ≡ (s && (n || true))
+    with_named true n e = absurd (cc)
+    with_named false n e = refl
+
+    without : (s n : Bool) → (s && n) ≡ (s && (n || false))
+    without true true = refl
+    without true false = refl
+    without false n = refl
+
+    here : (int_eq v (item.min +ℤ pos i) ≡ true) ⊎ (int_eq v (item.min +ℤ pos i) ≡ false) → (key.is_switch && names_key item vs i) ≡ (key.is_switch && names_key item (vs ++ v ∷ []) i)
+    here (inl e) =
+        let is : v ≡ item.min +ℤ pos (i + 0) = (let z : i + 0 ≡ i = omega arith in rw z ((Decides-int_eq v (item.min +ℤ pos i)).0 e)) in
+        rw (names_more item vs v i, e) (with_named key.is_switch (names_key item vs i) (h 0 key refl is))
+    here (inr e) = rw (names_more item vs v i, e) (without key.is_switch (names_key item vs i))
+
+-- a number that names a key adds it
+pub named_set : (item : MainItem) (vs : List ℤ) (v : ℤ) (i : ℕ) (keys : List Key) (p : ℕ) (key : Key) → slice_get keys p ≡ Some key → key.is_switch ≡ true → v ≡ item.min +ℤ pos (i + p)
+    → slice_set (named_from item vs i keys) p true ≡ named_from item (vs ++ v ∷ []) i keys
+named_set item vs v i [] p key h s e = absurd (cc)
+named_set item vs v i (k ∷ keys) zero key h s e =
+    let same : k ≡ key = cc in
+    let is : v ≡ item.min +ℤ pos i = (let z : i + 0 ≡ i = omega arith in rw z at e) in
+    let rest = named_same item vs v (i + 1) keys (λ j other g f. absurd (omega (arith, ints))) in
+    let named : int_eq v (item.min +ℤ pos i) ≡ true = (Decides-int_eq v (item.min +ℤ pos i)).1 is in
+    ap (λ t. true ∷ t) rest ∙ ap (λ b. b ∷ named_from item (vs ++ v ∷ []) (i + 1) keys) (sym (rw (same, s, names_more item vs v i, named) (both (names_key item vs i))))
+  where
+    both : (n : Bool) → (n || true) ≡ true
+    both true = refl
+    both false = refl
+named_set item vs v i (k ∷ keys) (suc p) key h s e =
+    let is : v ≡ item.min +ℤ pos ((i + 1) + p) = (let n : i + suc p ≡ (i + 1) + p = omega arith in rw n at e) in
+    let other : int_eq v (item.min +ℤ pos i) ≡ false = not_named item v i (λ f. omega (arith, ints)) in
+    ap (λ t. (k.is_switch && names_key item vs i) ∷ t) (named_set item vs v (i + 1) keys p key h s is)
+    ∙ ap (λ b. b ∷ named_from item (vs ++ v ∷ []) (i + 1) keys) (rw (names_more item vs v i, other) (without k.is_switch (names_key item vs i)))
+  where
+    without : (s n : Bool) → (s && n) ≡ (s && (n || false))
+    without true true = refl
+    without true false = refl
+    without false n = refl
+
+-- a number that stands there names no key anew
+pub named_again : (item : MainItem) (vs : List ℤ) (v : ℤ) (i : ℕ) (keys : List Key) → named_from item (vs ++ v ∷ []) i keys ≡ named_from item ((vs ++ v ∷ []) ++ v ∷ []) i keys
+named_again item vs v i [] = refl
+named_again item vs v i (key ∷ keys) =
+    let same : names_key item (vs ++ v ∷ []) i ≡ names_key item ((vs ++ v ∷ []) ++ v ∷ []) i =
+    names_more item vs v i ∙ twice (names_key item vs i) (int_eq v (item.min +ℤ pos i))
+    ∙ ap (λ (b : Bool). b || int_eq v (item.min +ℤ pos i)) (sym (names_more item vs v i)) ∙ sym (names_more item (vs ++ v ∷ []) v i)
+    in
+    ap (λ t. (key.is_switch && names_key item (vs ++ v ∷ []) i) ∷ t) (named_again item vs v (i + 1) keys)
+    ∙ ap (λ (b : Bool). (key.is_switch && b) ∷ named_from item ((vs ++ v ∷ []) ++ v ∷ []) (i + 1) keys) same
+  where
+    twice : (n e : Bool) → (n || e) ≡ ((n || e) || e)
+    twice true e = refl
+    twice false true = refl
+    twice false false = refl
+
+-- whether a place is a control
+pub is_key_at : (layout : Contents) (i j : ℕ) (result : Bool) → j < length (keys_at layout i) → result ≡ is_some (control_of (items_of layout) (record { item = i; index = j })) → slice_get (map (λ (key : Key). key.is_switch) (keys_at layout i)) j ≡ Some result
+is_key_at layout i j result h is = by_item (slice_get (items_of layout) i) refl h is
+  where
+    of_key : (keys : List Key) (o : Option Key) → slice_get keys j ≡ o → j < length keys → result ≡ is_some (elim o as (λ _. Option Control) [ None ↦ None | Some key ↦ cond key.is_switch (Some (record { kind = Switch; usage = key.usage })) None ])
+        → slice_get (map (λ (key : Key). key.is_switch) keys) j ≡ Some result
+    of_key keys None e k r = absurd (none keys j k e)
+      where
+        none : (keys : List Key) (j : ℕ) → j < length keys → slice_get keys j ≡ None → ⊥
+        none [] j k e = absurd (omega arith)
+        none (x ∷ keys) zero k e = cc
+        none (x ∷ keys) (suc j) k e = none keys j (omega arith) e
+    of_key keys (Some key) e k r = map_at (λ (key : Key). key.is_switch) keys j key e ∙ ap Some (by_switch key.is_switch ∙ sym r)
+      where
+        by_switch : (b : Bool) → b ≡ is_some (cond b (let c : Option Control = Some (record { kind = Switch; usage = key.usage }) in c) None)
+        by_switch true = refl
+        by_switch false = refl
+
+    of_form : (form : Form) → j < length (keys_of form) → result ≡ is_some (control_in form j) → slice_get (map (λ (key : Key). key.is_switch) (keys_of form)) j ≡ Some result
+    of_form NoControls k r = absurd (omega arith)
+    of_form (Elements kind least greatest us) k r = absurd (omega arith)
+    of_form (Keys elements rolls keys) k r = of_key keys (slice_get keys j) refl k r
+
+    by_item : (o : Option Item) → slice_get (items_of layout) i ≡ o → j < length (keys_of (elim o as (λ _. Form) [ None ↦ NoControls | Some item ↦ item.form ]))
+        → result ≡ is_some (elim o as (λ _. Option Control) [ None ↦ None | Some item ↦ control_in item.form j ])
+        → slice_get (map (λ (key : Key). key.is_switch) (keys_of (elim o as (λ _. Form) [ None ↦ NoControls | Some item ↦ item.form ]))) j ≡ Some result
+    by_item None e k r = absurd (omega arith)
+    by_item (Some item) e k r = of_form item.form k r
+
+switch_is : (keys : List Key) (p : ℕ) (b : Bool) (key : Key) → slice_get (map (λ (k : Key). k.is_switch) keys) p ≡ Some b → slice_get keys p ≡ Some key → key.is_switch ≡ b
+switch_is keys p b key h k = let e = map_at (λ (x : Key). x.is_switch) keys p key k in cc
+
+pub key_added : (item : MainItem) (vs : List ℤ) (v : ℤ) (keys : List Key) (p : ℕ) → p < length keys → slice_get (map (λ (k : Key). k.is_switch) keys) p ≡ Some true → v ≡ item.min +ℤ pos p
+    → slice_set (named_from item vs 0 keys) p true ≡ named_from item (vs ++ v ∷ []) 0 keys
+key_added item vs v keys p within h is =
+    let key = got keys p within in
+    named_set item vs v 0 keys p key.0 key.1 (switch_is keys p true key.0 h key.1) (let n : 0 + p ≡ p = omega arith in rw n is)
+
+pub no_key_added : (item : MainItem) (vs : List ℤ) (v : ℤ) (keys : List Key) (p : ℕ) → slice_get (map (λ (k : Key). k.is_switch) keys) p ≡ Some false → v ≡ item.min +ℤ pos p
+    → named_from item vs 0 keys ≡ named_from item (vs ++ v ∷ []) 0 keys
+no_key_added item vs v keys p h is =
+    named_same item vs v 0 keys (λ j key g e.
+    let same : j ≡ p = (let n : v ≡ item.min +ℤ pos (0 + j) = e in omega (arith, ints)) in
+    let Q : ℕ → Type 0 = λ n. slice_get keys n ≡ Some key in
+    switch_is keys p false key h (subst Q same g))
+
+pub no_place_added : (item : MainItem) (vs : List ℤ) (v : ℤ) (keys : List Key) → ((p : ℕ) → p < length keys → v ≢ (item.min +ℤ pos p)) → named_from item vs 0 keys ≡ named_from item (vs ++ v ∷ []) 0 keys
+no_place_added item vs v keys none =
+    named_same item vs v 0 keys (λ j key g e. absurd (none j (slice_get_within keys j key g) (let n : 0 + j ≡ j = omega arith in rw n at e)))
+
+-- an element that names a place names ErrorRollOver where that place does
+pub rollover_named : (item : MainItem) (us : List Usage) (v : ℤ) (p : ℕ) → v ≡ item.min +ℤ pos p → names_rollover item us v ≡ (le_z v item.max && is_rollover_at us p)
+rollover_named item us v p is =
+    let low : le_z item.min v ≡ true = test_true (le_z item.min v) ((let h : item.min ≤ℤ v = omega (arith, ints) in h).le) in
+    let place : at_zero (v -ℤ item.min) ≡ p = zero_of (v -ℤ item.min) p (omega (arith, ints)) in
+    let test : is_in item.min item.max v ≡ le_z v item.max = ap (λ (b : Bool). b && le_z v item.max) low in
+    ap (λ (b : Bool). elim (elim (cond b (Some (at_zero (v -ℤ item.min))) None) as (λ _. Option Usage) [ None ↦ None | Some i ↦ slice_get us i ]) as (λ _. Bool) [ None ↦ false | Some u ↦ is_rollover u ]) test
+    ∙ by_max (le_z v item.max) place
+  where
+    zero_of : (z : ℤ) (p : ℕ) → z ≡ pos p → at_zero z ≡ p
+    zero_of (pos n) p e = cc
+    zero_of (negsuc n) p e = absurd (cc)
+
+    by_max : (b : Bool) → at_zero (v -ℤ item.min) ≡ p
+        → (elim (elim (cond b (Some (at_zero (v -ℤ item.min))) None) as (λ _. Option Usage) [ None ↦ None | Some i ↦ slice_get us i ]) as (λ _. Bool) [ None ↦ false | Some u ↦ is_rollover u ]) ≡ (b && is_rollover_at us p)
+    by_max true e = rw e refl
+    by_max false e = refl
+
+-- and one that names no place names none
+pub no_rollover_named : (item : MainItem) (us : List Usage) (v : ℤ) → ((p : ℕ) → p < length us → v ≢ (item.min +ℤ pos p)) → names_rollover item us v ≡ false
+no_rollover_named item us v none = by_range (is_in item.min item.max v) refl
+  where
+    to_pos : (z : ℤ) → pos 0 ≤ℤ z → z ≡ pos (at_zero z)
+    to_pos (pos n) h = refl
+    to_pos (negsuc n) h = absurd (omega (arith, ints))
+
+    by_usage : (o : Option Usage) → slice_get us (at_zero (v -ℤ item.min)) ≡ o → item.min ≤ℤ v → (elim o as (λ _. Bool) [ None ↦ false | Some u ↦ is_rollover u ]) ≡ false
+    by_usage None e h = refl
+    by_usage (Some u) e h =
+        let is = to_pos (v -ℤ item.min) (omega (arith, ints)) in
+        absurd (none (at_zero (v -ℤ item.min)) (slice_get_within us (at_zero (v -ℤ item.min)) u e) (omega (arith, ints)))
+
+    by_range : (b : Bool) → is_in item.min item.max v ≡ b
+        → (elim (elim (cond b (Some (at_zero (v -ℤ item.min))) None) as (λ _. Option Usage) [ None ↦ None | Some i ↦ slice_get us i ]) as (λ _. Bool) [ None ↦ false | Some u ↦ is_rollover u ]) ≡ false
+    by_range false e = refl
+    by_range true e = by_usage (slice_get us (at_zero (v -ℤ item.min))) refl (record { le = true_test (le_z item.min v) ((both_true (le_z item.min v) (le_z v item.max) e).0) })
+
+-- one number names one key more at most
+named_few : (item : MainItem) (vs : List ℤ) (v : ℤ) (i : ℕ) (keys : List Key) → pressed_count (named_from item (vs ++ v ∷ []) i keys) ≤ pressed_count (named_from item vs i keys) + 1
+named_few item vs v i [] = omega arith
+named_few item vs v i (key ∷ keys) = by_test (cases_Bool (int_eq v (item.min +ℤ pos i))) (named_few item vs v (i + 1) keys)
+  where
+    old : Bool
+    old = key.is_switch && names_key item vs i
+
+    new : Bool
+    new = key.is_switch && names_key item (vs ++ v ∷ []) i
+
+    without : (s n : Bool) → (s && n) ≡ (s && (n || false))
+    without true true = refl
+    without true false = refl
+    without false n = refl
+
+    few : (b : Bool) → cond b 1 0 ≤ 1
+    few true = omega arith
+    few false = omega arith
+
+    by_test : (int_eq v (item.min +ℤ pos i) ≡ true) ⊎ (int_eq v (item.min +ℤ pos i) ≡ false) → pressed_count (named_from item (vs ++ v ∷ []) (i + 1) keys) ≤ pressed_count (named_from item vs (i + 1) keys) + 1
+        → pressed_count (new ∷ named_from item (vs ++ v ∷ []) (i + 1) keys) ≤ pressed_count (old ∷ named_from item vs (i + 1) keys) + 1
+    by_test (inl e) rest =
+        let is : v ≡ item.min +ℤ pos i = (Decides-int_eq v (item.min +ℤ pos i)).0 e in
+        let same = named_same item vs v (i + 1) keys (λ j k g f. absurd (omega (arith, ints))) in
+        omega (arith, cons_count new (named_from item (vs ++ v ∷ []) (i + 1) keys), cons_count old (named_from item vs (i + 1) keys), ap pressed_count same, few new)
+    by_test (inr e) rest =
+        let same : new ≡ old = rw (names_more item vs v i, e) (sym (without key.is_switch (names_key item vs i))) in
+        omega (arith, cons_count new (named_from item (vs ++ v ∷ []) (i + 1) keys), cons_count old (named_from item vs (i + 1) keys), (let count : Bool → ℕ = λ b. cond b 1 0 in ap count same), rest)
+
+named_prefix : (item : MainItem) (keys : List Key) (vs : List ℤ) (n : ℕ) → n ≤ length vs → pressed_count (named_from item (take n vs) 0 keys) ≤ n
+named_prefix item keys vs zero h = omega (arith, ap pressed_count (named_none item 0 keys), none_pressed (length keys))
+named_prefix item keys vs (suc n) h =
+    let v = got vs n (omega arith) in
+    let one : suc n ≡ n + 1 = omega arith in
+    let next : take (suc n) vs ≡ take n vs ++ v.0 ∷ [] = rw one (take_at vs n v.0 v.1) in
+    omega (arith, ap (λ (l : List ℤ). pressed_count (named_from item l 0 keys)) next, named_few item (take n vs) v.0 0 keys, named_prefix item keys vs n (omega arith))
+
+-- no more keys are named than there are elements
+pub named_count : (item : MainItem) (keys : List Key) (vs : List ℤ) → pressed_count (named_from item vs 0 keys) ≤ length vs
+named_count item keys vs =
+    let all : take (length vs) vs ≡ vs = take-length vs in
+    omega (arith, named_prefix item keys vs (length vs) (omega arith), ap (λ (l : List ℤ). pressed_count (named_from item l 0 keys)) all)

@@ -1,0 +1,138 @@
+-- The keys of an array, by its usage list.
+use Rattle.std.proofs.Common.{◌≡◌, ℕ, ◌<◌, ◌&&◌, ◌==◌, nat_lt, not, inl, inr, Bool, true, false, List, [], ◌∷◌, ◌++◌, append-nil, length, map, Option, Some, None, ℤ, pos, ◌+ℤ◌, int_le, refl, sym, ap, ◌∙◌, subst, arith}
+use Rattle.std.specs.List.{list_any, slice_get, slice_set}
+use Rattle.std.specs.Option.{option_map}
+use Rattle.std.proofs.lemmas.Option.{slice_get_within}
+use Rattle.std.proofs.lemmas.Bool.{cases_lt}
+use Rattle.std.proofs.lemmas.Int.{ints}
+use Rattle.std.proofs.lemmas.List.{length-map}
+use Rattle.std.proofs.lemmas.Bool.Decides.{nat_tests}
+use Rattle.hid_layout.specs.declared.main_item.MainItem.{MainItem}
+use Rattle.hid_descriptor.specs.declared.usage.Usage.{Usage}
+use Rattle.hid_descriptor.specs.declared.shape.Shape.{Shape}
+use Rattle.hid_descriptor.specs.declared.shape.Shape.TheVariants.{Padding, Variable, Array}
+use Rattle.hid_layout.specs.declared.control.Controls.TheVariants as head
+use Rattle.hid_descriptor.specs.Usages.{Entry, usage_list, is_rollover, tells_error}
+use Rattle.hid_usages.specs.Taking.{list_at, IsFormOf, read_by_numbers, told_by_numbers}
+use Rattle.hid_usages.proofs.TakeLemmas.{list_at-is}
+use Rattle.hid_layout.specs.Layout.{Contents}
+use Rattle.hid_layout.specs.Controls.{Form, Keys, Key, head_of, form_of, form_at, items_of, has_place, rollover_from, is_key, is_encodable}
+use Rattle.hid_layout.proofs.FormLemmas.{key-get, keys-length}
+use Rattle.hid_layout.proofs.CodeLemmas.{inside}
+use Rattle.hid_snapshots.proofs.CodeLemmas.{both_true}
+use Rattle.hid_snapshots.proofs.ListLemmas.{map_at}
+use Rattle.hid_snapshots.specs.declared.cell.Cell.{Cell}
+use Rattle.hid_snapshots.specs.declared.cell.Cell.TheVariants.{Pressed}
+use Rattle.hid_snapshots.specs.Cells.{HasRoom}
+use Rattle.hid_snapshots.specs.Events.{change_events, key_events, key_usages, usages_at, usages_of, HasPlaces}
+use Rattle.hid_snapshots.specs.Views.{motions_told}
+use Rattle.hid_usages.proofs.EventLemmas.{has_places}
+use Rattle.hid_usages.specs.Reading.{FitsFields, motion_cell, read_cell, array_keys, keys_of, keys_at, named_from, names_rollover, read_keys}
+use Rattle.hid_usages.proofs.BoundLemmas.{in_range}
+use Rattle.hid_usages.proofs.KeyLemmas.{key_added, no_key_added, no_place_added, rollover_named}
+
+-- no key stands behind the last place that a key can have
+key_low : (m : MainItem) (p : ℕ) (u : Usage) → is_key m p u ≡ true → p < 65536
+key_low m p u h =
+    let low = (both_true (nat_lt p 65536) _ ((both_true (is_encodable m (m.min +ℤ pos p)) _ h).1)).0 in
+    of_test p low
+  where
+    of_test : (p : ℕ) → nat_lt p 65536 ≡ true → p < 65536
+    of_test p h = grind (arith, nat_tests)
+
+pub key_place : (m : MainItem) (us : List Usage) (p : ℕ) (u : Usage) → slice_get us p ≡ Some u → is_key m p u ≡ true → p < length (array_keys m us)
+key_place m us p u here on = omega (arith, keys-length m us, slice_get_within us p u here, key_low m p u on)
+
+key_here : (m : MainItem) (us : List Usage) (p : ℕ) (u : Usage) → slice_get us p ≡ Some u → p < length (array_keys m us) → slice_get (map (λ (key : Key). key.is_switch) (array_keys m us)) p ≡ Some (is_key m p u)
+key_here m us p u here within =
+    let key : Key = record { usage = u; is_switch = is_key m p u } in
+    let there : slice_get (array_keys m us) p ≡ Some key = key-get m us p (omega (arith, keys-length m us)) ∙ ap (λ (o : Option Usage). option_map (λ (v : Usage). let k : Key = record { usage = v; is_switch = is_key m p v } in k) o) here in
+    map_at (λ (k : Key). k.is_switch) (array_keys m us) p key there
+
+-- a number names the key at its place
+pub pressed : (m : MainItem) (us : List Usage) (vs : List ℤ) (v : ℤ) (p : ℕ) (u : Usage) → slice_get us p ≡ Some u → v ≡ m.min +ℤ pos p → is_key m p u ≡ true
+    → slice_set (named_from m vs 0 (array_keys m us)) p true ≡ named_from m (vs ++ v ∷ []) 0 (array_keys m us)
+pressed m us vs v p u here is on =
+    let within = key_place m us p u here on in
+    key_added m vs v (array_keys m us) p within (key_here m us p u here within ∙ ap (λ (b : Bool). Some b) on) is
+
+-- and none where no key stands there
+pub not_pressed : (m : MainItem) (us : List Usage) (vs : List ℤ) (v : ℤ) (p : ℕ) (u : Usage) → slice_get us p ≡ Some u → v ≡ m.min +ℤ pos p → is_key m p u ≡ false
+    → named_from m vs 0 (array_keys m us) ≡ named_from m (vs ++ v ∷ []) 0 (array_keys m us)
+not_pressed m us vs v p u here is off = elim (cases_lt p (length (array_keys m us))) [
+  | inl within ↦ no_key_added m vs v (array_keys m us) p (key_here m us p u here within ∙ ap (λ (b : Bool). Some b) off) is
+  | inr past ↦
+      no_place_added m vs v (array_keys m us)
+      (λ q low other.
+      let same : q ≡ p = omega (arith, ints) in
+      omega arith)
+]
+
+-- the keys stay where a number names ErrorRollOver, and are named anew elsewhere
+pub keys_stay : (m : MainItem) (us : List Usage) (keys : List Key) (bs : List Bool) (vs : List ℤ) → list_any (names_rollover m us) vs ≡ true → read_keys m us keys (Pressed bs) vs ≡ Pressed bs
+keys_stay m us keys bs vs h = rw h refl
+
+pub keys_named : (m : MainItem) (us : List Usage) (keys : List Key) (bs : List Bool) (vs : List ℤ) → list_any (names_rollover m us) vs ≡ false → read_keys m us keys (Pressed bs) vs ≡ Pressed (named_from m vs 0 keys)
+keys_named m us keys bs vs h = rw h refl
+
+-- whether a number that names a place tells ErrorRollOver
+pub tells : (m : MainItem) (us : List Usage) (v : ℤ) (p : ℕ) (u : Usage) → slice_get us p ≡ Some u → v ≡ m.min +ℤ pos p → names_rollover m us v ≡ (int_le v m.max && is_rollover u)
+tells m us v p u here is = rollover_named m us v p is ∙ ap (λ (o : Option Usage). int_le v m.max && (elim o as (λ _. Bool) [ None ↦ false | Some w ↦ is_rollover w ])) here
+
+pub is_not : (b r : Bool) → r ≡ not b → r ≡ true → b ≡ false
+is_not false r h k = refl
+is_not true r h k = absurd (cc)
+
+pub is_so : (b r : Bool) → r ≡ not b → r ≡ false → b ≡ true
+is_so true r h k = refl
+is_so false r h k = absurd (cc)
+
+-- the keys of a listed array are those of its usages
+pub keys_are : (layout : Contents) (i : ℕ) (m : MainItem) (es : List Entry) (elements : ℕ) (rolls : Bool) (n : ℕ) → IsFormOf layout i m → slice_get layout.entries i ≡ Some es → head.Keys elements rolls n ≡ head_of (form_at (items_of layout) i)
+    → keys_at layout i ≡ array_keys m (usage_list es)
+keys_are layout i m es elements rolls n form there heads = ap keys_of form ∙ of_shape (list_at layout i) m.shape (heads ∙ ap head_of form) ∙ ap (array_keys m) (list_at-is layout i es there)
+  where
+    of_shape : (us : List Usage) (shape : Shape) → head.Keys elements rolls n ≡ head_of (form_of m us shape) → keys_of (form_of m us shape) ≡ array_keys m us
+    of_shape us Padding h = absurd (cc)
+    of_shape us Variable h = absurd (cc)
+    of_shape us Array h = refl
+
+-- a number that names a place and fits its field is one that an element can carry if it is no greater than the greatest
+place_encodable : (m : MainItem) (v : ℤ) (p : ℕ) → FitsFields m v → v ≡ m.min +ℤ pos p → is_encodable m (m.min +ℤ pos p) ≡ int_le v m.max
+place_encodable m v p fits is =
+    let least = (both_true (int_le m.min v) (int_le v v) (inside m.min v v (omega (arith, ints)) (omega (arith, ints)))).0 in
+    ap (is_encodable m) (sym is) ∙ sym (in_range m m.min m.max refl refl v fits) ∙ ap (λ (b : Bool). b && int_le v m.max) least
+
+-- whether a place is a key that a number can press, by the tests of it
+pub key_tested : (m : MainItem) (v : ℤ) (p : ℕ) (u : Usage) (few low none : Bool) → FitsFields m v → v ≡ m.min +ℤ pos p → int_le v m.max ≡ few → nat_lt p 65536 ≡ low → (u.id == 0) ≡ none
+    → is_key m p u ≡ (few && (low && (not none && not (tells_error u))))
+key_tested m v p u few low none fits is at_most before zero = rw (place_encodable m v p fits is, at_most, before, zero) refl
+
+-- What the numbers of an array's elements make of its cell, and tell, is what they do by its usage list.
+pub record ReadsKeys (layout : Contents) (i : ℕ) (m : MainItem) (us : List Usage) (cell : Cell) (vs : List ℤ) : Type 0 where
+  pub keys : keys_at layout i ≡ array_keys m us
+  pub usages : length (usages_at layout i) ≡ length (keys_at layout i)
+  pub places : HasPlaces cell (length (keys_at layout i))
+  pub read : read_keys m us (keys_at layout i) cell vs ≡ read_by_numbers layout i m cell vs
+  pub told : (after : Cell) → key_events i (usages_at layout i) cell after ≡ told_by_numbers layout i m cell after vs
+
+pub reads_keys : (layout : Contents) (i : ℕ) (m : MainItem) (es : List Entry) (cell : Cell) (vs : List ℤ) → IsFormOf layout i m → m.shape ≡ Array → slice_get layout.entries i ≡ Some es → HasRoom (head_of (form_at (items_of layout) i)) cell
+    → ReadsKeys layout i m (usage_list es) cell vs
+reads_keys layout i m es cell vs form shape there room =
+    let listed = list_at-is layout i es there in
+    let us = usage_list es in
+    let rolls = has_place (rollover_from m 0 us) in
+    let is : form_at (items_of layout) i ≡ Keys m.count rolls (array_keys m us) = form ∙ ap (form_of m (list_at layout i)) shape ∙ ap (λ (l : List Usage). form_of m l Array) listed in
+    let same : length (usages_at layout i) ≡ length (keys_at layout i) =
+    ap (λ (f : Form). length (usages_of f)) is ∙ length-map (array_keys m us) (λ (key : Key). key.usage) ∙ sym (ap (λ (f : Form). length (keys_of f)) is) in
+    record {
+      keys = ap keys_of is;
+      usages = same;
+      places = subst (HasPlaces cell) same (has_places (form_at (items_of layout) i) cell room);
+      read =
+          ap (λ (ks : List Key). read_keys m us ks cell vs) (ap keys_of is) ∙ ap (λ (l : List Usage). read_keys m l (array_keys m us) cell vs) (sym listed)
+          ∙ ap (λ (f : Form). read_cell m (list_at layout i) f cell vs) (sym is);
+      told = λ after.
+          ap (λ (f : Form). key_events i (usages_of f) cell after) is ∙ sym (append-nil (key_events i (key_usages (array_keys m us)) cell after))
+          ∙ ap (λ (f : Form). change_events i f cell after ++ motions_told i f (motion_cell f vs)) (sym is);
+    }

@@ -1,0 +1,20 @@
+-- What is passed over: elements that their numbers leave as they are, and numbers that name no key anew (our choice).
+use Rattle.std.specs.Prelude.{◌≡◌, ℕ, ◌<◌, ◌≤◌, List, [], ◌∷◌, ◌++◌, Option, Some, None, ℤ, slice_get}
+use Rattle.hid_layout.specs.declared.main_item.MainItem.{MainItem}
+use Rattle.hid_layout.specs.Controls.{Key}
+use Rattle.hid_usages.specs.Reading.{named_from}
+
+-- the numbers of the elements from one on, before an end, leave them as they are
+abbrev pub AreKept : {A : Type 0} → (A × ℤ → A) → List A → List ℤ → ℕ → ℕ → Type 0
+AreKept {A = A} read held numbers from end =
+    (j : ℕ) (x : A) (v : ℤ) → from ≤ j → j < end → slice_get held j ≡ Some x → slice_get numbers j ≡ Some v → read (x, v) ≡ x
+
+-- an element is found before an end, and those from one on before it are kept; or all of them are
+abbrev pub FindsKept : {A : Type 0} → (A × ℤ → A) → List A → List ℤ → ℕ → ℕ → Option ℕ → Type 0
+FindsKept read held numbers from end None = AreKept read held numbers from end
+FindsKept read held numbers from end (Some place) = (from ≤ place) × (place < end) × AreKept read held numbers from place
+
+-- a number, where there is one, names no key that none of these names
+abbrev pub NamesNoneAnew : MainItem → List ℤ → List Key → Option ℤ → Type 0
+NamesNoneAnew item numbers keys None = Unit {0}
+NamesNoneAnew item numbers keys (Some v) = named_from item numbers 0 keys ≡ named_from item (numbers ++ v ∷ []) 0 keys

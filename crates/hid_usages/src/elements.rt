@@ -1,0 +1,310 @@
+//! The elements of a variable item, as the numbers of a report leave them, one by one, and what they tell.
+
+ghost use Rattle.std.specs.Prelude.{◌≡◌, ◌+◌, ◌*◌, ◌^◌, ◌<◌, ◌≤◌, min, Bool, false, Option, List, ℤ, map, length, slice_get, slice_set, Some, IfSome};
+ghost use Rattle.std.specs.Bool.{OnTrue};
+ghost use Rattle.std.specs.List.{zip};
+ghost use Rattle.hid_descriptor.specs.declared.usage.Usage.{Usage as UsageValue};
+ghost use Rattle.hid_snapshots.specs.Events.{at, usages_at, switch_event, switch_events, value_event, value_events};
+ghost use Rattle.hid_usages.specs.Appending.{HasSpace, Appends};
+ghost use Rattle.hid_usages.specs.Reading.{read_switch, read_value};
+ghost use Rattle.hid_usages.specs.Keeping.{FindsKept};
+ghost use Rattle.hid_snapshots.specs.Numbers.{IsWordOf};
+
+use crate::bounds::Bounds;
+use crate::differences::{tell_switch, tell_value};
+use hid_fields::FieldCodec;
+use hid_layout::Layout;
+use hid_snapshots::{Event, FieldRun, Flags, Values};
+
+/// A switch, as an element's number leaves it.
+fn read_switch(before: bool, number: &i64) -> bool
+    ensures { result ≡ read_switch before number.now }
+{
+    if *number == 0 {
+        false
+    } else if *number == 1 {
+        true
+    } else {
+        before
+    }
+}
+
+/// The first switch from one on, of the 64 at an index, that isn't a bit of this word.
+fn next_by_word(held: &Flags, index: usize, word: u64, from: usize) -> Option<usize>
+    requires low { 64 * index ≤ from }
+    requires high { from < 64 * index + 64 }
+    requires within { 64 * index < length held.now }
+    ensures { (numbers : List ℤ) → IsWordOf numbers index word → length numbers ≡ length held.now
+        → FindsKept (λ p. read_switch p.0 p.1) held.now numbers from
+        (min (64 * index + 64) (length held.now)) result }
+{
+    let _count = held.len(); // a place is a number of the machine
+    match held.first_unlike(index, word, from - 64 * index) {
+        Some(bit) => Some(64 * index + bit),
+        None => None,
+    }
+}
+
+/// The first switch from one on, before an end, that its number changes.
+fn next_by_number<C: FieldCodec>(
+    held: &Flags,
+    numbers: &FieldRun<'_>,
+    from: usize,
+    end: usize,
+) -> Option<usize>
+    requires numbers { length numbers.now ≡ length held.now }
+    requires end { end ≤ length held.now }
+    ensures { FindsKept (λ p. read_switch p.0 p.1) held.now numbers.now from end result }
+{
+    for index in from..end {
+        let number = numbers.number::<C>(index);
+        let before = held.get(index);
+        if read_switch(before, &number) != before {
+            return Some(index);
+        }
+    }
+    None
+}
+
+/// The first switch from one on, of the 64 at an index, that its number changes: bits are compared at once.
+fn next_of_64<C: FieldCodec>(
+    held: &Flags,
+    numbers: &FieldRun<'_>,
+    index: usize,
+    from: usize,
+) -> Option<usize>
+    requires numbers { length numbers.now ≡ length held.now }
+    requires low { 64 * index ≤ from }
+    requires high { from < 64 * index + 64 }
+    requires within { 64 * index < length held.now }
+    ensures { FindsKept (λ p. read_switch p.0 p.1) held.now numbers.now from
+        (min (64 * index + 64) (length held.now)) result }
+{
+    match numbers.word::<C>(index) {
+        Some(word) => next_by_word(held, index, word, from),
+        None => {
+            let rest = held.len() - 64 * index;
+            next_by_number::<C>(held, numbers, from, 64 * index + rest.min(64))
+        }
+    }
+}
+
+/// The first switch from one on that its number changes.
+fn next_switch<C: FieldCodec>(held: &Flags, numbers: &FieldRun<'_>, from: usize) -> Option<usize>
+    requires numbers { length numbers.now ≡ length held.now }
+    ensures found { FindsKept (λ p. read_switch p.0 p.1) held.now numbers.now from
+        (length held.now) result }
+    ensures behind { IfSome result (λ place. place + 1 < 2 ^ 64) }
+{
+    for k in from / 64..held.len().div_ceil(64) {
+        match next_of_64::<C>(held, numbers, k, from.max(64 * k)) {
+            Some(index) => return Some(index),
+            None => {}
+        }
+    }
+    None
+}
+
+/// The switch at an index, as an element's number leaves it, and what it tells.
+fn take_switch(
+    layout: &Layout,
+    item: usize,
+    index: usize,
+    number: &i64,
+    held: &mut Flags,
+    out: &mut Vec<Event>,
+)
+    requires index { index < length (usages_at layout.now item) }
+    requires held { length held.old ≡ length (usages_at layout.now item) }
+    requires room { (usage : UsageValue) (before : Bool)
+        → slice_get (usages_at layout.now item) index ≡ Some usage
+        → slice_get held.old index ≡ Some before → HasSpace out.old
+        (switch_event (at item index) usage before (read_switch before number.now)) }
+    ensures held { (before : Bool) → slice_get held.old index ≡ Some before
+        → held.new ≡ slice_set held.old index (read_switch before number.now) }
+    ensures told { (usage : UsageValue) (before : Bool)
+        → slice_get (usages_at layout.now item) index ≡ Some usage
+        → slice_get held.old index ≡ Some before → Appends out.old
+        (switch_event (at item index) usage before (read_switch before number.now)) out.new }
+{
+    let before = held.get(index);
+    let after = read_switch(before, number);
+    tell_switch(layout, item, index, before, after, out);
+    held.set(index, after);
+}
+
+/// Switches, as these numbers leave them, and what they tell.
+pub(crate) fn take_switches<C: FieldCodec>(
+    layout: &Layout,
+    item: usize,
+    numbers: &FieldRun<'_>,
+    held: &mut Flags,
+    out: &mut Vec<Event>,
+)
+    requires numbers { length numbers.now ≡ length (usages_at layout.now item) }
+    requires held { length held.old ≡ length (usages_at layout.now item) }
+    requires room { HasSpace out.old (switch_events item (usages_at layout.now item) held.old
+        (map (λ p. read_switch p.0 p.1) (zip held.old numbers.now))) }
+    ensures held { held.new ≡ map (λ p. read_switch p.0 p.1) (zip held.old numbers.now) }
+    ensures len { length held.new ≡ length held.old }
+    ensures told { Appends out.old (switch_events item (usages_at layout.now item) held.old
+        (map (λ p. read_switch p.0 p.1) (zip held.old numbers.now))) out.new }
+{
+    let mut from = 0;
+    while let Some(index) = next_switch::<C>(held, numbers, from) {
+        let number = numbers.number::<C>(index);
+        take_switch(layout, item, index, &number, held, out);
+        from = index + 1;
+    }
+}
+
+/// A value, as an element's number leaves it.
+fn read_value(before: Option<i64>, has_null: bool, bounds: &Bounds, number: &i64) -> Option<i64>
+    ensures { result
+        ≡ read_value has_null bounds.now.least bounds.now.greatest before number.now }
+{
+    if bounds.least <= *number && *number <= bounds.greatest {
+        Some(*number)
+    } else if has_null {
+        None
+    } else {
+        before
+    }
+}
+
+/// How the values of a variable item are read: whether they can be null, and the logical range.
+#[derive(Clone, Copy)]
+pub(crate) struct Carriable {
+    pub(crate) has_null: bool,
+    pub(crate) bounds: Bounds,
+}
+
+/// Whether a value is as an element's number leaves it. One that is the number is held against its range only where it can
+/// be null.
+fn is_kept(before: Option<i64>, carriable: &Carriable, number: &i64) -> bool
+    ensures { OnTrue result (read_value carriable.now.has_null carriable.now.bounds.least
+        carriable.now.bounds.greatest before number.now ≡ before) }
+{
+    if !carriable.has_null && before == Some(*number) {
+        true
+    } else {
+        read_value(before, carriable.has_null, &carriable.bounds, number) == before
+    }
+}
+
+/// The first value from one on that its number changes.
+#[inline(always)]
+fn next_value<C: FieldCodec>(
+    held: &Values,
+    carriable: &Carriable,
+    numbers: &FieldRun<'_>,
+    from: usize,
+) -> Option<usize>
+    requires numbers { length numbers.now ≡ length held.now }
+    ensures found { FindsKept (λ p. read_value carriable.now.has_null carriable.now.bounds.least
+        carriable.now.bounds.greatest p.0 p.1) held.now numbers.now from (length held.now) result }
+    ensures behind { IfSome result (λ place. place + 1 < 2 ^ 64) }
+{
+    let carriable = *carriable;
+    for index in from..held.len() {
+        let number = numbers.number_by_byte::<C>(index);
+        if !is_kept(held.get(index), &carriable, &number) {
+            return Some(index);
+        }
+    }
+    None
+}
+
+/// The value at an index, as an element's number leaves it, and what it tells.
+fn take_value(
+    layout: &Layout,
+    item: usize,
+    index: usize,
+    carriable: &Carriable,
+    number: &i64,
+    held: &mut Values,
+    out: &mut Vec<Event>,
+)
+    requires index { index < length (usages_at layout.now item) }
+    requires held { length held.old ≡ length (usages_at layout.now item) }
+    requires room { (usage : UsageValue) (before : Option ℤ)
+        → slice_get (usages_at layout.now item) index ≡ Some usage
+        → slice_get held.old index ≡ Some before → HasSpace out.old
+        (value_event (at item index) usage before (read_value carriable.now.has_null
+        carriable.now.bounds.least carriable.now.bounds.greatest before number.now)) }
+    ensures held { (before : Option ℤ) → slice_get held.old index ≡ Some before
+        → held.new ≡ slice_set held.old index (read_value carriable.now.has_null
+        carriable.now.bounds.least carriable.now.bounds.greatest before number.now) }
+    ensures told { (usage : UsageValue) (before : Option ℤ)
+        → slice_get (usages_at layout.now item) index ≡ Some usage
+        → slice_get held.old index ≡ Some before → Appends out.old
+        (value_event (at item index) usage before (read_value carriable.now.has_null
+        carriable.now.bounds.least carriable.now.bounds.greatest before number.now)) out.new }
+{
+    let before = held.get(index);
+    let after = read_value(before, carriable.has_null, &carriable.bounds, number);
+    tell_value(layout, item, index, before, after, out);
+    held.set(index, after);
+}
+
+/// Values, as these numbers leave them, and what they tell. Those of a byte each are read by a loop of their own.
+pub(crate) fn take_values<C: FieldCodec>(
+    layout: &Layout,
+    item: usize,
+    carriable: &Carriable,
+    numbers: &FieldRun<'_>,
+    held: &mut Values,
+    out: &mut Vec<Event>,
+)
+    requires numbers { length numbers.now ≡ length (usages_at layout.now item) }
+    requires held { length held.old ≡ length (usages_at layout.now item) }
+    requires room { HasSpace out.old (value_events item (usages_at layout.now item) held.old
+        (map (λ p. read_value carriable.now.has_null carriable.now.bounds.least
+        carriable.now.bounds.greatest p.0 p.1) (zip held.old numbers.now))) }
+    ensures held { held.new ≡ map (λ p. read_value carriable.now.has_null
+        carriable.now.bounds.least carriable.now.bounds.greatest p.0 p.1)
+        (zip held.old numbers.now) }
+    ensures len { length held.new ≡ length held.old }
+    ensures told { Appends out.old (value_events item (usages_at layout.now item) held.old
+        (map (λ p. read_value carriable.now.has_null carriable.now.bounds.least
+        carriable.now.bounds.greatest p.0 p.1) (zip held.old numbers.now))) out.new }
+{
+    match numbers.bytes(false) {
+        Some(bytes) => {
+            let numbers = FieldRun::of_bytes(bytes, false);
+            take_each_value::<C>(layout, item, carriable, &numbers, held, out)
+        }
+        None => take_each_value::<C>(layout, item, carriable, numbers, held, out),
+    }
+}
+
+/// The same, one by one.
+#[inline(always)]
+fn take_each_value<C: FieldCodec>(
+    layout: &Layout,
+    item: usize,
+    carriable: &Carriable,
+    numbers: &FieldRun<'_>,
+    held: &mut Values,
+    out: &mut Vec<Event>,
+)
+    requires numbers { length numbers.now ≡ length (usages_at layout.now item) }
+    requires held { length held.old ≡ length (usages_at layout.now item) }
+    requires room { HasSpace out.old (value_events item (usages_at layout.now item) held.old
+        (map (λ p. read_value carriable.now.has_null carriable.now.bounds.least
+        carriable.now.bounds.greatest p.0 p.1) (zip held.old numbers.now))) }
+    ensures held { held.new ≡ map (λ p. read_value carriable.now.has_null
+        carriable.now.bounds.least carriable.now.bounds.greatest p.0 p.1)
+        (zip held.old numbers.now) }
+    ensures len { length held.new ≡ length held.old }
+    ensures told { Appends out.old (value_events item (usages_at layout.now item) held.old
+        (map (λ p. read_value carriable.now.has_null carriable.now.bounds.least
+        carriable.now.bounds.greatest p.0 p.1) (zip held.old numbers.now))) out.new }
+{
+    let mut from = 0;
+    while let Some(index) = next_value::<C>(held, carriable, numbers, from) {
+        let number = numbers.number::<C>(index);
+        take_value(layout, item, index, carriable, &number, held, out);
+        from = index + 1;
+    }
+}

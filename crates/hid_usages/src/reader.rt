@@ -1,0 +1,123 @@
+//! The Input reports of one device, read one behind the other.
+
+ghost use Rattle.std.specs.Prelude.{◌≡◌, ◌<◌, ◌≤◌, ◌+◌, length, vec_len, vec_capacity};
+ghost use Rattle.std.specs.Bool.{OnTrue};
+ghost use Rattle.hid_layout.specs.Controls.{items_of, max_events};
+ghost use Rattle.hid_layout.specs.Reports.{IsLayout};
+ghost use Rattle.hid_snapshots.specs.Cells.{FitsView};
+ghost use Rattle.hid_usages.specs.Taking.{TakesReport};
+ghost use Rattle.hid_usages.specs.Reader.{kept_of};
+
+use crate::view::View;
+use arrayvec::ArrayVec;
+use hid_fields::FieldCodec;
+use hid_layout::Layout;
+use hid_snapshots::{Event, ReportFault};
+use std::marker::Model;
+
+/// The layout of a device's reports, and a host's view of its controls. A contract sees both.
+///
+/// A report of the same bytes as the one before, at most 64, which told nothing, isn't read again: it tells nothing
+/// either.
+#[derive(Drop)]
+pub struct Reader {
+    layout: Layout,
+    view: View,
+    /// The bytes of a report that tells nothing and changes nothing of the view; none where no such report is known.
+    still: ArrayVec<u8, 64>,
+}
+
+impl Model for Reader {
+    ghost use Rattle.hid_usages.specs.Reader.{Seen, IsReader};
+
+    ghost Value = { Seen };
+
+    ghost view = { λ r. record { layout = r.layout; view = r.view } };
+
+    ghost invariant = { λ r. IsReader r.layout r.view r.still.items };
+}
+
+/// Whether these are the bytes that are kept, of which there are some.
+fn is_kept(still: &[u8], bytes: &[u8]) -> bool
+    ensures { OnTrue result ((0 < length still.now) × (still.now ≡ bytes.now)) }
+{
+    !still.is_empty() && still == bytes
+}
+
+/// Keeps the bytes of a report that told nothing. Each of the two cases clears by itself: that costs a report that told
+/// something less.
+fn keep(still: &mut ArrayVec<u8, 64>, bytes: &[u8], is_silent: bool)
+    ensures { still.new.items ≡ kept_of is_silent bytes.now }
+{
+    if is_silent {
+        still.clear();
+        let _ = still.try_extend_from_slice(bytes);
+    } else {
+        still.clear();
+    }
+}
+
+impl Reader {
+    /// A reader of reports of this layout, with what a host has read of them so far: a view that suits the layout.
+    pub fn new(layout: Layout, view: View) -> Reader
+        requires { FitsView (items_of layout) view }
+        ensures { result ≡ record { layout = layout; view = view } }
+    {
+        let _items = layout.items(); // with what holds of every layout
+        Reader {
+            layout,
+            view,
+            still: ArrayVec::new(),
+        }
+    }
+
+    /// The layout of the reports.
+    pub fn layout(&self) -> &Layout
+        ensures layout { result.now ≡ self.now.layout }
+        ensures laid { IsLayout self.now.layout }
+    {
+        &self.layout
+    }
+
+    /// The view of the controls.
+    pub fn view(&self) -> &View
+        ensures view { result.now ≡ self.now.view }
+        ensures fits { FitsView (items_of self.now.layout) self.now.view }
+    {
+        &self.view
+    }
+
+    /// Takes the bytes of an Input report into the view, as [`View::take_report`] does, and adds its events (HID 1.11, 5.6
+    /// and 8). The caller has reserved room for `max_events` more; no memory is taken.
+    ///
+    /// # Errors
+    /// Those of [`View::take_report`], which leave the view as it was.
+    pub fn take_report<C: FieldCodec>(
+        &mut self,
+        bytes: &[u8],
+        out: &mut Vec<Event>,
+    ) -> Result<(), ReportFault>
+        requires room { vec_len out.old + max_events (items_of self.old.layout)
+            ≤ vec_capacity out.old }
+        // The view read, and the events; the layout stays.
+        ensures taken { TakesReport self.old.layout bytes.now self.old.view out.old.items result
+            self.new.view out.new.items }
+        ensures layout { self.new.layout ≡ self.old.layout }
+        ensures fits { FitsView (items_of self.new.layout) self.new.view }
+        // At most so many events, in the room that was there.
+        ensures few { vec_len out.new ≤ vec_len out.old + max_events (items_of self.old.layout) }
+        ensures room { vec_capacity out.new ≡ vec_capacity out.old }
+    {
+        if is_kept(&self.still, bytes) {
+            return Ok(());
+        }
+        let told = out.len();
+        match self.view.take_report::<C>(&self.layout, bytes, out) {
+            Ok(()) => {
+                keep(&mut self.still, bytes, out.len() == told);
+                Ok(())
+            }
+            Err(fault) => Err(fault),
+        }
+    }
+}

@@ -1,5 +1,0 @@
-use Rattle.hid_views.proofs.RoomLemmas.{AreWithin}
-use Rattle.hid_views.proofs.view.most_places.Given as goal
-
-abbrev pub invariant-loop-i : goal.invariant-loop-i
-invariant-loop-i l = AreWithin l.cells l.i l.most
