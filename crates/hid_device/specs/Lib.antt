@@ -1,4 +1,4 @@
-pub use Rattle.hid_lives.specs.Standing
+pub use Rattle.hid_bus.specs.Standing
 pub mod Config
 pub mod Inputs
 pub mod Outputs

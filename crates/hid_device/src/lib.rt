@@ -31,7 +31,7 @@
 //!
 //! The promise: a device is made exactly where no cause of [`DeviceCause`] stands ([`Device::new`]); a packet does to it
 //! what `device_after` says, and is answered as `device_answer` says (`device` and `answer` on [`Device::on_packet`]), of
-//! which `specs/Rounds.antt` of `hid_lives` makes rounds and their events; something is armed exactly while a round is open,
+//! which `specs/Rounds.antt` of `hid_bus` makes rounds and their events; something is armed exactly while a round is open,
 //! and it is a piece of the bytes of the part that was fixed for it (`armed` on [`Device::pipe`]); and the two endpoints
 //! leave one another as they were ([`laws::ends_are_apart`]). No call takes memory but [`Device::new`].
 //! ```text

@@ -14,10 +14,10 @@ use Rattle.hid_requests.specs.declared.start.Start.{Start}
 use Rattle.hid_requests.specs.declared.start.Start.TheVariants.{Ready, Cold}
 use Rattle.hid_device.specs.declared.config.Config.{Config}
 use Rattle.hid_host.specs.declared.fault.StackFault.{StackFault}
-use Rattle.hid_steps.specs.declared.step.Step.{Step}
-use Rattle.hid_steps.specs.declared.step.Step.TheVariants.{Change, Frame, Poll, Begin, Control, Halt, Reset}
-use Rattle.hid_steps.specs.declared.step.Delivered.{Delivered}
-use Rattle.hid_steps.specs.Delivered.{from_device}
+use Rattle.hid_bus.specs.declared.step.Step.{Step}
+use Rattle.hid_bus.specs.declared.step.Step.TheVariants.{Change, Frame, Poll, Begin, Control, Halt, Reset}
+use Rattle.hid_bus.specs.declared.step.Delivered.{Delivered}
+use Rattle.hid_bus.specs.Delivered.{from_device}
 use Rattle.hid_stack.specs.declared.rig.TheConstants.{MAX_DEVICES}
 use Rattle.hid_stack.specs.Attaching.{Attaches, member_at_start}
 use Rattle.hid_stack.specs.Headline.{LivesThrough}

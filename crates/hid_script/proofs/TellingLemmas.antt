@@ -10,9 +10,9 @@ use Rattle.hid_requests.specs.declared.boot.Boot.{Boot}
 use Rattle.hid_requests.specs.declared.start.Start.{Start}
 use Rattle.hid_device.specs.declared.config.Config.{Config}
 use Rattle.hid_host.specs.declared.fault.StackFault.{StackFault}
-use Rattle.hid_steps.specs.declared.step.Step.{Step}
-use Rattle.hid_steps.specs.declared.step.Step.TheVariants.{Change}
-use Rattle.hid_steps.specs.declared.step.Step.TheVariants as step
+use Rattle.hid_bus.specs.declared.step.Step.{Step}
+use Rattle.hid_bus.specs.declared.step.Step.TheVariants.{Change}
+use Rattle.hid_bus.specs.declared.step.Step.TheVariants as step
 use Rattle.hid_stack.specs.Members.{Member}
 use Rattle.hid_stack.specs.Attaching.{member_at_start}
 use Rattle.hid_script.specs.declared.fault.Cause.{Cause}

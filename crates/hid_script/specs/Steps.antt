@@ -14,9 +14,9 @@ use Rattle.hid_requests.specs.declared.boot.Boot.{Boot}
 use Rattle.hid_requests.specs.declared.start.Start.{Start}
 use Rattle.hid_device.specs.declared.config.Config.{Config}
 use Rattle.hid_host.specs.declared.fault.StackFault.{StackFault}
-use Rattle.hid_steps.specs.declared.step.Step.{Step}
-use Rattle.hid_steps.specs.declared.step.Step.TheVariants.{Change, Control}
-use Rattle.hid_steps.specs.declared.step.Told.{Told}
+use Rattle.hid_bus.specs.declared.step.Step.{Step}
+use Rattle.hid_bus.specs.declared.step.Step.TheVariants.{Change, Control}
+use Rattle.hid_bus.specs.declared.step.Told.{Told}
 use Rattle.hid_stack.specs.Members.{Member}
 use Rattle.hid_stack.specs.Rig.{member_at, refusal, bus_after, delivered_at}
 use Rattle.hid_stack.specs.Tells.{Tells}

@@ -5,7 +5,7 @@ use Rattle.hid_descriptor.specs.declared.fault.Cause as layouts
 use Rattle.hid_descriptor.specs.declared.fault.Cause.TheVariants as causes_of
 use Rattle.hid_host.specs.declared.fault.StackFault.{StackFault}
 use Rattle.hid_host.specs.declared.fault.StackFault.TheVariants as stack
-use Rattle.hid_steps.specs.declared.step.Step.TheVariants as step
+use Rattle.hid_bus.specs.declared.step.Step.TheVariants as step
 use Rattle.hid_script.specs.declared.fault.Cause.{Cause}
 use Rattle.hid_script.specs.declared.fault.Cause.TheVariants as causes
 use Rattle.hid_script.specs.declared.fault.StepFault.TheVariants as faults

@@ -7,7 +7,7 @@ ghost use Rattle.hid_script.specs.Steps.{TellsLayout, TellsValues, TellsDevice, 
 ghost use Rattle.hid_script.specs.Telling.{Once, times, CarriesOut, Begins, LineTells, LineBegins};
 ghost use Rattle.hid_script.specs.Place.{AppendsTold, AppendsOnce};
 ghost use Rattle.hid_script.specs.Streams.{EndsText};
-ghost use Rattle.hid_steps.specs.declared.step.Step.TheVariants as Taking;
+ghost use Rattle.hid_bus.specs.declared.step.Step.TheVariants as Taking;
 
 use super::fault::{Cause, Options};
 use super::output::write_text;

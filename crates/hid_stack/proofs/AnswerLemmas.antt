@@ -23,8 +23,8 @@ use Rattle.hid_device.specs.Making as making
 use Rattle.hid_host.specs.declared.fault.StackFault.{StackFault}
 use Rattle.hid_host.specs.declared.fault.StackFault.TheVariants.{NoDevice, NotReady, Refused, Control, BadDescriptor, Report, TooManyDevices, Memory}
 use Rattle.hid_host.specs.declared.fault.DescriptorFault.TheVariants.{Info, ReportLength, Layout, Device}
-use Rattle.hid_steps.specs.declared.step.Step.TheVariants.{Change, Frame, Poll, Begin, Control, Halt, Reset}
-use Rattle.hid_steps.specs.declared.step.Told.{Told}
+use Rattle.hid_bus.specs.declared.step.Step.TheVariants.{Change, Frame, Poll, Begin, Control, Halt, Reset}
+use Rattle.hid_bus.specs.declared.step.Told.{Told}
 use Rattle.hid_stack.specs.Attaching.{Suits, wants_memory, Attaches, IsBefore, IsLeast, Finds, member_at_start}
 use Rattle.hid_stack.specs.Laws.{TellsOneThing, FindsOneControl, AttachesOneDevice}
 use Rattle.hid_requests.specs.declared.start.Start.{Start}
@@ -32,7 +32,7 @@ use Rattle.hid_stack.specs.Members.{Member}
 use Rattle.hid_stack.specs.Rig.{member_at}
 use Rattle.hid_host.specs.declared.host.Transfer.{Transfer}
 use Rattle.hid_host.specs.Host.{running}
-use Rattle.hid_lives.specs.Stations.{Station}
+use Rattle.hid_bus.specs.Stations.{Station}
 use Rattle.hid_stack.specs.Tells.{TellsPoll, TellsTry}
 use Rattle.hid_host.proofs.ReadyLemmas.{refused_unless}
 

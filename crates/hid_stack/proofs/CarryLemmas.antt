@@ -14,7 +14,7 @@ use Rattle.hid_layout.specs.Laying.{Lays}
 use Rattle.hid_requests.specs.declared.request.Request.{Request}
 use Rattle.hid_requests.specs.Asking.{FitsRequest, sends_of}
 use Rattle.hid_requests.proofs.AskedLemmas.{sends_so}
-use Rattle.hid_lives.specs.Rounds.{OwnStep, Changes, Frame, Polls}
+use Rattle.hid_bus.specs.Rounds.{OwnStep, Changes, Frame, Polls}
 use Rattle.hid_requests.specs.declared.codes.TheConstants.{REPORT_ENDPOINT as ENDPOINT}
 use Rattle.hid_device.specs.Deciding.{core_table}
 use Rattle.hid_host.specs.declared.fault.StackFault.{StackFault}

@@ -20,8 +20,8 @@ use Rattle.hid_requests.specs.declared.request.Request.{Request}
 use Rattle.hid_requests.specs.declared.request.Request.TheVariants as requests
 use Rattle.hid_requests.specs.Asking.{sends_of}
 use Rattle.hid_requests.proofs.AskedLemmas.{sends_so}
-use Rattle.hid_lives.specs.Rounds.{OwnStep, Changes, Frame, Polls}
-use Rattle.hid_lives.specs.Stations.{Open, Station, expected}
+use Rattle.hid_bus.specs.Rounds.{OwnStep, Changes, Frame, Polls}
+use Rattle.hid_bus.specs.Stations.{Open, Station, expected}
 use Rattle.hid_requests.specs.declared.codes.TheConstants.{REPORT_ENDPOINT as ENDPOINT}
 use Rattle.hid_device.specs.declared.decisions.Pending.{Pending}
 use Rattle.hid_device.specs.declared.decisions.Pending.TheVariants as pendings

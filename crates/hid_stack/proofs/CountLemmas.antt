@@ -18,8 +18,8 @@ use Rattle.usb_control.proofs.LawLemmas.{kept_is}
 use Rattle.usb_control.proofs.MeanwhileLemmas.{goes_by, is_running_runs, runs_so}
 use Rattle.hid_requests.specs.declared.request.Asking.{Asking}
 use Rattle.hid_requests.specs.declared.request.Request.{Request}
-use Rattle.hid_lives.specs.Lives.{Deed}
-use Rattle.hid_lives.specs.Rounds.{OwnStep, Changes, Frame, Polls}
+use Rattle.hid_bus.specs.Lives.{Deed}
+use Rattle.hid_bus.specs.Rounds.{OwnStep, Changes, Frame, Polls}
 use Rattle.hid_device.specs.declared.decisions.Pending.{Pending}
 use Rattle.hid_device.specs.declared.decisions.Pending.TheVariants as pendings
 use Rattle.hid_device.specs.Core.{CoreState}

@@ -20,7 +20,7 @@ use Rattle.hid_requests.specs.declared.request.Request.{Request}
 use Rattle.hid_requests.specs.declared.request.Request.TheVariants as requests
 use Rattle.hid_requests.specs.Asking.{protocol_of, row_of, sends_of, setup_for}
 use Rattle.hid_requests.specs.Boot.{is_boot}
-use Rattle.hid_lives.specs.Lives.{Deed}
+use Rattle.hid_bus.specs.Lives.{Deed}
 use Rattle.hid_device.specs.declared.decisions.Pending.{Pending}
 use Rattle.hid_device.specs.declared.decisions.Pending.TheVariants as pendings
 use Rattle.hid_device.specs.Core.{CoreState}

@@ -7,9 +7,9 @@ use Rattle.hid_layout.specs.Layout.{Contents}
 use Rattle.hid_snapshots.specs.declared.cell.Cell.{Cell}
 use Rattle.hid_snapshots.specs.declared.event.Event.{Event}
 use Rattle.hid_snapshots.specs.Views.{drops_between}
-use Rattle.hid_lives.specs.Lives.{Deed, Own, Idles, Configures, cut_events}
-use Rattle.hid_lives.specs.Lives as lives
-use Rattle.hid_lives.specs.Stations.{Station, is_whole}
+use Rattle.hid_bus.specs.Lives.{Deed, Own, Idles, Configures, cut_events}
+use Rattle.hid_bus.specs.Lives as lives
+use Rattle.hid_bus.specs.Stations.{Station, is_whole}
 use Rattle.hid_snapshots.specs.Pieces.{is_last_piece}
 use Rattle.hid_device.specs.Core.{CoreState, IsSound, halted_core, piece_at, round_of}
 use Rattle.hid_device.specs.Device.{DeviceState, core_of, halted_device}

@@ -11,11 +11,11 @@ use Rattle.hid_layout.specs.Controls.{Item, items_of}
 use Rattle.hid_layout.specs.Layout.{Contents}
 use Rattle.hid_requests.specs.declared.request.Request.{Request}
 use Rattle.hid_requests.specs.declared.request.Request.TheVariants as requests
-use Rattle.hid_lives.specs.Standing.{due_where}
-use Rattle.hid_lives.specs.Rounds.{Changes, Frame, Polls}
-use Rattle.hid_lives.specs.Stations.{Open, Station, after, answered, expected, opened, opened_by, round_polled}
-use Rattle.hid_lives.specs.Lives.{Configures, Deed, Ended, Began, Cut, Evened, Gone, Happening, Idles, Own, befallen_all, course_after, course_behind, ended, flips, happenings, happens_by, toggle_from, toggle_past}
-use Rattle.hid_lives.specs.Lives as lives
+use Rattle.hid_bus.specs.Standing.{due_where}
+use Rattle.hid_bus.specs.Rounds.{Changes, Frame, Polls}
+use Rattle.hid_bus.specs.Stations.{Open, Station, after, answered, expected, opened, opened_by, round_polled}
+use Rattle.hid_bus.specs.Lives.{Configures, Deed, Ended, Began, Cut, Evened, Gone, Happening, Idles, Own, befallen_all, course_after, course_behind, ended, flips, happenings, happens_by, toggle_from, toggle_past}
+use Rattle.hid_bus.specs.Lives as lives
 use Rattle.hid_host.specs.declared.fault.StackFault.{StackFault}
 use Rattle.hid_host.specs.declared.fault.StackFault.TheVariants.{Control, NotReady}
 use Rattle.usb_control.specs.declared.fault.ControlFault.TheVariants.{Busy}
@@ -24,15 +24,15 @@ use Rattle.hid_host.specs.declared.phase.HostState.{HostState}
 use Rattle.hid_host.specs.declared.phase.HostState.TheVariants as states
 use Rattle.hid_host.specs.Host.{clearing_behind, clearing_with, cuts_round, running, running_at}
 use Rattle.hid_host.specs.Phase.{may_begin, may_poll}
-use Rattle.hid_steps.specs.declared.step.Step.{Step}
+use Rattle.hid_bus.specs.declared.step.Step.{Step}
 use Rattle.hid_stack.specs.Expecting.{AllHoldToggles, HoldsToggle}
 use Rattle.std.proofs.lemmas.List.Elements.{All-get_or, All-map, All-push, All-set, All-weaker}
 use Rattle.std.proofs.lemmas.Option.{get_or_from_slice_get, slice_get_within}
 use Rattle.hid_device.specs.declared.config.Config.{Config}
 use Rattle.hid_requests.specs.declared.start.Start.{Start}
 use Rattle.hid_requests.specs.declared.start.Start.TheVariants as starts
-use Rattle.hid_steps.specs.declared.step.Step.TheVariants.{Change as ChangeStep, Frame as FrameStep, Poll as PollStep, Begin as BeginStep, Control as ControlStep, Halt as HaltStep, Reset as ResetStep}
-use Rattle.hid_steps.specs.declared.step.Told.{Told}
+use Rattle.hid_bus.specs.declared.step.Step.TheVariants.{Change as ChangeStep, Frame as FrameStep, Poll as PollStep, Begin as BeginStep, Control as ControlStep, Halt as HaltStep, Reset as ResetStep}
+use Rattle.hid_bus.specs.declared.step.Told.{Told}
 use Rattle.hid_host.specs.declared.fault.StackFault.TheVariants as faults
 use Rattle.hid_stack.specs.Attaching.{member_at_start}
 use Rattle.hid_stack.specs.Members.{Begins, Controls, Halts, Member, MemberStep, Resets, Scheduled, befallen_by, begin_refusal_at, begun_unless, control_at, ends_tried_at, expects_behind, expects_of, halted_if, held_at, member_after, polled_deed, polls_it, state_at, state_behind, tried_deed, tried_of, tried_to, unconcluded_of}

@@ -11,24 +11,24 @@ use Rattle.hid_layout.specs.Controls.{items_of}
 use Rattle.hid_layout.specs.Layout.{Contents}
 use Rattle.hid_snapshots.specs.declared.event.Event.{Event}
 use Rattle.hid_snapshots.proofs.ItemLemmas.{set_here, set_there}
-use Rattle.hid_lives.specs.Rounds.{OwnStep, Changes, Polls}
-use Rattle.hid_lives.specs.Rounds as own_steps
-use Rattle.hid_lives.specs.Following.{FollowsLife, course_from}
-use Rattle.hid_lives.specs.Lives.{course_behind, happenings, told_in}
-use Rattle.hid_lives.specs.Stations.{Station, after_all, events_in}
+use Rattle.hid_bus.specs.Rounds.{OwnStep, Changes, Polls}
+use Rattle.hid_bus.specs.Rounds as own_steps
+use Rattle.hid_bus.specs.Following.{FollowsLife, course_from}
+use Rattle.hid_bus.specs.Lives.{course_behind, happenings, told_in}
+use Rattle.hid_bus.specs.Stations.{Station, after_all, events_in}
 use Rattle.hid_host.specs.declared.phase.HostState.{HostState}
 use Rattle.hid_host.specs.declared.phase.HostState.TheVariants.{Ready}
 use Rattle.hid_host.specs.Phase.{may_poll}
-use Rattle.hid_steps.specs.declared.step.Step.{Step}
-use Rattle.hid_steps.specs.declared.step.Step.TheVariants.{Change, Frame, Poll, Begin, Control, Halt, Reset}
-use Rattle.hid_steps.specs.declared.step.Delivered.{Delivered}
-use Rattle.hid_steps.specs.Delivered.{from_device}
-use Rattle.hid_steps.proofs.DeliveredLemmas.{from_append}
+use Rattle.hid_bus.specs.declared.step.Step.{Step}
+use Rattle.hid_bus.specs.declared.step.Step.TheVariants.{Change, Frame, Poll, Begin, Control, Halt, Reset}
+use Rattle.hid_bus.specs.declared.step.Delivered.{Delivered}
+use Rattle.hid_bus.specs.Delivered.{from_device}
+use Rattle.hid_bus.proofs.DeliveredLemmas.{from_append}
 use Rattle.hid_stack.specs.Members.{Member, MemberStep, Scheduled, Begins, Controls, Halts, Resets, deed_at, deeds_in, events_by, member_after, member_after_all}
 use Rattle.hid_stack.specs.Rig.{HasOnlySchedule, member_at, with_member, one_after, bus_after, tagged, one_delivers, delivered_at, bus_after_all, delivered_in, is_scheduled, member_step, member_steps, own_step, own, IsIsolated}
 use Rattle.hid_stack.specs.Headline.{DeliversChanges, DevicesLive, KeepsToRounds}
-use Rattle.hid_lives.proofs.LifeLemmas.{lives_on}
-use Rattle.hid_lives.proofs.ScheduleLemmas.{delivers_epoch, own_told as own_told_in, stands_by_rounds}
+use Rattle.hid_bus.proofs.LifeLemmas.{lives_on}
+use Rattle.hid_bus.proofs.ScheduleLemmas.{delivers_epoch, own_told as own_told_in, stands_by_rounds}
 use Rattle.hid_stack.proofs.MemberLemmas.{layout_stays, ready_deeds, ready_stands, stations, told_on}
 
 same_places : (d e : ℕ) → eqb d 0 ≡ false → eqb e 0 ≡ false → d - 1 ≡ e - 1 → d ≡ e

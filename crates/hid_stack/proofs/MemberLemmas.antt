@@ -9,11 +9,11 @@ use Rattle.usb_control.specs.Computed.{effect_reached}
 use Rattle.usb_control.specs.Device.{Answers, Applies, Decides, DevControlState, Effect}
 use Rattle.usb_control.specs.Host.{HostTransferState}
 use Rattle.hid_requests.specs.declared.request.Request.{Request}
-use Rattle.hid_lives.specs.Lives.{Deed, Own, Idles, Configures, befallen, befallen_all, owns, told_in}
-use Rattle.hid_lives.specs.Lives as lives
-use Rattle.hid_lives.specs.Motion.{AreBetweenRounds}
-use Rattle.hid_lives.specs.Rounds.{OwnStep, Changes, Frame, Polls}
-use Rattle.hid_lives.specs.Stations.{Station, after_all}
+use Rattle.hid_bus.specs.Lives.{Deed, Own, Idles, Configures, befallen, befallen_all, owns, told_in}
+use Rattle.hid_bus.specs.Lives as lives
+use Rattle.hid_bus.specs.Motion.{AreBetweenRounds}
+use Rattle.hid_bus.specs.Rounds.{OwnStep, Changes, Frame, Polls}
+use Rattle.hid_bus.specs.Stations.{Station, after_all}
 use Rattle.hid_host.specs.declared.fault.StackFault.{StackFault}
 use Rattle.hid_host.specs.declared.host.Transfer.{Transfer}
 use Rattle.hid_host.specs.Host.{cuts_round, running}

@@ -15,19 +15,19 @@ use Rattle.usb_control.specs.declared.fault.ControlFault.TheVariants.{NoTransfer
 use Rattle.usb_control.specs.declared.host.Progress.{Progress}
 use Rattle.usb_control.specs.Host.{progress_of}
 use Rattle.hid_requests.specs.declared.request.Request.{Request}
-use Rattle.hid_lives.specs.Rounds.{Changes}
-use Rattle.hid_lives.specs.Standing.{Standing}
+use Rattle.hid_bus.specs.Rounds.{Changes}
+use Rattle.hid_bus.specs.Standing.{Standing}
 use Rattle.hid_host.specs.declared.fault.StackFault.{StackFault}
 use Rattle.hid_host.specs.declared.fault.StackFault.TheVariants.{NoDevice, Refused, Memory}
 use Rattle.hid_host.specs.declared.fault.StackFault.TheVariants as faults
 use Rattle.hid_host.specs.declared.host.Transfer.{Transfer}
 use Rattle.hid_host.specs.Host.{may_cut, running}
-use Rattle.hid_steps.specs.declared.step.Delivered.{Delivered}
-use Rattle.hid_steps.specs.declared.step.Step.{Step}
-use Rattle.hid_steps.specs.declared.step.Step.TheVariants.{Change as ChangeStep, Poll, Begin, Control}
-use Rattle.hid_steps.specs.declared.step.Told.{Told}
-use Rattle.hid_steps.specs.declared.step.Told.TheVariants.{Quiet}
-use Rattle.hid_steps.specs.declared.step.Told.TheVariants as tellings
+use Rattle.hid_bus.specs.declared.step.Delivered.{Delivered}
+use Rattle.hid_bus.specs.declared.step.Step.{Step}
+use Rattle.hid_bus.specs.declared.step.Step.TheVariants.{Change as ChangeStep, Poll, Begin, Control}
+use Rattle.hid_bus.specs.declared.step.Told.{Told}
+use Rattle.hid_bus.specs.declared.step.Told.TheVariants.{Quiet}
+use Rattle.hid_bus.specs.declared.step.Told.TheVariants as tellings
 use Rattle.hid_stack.specs.Members.{Member, MemberStep, Scheduled, Controls, begin_refusal_at, deed_at, ends_tried_at, events_by, member_after, polls_it, tried_of, unconcluded_of}
 use Rattle.hid_stack.specs.Rig.{HasRoomToTry, TakesMemory, TriesWithMemory, member_at, most_events, most_tried, with_member, one_after, one_delivers, one_unconcluded, tagged, change_refusal, control_refusal, poll_refusal, refusal, refused_after, IsRefusal, HasRoomFor}
 use Rattle.hid_stack.specs.Slot.{TriesTransfer}

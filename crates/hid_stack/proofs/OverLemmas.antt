@@ -20,8 +20,8 @@ use Rattle.hid_host.specs.Host.{HostEnd, polls_at, ready_after}
 use Rattle.hid_host.specs.Phase.{IfReady, IsReady}
 use Rattle.hid_host.specs.Ready.{Known, told_of, events_behind}
 use Rattle.hid_layout.specs.Controls.{items_of, max_events}
-use Rattle.hid_steps.specs.declared.step.Told.{Told}
-use Rattle.hid_steps.specs.declared.step.Told.TheVariants.{Polled}
+use Rattle.hid_bus.specs.declared.step.Told.{Told}
+use Rattle.hid_bus.specs.declared.step.Told.TheVariants.{Polled}
 use Rattle.hid_stack.specs.Polls.{Acknowledges, Asks, Ends, GoesByPackets, IsAnswer, PollsOver, SendsNothing, spelled, told_with}
 
 -- what is read of the bytes that arrive is what is read of the packet

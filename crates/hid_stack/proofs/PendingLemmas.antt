@@ -9,7 +9,7 @@ use Rattle.usb_control.specs.Meanwhile.{is_running}
 use Rattle.hid_requests.specs.declared.request.Request.{Request}
 use Rattle.hid_requests.specs.declared.request.Request.TheVariants as requests
 use Rattle.hid_layout.specs.Laying.{Lays}
-use Rattle.hid_lives.specs.Rounds.{OwnStep}
+use Rattle.hid_bus.specs.Rounds.{OwnStep}
 use Rattle.hid_host.specs.declared.fault.StackFault.{StackFault}
 use Rattle.hid_host.specs.declared.host.Transfer.{Transfer}
 use Rattle.hid_host.specs.declared.phase.HostPhase.{HostPhase}

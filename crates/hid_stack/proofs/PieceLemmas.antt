@@ -19,7 +19,7 @@ use Rattle.hid_usages.specs.Reading.{bytes_awaited, first_byte, is_input_with, r
 use Rattle.hid_usages.specs.Taking.{read_view, read_events}
 use Rattle.hid_snapshots.specs.Views.{seen}
 use Rattle.usb_transact.specs.declared.host.Took.TheVariants.{Fresh}
-use Rattle.hid_lives.specs.Rounds.{part_events}
+use Rattle.hid_bus.specs.Rounds.{part_events}
 use Rattle.hid_host.specs.Ready.{Known, bytes_with, collected_with, data_read, ends_with, events_behind, events_read, is_whole, known_behind, read_or_fault, told_of, told_read, view_read, view_with}
 
 -- ---- how long a report is, by the first of its bytes that came

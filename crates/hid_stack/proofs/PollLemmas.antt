@@ -26,14 +26,14 @@ use Rattle.usb_transact.specs.Taken.{taken}
 use Rattle.usb_transact.specs.Exchange.{took_where}
 use Rattle.usb_transact.proofs.TableLemmas.{read_whole, read_lost, took_answer}
 use Rattle.hid_requests.specs.declared.codes.TheConstants.{REPORT_ENDPOINT as ENDPOINT}
-use Rattle.hid_lives.specs.Standing.{due_where}
+use Rattle.hid_bus.specs.Standing.{due_where}
 use Rattle.std.specs.Prelude.{unwrap_or}
 use Rattle.hid_device.specs.Core.{CoreState, IsSound, opened_core_if, opening_of, closed_core, left_open, piece_armed}
 use Rattle.hid_device.specs.Device.{DeviceState, passed, polled_device}
 use Rattle.hid_device.proofs.AckLemmas.{sound_at_piece, sound_closed}
 use Rattle.hid_host.specs.declared.fault.StackFault.{StackFault}
-use Rattle.hid_steps.specs.declared.step.Told.{Told}
-use Rattle.hid_steps.specs.declared.step.Told.TheVariants.{Polled}
+use Rattle.hid_bus.specs.declared.step.Told.{Told}
+use Rattle.hid_bus.specs.declared.step.Told.TheVariants.{Polled}
 use Rattle.hid_host.specs.declared.phase.HostPhase.TheVariants.{Ready}
 use Rattle.hid_host.specs.Host.{HostEnd, ready_after}
 use Rattle.hid_host.specs.declared.phase.HostState.TheVariants as states
@@ -41,8 +41,8 @@ use Rattle.hid_stack.specs.Members.{Member, got_in, got_of}
 use Rattle.hid_stack.specs.Slot.{joined, joint, IsEven, ArePaired, IsPair}
 use Rattle.hid_host.specs.Ready.{Known, told_of, events_behind}
 use Rattle.hid_stack.specs.Polls.{Hears, HearsAck, Ends, spelled, told_with}
-use Rattle.hid_lives.specs.Rounds.{part_events}
-use Rattle.hid_lives.specs.Stations.{Station, Open, opened, opened_by, answered, round_events}
+use Rattle.hid_bus.specs.Rounds.{part_events}
+use Rattle.hid_bus.specs.Stations.{Station, Open, opened, opened_by, answered, round_events}
 use Rattle.hid_stack.specs.Tells.{piece_shown, told_by}
 use Rattle.hid_stack.proofs.PieceLemmas.{Reads, TakesPiece, more_so, payload, taking, takes_piece, up_to}
 

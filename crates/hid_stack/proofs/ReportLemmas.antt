@@ -7,10 +7,10 @@ use Rattle.hid_snapshots.specs.declared.event.Event.{Event}
 use Rattle.hid_snapshots.specs.Views.{seen}
 use Rattle.usb_transact.specs.declared.transaction.Fate.{Fate}
 use Rattle.usb_transact.specs.declared.transaction.Fate.TheVariants.{Clean, TokenLost, ReplyLost, AckLost}
-use Rattle.hid_lives.specs.Lives.{Deed, Own, Idles, Configures, Halts, Clears, Resets, befallen}
-use Rattle.hid_lives.specs.Rounds.{Changes, Frame, Polls, part_events, reaches_host}
-use Rattle.hid_lives.specs.Standing.{due_where}
-use Rattle.hid_lives.specs.Stations.{Open, Station, answered, arrived, completes, is_last, next_piece, opened, opened_by, round_events}
+use Rattle.hid_bus.specs.Lives.{Deed, Own, Idles, Configures, Halts, Clears, Resets, befallen}
+use Rattle.hid_bus.specs.Rounds.{Changes, Frame, Polls, part_events, reaches_host}
+use Rattle.hid_bus.specs.Standing.{due_where}
+use Rattle.hid_bus.specs.Stations.{Open, Station, answered, arrived, completes, is_last, next_piece, opened, opened_by, round_events}
 use Rattle.hid_stack.specs.Members.{Member, MemberStep, Scheduled, befallen_by, deed_at, events_by, polled_deed, polls_it}
 use Rattle.hid_stack.specs.Reports.{IsSameRound, IsWholeOrNothing, KeepsToRound, TellsBy, is_missing_last}
 use Rattle.hid_stack.proofs.MemberLemmas.{station_is}

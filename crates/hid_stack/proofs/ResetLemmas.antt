@@ -8,9 +8,9 @@ use Rattle.hid_snapshots.specs.declared.cell.Cell.{Cell}
 use Rattle.hid_snapshots.specs.declared.event.Event.{Event}
 use Rattle.hid_snapshots.specs.Views.{changes_between, changes_from, drops_between}
 use Rattle.hid_usages.proofs.CrossingLemmas.{same_cell}
-use Rattle.hid_lives.specs.Lives.{befallen, reset_events}
-use Rattle.hid_lives.specs.Lives as lives
-use Rattle.hid_lives.specs.Stations.{Station, is_whole}
+use Rattle.hid_bus.specs.Lives.{befallen, reset_events}
+use Rattle.hid_bus.specs.Lives as lives
+use Rattle.hid_bus.specs.Stations.{Station, is_whole}
 use Rattle.hid_snapshots.specs.Pieces.{is_last_piece}
 use Rattle.hid_device.specs.Core.{CoreState, IsSound, piece_at, reset_core, round_of}
 use Rattle.hid_device.specs.Device.{DeviceState, core_of, reset_device}

@@ -6,8 +6,8 @@ use Rattle.std.proofs.lemmas.List.Elements.{All-get_or, All-set}
 use Rattle.hid_layout.specs.Controls.{items_of}
 use Rattle.hid_layout.specs.Layout.{Contents}
 use Rattle.hid_device.specs.declared.config.Config.{Config}
-use Rattle.hid_lives.specs.Rounds.{Frame}
-use Rattle.hid_steps.specs.declared.step.Step.TheVariants.{Frame as FrameStep}
+use Rattle.hid_bus.specs.Rounds.{Frame}
+use Rattle.hid_bus.specs.declared.step.Step.TheVariants.{Frame as FrameStep}
 use Rattle.hid_host.specs.declared.fault.StackFault.{StackFault}
 use Rattle.usb_transact.specs.declared.transaction.Fate.{Fate}
 use Rattle.usb_control.specs.declared.host.Progress.{Progress}
@@ -20,7 +20,7 @@ use Rattle.hid_stack.specs.Members.{Member, MemberStep, Scheduled, Controls, mem
 use Rattle.hid_stack.specs.Slot.{TriesTransfer}
 use Rattle.hid_stack.specs.Expecting.{AllHoldToggles}
 use Rattle.hid_stack.specs.Sums.{AllHaveMotions}
-use Rattle.hid_lives.proofs.MotionLemmas.{fresh_has}
+use Rattle.hid_bus.proofs.MotionLemmas.{fresh_has}
 use Rattle.hid_stack.proofs.HoldLemmas.{bus_holds}
 use Rattle.hid_stack.proofs.SumLemmas.{HasItsMotions, after_member, after_unconcluded, bus_has, attached_has}
 

@@ -9,11 +9,11 @@ use Rattle.std.proofs.lemmas.Option.{get_or_from_slice_get}
 use Rattle.std.proofs.lemmas.Simd.{map-map}
 use Rattle.hid_layout.specs.Controls.{items_of, max_events}
 use Rattle.hid_layout.specs.Layout.{Contents}
-use Rattle.hid_lives.specs.Rounds.{Changes, Polls}
-use Rattle.hid_lives.specs.Rounds as own_steps
-use Rattle.hid_steps.specs.declared.step.Step.{Step}
-use Rattle.hid_steps.specs.declared.step.Step.TheVariants.{Change, Frame, Poll, Begin, Control, Halt, Reset}
-use Rattle.hid_steps.specs.declared.step.Told.{Told}
+use Rattle.hid_bus.specs.Rounds.{Changes, Polls}
+use Rattle.hid_bus.specs.Rounds as own_steps
+use Rattle.hid_bus.specs.declared.step.Step.{Step}
+use Rattle.hid_bus.specs.declared.step.Step.TheVariants.{Change, Frame, Poll, Begin, Control, Halt, Reset}
+use Rattle.hid_bus.specs.declared.step.Told.{Told}
 use Rattle.hid_host.specs.Host.{running}
 use Rattle.hid_stack.specs.Members.{Member, MemberStep, Scheduled, Begins, Controls, Halts, Resets, member_after}
 use Rattle.hid_stack.specs.Rig.{AreScheduled, member_at, with_member, one_after, bus_after, bus_after_all, HasRoomAt, HasRoomFor, HasRoomToTry, is_scheduled, most_events, most_in, refusal, refused_after, stopped_after, IsRefusal, NoneIsRefused, StopsAt}

@@ -10,15 +10,15 @@ use Rattle.usb_transact.specs.declared.transaction.Fate.{Fate}
 use Rattle.usb_control.specs.declared.host.Progress.{Progress}
 use Rattle.hid_requests.specs.declared.request.Request.{Request}
 use Rattle.hid_requests.specs.Asking.{FitsRequest}
-use Rattle.hid_lives.specs.Rounds.{Changes, Polls, Frame as Frames}
+use Rattle.hid_bus.specs.Rounds.{Changes, Polls, Frame as Frames}
 use Rattle.hid_host.specs.declared.fault.StackFault.{StackFault}
 use Rattle.hid_host.specs.declared.fault.StackFault.TheVariants.{NoDevice, Memory}
 use Rattle.hid_host.specs.Host.{may_cut, running}
-use Rattle.hid_steps.specs.declared.step.Delivered.{Delivered}
-use Rattle.hid_steps.specs.declared.step.Step.{Step}
-use Rattle.hid_steps.specs.declared.step.Step.TheVariants.{Change as ChangeStep, Frame, Poll, Begin, Control, Halt, Reset}
-use Rattle.hid_steps.specs.declared.step.Told.{Told}
-use Rattle.hid_steps.specs.declared.step.Told.TheVariants.{Quiet}
+use Rattle.hid_bus.specs.declared.step.Delivered.{Delivered}
+use Rattle.hid_bus.specs.declared.step.Step.{Step}
+use Rattle.hid_bus.specs.declared.step.Step.TheVariants.{Change as ChangeStep, Frame, Poll, Begin, Control, Halt, Reset}
+use Rattle.hid_bus.specs.declared.step.Told.{Told}
+use Rattle.hid_bus.specs.declared.step.Told.TheVariants.{Quiet}
 use Rattle.hid_stack.specs.Members.{Member, MemberStep, Scheduled, Begins, Controls, Halts, Resets, begin_refusal_at, deed_at, events_by, member_after, polls_it}
 use Rattle.hid_stack.specs.Rig.{FitsStep, HasRoomFor, HasRoomToTry, IsRefusal, TakesMemory, bus_after, delivered_at, member_at, most_events, most_tried, one_after, one_delivers, poll_refusal, refusal, refused_after, tagged, with_member}
 use Rattle.hid_stack.specs.Slot.{TriesTransfer}

@@ -6,7 +6,7 @@ use Rattle.hid_layout.specs.Controls.{Item, items_of}
 use Rattle.hid_layout.specs.Layout.{Contents}
 use Rattle.hid_snapshots.specs.declared.cell.Cell.{Cell}
 use Rattle.usb_transact.specs.Host.{HostPipeState}
-use Rattle.hid_lives.specs.Stations.{Open}
+use Rattle.hid_bus.specs.Stations.{Open}
 use Rattle.hid_requests.specs.declared.codes.TheConstants.{REPORT_ENDPOINT as ENDPOINT}
 use Rattle.hid_device.specs.Device.{DeviceState, core_of}
 use Rattle.hid_host.specs.declared.host.Transfer.{Transfer}

@@ -14,7 +14,7 @@ use Rattle.hid_layout.specs.Controls.{Item, items_of, max_events}
 use Rattle.hid_snapshots.specs.declared.change.Change.{Change}
 use Rattle.hid_snapshots.specs.declared.change.ChangeFault.{ChangeFault}
 use Rattle.hid_snapshots.specs.Snapshots.{changed}
-use Rattle.hid_lives.specs.Standing.{Standing, after_change}
+use Rattle.hid_bus.specs.Standing.{Standing, after_change}
 use Rattle.hid_descriptor.specs.Laws.{HasOneReading, AcceptsNoRefused}
 use Rattle.hid_layout.specs.Layout.{Contents, layout_of}
 use Rattle.hid_layout.specs.Reports.{IsLayout}
@@ -39,7 +39,7 @@ use Rattle.hid_host.specs.Conclusions.{IsNoLayout}
 use Rattle.hid_host.specs.Host.{HostEnd, cold_host, cuts_round, may_cut, ready_host}
 use Rattle.hid_host.specs.declared.phase.HostPhase.{HostPhase}
 use Rattle.hid_host.specs.declared.phase.HostPhase.TheVariants.{Cold, Described, Parsed, Ready}
-use Rattle.hid_steps.specs.declared.step.Delivered.{Delivered}
+use Rattle.hid_bus.specs.declared.step.Delivered.{Delivered}
 use Rattle.hid_stack.specs.Members.{Member, tried_to}
 use Rattle.hid_stack.specs.Rig.{HasRoomToTry, tagged}
 use Rattle.hid_stack.specs.Slot.{joint, round_between, HasGotUnless, IsEvenUnless, IsPair, IsUntouched, StandTogether, TriesOnPair, TriesTransfer}

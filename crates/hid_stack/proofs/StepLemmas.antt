@@ -27,21 +27,21 @@ use Rattle.usb_transact.specs.Taken.{taken}
 use Rattle.usb_transact.proofs.TableLemmas.{read_whole, read_lost}
 use Rattle.hid_requests.specs.declared.codes.TheConstants.{REPORT_ENDPOINT as ENDPOINT}
 use Rattle.hid_device.specs.Inputs.{input_count}
-use Rattle.hid_lives.specs.Standing.{due_where}
+use Rattle.hid_bus.specs.Standing.{due_where}
 use Rattle.hid_device.specs.Core.{CoreState, IsSound, IsBelow, IsQuiet, SendsPart, opened_core_if, opening_of, poll_answer}
 use Rattle.hid_device.specs.Device.{DeviceState, is_poll, polled_device, control_answer, heard, core_of}
-use Rattle.hid_lives.specs.Rounds.{Polls}
+use Rattle.hid_bus.specs.Rounds.{Polls}
 use Rattle.hid_host.specs.declared.fault.StackFault.{StackFault}
 use Rattle.hid_host.specs.declared.phase.HostPhase.{HostPhase}
 use Rattle.hid_host.specs.declared.phase.HostPhase.TheVariants.{Cold, Described, Parsed, Ready}
-use Rattle.hid_steps.specs.declared.step.Told.{Told}
-use Rattle.hid_steps.specs.declared.step.Told.TheVariants.{Polled}
+use Rattle.hid_bus.specs.declared.step.Told.{Told}
+use Rattle.hid_bus.specs.declared.step.Told.TheVariants.{Polled}
 use Rattle.hid_host.specs.Host.{HostEnd, ready_after}
 use Rattle.hid_host.specs.Phase.{IfReady}
 use Rattle.hid_stack.specs.Slot.{joined, station_of, joint, held_of, HasGotUnless, IsEven, IsEvenUnless, ArePaired, IsPair}
 use Rattle.hid_host.specs.Ready.{Known, told_of, events_behind}
 use Rattle.hid_stack.specs.Polls.{Hears, Ends, PollsOver, GoesByPackets, spelled, told_with}
-use Rattle.hid_lives.specs.Stations.{Station, opened, answered, round_events, after, events_at}
+use Rattle.hid_bus.specs.Stations.{Station, opened, answered, round_events, after, events_at}
 use Rattle.hid_stack.specs.Laws.{PacketsMakePolls}
 use Rattle.usb_control.specs.Device.{DevControlState}
 use Rattle.hid_host.specs.declared.host.Transfer.{Transfer}

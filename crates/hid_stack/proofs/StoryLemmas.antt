@@ -10,17 +10,17 @@ use Rattle.hid_layout.specs.Layout.{Contents}
 use Rattle.usb_transact.specs.declared.transaction.Fate.{Fate}
 use Rattle.hid_host.specs.declared.host.Transfer.{Transfer}
 use Rattle.hid_host.specs.Host.{cuts_round, running}
-use Rattle.hid_lives.specs.Following.{FollowsLife, course_from}
-use Rattle.hid_lives.specs.Lives.{befallen_all, course_behind, happenings, told_in}
-use Rattle.hid_lives.specs.Rounds.{Polls}
-use Rattle.hid_lives.specs.Stations.{Station}
-use Rattle.hid_lives.proofs.LifeLemmas.{lives_on}
+use Rattle.hid_bus.specs.Following.{FollowsLife, course_from}
+use Rattle.hid_bus.specs.Lives.{befallen_all, course_behind, happenings, told_in}
+use Rattle.hid_bus.specs.Rounds.{Polls}
+use Rattle.hid_bus.specs.Stations.{Station}
+use Rattle.hid_bus.proofs.LifeLemmas.{lives_on}
 use Rattle.hid_snapshots.specs.declared.event.Event.{Event}
-use Rattle.hid_steps.specs.declared.step.Step.{Step}
-use Rattle.hid_steps.specs.declared.step.Step.TheVariants.{Change, Frame, Poll, Begin, Control, Halt, Reset}
-use Rattle.hid_steps.specs.declared.step.Delivered.{Delivered}
-use Rattle.hid_steps.specs.Delivered.{from_device}
-use Rattle.hid_steps.proofs.DeliveredLemmas.{from_append}
+use Rattle.hid_bus.specs.declared.step.Step.{Step}
+use Rattle.hid_bus.specs.declared.step.Step.TheVariants.{Change, Frame, Poll, Begin, Control, Halt, Reset}
+use Rattle.hid_bus.specs.declared.step.Delivered.{Delivered}
+use Rattle.hid_bus.specs.Delivered.{from_device}
+use Rattle.hid_bus.proofs.DeliveredLemmas.{from_append}
 use Rattle.hid_stack.specs.Members.{Member, MemberStep, Scheduled, Controls, Halts, Resets, befallen_by, control_at, deed_at, events_by, member_after, tried_deed, unconcluded_deed, unconcluded_of}
 use Rattle.hid_stack.specs.Rig.{bus_after, delivered_at, member_at, member_step, one_delivers, one_unconcluded, tagged, with_member}
 use Rattle.hid_stack.specs.Sums.{CutsByRequest, CutsNone}

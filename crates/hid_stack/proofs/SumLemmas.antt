@@ -11,28 +11,28 @@ use Rattle.hid_layout.specs.Controls.{Item, items_of}
 use Rattle.hid_layout.specs.Layout.{Contents}
 use Rattle.usb_transact.specs.declared.transaction.Fate.{Fate}
 use Rattle.hid_layout.specs.declared.control.ControlId.{ControlId}
-use Rattle.hid_lives.specs.Lives.{Deed, Own, Idles, Configures, befallen, befallen_all, told_in}
-use Rattle.hid_lives.specs.Lives as lives
-use Rattle.hid_lives.specs.Motion.{AreBetweenRounds, given_motion, Conserves, station_motion, accepted_in, HasMotions}
-use Rattle.hid_lives.specs.Rounds.{Changes, Polls}
-use Rattle.hid_lives.specs.Rounds as own_steps
-use Rattle.hid_lives.specs.Stations.{Station}
+use Rattle.hid_bus.specs.Lives.{Deed, Own, Idles, Configures, befallen, befallen_all, told_in}
+use Rattle.hid_bus.specs.Lives as lives
+use Rattle.hid_bus.specs.Motion.{AreBetweenRounds, given_motion, Conserves, station_motion, accepted_in, HasMotions}
+use Rattle.hid_bus.specs.Rounds.{Changes, Polls}
+use Rattle.hid_bus.specs.Rounds as own_steps
+use Rattle.hid_bus.specs.Stations.{Station}
 use Rattle.hid_host.specs.declared.fault.StackFault.{StackFault}
 use Rattle.hid_host.specs.declared.fault.StackFault.TheVariants.{NoDevice, NotReady, Refused, BadDescriptor, Report, TooManyDevices, Memory}
 use Rattle.hid_host.specs.declared.fault.StackFault.TheVariants as faults
 use Rattle.hid_host.specs.declared.host.Transfer.{Transfer}
 use Rattle.hid_host.specs.Host.{cuts_round, running}
-use Rattle.hid_steps.specs.declared.step.Step.{Step}
-use Rattle.hid_steps.specs.declared.step.Step.TheVariants.{Change, Frame, Poll, Begin, Control, Halt, Reset}
-use Rattle.hid_steps.specs.declared.step.Delivered.{Delivered}
-use Rattle.hid_steps.specs.Delivered.{from_device}
+use Rattle.hid_bus.specs.declared.step.Step.{Step}
+use Rattle.hid_bus.specs.declared.step.Step.TheVariants.{Change, Frame, Poll, Begin, Control, Halt, Reset}
+use Rattle.hid_bus.specs.declared.step.Delivered.{Delivered}
+use Rattle.hid_bus.specs.Delivered.{from_device}
 use Rattle.hid_stack.specs.Members.{Member, MemberStep, Scheduled, Begins, Controls, Halts, Resets, befallen_by, brought_deed, control_at, deed_at, deeds_in, halted_deed, member_after, member_after_all, polls_it, scheduled_deed, tried_deed, unconcluded_deed, unconcluded_of}
 use Rattle.hid_stack.specs.Rig.{member_at, with_member, one_after, one_unconcluded, refused_after, bus_after, bus_after_all, delivered_in, member_step, member_steps}
 use Rattle.hid_stack.specs.Sums.{AllHaveMotions, ConfiguresBetweenRounds, CutsByRequest, CutsNone, IsBetween, OnlyHaltsCut, RefusedKeepMotion, SumsUp}
 use Rattle.hid_stack.proofs.Isolation.{isolated, same_or_not, states as states_of, with_other, with_same}
 use Rattle.hid_stack.proofs.MemberLemmas.{IsEffect, between_append, between_one, brings_effect, layout_stays, layouts_stay, station_is, stations, unconcluded_layout, unconcluded_station}
-use Rattle.hid_lives.proofs.ItemMotionLemmas.{given_append}
-use Rattle.hid_lives.proofs.MotionLemmas.{lived_has, lives_keep}
+use Rattle.hid_bus.proofs.ItemMotionLemmas.{given_append}
+use Rattle.hid_bus.proofs.MotionLemmas.{lived_has, lives_keep}
 
 abbrev pub HasItsMotions : Member → Type 0
 HasItsMotions m = HasMotions (items_of m.layout) m.station

@@ -21,12 +21,12 @@ use Rattle.hid_requests.specs.declared.request.Request.{Request}
 use Rattle.hid_requests.specs.declared.request.Request.TheVariants as requests
 use Rattle.hid_requests.specs.Asking.{sends_of}
 use Rattle.hid_requests.proofs.AskedLemmas.{sends_so, spelled_so}
-use Rattle.hid_lives.specs.Rounds.{Changes, Course, Frame, Polls, Round, pieces_crossed, still_open}
-use Rattle.hid_lives.specs.Stations.{Open, Station, after, expected}
-use Rattle.hid_lives.specs.Lives.{Configures, Deed, Ended, Began, Cut, Evened, Gone, Happening, Idles, Own, befallen_all, course_after, course_behind, ended, flips, happenings, happens_by, toggle_from, toggle_past}
-use Rattle.hid_lives.specs.Lives as lives
-use Rattle.hid_lives.specs.Following.{course_from}
-use Rattle.hid_lives.proofs.LifeLemmas.{lives_on}
+use Rattle.hid_bus.specs.Rounds.{Changes, Course, Frame, Polls, Round, pieces_crossed, still_open}
+use Rattle.hid_bus.specs.Stations.{Open, Station, after, expected}
+use Rattle.hid_bus.specs.Lives.{Configures, Deed, Ended, Began, Cut, Evened, Gone, Happening, Idles, Own, befallen_all, course_after, course_behind, ended, flips, happenings, happens_by, toggle_from, toggle_past}
+use Rattle.hid_bus.specs.Lives as lives
+use Rattle.hid_bus.specs.Following.{course_from}
+use Rattle.hid_bus.proofs.LifeLemmas.{lives_on}
 use Rattle.hid_requests.specs.declared.codes.TheConstants.{REPORT_ENDPOINT as ENDPOINT}
 use Rattle.hid_device.specs.declared.decisions.Pending.TheVariants as pendings
 use Rattle.hid_device.specs.Core.{CoreState}
@@ -38,7 +38,7 @@ use Rattle.hid_host.specs.declared.phase.HostState.{HostState}
 use Rattle.hid_host.specs.declared.phase.HostState.TheVariants as states
 use Rattle.hid_host.specs.Host.{clearing_behind, clearing_with, is_clear, running, transfer_of}
 use Rattle.hid_host.specs.Phase.{may_begin, may_poll}
-use Rattle.hid_steps.specs.declared.step.Step.{Step}
+use Rattle.hid_bus.specs.declared.step.Step.{Step}
 use Rattle.hid_stack.specs.Expecting.{AllHoldToggles, ExpectsParity, HoldsToggle, HostsExpectParity, parity_behind}
 use Rattle.hid_stack.specs.Knowing.{IsBehindSetup, IsDecided, asking_of}
 use Rattle.hid_stack.specs.Members.{Begins, Controls, Halts, Member, MemberStep, Resets, Scheduled, befallen_by, begin_refusal_at, begun_unless, brought_deed, control_at, core_at, deed_at, deeds_in, effect_deed, ends_tried_at, expects_behind, expects_of, halted_deed, halted_if, held_at, member_after, member_after_all, polled_deed, polls_it, state_at, state_behind, tried_deed, tried_of, tried_to, written_deed}

@@ -8,8 +8,8 @@ use Rattle.hid_snapshots.specs.Samples.{usage}
 use Rattle.usb_transact.specs.declared.transaction.Fate.TheVariants.{Clean, ReplyLost, AckLost}
 use Rattle.hid_requests.specs.declared.request.Request.TheVariants.{Clear}
 use Rattle.hid_requests.specs.Asked.{asked_of}
-use Rattle.hid_lives.specs.Rounds.{Polls}
-use Rattle.hid_lives.specs.Rows.{press}
+use Rattle.hid_bus.specs.Rounds.{Polls}
+use Rattle.hid_bus.specs.Rows.{press}
 use Rattle.hid_device.specs.declared.config.Config.{Config}
 use Rattle.hid_requests.specs.declared.boot.Boot.TheVariants as boots
 use Rattle.hid_device.specs.Deciding.{decide}

@@ -20,12 +20,12 @@ use Rattle.usb_control.specs.Device.{Answers, Applies, Decides, DevControlState,
 use Rattle.usb_control.specs.Host.{HostTransferState}
 use Rattle.hid_requests.specs.declared.request.Request.{Request}
 use Rattle.hid_requests.specs.declared.request.Request.TheVariants as requests
-use Rattle.hid_lives.specs.Stations.{Station, Open}
+use Rattle.hid_bus.specs.Stations.{Station, Open}
 use Rattle.hid_requests.specs.declared.codes.TheConstants.{REPORT_ENDPOINT as ENDPOINT}
 use Rattle.hid_requests.specs.declared.class.Protocol.{Protocol}
-use Rattle.hid_lives.specs.Lives.{Deed, Idles, Configures, befallen}
-use Rattle.hid_lives.specs.Lives as lives
-use Rattle.hid_lives.specs.Standing.{cut_at, with_idle}
+use Rattle.hid_bus.specs.Lives.{Deed, Idles, Configures, befallen}
+use Rattle.hid_bus.specs.Lives as lives
+use Rattle.hid_bus.specs.Standing.{cut_at, with_idle}
 use Rattle.hid_device.specs.declared.decisions.Pending.{Pending}
 use Rattle.hid_device.specs.declared.decisions.Pending.TheVariants as pendings
 use Rattle.hid_device.specs.Apart.{carries_out, cuts}

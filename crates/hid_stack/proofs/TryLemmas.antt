@@ -15,9 +15,9 @@ use Rattle.usb_control.specs.Device.{Answers, Applies, Decides, DevControlState,
 use Rattle.usb_control.specs.Host.{HostTransferState, IsRunning, progress_of}
 use Rattle.hid_requests.specs.declared.request.Request.{Request}
 use Rattle.hid_requests.specs.declared.request.Request.TheVariants as requests
-use Rattle.hid_lives.specs.Stations.{Station, expected}
-use Rattle.hid_lives.specs.Lives.{Deed, Own, Idles, Configures}
-use Rattle.hid_lives.specs.Lives as lives
+use Rattle.hid_bus.specs.Stations.{Station, expected}
+use Rattle.hid_bus.specs.Lives.{Deed, Own, Idles, Configures}
+use Rattle.hid_bus.specs.Lives as lives
 use Rattle.hid_device.specs.declared.decisions.Pending.{Pending}
 use Rattle.hid_device.specs.declared.decisions.Pending.TheVariants as pendings
 use Rattle.hid_device.specs.Core.{CoreState, IsSound}

@@ -6,10 +6,10 @@ use Rattle.hid_snapshots.specs.declared.event.Event.{Event}
 use Rattle.hid_snapshots.specs.Cells.{blank}
 use Rattle.hid_snapshots.specs.Views.{changes_between, drops_between}
 use Rattle.usb_transact.specs.declared.transaction.Fate.{Fate}
-use Rattle.hid_lives.specs.Lives.{Deed, Own, Idles, Configures, cut_events, reset_events}
-use Rattle.hid_lives.specs.Lives as lives
-use Rattle.hid_lives.specs.Rounds.{Polls}
-use Rattle.hid_lives.specs.Stations.{Open, Station, is_whole}
+use Rattle.hid_bus.specs.Lives.{Deed, Own, Idles, Configures, cut_events, reset_events}
+use Rattle.hid_bus.specs.Lives as lives
+use Rattle.hid_bus.specs.Rounds.{Polls}
+use Rattle.hid_bus.specs.Stations.{Open, Station, is_whole}
 use Rattle.hid_device.specs.Core.{CoreState}
 use Rattle.hid_device.specs.Device.{DeviceState, core_of}
 use Rattle.hid_host.specs.declared.fault.StackFault.{StackFault}
@@ -20,9 +20,9 @@ use Rattle.hid_host.specs.declared.phase.HostState.{HostState}
 use Rattle.hid_host.specs.declared.phase.HostState.TheVariants as states
 use Rattle.hid_host.specs.Host.{HostEnd, running}
 use Rattle.hid_host.specs.Phase.{may_poll}
-use Rattle.hid_steps.specs.declared.step.Step.{Step}
-use Rattle.hid_steps.specs.declared.step.Step.TheVariants.{Change, Frame, Poll, Begin, Control, Halt, Reset}
-use Rattle.hid_steps.specs.declared.step.Delivered.{Delivered}
+use Rattle.hid_bus.specs.declared.step.Step.{Step}
+use Rattle.hid_bus.specs.declared.step.Step.TheVariants.{Change, Frame, Poll, Begin, Control, Halt, Reset}
+use Rattle.hid_bus.specs.declared.step.Delivered.{Delivered}
 use Rattle.hid_stack.specs.Members.{Member, MemberStep, Scheduled, Controls, Halts, Resets, control_at, deed_at, events_by, halted_deed, polled_deed, tried_deed}
 use Rattle.hid_stack.specs.Rig.{delivered_at, member_at, one_delivers, tagged}
 use Rattle.hid_stack.specs.Slot.{IsUntouched, StandTogether, joint, round_between}

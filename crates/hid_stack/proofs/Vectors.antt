@@ -4,12 +4,12 @@ use Rattle.usb_transact.specs.declared.host.Took.TheVariants.{Fresh, Again, Nak,
 use Rattle.usb_transact.specs.declared.transaction.Fate.{Fate}
 use Rattle.usb_transact.specs.declared.transaction.Fate.TheVariants.{Clean, TokenLost, ReplyLost, AckLost}
 use Rattle.hid_snapshots.specs.Samples.{keyboard}
-use Rattle.hid_lives.specs.Rounds.{OwnStep, Polls}
-use Rattle.hid_steps.specs.declared.step.Told.{Told}
-use Rattle.hid_steps.specs.declared.step.Told.TheVariants.{Polled}
+use Rattle.hid_bus.specs.Rounds.{OwnStep, Polls}
+use Rattle.hid_bus.specs.declared.step.Told.{Told}
+use Rattle.hid_bus.specs.declared.step.Told.TheVariants.{Polled}
 use Rattle.hid_stack.specs.declared.rig.TheConstants.{MAX_DEVICES}
-use Rattle.hid_lives.specs.Rows.{open_at, press, stands_after}
-use Rattle.hid_lives.specs.Stations.{opened}
+use Rattle.hid_bus.specs.Rows.{open_at, press, stands_after}
+use Rattle.hid_bus.specs.Stations.{opened}
 use Rattle.hid_layout.specs.Layout.{Contents}
 use Rattle.hid_requests.specs.declared.request.Request.TheVariants.{Clear, Status}
 use Rattle.hid_device.specs.declared.config.Config.{Config}

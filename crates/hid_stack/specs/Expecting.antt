@@ -4,10 +4,10 @@ use Rattle.std.specs.Prelude.{◌≡◌, ◌≢◌, ◌||◌, ℕ, Bool, true, f
 use Rattle.std.specs.List.{All}
 use Rattle.hid_layout.specs.Controls.{items_of}
 use Rattle.hid_requests.specs.declared.request.Request.TheVariants as requests
-use Rattle.hid_lives.specs.Rounds.{pieces_crossed}
-use Rattle.hid_lives.specs.Lives.{happenings, toggle_from}
-use Rattle.hid_lives.specs.Following.{course_from}
-use Rattle.hid_steps.specs.declared.step.Step.{Step}
+use Rattle.hid_bus.specs.Rounds.{pieces_crossed}
+use Rattle.hid_bus.specs.Lives.{happenings, toggle_from}
+use Rattle.hid_bus.specs.Following.{course_from}
+use Rattle.hid_bus.specs.declared.step.Step.{Step}
 use Rattle.hid_host.specs.declared.phase.HostState.TheVariants.{Ready}
 use Rattle.hid_host.specs.Host.{running}
 use Rattle.hid_host.specs.Phase.{may_begin}

@@ -3,13 +3,13 @@ use Rattle.std.specs.Prelude.{◌≡◌, ℕ, true, false, List, ◌++◌, Some,
 use Rattle.hid_layout.specs.Controls.{items_of}
 use Rattle.hid_snapshots.specs.declared.cell.Cell.{Cell}
 use Rattle.hid_snapshots.specs.declared.event.Event.{Event}
-use Rattle.hid_lives.specs.Following.{FollowsLife, StandsByRounds, course_from}
-use Rattle.hid_lives.specs.Lives.{Deed, course_behind, happenings}
-use Rattle.hid_lives.specs.Rounds.{events_of_epoch}
-use Rattle.hid_steps.specs.declared.step.Step.{Step}
-use Rattle.hid_steps.specs.declared.step.Delivered.{Delivered}
-use Rattle.hid_steps.specs.Delivered.{from_device}
-use Rattle.hid_lives.specs.Stations.{Station, fresh}
+use Rattle.hid_bus.specs.Following.{FollowsLife, StandsByRounds, course_from}
+use Rattle.hid_bus.specs.Lives.{Deed, course_behind, happenings}
+use Rattle.hid_bus.specs.Rounds.{events_of_epoch}
+use Rattle.hid_bus.specs.declared.step.Step.{Step}
+use Rattle.hid_bus.specs.declared.step.Delivered.{Delivered}
+use Rattle.hid_bus.specs.Delivered.{from_device}
+use Rattle.hid_bus.specs.Stations.{Station, fresh}
 use Rattle.hid_host.specs.declared.phase.HostState.TheVariants.{Ready}
 use Rattle.hid_stack.specs.Members.{Member, deeds_in, polls_it}
 use Rattle.hid_stack.specs.Rig.{HasOnlySchedule, member_at, member_steps, own}

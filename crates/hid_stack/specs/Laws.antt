@@ -7,16 +7,16 @@ use Rattle.hid_layout.specs.Controls.{items_of}
 use Rattle.usb_transact.specs.declared.transaction.Fate.{Fate}
 use Rattle.usb_transact.specs.Fate.{arrives_under}
 use Rattle.hid_device.specs.Device.{DeviceState, core_of}
-use Rattle.hid_lives.specs.Rounds.{Polls}
+use Rattle.hid_bus.specs.Rounds.{Polls}
 use Rattle.hid_host.specs.Host.{HostEnd}
 use Rattle.hid_stack.specs.Slot.{IsPair, joint, station_of}
 use Rattle.hid_stack.specs.Polls.{GoesByPackets}
-use Rattle.hid_lives.specs.Stations.{events_at}
+use Rattle.hid_bus.specs.Stations.{events_at}
 use Rattle.hid_device.specs.declared.config.Config.{Config}
 use Rattle.hid_host.specs.declared.fault.StackFault.{StackFault}
 use Rattle.hid_host.specs.declared.fault.StackFault.TheVariants.{Memory}
-use Rattle.hid_steps.specs.declared.step.Step.{Step}
-use Rattle.hid_steps.specs.declared.step.Told.{Told}
+use Rattle.hid_bus.specs.declared.step.Step.{Step}
+use Rattle.hid_bus.specs.declared.step.Told.{Told}
 use Rattle.hid_stack.specs.Members.{Member, Scheduled, member_after}
 use Rattle.hid_requests.specs.declared.start.Start.{Start}
 use Rattle.hid_stack.specs.Tells.{Tells, TellsPoll}

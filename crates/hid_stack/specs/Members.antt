@@ -22,10 +22,10 @@ use Rattle.usb_control.specs.Host.{HostTransferState}
 use Rattle.hid_requests.specs.declared.request.Request.{Request}
 use Rattle.hid_requests.specs.declared.request.Request.TheVariants as requests
 use Rattle.hid_requests.specs.declared.class.Protocol.{Protocol}
-use Rattle.hid_lives.specs.Lives.{Deed, Own, Idles, Configures, befallen, events_on}
-use Rattle.hid_lives.specs.Lives as deeds
-use Rattle.hid_lives.specs.Rounds.{OwnStep, Changes, Frame, Polls, crossed_with}
-use Rattle.hid_lives.specs.Stations.{Open, Station, expected, fresh, is_whole}
+use Rattle.hid_bus.specs.Lives.{Deed, Own, Idles, Configures, befallen, events_on}
+use Rattle.hid_bus.specs.Lives as deeds
+use Rattle.hid_bus.specs.Rounds.{OwnStep, Changes, Frame, Polls, crossed_with}
+use Rattle.hid_bus.specs.Stations.{Open, Station, expected, fresh, is_whole}
 use Rattle.hid_device.specs.declared.config.Config.{Config}
 use Rattle.hid_device.specs.declared.decisions.Pending.{Pending}
 use Rattle.hid_device.specs.declared.decisions.Pending.TheVariants as pendings

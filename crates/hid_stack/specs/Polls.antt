@@ -19,8 +19,8 @@ use Rattle.hid_host.specs.declared.fault.StackFault.{StackFault}
 use Rattle.hid_host.specs.declared.fault.StackFault.TheVariants.{NotReady}
 use Rattle.hid_host.specs.declared.phase.HostPhase.{HostPhase}
 use Rattle.hid_host.specs.declared.phase.HostPhase.TheVariants.{Ready}
-use Rattle.hid_steps.specs.declared.step.Told.{Told}
-use Rattle.hid_steps.specs.declared.step.Told.TheVariants.{Polled}
+use Rattle.hid_bus.specs.declared.step.Told.{Told}
+use Rattle.hid_bus.specs.declared.step.Told.TheVariants.{Polled}
 use Rattle.hid_host.specs.Host.{HostEnd, ready_after}
 use Rattle.hid_host.specs.Ready.{Known, told_of, events_behind}
 

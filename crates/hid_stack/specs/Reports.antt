@@ -4,8 +4,8 @@ use Rattle.std.specs.Prelude.{◌≡◌, ◌⊎◌, ◌+◌, Bool, true, false, 
 use Rattle.hid_layout.specs.Controls.{items_of}
 use Rattle.hid_snapshots.specs.Views.{seen}
 use Rattle.usb_transact.specs.declared.transaction.Fate.{Fate}
-use Rattle.hid_lives.specs.Rounds.{Polls, part_events, reaches_host}
-use Rattle.hid_lives.specs.Stations.{Open, Station, arrived, completes}
+use Rattle.hid_bus.specs.Rounds.{Polls, part_events, reaches_host}
+use Rattle.hid_bus.specs.Stations.{Open, Station, arrived, completes}
 use Rattle.hid_stack.specs.Members.{Member, MemberStep, Scheduled, deed_at, events_by, member_after, polls_it}
 
 -- a step delivers nothing of a device, and leaves the view of its host

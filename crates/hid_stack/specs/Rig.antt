@@ -11,19 +11,19 @@ use Rattle.usb_transact.specs.declared.transaction.Fate.{Fate}
 use Rattle.usb_control.specs.declared.fault.ControlFault.TheVariants.{NoTransfer}
 use Rattle.usb_control.specs.declared.host.HostStage.TheVariants.{Done}
 use Rattle.hid_requests.specs.Asking.{FitsRequest}
-use Rattle.hid_lives.specs.Lives.{told_in}
-use Rattle.hid_lives.specs.Rounds.{OwnStep, Changes, Polls}
-use Rattle.hid_lives.specs.Rounds as own_steps
+use Rattle.hid_bus.specs.Lives.{told_in}
+use Rattle.hid_bus.specs.Rounds.{OwnStep, Changes, Polls}
+use Rattle.hid_bus.specs.Rounds as own_steps
 use Rattle.hid_host.specs.declared.fault.StackFault.{StackFault}
 use Rattle.hid_host.specs.declared.fault.StackFault.TheVariants.{NoDevice, NotReady, Refused, Memory}
 use Rattle.hid_host.specs.declared.fault.StackFault.TheVariants as faults
 use Rattle.hid_host.specs.declared.host.Transfer.{Transfer}
 use Rattle.hid_stack.specs.Bringing.{TakesMemory as TakesMemoryFor}
 use Rattle.hid_host.specs.Host.{may_cut, running}
-use Rattle.hid_steps.specs.declared.step.Step.{Step}
-use Rattle.hid_steps.specs.declared.step.Step.TheVariants.{Change, Frame, Poll, Begin, Control, Halt, Reset}
-use Rattle.hid_steps.specs.declared.step.Delivered.{Delivered}
-use Rattle.hid_steps.specs.Delivered.{from_device}
+use Rattle.hid_bus.specs.declared.step.Step.{Step}
+use Rattle.hid_bus.specs.declared.step.Step.TheVariants.{Change, Frame, Poll, Begin, Control, Halt, Reset}
+use Rattle.hid_bus.specs.declared.step.Delivered.{Delivered}
+use Rattle.hid_bus.specs.Delivered.{from_device}
 use Rattle.hid_stack.specs.Members.{Member, MemberStep, Scheduled, Begins, Controls, Halts, Resets, begin_refusal_at, deed_at, deeds_in, ends_tried_at, events_by, member_after, member_after_all, polls_it, unconcluded_of}
 
 -- devices are numbered from 1

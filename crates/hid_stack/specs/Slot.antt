@@ -14,7 +14,7 @@ use Rattle.hid_host.specs.declared.phase.HostPhase.{HostPhase}
 use Rattle.hid_host.specs.declared.phase.HostPhase.TheVariants.{Ready}
 use Rattle.hid_host.specs.Host.{HostEnd}
 use Rattle.hid_host.specs.Ready.{Known}
-use Rattle.hid_lives.specs.Stations.{Station, Open}
+use Rattle.hid_bus.specs.Stations.{Station, Open}
 use Rattle.hid_host.specs.Phase.{state_of}
 use Rattle.usb_transact.specs.declared.transaction.Fate.{Fate}
 use Rattle.usb_control.specs.declared.fault.ControlFault.TheVariants.{NoTransfer}

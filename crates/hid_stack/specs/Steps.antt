@@ -5,10 +5,10 @@ use Rattle.hid_snapshots.specs.Cells.{blank}
 use Rattle.hid_host.specs.declared.fault.StackFault.{StackFault}
 use Rattle.hid_host.specs.declared.fault.StackFault.TheVariants.{Memory}
 use Rattle.hid_host.specs.declared.phase.HostState.TheVariants.{Ready}
-use Rattle.hid_steps.specs.declared.step.Step.{Step}
-use Rattle.hid_steps.specs.declared.step.Step.TheVariants.{Change, Frame, Poll, Begin, Control, Halt, Reset}
-use Rattle.hid_steps.specs.declared.step.Told.{Told}
-use Rattle.hid_steps.specs.declared.step.Delivered.{Delivered}
+use Rattle.hid_bus.specs.declared.step.Step.{Step}
+use Rattle.hid_bus.specs.declared.step.Step.TheVariants.{Change, Frame, Poll, Begin, Control, Halt, Reset}
+use Rattle.hid_bus.specs.declared.step.Told.{Told}
+use Rattle.hid_bus.specs.declared.step.Delivered.{Delivered}
 use Rattle.hid_stack.specs.Members.{Member}
 use Rattle.hid_stack.specs.Rig.{FitsStep, HasRoomFor, IsRefusal, bus_after, delivered_at, member_at, most_events, refusal, refused_after}
 use Rattle.hid_stack.specs.Sums.{ConfiguresBetweenRounds, OnlyHaltsCut}

@@ -6,13 +6,13 @@ use Rattle.std.specs.Option.{option_map}
 use Rattle.usb_transact.specs.declared.transaction.Fate.{Fate}
 use Rattle.hid_layout.specs.Controls.{items_of}
 use Rattle.hid_requests.specs.Asking.{FitsRequest}
-use Rattle.hid_lives.specs.Lives.{Deed, told_in}
+use Rattle.hid_bus.specs.Lives.{Deed, told_in}
 use Rattle.hid_host.specs.declared.fault.StackFault.TheVariants.{Memory}
 use Rattle.hid_host.specs.Host.{running}
-use Rattle.hid_steps.specs.declared.step.Step.{Step}
-use Rattle.hid_steps.specs.declared.step.Step.TheVariants.{Control}
-use Rattle.hid_steps.specs.declared.step.Delivered.{Delivered}
-use Rattle.hid_steps.specs.Delivered.{from_device}
+use Rattle.hid_bus.specs.declared.step.Step.{Step}
+use Rattle.hid_bus.specs.declared.step.Step.TheVariants.{Control}
+use Rattle.hid_bus.specs.declared.step.Delivered.{Delivered}
+use Rattle.hid_bus.specs.Delivered.{from_device}
 use Rattle.hid_stack.specs.Headline.{LivesThrough}
 use Rattle.hid_stack.specs.Members.{Member, MemberStep, Begins, deed_at, member_after, unconcluded_deed, unconcluded_of}
 use Rattle.hid_stack.specs.Rig.{bus_after, delivered_at, member_at, member_step, refused_after}

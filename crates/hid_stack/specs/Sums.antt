@@ -4,17 +4,17 @@ use Rattle.std.specs.Prelude.{◌≡◌, ℕ, false, List, [], ◌∷◌, Option
 use Rattle.std.specs.List.{All}
 use Rattle.hid_layout.specs.declared.control.ControlId.{ControlId}
 use Rattle.hid_layout.specs.Controls.{items_of}
-use Rattle.hid_lives.specs.Motion.{AreBetweenRounds, IsBetweenRounds, given_motion, Conserves, station_motion, accepted_in, HasMotions}
-use Rattle.hid_lives.specs.Lives.{Deed}
-use Rattle.hid_lives.specs.Lives as lives
+use Rattle.hid_bus.specs.Motion.{AreBetweenRounds, IsBetweenRounds, given_motion, Conserves, station_motion, accepted_in, HasMotions}
+use Rattle.hid_bus.specs.Lives.{Deed}
+use Rattle.hid_bus.specs.Lives as lives
 use Rattle.hid_host.specs.declared.host.Transfer.{Transfer}
 use Rattle.hid_host.specs.Host.{cuts_round, running}
 use Rattle.usb_transact.specs.declared.transaction.Fate.{Fate}
-use Rattle.hid_lives.specs.Stations.{Station}
-use Rattle.hid_steps.specs.declared.step.Step.{Step}
-use Rattle.hid_steps.specs.declared.step.Step.TheVariants.{Control}
-use Rattle.hid_steps.specs.declared.step.Delivered.{Delivered}
-use Rattle.hid_steps.specs.Delivered.{from_device}
+use Rattle.hid_bus.specs.Stations.{Station}
+use Rattle.hid_bus.specs.declared.step.Step.{Step}
+use Rattle.hid_bus.specs.declared.step.Step.TheVariants.{Control}
+use Rattle.hid_bus.specs.declared.step.Delivered.{Delivered}
+use Rattle.hid_bus.specs.Delivered.{from_device}
 use Rattle.hid_stack.specs.Members.{Member, deeds_in, tried_deed}
 use Rattle.hid_stack.specs.Rig.{member_at, member_steps, refused_after}
 use Rattle.hid_host.specs.declared.fault.StackFault.{StackFault}

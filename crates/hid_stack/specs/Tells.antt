@@ -12,12 +12,12 @@ use Rattle.usb_transact.specs.declared.transaction.Fate.{Fate}
 use Rattle.usb_transact.specs.declared.transaction.Fate.TheVariants.{Clean, TokenLost, ReplyLost, AckLost}
 use Rattle.hid_snapshots.specs.Pieces.{piece_of}
 use Rattle.hid_snapshots.specs.Encoded.{part_bytes}
-use Rattle.hid_steps.specs.declared.step.Step.{Step}
-use Rattle.hid_steps.specs.declared.step.Step.TheVariants.{Change, Frame, Poll, Begin, Control, Halt, Reset}
-use Rattle.hid_steps.specs.declared.step.Told.{Told}
-use Rattle.hid_steps.specs.declared.step.Told.TheVariants.{Quiet, Polled}
-use Rattle.hid_steps.specs.declared.step.Told.TheVariants as tellings
-use Rattle.hid_lives.specs.Stations.{Station, opened}
+use Rattle.hid_bus.specs.declared.step.Step.{Step}
+use Rattle.hid_bus.specs.declared.step.Step.TheVariants.{Change, Frame, Poll, Begin, Control, Halt, Reset}
+use Rattle.hid_bus.specs.declared.step.Told.{Told}
+use Rattle.hid_bus.specs.declared.step.Told.TheVariants.{Quiet, Polled}
+use Rattle.hid_bus.specs.declared.step.Told.TheVariants as tellings
+use Rattle.hid_bus.specs.Stations.{Station, opened}
 use Rattle.usb_control.specs.Host.{progress_of}
 use Rattle.hid_host.specs.declared.host.Transfer.{Transfer}
 use Rattle.hid_host.specs.Host.{running}

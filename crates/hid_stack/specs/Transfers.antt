@@ -10,8 +10,8 @@ use Rattle.usb_control.specs.Transfer.{Decision, Refused, answered_bytes, shape_
 use Rattle.hid_requests.specs.declared.request.Request.{Request}
 use Rattle.hid_requests.specs.declared.request.Request.TheVariants.{Configure, Clear}
 use Rattle.hid_requests.specs.Asking.{row_of, sends_of, setup_for}
-use Rattle.hid_lives.specs.Lives.{Deed, Own, Idles, Configures}
-use Rattle.hid_lives.specs.Lives as lives
+use Rattle.hid_bus.specs.Lives.{Deed, Own, Idles, Configures}
+use Rattle.hid_bus.specs.Lives as lives
 use Rattle.hid_device.specs.Core.{CoreState}
 use Rattle.hid_device.specs.declared.decisions.Pending.{Pending}
 use Rattle.hid_device.specs.Deciding.{core_table, decided_row, effected}

@@ -2,7 +2,7 @@
 //! (USB 2.0, 9.4.5 and 9.4.9).
 ghost use Rattle.std.specs.Prelude.{◌≡◌, ◌≤◌, Bool, false, length, vec_capacity};
 ghost use Rattle.hid_layout.specs.Controls.{items_of, max_events};
-ghost use Rattle.hid_lives.specs.Lives.{cut_events};
+ghost use Rattle.hid_bus.specs.Lives.{cut_events};
 ghost use Rattle.hid_device.specs.Device.{core_of};
 ghost use Rattle.hid_host.specs.Host.{may_cut, running};
 ghost use Rattle.hid_stack.specs.Knowing.{Knows};

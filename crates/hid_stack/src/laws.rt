@@ -19,8 +19,8 @@ ghost use Rattle.hid_host.specs.Host.{ControlSteps, HostEnd, begin_refusal, begu
 ghost use Rattle.hid_host.specs.declared.host.Transfer.{Transfer};
 ghost use Rattle.hid_host.specs.Phase.{IfReady};
 ghost use Rattle.hid_host.specs.Resetting.{SuitsRound};
-ghost use Rattle.hid_steps.specs.declared.step.Step.{Step as BusStep};
-ghost use Rattle.hid_steps.specs.declared.step.Delivered.{Delivered};
+ghost use Rattle.hid_bus.specs.declared.step.Step.{Step as BusStep};
+ghost use Rattle.hid_bus.specs.declared.step.Delivered.{Delivered};
 ghost use Rattle.hid_stack.specs.Laws.{IsMadeAs, TellsOneThing, FindsOneControl, AttachesOneDevice, PacketsMakePolls};
 ghost use Rattle.hid_requests.specs.declared.start.Start.{Start};
 ghost use Rattle.hid_layout.specs.Layout.{Contents};
@@ -39,8 +39,8 @@ ghost use Rattle.hid_stack.specs.Bringing.{IsComputed};
 ghost use Rattle.hid_stack.specs.Knowing.{IsNoRefusal, Knows, KnowsBy, LeavesTransfers, with_core};
 ghost use Rattle.hid_stack.specs.Trails.{Trail, trail_behind, trail_from};
 
+pub use hid_bus::laws::{halts_lose_nothing, motion_is_kept, rounds_say_all};
 use hid_layout::laws::{accepted_or_refused, one_reading, one_refusal};
-pub use hid_lives::laws::{halts_lose_nothing, motion_is_kept, rounds_say_all};
 
 /// A step tells one thing at most.
 pub fn one_telling()

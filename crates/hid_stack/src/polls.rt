@@ -8,21 +8,21 @@ ghost use Rattle.usb_packet.specs.Lent.{owned, IsShort};
 ghost use Rattle.usb_packet.specs.Spelling.{Fits};
 ghost use Rattle.usb_transact.specs.Bus.{arrived};
 ghost use Rattle.usb_transact.specs.declared.bus.Phase.TheVariants.{Reply};
-ghost use Rattle.hid_lives.specs.Rounds.{Polls};
+ghost use Rattle.hid_bus.specs.Rounds.{Polls};
 ghost use Rattle.hid_host.specs.Phase.{IfReady};
 ghost use Rattle.hid_stack.specs.Slot.{IsPair, joint, station_of};
 ghost use Rattle.hid_stack.specs.Knowing.{Knows};
 ghost use Rattle.hid_stack.specs.Members.{Scheduled, member_after};
 ghost use Rattle.hid_stack.specs.Polls.{Hears, HearsAck, HasBytes, Acknowledges, GoesByPackets, Asks, Responds};
-ghost use Rattle.hid_lives.specs.Stations.{events_at};
+ghost use Rattle.hid_bus.specs.Stations.{events_at};
 ghost use Rattle.hid_stack.specs.Tells.{TellsPoll};
 
 use crate::laws::hosts_know_their_devices;
 use arrayvec::ArrayVec;
+use hid_bus::Told;
 use hid_device::Device;
 use hid_host::{HostDevice, StackFault};
 use hid_snapshots::Event;
-use hid_steps::Told;
 use usb_packet::{LentPacket, Packet, spell, spell_lent};
 use usb_transact::{Bus, Fate, Phase, Took, read_arrived};
 

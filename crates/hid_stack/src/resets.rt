@@ -1,7 +1,7 @@
 //! A reset of the bus of one device (USB 2.0, 7.1.7.5 and 9.1.1.3).
 ghost use Rattle.std.specs.Prelude.{◌≡◌, ◌≤◌, length, vec_capacity};
 ghost use Rattle.hid_layout.specs.Controls.{items_of, max_events};
-ghost use Rattle.hid_lives.specs.Lives.{reset_events};
+ghost use Rattle.hid_bus.specs.Lives.{reset_events};
 ghost use Rattle.hid_device.specs.Device.{core_of};
 ghost use Rattle.hid_stack.specs.Knowing.{Knows};
 ghost use Rattle.hid_stack.specs.Members.{Resets, member_after};

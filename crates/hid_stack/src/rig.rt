@@ -1,7 +1,7 @@
 //! The rig: the devices of a bus with their hosts, and the steps that befall them.
 ghost use Rattle.std.specs.Prelude.{◌≡◌, ◌≢◌, ◌≤◌, ◌+◌, ◌++◌, ◌<◌, List, [], ◌∷◌, Ok, Err, Some, length, map, take, IfOk, OnOk, IfErr, OnErr, vec_len, vec_capacity};
 ghost use Rattle.std.specs.List.{All};
-ghost use Rattle.hid_lives.specs.Rounds.{Frame as FrameStep};
+ghost use Rattle.hid_bus.specs.Rounds.{Frame as FrameStep};
 ghost use Rattle.hid_host.specs.declared.fault.StackFault.{StackFault};
 ghost use Rattle.hid_stack.specs.Attaching.{Attaches, IsAttached, Finds};
 ghost use Rattle.hid_stack.specs.Expecting.{HostsExpectParity};
@@ -15,11 +15,11 @@ ghost use Rattle.hid_stack.specs.Tells.{Tells};
 
 use crate::fault::RunFault;
 use crate::slot::Slot;
+use hid_bus::{Delivered, Step, Told};
 use hid_device::{Config, Device};
 use hid_host::{HostDevice, StackFault, Start};
 use hid_layout::{ControlId, Usage};
 use hid_snapshots::ChangeFault;
-use hid_steps::{Delivered, Step, Told};
 use std::alloc::Global;
 use std::marker::Model;
 use usb_control::Outcome;

@@ -31,13 +31,13 @@ use Rattle.usb_packet.specs.declared.packet.Packet.TheVariants as packets
 use Rattle.usb_packet.specs.Spelling.{data_pid, pid_of}
 use Rattle.usb_transact.specs.declared.host.Took.{Took}
 use Rattle.usb_transact.specs.declared.host.Took.TheVariants as host
-use Rattle.hid_steps.specs.declared.step.Step.{Step}
-use Rattle.hid_steps.specs.declared.step.Step.TheVariants.{Change, Frame, Poll, Begin, Control, Halt, Reset}
-use Rattle.hid_steps.specs.declared.step.Told.{Told}
-use Rattle.hid_steps.specs.declared.step.Told.TheVariants.{Quiet, Polled, Transfer}
-use Rattle.hid_steps.specs.declared.step.Delivered.{Delivered}
-use Rattle.hid_steps.specs.Delivered.{from_device}
-use Rattle.hid_steps.proofs.DeliveredLemmas.{from_append}
+use Rattle.hid_bus.specs.declared.step.Step.{Step}
+use Rattle.hid_bus.specs.declared.step.Step.TheVariants.{Change, Frame, Poll, Begin, Control, Halt, Reset}
+use Rattle.hid_bus.specs.declared.step.Told.{Told}
+use Rattle.hid_bus.specs.declared.step.Told.TheVariants.{Quiet, Polled, Transfer}
+use Rattle.hid_bus.specs.declared.step.Delivered.{Delivered}
+use Rattle.hid_bus.specs.Delivered.{from_device}
+use Rattle.hid_bus.proofs.DeliveredLemmas.{from_append}
 use Rattle.hid_notation.specs.Text.{bytes_text, usage_or_dash, range_text, joined_below}
 use Rattle.hid_text.specs.EventLines.{AreFew, ShowsEvents, is_event_line, event_lines}
 use Rattle.hid_text.specs.EventText.{event_text}

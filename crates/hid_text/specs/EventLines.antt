@@ -3,8 +3,8 @@ use Rattle.std.specs.Prelude.{◌≡◌, ◌<◌, ℕ, Bool, true, false, ◌==�
 use Rattle.std.specs.List.{filter, list_any}
 use Rattle.std.specs.Fmt.{decimal}
 use Rattle.std.specs.Str.Lines.{lines}
-use Rattle.hid_steps.specs.declared.step.Delivered.{Delivered}
-use Rattle.hid_steps.specs.Delivered.{from_device}
+use Rattle.hid_bus.specs.declared.step.Delivered.{Delivered}
+use Rattle.hid_bus.specs.Delivered.{from_device}
 use Rattle.hid_text.specs.EventText.{event_text}
 
 -- the line begins with these bytes

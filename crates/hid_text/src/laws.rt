@@ -2,9 +2,9 @@
 
 ghost use Rattle.std.specs.Prelude.{Bool, List, [], ℕ};
 ghost use Rattle.hid_layout.specs.Layout.{Contents};
-ghost use Rattle.hid_steps.specs.declared.step.Step.{Step as BusStep};
-ghost use Rattle.hid_steps.specs.declared.step.Told.{Told as BusTold};
-ghost use Rattle.hid_steps.specs.declared.step.Delivered.{Delivered};
+ghost use Rattle.hid_bus.specs.declared.step.Step.{Step as BusStep};
+ghost use Rattle.hid_bus.specs.declared.step.Told.{Told as BusTold};
+ghost use Rattle.hid_bus.specs.declared.step.Delivered.{Delivered};
 ghost use Rattle.hid_text.specs.EventLines.{AreFew, ShowsEvents};
 ghost use Rattle.hid_text.specs.LayoutText.{layout_text};
 ghost use Rattle.hid_text.specs.StepText.{step_text};

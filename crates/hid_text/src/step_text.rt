@@ -6,7 +6,7 @@ ghost use Rattle.hid_text.specs.StepText.{told_text, events_text, step_text};
 use super::event_text::EventText;
 use super::poll_text::print_poll;
 use super::transfer_text::print_transfer;
-use hid_steps::{Delivered, Step, Told};
+use hid_bus::{Delivered, Step, Told};
 use std::alloc::AllocError;
 
 /// Adds a line for each event.

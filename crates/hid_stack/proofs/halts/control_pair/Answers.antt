@@ -3,7 +3,7 @@ use Rattle.std.specs.Prelude.{is_some}
 use Rattle.hid_snapshots.specs.declared.event.Event.{Event}
 use Rattle.hid_layout.specs.Controls.{items_of, max_events}
 use Rattle.hid_host.specs.Host.{may_cut, running}
-use Rattle.hid_lives.specs.Lives.{cut_events}
+use Rattle.hid_bus.specs.Lives.{cut_events}
 use Rattle.hid_device.specs.Device.{core_of}
 use Rattle.hid_stack.specs.Slot.{station_of}
 use Rattle.hid_stack.specs.Tells.{kept_if}

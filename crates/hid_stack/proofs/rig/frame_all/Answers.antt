@@ -1,6 +1,6 @@
 use Rattle.std.proofs.Common.{◌<◌, ap, ◌∙◌, get_or, set, length, arith}
 use Rattle.std.proofs.lemmas.List.Edits.{map_over_more}
-use Rattle.hid_lives.specs.Rounds.{Frame}
+use Rattle.hid_bus.specs.Rounds.{Frame}
 use Rattle.hid_stack.specs.Members.{Member, Scheduled, member_after}
 use Rattle.hid_stack.proofs.rig.frame_all.Goals as goal
 

@@ -1,5 +1,5 @@
 use Rattle.std.proofs.Common.{◌≡◌, ◌++◌, take, drop, map}
-use Rattle.hid_lives.specs.Rounds.{Frame}
+use Rattle.hid_bus.specs.Rounds.{Frame}
 use Rattle.hid_stack.specs.Members.{Member, Scheduled, member_after}
 use Rattle.hid_stack.proofs.rig.frame_all.Given as goal
 

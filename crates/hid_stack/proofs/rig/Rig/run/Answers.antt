@@ -1,7 +1,7 @@
 use Rattle.std.proofs.Common.{◌≡◌, ◌++◌, ◌+◌, ◌≤◌, ◌∙◌, [], ◌∷◌, List, None, ap, arith, refl, sym, take, subst, Err, vec_len, vec_capacity}
 use Rattle.std.proofs.lemmas.List.{take_all}
 use Rattle.std.proofs.lemmas.List.Elements.{All-more}
-use Rattle.hid_steps.specs.declared.step.Step.{Step}
+use Rattle.hid_bus.specs.declared.step.Step.{Step}
 use Rattle.std.specs.List.{All}
 use Rattle.hid_stack.specs.Rig.{FitsStep, HasRoomFor, IsRefusal, NoneIsRefused, bus_after, bus_after_all, delivered_at, delivered_in, most_events, refusal, refused_after}
 use Rattle.hid_stack.specs.Expecting.{AllHoldToggles}

@@ -2,7 +2,7 @@ use Rattle.std.proofs.Common.{◌≡◌, ◌<◌, ◌≤◌, ◌∙◌, ℕ, Lis
 use Rattle.std.specs.Prelude.{slice_set}
 use Rattle.std.proofs.lemmas.List.{length-set}
 use Rattle.hid_host.specs.declared.fault.StackFault.TheVariants.{NoDevice}
-use Rattle.hid_lives.specs.Rounds.{Frame}
+use Rattle.hid_bus.specs.Rounds.{Frame}
 use Rattle.hid_stack.specs.declared.rig.TheConstants.{MAX_DEVICES}
 use Rattle.hid_stack.specs.Expecting.{AllHoldToggles}
 use Rattle.hid_stack.specs.Members.{Member, Scheduled, member_after}

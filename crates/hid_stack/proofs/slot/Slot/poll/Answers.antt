@@ -3,9 +3,9 @@ use Rattle.hid_layout.specs.Controls.{items_of, max_events}
 use Rattle.hid_stack.specs.Members.{Member, Scheduled, events_by, member_after, polled_deed, polls_it}
 use Rattle.hid_stack.specs.Rig.{tagged}
 use Rattle.hid_snapshots.specs.declared.event.Event.{Event}
-use Rattle.hid_steps.specs.declared.step.Delivered.{Delivered}
+use Rattle.hid_bus.specs.declared.step.Delivered.{Delivered}
 use Rattle.hid_stack.specs.Tells.{TellsPoll}
-use Rattle.hid_lives.specs.Rounds.{Polls}
+use Rattle.hid_bus.specs.Rounds.{Polls}
 use Rattle.hid_stack.proofs.SlotLemmas.{pair_together}
 use Rattle.hid_stack.proofs.slot.Slot.poll.Goals as goal
 

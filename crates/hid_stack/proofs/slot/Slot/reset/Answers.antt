@@ -1,7 +1,7 @@
 use Rattle.std.proofs.Common.{◌+◌, ◌++◌, ◌∙◌, List, length, map, ap, vec_len}
 use Rattle.hid_layout.specs.Controls.{items_of}
 use Rattle.hid_snapshots.specs.declared.event.Event.{Event}
-use Rattle.hid_steps.specs.declared.step.Delivered.{Delivered}
+use Rattle.hid_bus.specs.declared.step.Delivered.{Delivered}
 use Rattle.hid_stack.specs.Members.{Member, Resets, deed_at, events_by, member_after}
 use Rattle.hid_stack.specs.Rig.{tagged}
 use Rattle.hid_stack.specs.Slot.{joint}

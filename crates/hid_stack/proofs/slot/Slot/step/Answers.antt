@@ -1,6 +1,6 @@
 use Rattle.std.proofs.Common.{ap, subst, sym}
 use Rattle.std.specs.Prelude.{vec_len, vec_capacity}
-use Rattle.hid_lives.specs.Rounds.{Changes, Frame, Polls}
+use Rattle.hid_bus.specs.Rounds.{Changes, Frame, Polls}
 use Rattle.hid_stack.specs.Members.{Scheduled, Begins, Halts, Resets}
 use Rattle.hid_stack.specs.Rig.{MakesNoRoom}
 use Rattle.hid_stack.proofs.NamedLemmas.{begin_told, change_told, control_told}

@@ -1,0 +1,8 @@
+pub mod LifeLemmas
+pub mod PieceLemmas
+pub mod ScheduleLemmas
+pub mod ItemMotionLemmas
+pub mod HaltLemmas
+pub mod MotionLemmas
+mod Vectors
+pub mod DeliveredLemmas

@@ -1,0 +1,38 @@
+//! What can happen on a bus of devices and their hosts: its steps, what they tell and deliver, and the lives of the devices on
+//! it, as how a device and its host stand together, which rounds its polls make, and what is told of them (USB 2.0, 7.1.7.5, 8.4.3,
+//! 8.5.3, 8.5.4, 8.6, 9.1.1, 9.4.5 and 9.4.7; HID 1.11, 7.2.4). Types, definitions and their laws; no code.
+//! ```text
+//!   Step                       what is sent                     Told                 Delivered, each with its device
+//!   Change, Frame, Begin       nothing                          Quiet                nothing
+//!   Poll                       a transaction, under a fate      Polled: reply, took  1 down 07:04
+//!   Control                    a try of a transfer              Transfer: progress   1 dropped 01:30 5
+//!   Halt, Reset                nothing                          Quiet                1 up 07:04
+//!
+//!   what befalls a device               what comes of it               what its host is told
+//!   press, frame, poll, idle times,     a round ended, both ends       down 07:04
+//!   configuration, halt, clear, reset       begin anew                     ^
+//!          |                                ^        |                   |
+//!          +--- Course: standing, round ----+        +--- told_from -----+
+//!          |        no toggle, no view                                   |
+//!          +--- Station: standing, open round, toggle, view --- told_in -+
+//! ```
+//! Devices are numbered from 1, and each step but a frame names its device. What steps make of a bus is said by `hid_stack`, and
+//! what is printed of them by `hid_text`, which doesn't know the bus.
+//!
+//! A course keeps whole rounds, with the fates of their polls; a station keeps what both ends know, and no more. The
+//! rule to know: a round's part is the one that was fixed when it opened, and it tells its events where it crossed, once.
+//! A report of over 64 bytes goes in pieces, each with its own toggle, and its round crosses with the last one. A halt and
+//! a clear cut the round that is open: its report is due again, and motion that hadn't crossed is dropped.
+//!
+//! The promise, for every list of deeds: the station delivers what comes of the course, and stands as that says:
+//! [`laws::lives_are_told`]. Its motion is neither lost nor doubled: [`laws::motion_is_kept`]. A report whose round was cut
+//! is due until one opens: [`laws::halts_lose_nothing`]. A report is told whole or not at all:
+//! [`laws::reports_are_told_whole`]. What two lists deliver of a device, one behind the other, is what the first does and then
+//! what the second does.
+#![tactic(auto)]
+
+pub mod laws;
+pub mod rows;
+mod step;
+
+pub use step::{Delivered, Step, Told};

@@ -1,7 +1,0 @@
-pub mod LifeLemmas
-pub mod PieceLemmas
-pub mod ScheduleLemmas
-pub mod ItemMotionLemmas
-pub mod HaltLemmas
-pub mod MotionLemmas
-mod Vectors

@@ -1,8 +1,0 @@
-pub mod Standing
-pub mod Rounds
-pub mod Stations
-pub mod Lives
-pub mod Following
-pub mod Halting
-pub mod Motion
-pub mod Rows
