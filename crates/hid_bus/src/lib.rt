@@ -33,6 +33,8 @@
 
 pub mod laws;
 pub mod rows;
+mod start;
 mod step;
 
+pub use start::Start;
 pub use step::{Delivered, Step, Told};

@@ -19,7 +19,7 @@ use Rattle.hid_stack.specs.Headline.{DeliversChanges, KeepsToRounds}
 use Rattle.hid_host.specs.Host.{HostEnd}
 use Rattle.hid_host.specs.declared.phase.HostState.TheVariants as states
 use Rattle.hid_host.specs.Phase.{IfReady, state_of}
-use Rattle.hid_requests.specs.declared.start.Start.TheVariants as starts
+use Rattle.hid_bus.specs.declared.start.Start.TheVariants as starts
 use Rattle.hid_stack.specs.Members.{Member, fresh_member}
 use Rattle.hid_stack.specs.Rig.{HasOnlySchedule, StopsAt, own}
 use Rattle.hid_stack.specs.Showing.{ShowsPhase, ShowsHost, GivesOf}

@@ -33,6 +33,5 @@ mod phase;
 mod ready;
 
 pub use fault::{DescriptorFault, StackFault};
-pub use hid_requests::Start;
 pub use host::HostDevice;
 pub use phase::HostState;

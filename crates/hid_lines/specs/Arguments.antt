@@ -6,8 +6,8 @@ use Rattle.usb_transact.specs.declared.transaction.Fate.{Fate}
 use Rattle.usb_transact.specs.declared.transaction.Fate.TheVariants.{Clean, TokenLost, ReplyLost, AckLost}
 use Rattle.hid_requests.specs.declared.boot.Boot.{Boot}
 use Rattle.hid_requests.specs.declared.boot.Boot.TheVariants.{No, Keyboard, Mouse}
-use Rattle.hid_requests.specs.declared.start.Start.{Start}
-use Rattle.hid_requests.specs.declared.start.Start.TheVariants.{Ready, Cold}
+use Rattle.hid_bus.specs.declared.start.Start.{Start}
+use Rattle.hid_bus.specs.declared.start.Start.TheVariants.{Ready, Cold}
 use Rattle.hid_lines.specs.declared.fault.LineFault.{LineFault}
 use Rattle.hid_lines.specs.declared.fault.LineFault.TheVariants.{Syntax, BadHex}
 use Rattle.hid_lines.specs.Words.{Word, look_up}

@@ -6,8 +6,9 @@ ghost use Rattle.hid_lines.specs.Arguments.{three, fate_of, boot_of, start_of, c
 
 use super::numbers::{read_amount, read_count, read_device, read_signed, read_usage};
 use super::words::{first_word, look_up, three_words, two_words};
+use hid_bus::Start;
 use hid_descriptor::Usage;
-use hid_requests::{Boot, Start};
+use hid_requests::Boot;
 use usb_transact::Fate;
 
 /// START: what the two ends know of each other at first.

@@ -12,8 +12,9 @@ use super::requests::read_begin;
 use super::short::read_short_words;
 use super::words::{first_two_words, first_word, look_up, no_blank, read_hex};
 use arrayvec::ArrayVec;
+use hid_bus::Start;
 use hid_descriptor::Usage;
-use hid_requests::{Boot, Request, Start};
+use hid_requests::{Boot, Request};
 use usb_transact::Fate;
 
 /// The most bytes of a line, without its end.

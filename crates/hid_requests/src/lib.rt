@@ -20,9 +20,8 @@
 //! reads of a device's configuration is what it was made of ([`laws::configurations_are_read`]). No call takes memory, and
 //! none is refused.
 //!
-//! Both ends, and the lines of a script, speak of the kind of a device ([`Boot`]), of how it begins with its host
-//! ([`Start`]), and of why there is none ([`DeviceFault`]); and they agree on the endpoint out of which a device's reports come
-//! ([`REPORT_ENDPOINT`]).
+//! Both ends, and the lines of a script, speak of the kind of a device ([`Boot`]), and of why there is none
+//! ([`DeviceFault`]); and they agree on the endpoint out of which a device's reports come ([`REPORT_ENDPOINT`]).
 //! ```text
 //!   let setup = Request::Configure.setup(&Asking { report_length: 63, endpoint: 1 });    // 00 09 01 00 00 00 00 00
 //!   what_is_asked(&setup)                                                                // Some(Asked::SetConfiguration)
@@ -37,7 +36,6 @@ mod descriptors;
 mod fault;
 pub mod laws;
 mod request;
-mod start;
 
 pub use asked::{Asked, what_is_asked};
 pub use boot::Boot;
@@ -46,4 +44,3 @@ pub use codes::REPORT_ENDPOINT;
 pub use descriptors::{configuration, device_descriptor, hid_descriptor};
 pub use fault::{DeviceCause, DeviceFault};
 pub use request::{Asking, Request};
-pub use start::Start;

@@ -9,7 +9,7 @@ use Rattle.hid_layout.specs.Layout.{Contents}
 use Rattle.hid_snapshots.specs.declared.fault.ReportFault.{ReportFault}
 use Rattle.hid_usages.specs.Reading.{report_named}
 use Rattle.hid_requests.specs.declared.boot.Boot.{Boot}
-use Rattle.hid_requests.specs.declared.start.Start.{Start}
+use Rattle.hid_bus.specs.declared.start.Start.{Start}
 use Rattle.hid_host.specs.declared.fault.StackFault.{StackFault}
 use Rattle.hid_bus.specs.declared.step.Step.{Step}
 use Rattle.hid_bus.specs.declared.step.Step.TheVariants.{Change}

@@ -17,8 +17,8 @@ use Rattle.hid_snapshots.specs.declared.fault.ReportFault.{ReportFault}
 use Rattle.hid_snapshots.specs.declared.fault.ReportFault.TheVariants.{Short}
 use Rattle.hid_usages.specs.Reading.{first_byte, is_input_with, whole_report, report_named}
 use Rattle.hid_requests.specs.declared.boot.Boot.{Boot}
-use Rattle.hid_requests.specs.declared.start.Start.{Start}
-use Rattle.hid_requests.specs.declared.start.Start.TheVariants.{Ready, Cold}
+use Rattle.hid_bus.specs.declared.start.Start.{Start}
+use Rattle.hid_bus.specs.declared.start.Start.TheVariants.{Ready, Cold}
 use Rattle.hid_device.specs.declared.config.Config.{Config}
 use Rattle.hid_host.specs.declared.fault.StackFault.{StackFault}
 use Rattle.hid_host.specs.declared.fault.StackFault.TheVariants as stack

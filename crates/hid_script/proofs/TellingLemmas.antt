@@ -7,7 +7,7 @@ use Rattle.hid_layout.specs.declared.control.ControlId.{ControlId}
 use Rattle.hid_layout.specs.Layout.{Contents, layout_of}
 use Rattle.hid_descriptor.specs.Laws.{HasOneReading, AcceptsNoRefused, HasOneCause, HasOnePlace}
 use Rattle.hid_requests.specs.declared.boot.Boot.{Boot}
-use Rattle.hid_requests.specs.declared.start.Start.{Start}
+use Rattle.hid_bus.specs.declared.start.Start.{Start}
 use Rattle.hid_device.specs.declared.config.Config.{Config}
 use Rattle.hid_host.specs.declared.fault.StackFault.{StackFault}
 use Rattle.hid_bus.specs.declared.step.Step.{Step}

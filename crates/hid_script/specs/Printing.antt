@@ -5,7 +5,7 @@ use Rattle.hid_descriptor.specs.declared.usage.Usage.{Usage}
 use Rattle.hid_layout.specs.declared.control.ControlId.{ControlId}
 use Rattle.hid_snapshots.specs.declared.event.Event.{Event}
 use Rattle.hid_requests.specs.declared.boot.Boot.{Boot}
-use Rattle.hid_requests.specs.declared.start.Start.{Start}
+use Rattle.hid_bus.specs.declared.start.Start.{Start}
 use Rattle.hid_bus.specs.declared.step.Step.TheVariants as step
 use Rattle.hid_stack.specs.declared.rig.TheConstants.{MAX_DEVICES}
 use Rattle.hid_stack.specs.Attaching.{Attaches, Finds}

@@ -11,7 +11,7 @@ use Rattle.hid_snapshots.specs.declared.change.Change.{Change as OneChange}
 use Rattle.hid_snapshots.specs.declared.change.Change.TheVariants as changes
 use Rattle.hid_usages.specs.Reading.{report_named}
 use Rattle.hid_requests.specs.declared.boot.Boot.{Boot}
-use Rattle.hid_requests.specs.declared.start.Start.{Start}
+use Rattle.hid_bus.specs.declared.start.Start.{Start}
 use Rattle.hid_device.specs.declared.config.Config.{Config}
 use Rattle.hid_host.specs.declared.fault.StackFault.{StackFault}
 use Rattle.hid_bus.specs.declared.step.Step.{Step}

@@ -2,8 +2,9 @@
 //! stands in examples/rows/lines.rows, and so do lines that are none.
 
 use crate::verdict::{holds, none_is_wrong};
+use hid_bus::Start;
 use hid_descriptor::Usage;
-use hid_requests::{Boot, Start};
+use hid_requests::Boot;
 use hid_script::{Cause, Line, parse_line};
 use std::test::Fail;
 use usb_transact::Fate;

@@ -4,7 +4,7 @@ use Rattle.std.specs.List.{slice_get}
 use Rattle.std.proofs.lemmas.Bool.Decides.{nat_tests}
 use Rattle.hid_layout.specs.Layout.{Contents}
 use Rattle.hid_device.specs.declared.config.Config.{Config}
-use Rattle.hid_requests.specs.declared.start.Start.{Start}
+use Rattle.hid_bus.specs.declared.start.Start.{Start}
 use Rattle.hid_stack.specs.Attaching.{Suits, IsAttached, member_at_start}
 use Rattle.hid_stack.specs.Members.{Member}
 use Rattle.hid_stack.specs.Rig.{member_at}

@@ -29,8 +29,8 @@ use Rattle.hid_stack.specs.Expecting.{AllHoldToggles, HoldsToggle}
 use Rattle.std.proofs.lemmas.List.Elements.{All-get_or, All-map, All-push, All-set, All-weaker}
 use Rattle.std.proofs.lemmas.Option.{get_or_from_slice_get, slice_get_within}
 use Rattle.hid_device.specs.declared.config.Config.{Config}
-use Rattle.hid_requests.specs.declared.start.Start.{Start}
-use Rattle.hid_requests.specs.declared.start.Start.TheVariants as starts
+use Rattle.hid_bus.specs.declared.start.Start.{Start}
+use Rattle.hid_bus.specs.declared.start.Start.TheVariants as starts
 use Rattle.hid_bus.specs.declared.step.Step.TheVariants.{Change as ChangeStep, Frame as FrameStep, Poll as PollStep, Begin as BeginStep, Control as ControlStep, Halt as HaltStep, Reset as ResetStep}
 use Rattle.hid_bus.specs.declared.step.Told.{Told}
 use Rattle.hid_host.specs.declared.fault.StackFault.TheVariants as faults

@@ -13,8 +13,8 @@ use Rattle.usb_transact.specs.declared.transaction.Fate.{Fate}
 use Rattle.usb_control.specs.declared.host.Progress.{Progress}
 use Rattle.hid_host.specs.declared.host.Transfer.{Transfer}
 use Rattle.hid_host.specs.Host.{running}
-use Rattle.hid_requests.specs.declared.start.Start.{Start}
-use Rattle.hid_requests.specs.declared.start.Start.TheVariants as starts
+use Rattle.hid_bus.specs.declared.start.Start.{Start}
+use Rattle.hid_bus.specs.declared.start.Start.TheVariants as starts
 use Rattle.hid_stack.specs.Attaching.{member_at_start}
 use Rattle.hid_stack.specs.Members.{Member, MemberStep, Scheduled, Controls, member_after, tried_of}
 use Rattle.hid_stack.specs.Slot.{TriesTransfer}

@@ -6,8 +6,8 @@ use Rattle.usb_transact.specs.declared.transaction.Fate.{Fate}
 use Rattle.usb_control.specs.declared.host.Progress.{Progress}
 use Rattle.hid_requests.specs.declared.request.Request.{Request}
 use Rattle.hid_requests.specs.declared.request.Request.TheVariants as requests
-use Rattle.hid_requests.specs.declared.start.Start.{Start}
-use Rattle.hid_requests.specs.declared.start.Start.TheVariants as starts
+use Rattle.hid_bus.specs.declared.start.Start.{Start}
+use Rattle.hid_bus.specs.declared.start.Start.TheVariants as starts
 use Rattle.hid_snapshots.specs.declared.cell.Cell.{Cell}
 use Rattle.hid_snapshots.specs.declared.event.Event.{Event}
 use Rattle.hid_layout.specs.Controls.{Item, items_of, max_events}

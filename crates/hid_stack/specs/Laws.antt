@@ -18,7 +18,7 @@ use Rattle.hid_host.specs.declared.fault.StackFault.TheVariants.{Memory}
 use Rattle.hid_bus.specs.declared.step.Step.{Step}
 use Rattle.hid_bus.specs.declared.step.Told.{Told}
 use Rattle.hid_stack.specs.Members.{Member, Scheduled, member_after}
-use Rattle.hid_requests.specs.declared.start.Start.{Start}
+use Rattle.hid_bus.specs.declared.start.Start.{Start}
 use Rattle.hid_stack.specs.Tells.{Tells, TellsPoll}
 use Rattle.hid_stack.specs.Attaching.{Attaches, Finds}
 

@@ -22,7 +22,7 @@ ghost use Rattle.hid_host.specs.Resetting.{SuitsRound};
 ghost use Rattle.hid_bus.specs.declared.step.Step.{Step as BusStep};
 ghost use Rattle.hid_bus.specs.declared.step.Delivered.{Delivered};
 ghost use Rattle.hid_stack.specs.Laws.{IsMadeAs, TellsOneThing, FindsOneControl, AttachesOneDevice, PacketsMakePolls};
-ghost use Rattle.hid_requests.specs.declared.start.Start.{Start};
+ghost use Rattle.hid_bus.specs.declared.start.Start.{Start};
 ghost use Rattle.hid_layout.specs.Layout.{Contents};
 ghost use Rattle.hid_device.specs.declared.config.Config.{Config};
 ghost use Rattle.hid_stack.specs.Attaching.{member_at_start};

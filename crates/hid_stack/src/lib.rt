@@ -40,8 +40,8 @@ mod rig;
 mod slot;
 
 pub use fault::RunFault;
-pub use hid_bus::{Delivered, Step, Told};
-pub use hid_host::{DescriptorFault, HostDevice, HostState, StackFault, Start};
+pub use hid_bus::{Delivered, Start, Step, Told};
+pub use hid_host::{DescriptorFault, HostDevice, HostState, StackFault};
 pub use hid_requests::Request;
 pub use polls::poll;
 pub use rig::{MAX_DEVICES, Rig};

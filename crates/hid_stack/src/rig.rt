@@ -15,9 +15,9 @@ ghost use Rattle.hid_stack.specs.Tells.{Tells};
 
 use crate::fault::RunFault;
 use crate::slot::Slot;
-use hid_bus::{Delivered, Step, Told};
+use hid_bus::{Delivered, Start, Step, Told};
 use hid_device::{Config, Device};
-use hid_host::{HostDevice, StackFault, Start};
+use hid_host::{HostDevice, StackFault};
 use hid_layout::{ControlId, Usage};
 use hid_snapshots::ChangeFault;
 use std::alloc::Global;

@@ -1,4 +1,4 @@
-use Rattle.hid_requests.specs.declared.start.Start.TheVariants as starts
+use Rattle.hid_bus.specs.declared.start.Start.TheVariants as starts
 use Rattle.hid_stack.proofs.TrailLemmas.{some_cold}
 use Rattle.hid_stack.proofs.SlotLemmas.{joined_begins, makes_cold}
 use Rattle.hid_stack.proofs.slot.Slot.cold.Goals as goal
