@@ -12,7 +12,7 @@ use crate::session::{tell_session, tell_table};
 use crate::snapshots::tell_snapshot;
 use crate::views::{tell_awaited, tell_between, tell_forgotten, tell_named, tell_view};
 use hid_layout::Layout;
-use test_sheets::{Answers, RowFault, Sheet, bytes_of, split, tell_shown};
+use test_rows::{Answers, RowFault, Sheet, bytes_of, split, tell_shown};
 
 /// The questions of the tables.
 pub struct Questions;

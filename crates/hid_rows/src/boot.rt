@@ -1,7 +1,7 @@
 //! The boot keyboard and the boot mouse: their descriptors and their reports.
 
 use hid_usages::boot::{KEYBOARD, KeyboardReport, MOUSE, MouseReport};
-use test_sheets::{
+use test_rows::{
     RowFault, number_of, pattern_of, signed_of, split, tell, tell_bytes, tell_numbers, tell_shown,
     tell_whether,
 };

@@ -3,7 +3,7 @@
 use crate::events::{add_control, add_usage};
 use crate::words::{control_of, usage_of};
 use hid_layout::{Codes, Control, ControlId, Controls, Layout, Usage};
-use test_sheets::{RowFault, add, add_debug, number_of, split, tell, tell_debug, tell_shown};
+use test_rows::{RowFault, add, add_debug, number_of, split, tell, tell_debug, tell_shown};
 
 /// The controls of an item and the least number out of its range, which tells null; of an array also the numbers that tell
 /// no key and too many.

@@ -2,7 +2,7 @@
 
 use hid_layout::{ControlId, Usage};
 use hid_usages::Event;
-use test_sheets::{RowFault, add, add_hex, add_shown, tell};
+use test_rows::{RowFault, add, add_hex, add_shown, tell};
 
 /// Appends a control by its item and its place there.
 pub fn add_control(told: &mut String, control: ControlId) -> Result<(), RowFault> {

@@ -4,7 +4,7 @@ ghost use Rattle.std.specs.Prelude.{◌≤◌, ◌<◌, ◌+◌, ◌*◌, length
 ghost use Rattle.std.specs.Bool.{OnTrue};
 
 use hid_fields::{BitCodec, FieldCodec, MAX_WIDTH, WordCodec, null_pattern, to_pattern, to_value};
-use test_sheets::{
+use test_rows::{
     RowFault, number_of, pattern_of, signed_of, split, tell, tell_bytes, tell_number, tell_pattern,
     width_of,
 };

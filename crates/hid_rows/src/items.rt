@@ -4,7 +4,7 @@ use crate::words::usage_of;
 use hid_items::{Item, ItemFault, ItemKind, Items};
 use hid_layout::Usage;
 use hid_names::usage_name;
-use test_sheets::{RowFault, add, add_hex, add_shown, tell_bytes, tell_shown};
+use test_rows::{RowFault, add, add_hex, add_shown, tell_bytes, tell_shown};
 
 /// Where an item begins, its sort, and its prefix or its tag.
 fn tell_head(told: &mut String, at: usize, sort: &str, code: u8) -> Result<(), RowFault> {

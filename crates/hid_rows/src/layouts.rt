@@ -2,7 +2,7 @@
 
 use hid_layout::{Element, Layout, LayoutFault, Usage};
 use std::alloc::Global;
-use test_sheets::{
+use test_rows::{
     RowFault, add, add_shown, number_of, split, tell, tell_debug, tell_shown, tell_whether,
 };
 

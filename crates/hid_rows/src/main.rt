@@ -2,7 +2,7 @@
 //! reports and sessions: of `hid_items`, `hid_fields`, `hid_names`, `hid_layout`, `hid_snapshots`, `hid_snapshots`, `hid_usages`,
 //! `hid_usages` and `hid_session`, by what they export.
 //! ```text
-//!   stdin --> test_sheets::judge --> each row that is wrong, and `52 tables, 456 rows, 0 wrong`
+//!   stdin --> test_rows::judge --> each row that is wrong, and `52 tables, 456 rows, 0 wrong`
 //!                     |
 //!                     +-- question, given --> Answers: a file of src/ for each sort of question
 //! ```
@@ -24,7 +24,7 @@ mod words;
 use asked::Questions;
 use std::io;
 use std::process::ExitCode;
-use test_sheets::judge;
+use test_rows::judge;
 
 fn main(rt: HostRuntime) -> ExitCode {
     let Ok(text) = io::read_to_string(rt.alloc(), rt.stdin()) else {

@@ -5,7 +5,7 @@ use crate::words::control_of;
 use hid_session::{FeedFault, HidElement, HidEvent, Session, list_elements, number_in};
 use hid_usages::ReportFault;
 use std::alloc::Global;
-use test_sheets::{
+use test_rows::{
     RowFault, Sheet, bytes_of, number_of, split, tell, tell_debug, tell_number, tell_numbers,
     tell_shown, tell_whether,
 };

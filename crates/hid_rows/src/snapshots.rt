@@ -18,7 +18,7 @@ use hid_snapshots::{
     is_input,
 };
 use std::alloc::Global;
-use test_sheets::{
+use test_rows::{
     RowFault, number_of, signed_of, split, tell, tell_bytes, tell_debug, tell_number, tell_shown,
     tell_whether,
 };

@@ -15,7 +15,7 @@ use hid_usages::{
     has_keys, input_report, is_input,
 };
 use std::alloc::Global;
-use test_sheets::{
+use test_rows::{
     RowFault, Sheet, bytes_of, number_of, split, tell, tell_debug, tell_number, tell_shown,
     tell_whether,
 };

@@ -1,7 +1,7 @@
 //! Usages and controls in the words of a row.
 
 use hid_layout::{ControlId, Usage};
-use test_sheets::{RowFault, number_of, split};
+use test_rows::{RowFault, number_of, split};
 
 fn half_of(text: &str) -> Result<u16, RowFault> {
     Ok(u16::from_str_radix(text, 16)?)

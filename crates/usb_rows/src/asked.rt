@@ -8,7 +8,7 @@ use crate::requests::tell_fields;
 use crate::sent::tell_sent;
 use crate::transactions::{tell_answers, tell_ends, tell_fate, tell_stuck};
 use crate::transfers::{tell_state, tell_transfer};
-use test_sheets::{Answers, RowFault, Sheet, bytes_of, split};
+use test_rows::{Answers, RowFault, Sheet, bytes_of, split};
 
 /// The questions of the tables.
 pub struct Questions;

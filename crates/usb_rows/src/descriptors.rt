@@ -1,7 +1,7 @@
 //! What a host reads of descriptors: a keyboard's, those bytes with some of them changed, and descriptors in some order.
 
 use crate::keyboard::{CONFIG, DEVICE};
-use test_sheets::{RowFault, number_of, pattern_of, split, tell_hex, tell_numbers, tell_shown};
+use test_rows::{RowFault, number_of, pattern_of, split, tell_hex, tell_numbers, tell_shown};
 use usb_control::{ConfigInfo, ControlFault, DeviceInfo, InfoFault};
 
 /// Each fault of a transfer.

@@ -3,7 +3,7 @@
 use crate::keyboard::Keyboard;
 use crate::packets::read;
 use arrayvec::ArrayVec;
-use test_sheets::{RowFault, Sheet, bytes_of, tell_bytes, tell_shown, tell_whether};
+use test_rows::{RowFault, Sheet, bytes_of, tell_bytes, tell_shown, tell_whether};
 use usb_control::DevControl;
 use usb_packet::encode;
 

@@ -2,7 +2,7 @@
 
 use crate::packets::read;
 use crate::requests::{begin, request_in, runs, tell_outcome, tell_refused};
-use test_sheets::{RowFault, Sheet, bytes_of, tell};
+use test_rows::{RowFault, Sheet, bytes_of, tell};
 use usb_control::{HostTransfer, Outcome};
 
 /// It hears a packet in these bytes, or nothing, if it runs: whether it sends ACK.

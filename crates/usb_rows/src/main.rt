@@ -1,7 +1,7 @@
 //! Plays the tables of standard input (`stdin`), which are the tests of packets, transactions and control transfers: of
 //! `usb_packet`, `usb_transact` and `usb_control`, by what they export.
 //! ```text
-//!   stdin --> test_sheets::judge --> each row that is wrong, and how many tables and rows there were
+//!   stdin --> test_rows::judge --> each row that is wrong, and how many tables and rows there were
 //!                     |
 //!                     +-- question, given --> Answers: a file of src/ for each sort of question
 //! ```
@@ -22,7 +22,7 @@ mod transfers;
 use asked::Questions;
 use std::io;
 use std::process::ExitCode;
-use test_sheets::judge;
+use test_rows::judge;
 
 fn main(rt: HostRuntime) -> ExitCode {
     let Ok(text) = io::read_to_string(rt.alloc(), rt.stdin()) else {

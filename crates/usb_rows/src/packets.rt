@@ -1,6 +1,6 @@
 //! Packets of `usb_packet`. A sweep tests each token body against its two fields.
 
-use test_sheets::{RowFault, pattern_of, split, tell, tell_bytes, tell_numbers, tell_shown};
+use test_rows::{RowFault, pattern_of, split, tell, tell_bytes, tell_numbers, tell_shown};
 use usb_packet::{Packet, PacketFault, TokenKind, decode, encode, fits};
 
 const KINDS: [TokenKind; 3] = [TokenKind::Out, TokenKind::In, TokenKind::Setup];

@@ -4,7 +4,7 @@ ghost use Rattle.std.specs.Prelude.{◌≤◌};
 
 use crate::keyboard::{CONFIG, DEVICE, REPORT};
 use std::alloc::Global;
-use test_sheets::{RowFault, tell, tell_bytes, tell_hex, tell_shown};
+use test_rows::{RowFault, tell, tell_bytes, tell_hex, tell_shown};
 use usb_control::{ControlFault, HostTransfer, Outcome, Setup};
 use usb_packet::MAX_ADDRESS;
 

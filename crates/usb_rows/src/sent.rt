@@ -3,7 +3,7 @@
 use crate::foreign::hears;
 use crate::requests::{begin, request_in, tell_outcome, tell_refused};
 use arrayvec::ArrayVec;
-use test_sheets::{RowFault, Sheet, bytes_of, split, tell_bytes};
+use test_rows::{RowFault, Sheet, bytes_of, split, tell_bytes};
 use usb_control::{HostTransfer, Outcome};
 use usb_packet::{Packet, encode, fits};
 

@@ -5,7 +5,7 @@
 
 use crate::packets::{read, tell_packet};
 use arrayvec::ArrayVec;
-use test_sheets::{RowFault, Sheet, bytes_of, split, tell, tell_bytes, tell_numbers};
+use test_rows::{RowFault, Sheet, bytes_of, split, tell, tell_bytes, tell_numbers};
 use usb_packet::Packet;
 use usb_transact::{Bus, DevPipe, Fate, HostPipe, Phase, Took, carried, exchange, replied};
 

@@ -4,7 +4,7 @@ use crate::keyboard::Keyboard;
 use crate::requests::{begin, request_in, tell_outcome, tell_refused};
 use crate::transactions::fate_of;
 use std::alloc::Global;
-use test_sheets::{RowFault, add, add_shown, tell, tell_numbers, tell_shown};
+use test_rows::{RowFault, add, add_shown, tell, tell_numbers, tell_shown};
 use usb_control::{ControlFault, DevControl, HostTransfer, Outcome};
 use usb_transact::Fate;
 
