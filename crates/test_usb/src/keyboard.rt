@@ -90,8 +90,8 @@ impl Requests for Keyboard {
     ghost use Rattle.std.specs.Prelude.{◌≡◌, ◌≤◌, Some, true, false};
     ghost use Rattle.std.proofs.Common.{rules, ap, ◌∙◌};
     ghost use Rattle.usb_control.specs.SetupBytes.{reads};
-    ghost use Rattle.usb_rows.specs.declared.keyboard.Prepared.TheVariants as prepared_for;
-    ghost use Rattle.usb_rows.specs.declared.keyboard.Keyboard.{Keyboard};
+    ghost use Rattle.test_usb.specs.declared.keyboard.Prepared.TheVariants as prepared_for;
+    ghost use Rattle.test_usb.specs.declared.keyboard.Keyboard.{Keyboard};
 
     ghost answer_of = { λ k. Some k.answer.items };
 
