@@ -1,6 +1,6 @@
 use Rattle.hid_layout.specs.Controls.{items_of}
 use Rattle.hid_snapshots.specs.Cells.{FitsView}
-use Rattle.hid_rows.proofs.views.play.Given as goal
+use Rattle.test_reports.proofs.views.play.Given as goal
 
 abbrev pub invariant-loop-step : goal.invariant-loop-step
 invariant-loop-step l = FitsView (items_of l.layout) l.view

@@ -1,6 +1,6 @@
 use Rattle.hid_layout.specs.Controls.{items_of}
 use Rattle.hid_snapshots.specs.Cells.{FitsSnapshot, FitsShown}
-use Rattle.hid_rows.proofs.snapshots.play.Given as goal
+use Rattle.test_reports.proofs.snapshots.play.Given as goal
 
 abbrev pub invariant-loop-step : goal.invariant-loop-step
 invariant-loop-step l = record {
