@@ -1,6 +1,0 @@
-//! Tests of what is drawn of descriptors, of `hid_page`, by what it exports. They stand here, since the gate proves a crate
-//! with tests twice. The file says where its expected values come from.
-#![tactic(auto)]
-
-#[cfg(test)]
-mod drawings;
