@@ -4,8 +4,8 @@ use Rattle.std.specs.List.{list_all}
 use Rattle.std.specs.Option.{option_map}
 use Rattle.std.specs.Str.{bytes_eq}
 use Rattle.std.specs.Char.{digit_value}
-use Rattle.hid_lines.specs.Words.{Word}
-use Rattle.hid_lines.specs.Numbers.{number_of}
+use Rattle.hid_text.specs.Words.{Word}
+use Rattle.hid_text.specs.Numbers.{number_of}
 use Rattle.hid_recording.specs.declared.dump.Address.{Address}
 use Rattle.hid_recording.specs.declared.dump.Content.{Content}
 use Rattle.hid_recording.specs.declared.dump.Content.TheVariants as contents

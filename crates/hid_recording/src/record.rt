@@ -9,7 +9,7 @@ use super::words::{
     DeviceNumber, is_count, parts_of_word, read_address, read_bytes, read_content, read_device,
     read_time,
 };
-use hid_lines::words_of_line;
+use hid_text::words_of_line;
 use std::alloc::Global;
 
 /// What a line says.

@@ -8,7 +8,7 @@ ghost use Rattle.hid_recording.specs.Words.{byte_of, bytes_of, IsNoBytes, is_cou
 
 use super::dump::{Address, Content};
 use super::fault::{Cause, Refusal};
-use hid_lines::read_number;
+use hid_text::read_number;
 use std::alloc::{AllocError, Global};
 
 /// How many devices a recording has room for (our choice).

@@ -16,13 +16,13 @@ use Rattle.hid_script.specs.declared.fault.Cause.TheVariants as causes
 use Rattle.hid_script.specs.declared.fault.ScriptFault.{ScriptFault}
 use Rattle.hid_script.specs.declared.fault.Summary.{Summary}
 use Rattle.hid_text.proofs.LineLemmas.{lines_first, some_part}
-use Rattle.hid_lines.specs.Words.{words_of}
-use Rattle.hid_lines.specs.Line.{meaning_of, words_said}
+use Rattle.hid_text.specs.Words.{words_of}
+use Rattle.hid_text.specs.Line.{meaning_of, words_said}
 use Rattle.hid_script.specs.declared.fault.Options.{Options}
 use Rattle.hid_script.specs.Session.{Session, accepted, refused, at_first, Repeats}
-use Rattle.hid_lines.specs.declared.fault.LineFault.{LineFault}
-use Rattle.hid_lines.specs.declared.fault.LineFault.TheVariants as line_faults
-use Rattle.hid_lines.specs.declared.line.Line.{Line}
+use Rattle.hid_text.specs.declared.fault.LineFault.{LineFault}
+use Rattle.hid_text.specs.declared.fault.LineFault.TheVariants as line_faults
+use Rattle.hid_text.specs.declared.line.Line.{Line}
 use Rattle.hid_script.specs.Telling.{LineTells, LineBegins, BeginsMeant, Means}
 use Rattle.hid_script.specs.Runs.{Silence, ending_of, EndsAs, Ends, FirstTells, FirstBegins, AllTell, RunsTo, AppendsScript}
 use Rattle.hid_script.specs.Place.{Place, IsUnbroken, lines_at, Writes, Advances, RunsFrom, Takes, AppendsFrom}

@@ -26,10 +26,10 @@ use Rattle.hid_stack.specs.Rig.{bus_after, delivered_at, member_at, tagged}
 use Rattle.hid_stack.specs.Stories.{Act, Attached, Taken, Unconcluded, after_story, bus_behind, deeds_by, delivered_behind, next_number, own_story}
 use Rattle.hid_stack.proofs.Isolation.{at_place, no_zero}
 use Rattle.hid_stack.proofs.StoryLemmas.{AreTaken, bus_append, delivered_append, its_own, nothing_of, same_many, taken_end}
-use Rattle.hid_lines.specs.declared.fault.LineFault.{LineFault}
-use Rattle.hid_lines.specs.declared.line.Line.{Line}
-use Rattle.hid_lines.specs.declared.line.Line.TheVariants as line
-use Rattle.hid_lines.specs.Line.{meaning_of}
+use Rattle.hid_text.specs.declared.fault.LineFault.{LineFault}
+use Rattle.hid_text.specs.declared.line.Line.{Line}
+use Rattle.hid_text.specs.declared.line.Line.TheVariants as line
+use Rattle.hid_text.specs.Line.{meaning_of}
 use Rattle.hid_text.specs.EventLines.{AreFew, ShowsEvents, event_lines}
 use Rattle.hid_text.specs.EventText.{event_text}
 use Rattle.hid_text.specs.LayoutText.{layout_text}

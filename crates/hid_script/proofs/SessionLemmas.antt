@@ -34,11 +34,11 @@ use Rattle.hid_stack.specs.Attaching.{Attaches, Finds, member_at_start}
 use Rattle.hid_script.specs.declared.fault.Cause.{Cause}
 use Rattle.hid_script.specs.declared.fault.Cause.TheVariants as causes
 use Rattle.hid_script.specs.declared.fault.StepFault.TheVariants as faults
-use Rattle.hid_lines.specs.declared.fault.LineFault.{LineFault}
-use Rattle.hid_lines.specs.declared.line.Line.{Line}
-use Rattle.hid_lines.specs.declared.line.Line.TheVariants as lines
+use Rattle.hid_text.specs.declared.fault.LineFault.{LineFault}
+use Rattle.hid_text.specs.declared.line.Line.{Line}
+use Rattle.hid_text.specs.declared.line.Line.TheVariants as lines
 use Rattle.hid_script.specs.declared.wanted.Wanted.{Wanted}
-use Rattle.hid_lines.specs.Line.{meaning_of}
+use Rattle.hid_text.specs.Line.{meaning_of}
 use Rattle.hid_script.proofs.RepeatLemmas.{no_times, one_more}
 use Rattle.hid_text.specs.LayoutText.{layout_text}
 use Rattle.hid_text.specs.ValuesText.{values_text}

@@ -8,8 +8,8 @@ use Rattle.hid_descriptor.specs.declared.fault.Cause as layouts
 use Rattle.hid_descriptor.specs.declared.fault.Cause.TheVariants as whys
 use Rattle.hid_host.specs.declared.fault.StackFault.{StackFault}
 use Rattle.hid_host.specs.declared.fault.StackFault.TheVariants as stack
-use Rattle.hid_lines.specs.declared.fault.LineFault.{LineFault}
-use Rattle.hid_lines.specs.declared.fault.LineFault.TheVariants as line_faults
+use Rattle.hid_text.specs.declared.fault.LineFault.{LineFault}
+use Rattle.hid_text.specs.declared.fault.LineFault.TheVariants as line_faults
 use Rattle.hid_text.proofs.LineLemmas.{lines_first}
 use Rattle.hid_script.specs.declared.fault.Cause.{Cause}
 use Rattle.hid_script.specs.declared.fault.Cause.TheVariants as causes

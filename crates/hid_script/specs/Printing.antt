@@ -13,9 +13,9 @@ use Rattle.hid_stack.specs.Headline.{LivesThrough}
 use Rattle.hid_stack.specs.Members.{Member}
 use Rattle.hid_stack.specs.Rig.{member_at}
 use Rattle.hid_stack.specs.Stories.{Act, Attached, Taken, bus_behind, deeds_by, next_number, own_story}
-use Rattle.hid_lines.specs.declared.line.Line.{Line}
-use Rattle.hid_lines.specs.declared.line.Line.TheVariants as line
-use Rattle.hid_lines.specs.Line.{meaning_of}
+use Rattle.hid_text.specs.declared.line.Line.{Line}
+use Rattle.hid_text.specs.declared.line.Line.TheVariants as line
+use Rattle.hid_text.specs.Line.{meaning_of}
 use Rattle.hid_text.specs.EventLines.{event_lines}
 use Rattle.hid_text.specs.EventText.{event_text}
 use Rattle.hid_script.specs.declared.fault.Cause.TheVariants.{Write}

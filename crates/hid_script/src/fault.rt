@@ -3,9 +3,9 @@
 ghost use Rattle.std.specs.Prelude.{◌≡◌};
 
 use hid_layout::LayoutFault;
-use hid_lines::LineFault;
 use hid_snapshots::ReportFault;
 use hid_stack::StackFault;
+use hid_text::LineFault;
 use std::alloc::AllocError;
 use thiserror::Error;
 

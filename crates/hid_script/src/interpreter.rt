@@ -1,7 +1,7 @@
 //! A session: what stands between two lines, and how a line is carried out.
 
 ghost use Rattle.std.specs.Prelude.{◌≡◌, true};
-ghost use Rattle.hid_lines.specs.Short.{is_long, line_of};
+ghost use Rattle.hid_text.specs.Short.{is_long, line_of};
 ghost use Rattle.hid_script.specs.Session.{at_first};
 ghost use Rattle.hid_script.specs.Steps.{TellsLayout, TellsValues, TellsDevice, TellsStep, TellsChange, got_by};
 ghost use Rattle.hid_script.specs.Telling.{Once, times, CarriesOut, Begins, LineTells, LineBegins};
@@ -15,9 +15,10 @@ use super::streams::Sink;
 use super::wanted::{Wanted, change_of};
 use hid_device::{Boot, Config};
 use hid_layout::{Layout, Usage};
-use hid_lines::{Line, ShortLine, read_line, read_short, says_nothing};
 use hid_stack::{Delivered, Request, Rig, Start, Step};
-use hid_text::{print_layout, print_step, print_values};
+use hid_text::{
+    Line, ShortLine, print_layout, print_step, print_values, read_line, read_short, says_nothing,
+};
 use hid_usages::input_report;
 use std::alloc::Global;
 use usb_control::Outcome;

@@ -15,7 +15,7 @@
 //!   halt 1
 //!   poll 1                                              (with `trace`) 1 poll STALL stall
 //! ```
-//! A line is read whole, by `read_short` of `hid_lines` or else by `read_line`, carried out, and its text is written
+//! A line is read whole, by `read_short` of `hid_text` or else by `read_line`, carried out, and its text is written
 //! at once, of a line with a count each time: a line that is refused ends the run, and what stands in the output is
 //! what was told before it.
 //! [`parse_line`] says what a line means by itself. `run` writes exactly the text that the script tells: the clause on [`run`]. Its lines of a device's events are the texts
@@ -35,7 +35,7 @@ mod wanted;
 
 pub use fault::{Cause, Options, ScriptFault, StepFault, Summary};
 pub use fault_text::fault_line;
-pub use hid_lines::{Line, ShortLine};
+pub use hid_text::{Line, ShortLine};
 pub use line::parse_line;
 pub use runs::{READS, run};
 pub use streams::{Given, Lost, Sink, Source};

@@ -1,11 +1,11 @@
 //! What a line says by itself, or the cause for which a script ends there.
 
 ghost use Rattle.std.specs.Prelude.{◌≡◌};
-ghost use Rattle.hid_lines.specs.Line.{meaning_of};
+ghost use Rattle.hid_text.specs.Line.{meaning_of};
 ghost use Rattle.hid_script.specs.Telling.{line_or_cause};
 
 use super::fault::Cause;
-use hid_lines::{Line, read_line};
+use hid_text::{Line, read_line};
 
 /// Reads one line, without its end. No memory is taken.
 ///

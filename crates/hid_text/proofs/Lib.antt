@@ -1,3 +1,9 @@
+pub mod WordLemmas
+pub mod PartLemmas
+pub mod TableLemmas
+pub mod NumberLemmas
+mod LineVectors
+pub mod ShortLemmas
 pub mod ValueLemmas
 pub mod LayoutLemmas
 pub mod PollLemmas

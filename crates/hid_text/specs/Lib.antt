@@ -1,3 +1,9 @@
+pub mod Words
+pub mod Numbers
+pub mod Arguments
+pub mod Requests
+pub mod Line
+pub mod Short
 pub mod LayoutText
 pub mod ValuesText
 pub mod EventText

@@ -1,28 +1,53 @@
-//! What a script prints: layouts, the values of reports, polls, transfers and events, each as lines of text.
+//! The text of a script: its lines, read and told (docs/SCRIPT.md), and what is printed of layouts, reports, polls and events.
 //! ```text
+//!           words_of_line                   read_line
+//!   line ------------------> word by word ---------------> Line, or the first LineFault
+//!
+//!   press 1 07:04                        Press { dev: 1, usage: 07:04 }
+//!   poll 1 ack 2                         Poll { dev: 1, fate: AckLost, count: 2 }
+//!   begin 1 config                       Begin { dev: 1, request: Config }
+//!   values 0a Ff10                       Values { bytes: 0A FF 10 }
+//!   # a comment                          Nothing
+//!   values 0                             BadHex
+//!
 //!   Layout ---------- print_layout ---> report input 0 bytes 1
 //!                                       item 0 input 0 at 0 8x1 relative -127..127 01:30
 //!   a report 81 ----- print_values ---> value 0.0 -127 01:30
 //!   a step and what
 //!   it told --------- print_step -----> 1 poll DATA0 00 00 04 00 00 00 00 00 fresh
 //!                                       1 down 07:04
-//!                                       1 control done 00 00
 //! ```
-//! The rule to know: each call adds to the text that it is given, and adds nothing else. At a want of memory, which is the
-//! only error, some of it may have been added.
-//! What is added is the stated text, byte for byte: `layout_text`, `values_text` and `step_text` of `specs/`.
-//! A line of an event is told from the others by how it begins: law [`laws::events_are_told_apart`].
+//! The rules to know: a line is read without its end, and alone: what came before it doesn't change what it says. A call
+//! that prints adds to the text that it is given, and adds nothing else; where memory runs out, which is its only error, some
+//! of the text may have been added.
+//!
+//! Most lines are short: [`read_short`] reads them into a smaller room. [`read_line`] gives exactly what the definition
+//! `meaning_of` says (`exact`), and takes no memory. What is printed is the stated text, byte for byte: `layout_text`,
+//! `values_text` and `step_text` of `specs/`. A line of an event is told from the others by how it begins: law
+//! [`laws::events_are_told_apart`].
 #![tactic(auto)]
 
+mod arguments;
 mod event_text;
+mod fault;
 pub mod laws;
 mod layout_text;
+mod line;
+mod numbers;
 mod poll_text;
+mod requests;
+mod short;
 mod step_text;
 mod transfer_text;
 mod values_text;
+mod words;
 
 pub use event_text::EventText;
+pub use fault::LineFault;
 pub use layout_text::print_layout;
+pub use line::{HEX_LIMIT, LINE_LIMIT, Line, read_line, says_nothing};
+pub use numbers::read_number;
+pub use short::{ShortLine, read_short};
 pub use step_text::print_step;
 pub use values_text::print_values;
+pub use words::words_of_line;

@@ -1,4 +1,4 @@
-//! Tests of the script language, of `hid_lines` and `hid_script`, by what they export. They stand here, since the gate
+//! Tests of the script language, of `hid_text` and `hid_script`, by what they export. They stand here, since the gate
 //! proves a crate with tests twice. What `hidrun` prints of a script is no test: examples/rows has it. Each file says where
 //! its expected values come from.
 #![tactic(auto)]

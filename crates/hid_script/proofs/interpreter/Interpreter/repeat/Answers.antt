@@ -1,7 +1,7 @@
 use Rattle.std.proofs.Common.{[], ◌++◌, arith, add-one}
 use Rattle.std.proofs.KnownBytes.{Appends-nil, Appends-trans}
 use Rattle.hid_script.specs.Telling.{Once, times}
-use Rattle.hid_lines.specs.Short.{line_of}
+use Rattle.hid_text.specs.Short.{line_of}
 use Rattle.hid_script.specs.Interpreter.{session_of}
 use Rattle.hid_script.proofs.RepeatLemmas.{no_times, one_more, last_time, all_times}
 use Rattle.hid_script.proofs.StreamLemmas.{ends_by}

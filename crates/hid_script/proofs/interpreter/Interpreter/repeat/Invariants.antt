@@ -2,7 +2,7 @@ use Rattle.std.proofs.Common.{List, ℕ}
 use Rattle.std.specs.Io.KnownBytes.{Appends}
 use Rattle.hid_script.specs.Session.{Repeats, accepted}
 use Rattle.hid_script.specs.Telling.{Once}
-use Rattle.hid_lines.specs.Short.{line_of}
+use Rattle.hid_text.specs.Short.{line_of}
 use Rattle.hid_script.specs.Interpreter.{session_of}
 use Rattle.hid_script.proofs.interpreter.Interpreter.repeat.Given as goal
 

@@ -1,5 +1,5 @@
 use Rattle.std.proofs.Common.{◌≡◌, Ok, Err, sym, ◌∙◌}
-use Rattle.hid_lines.specs.Line.{meaning_of}
+use Rattle.hid_text.specs.Line.{meaning_of}
 use Rattle.hid_script.specs.Interpreter.{session_of}
 use Rattle.hid_script.proofs.SessionLemmas.{line_written, line_refused}
 use Rattle.hid_script.proofs.StreamLemmas.{from_line, ends_by}

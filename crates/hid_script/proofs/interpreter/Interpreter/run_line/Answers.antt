@@ -1,4 +1,4 @@
-use Rattle.hid_lines.specs.Short.{line_of}
+use Rattle.hid_text.specs.Short.{line_of}
 use Rattle.hid_script.specs.Interpreter.{session_of}
 use Rattle.hid_script.proofs.SessionLemmas.{line_written}
 use Rattle.hid_script.proofs.interpreter.Interpreter.run_line.Goals as goal

@@ -1,7 +1,0 @@
-use Rattle.std.proofs.Common.{◌≡◌, drop, map}
-use Rattle.hid_lines.specs.Words.{look_up}
-use Rattle.hid_lines.proofs.words.look_up.Given as goal
-
--- what the rest of the table has is what the table has
-abbrev pub invariant-loop-entry : goal.invariant-loop-entry
-invariant-loop-entry g l = look_up (map (λ e. (e.0.now, e.1)) (drop l.entry-index l.table)) l.word ≡ look_up (map (λ e. (e.0.now, e.1)) l.table) l.word

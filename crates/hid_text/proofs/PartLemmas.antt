@@ -1,0 +1,119 @@
+-- The first word of a text, and the words behind it.
+use Rattle.std.proofs.Common.{◌≡◌, ℕ, ◌-◌, ◌<◌, ◌≤◌, Bool, true, false, List, [], ◌∷◌, length, take, drop, nat_lt, refl, sym, ap, subst, ◌∙◌, arith, not, nat_eq, cond, None, Some, Ok, Err, get_or, ⊎_elim}
+use Rattle.std.proofs.lemmas.Bool.{cases_Bool, cases_lt, cond-true, cond-false, lt-ltb, le-ltb, ltb-true, ne_eqb, eq-eqb, true≢false}
+use Rattle.std.proofs.lemmas.Option.{cond_some}
+use Rattle.std.proofs.lemmas.List.{length-take-le, length-drop, get_or-drop, get_or-take, take_all}
+use Rattle.std.proofs.lemmas.List.Sums.{passes_at_first, prefix_len-le-length}
+use Rattle.std.proofs.Math.ListN.{drop_of_length-le}
+use Rattle.std.proofs.Math.Numerals.{one-add}
+use Rattle.std.proofs.Math.Nat.{add-zero}
+use Rattle.std.specs.Prelude.{filter, position}
+use Rattle.std.specs.Option.{unwrap_or}
+use Rattle.std.specs.List.{slice_split, onto_first, position_or_len, slice_index}
+use Rattle.hid_text.specs.declared.line.Line.TheVariants.{Nothing}
+use Rattle.hid_text.specs.declared.fault.LineFault.TheVariants.{LineTooLong}
+use Rattle.hid_text.specs.Line.{meaning_of, words_said, keyword_said, keyword_of}
+use Rattle.hid_text.specs.Words.{Word, is_blank, is_no_blank, words_of}
+
+-- blanks before the first word are none of it
+behind_blanks : (text : List ℕ) → words_of text ≡ words_of (drop (position_or_len is_no_blank text) text)
+behind_blanks [] = refl
+behind_blanks (b ∷ text) = ⊎_elim
+    (λ (blank : is_blank b ≡ true). rw blank (behind_blanks text ∙ ap (λ k. words_of (drop k (b ∷ text))) (sym (one-add (position_or_len is_no_blank text)))))
+    (λ (byte : is_blank b ≡ false). rw byte (rw byte refl)) (cases_Bool (is_blank b))
+
+-- the part up to the first blank, and the words behind that
+pub first_part : (text : List ℕ) → (parts : List Word) × (slice_split is_blank text ≡ take (position_or_len is_blank text) text ∷ parts)
+    × (filter (λ word. not (nat_eq (length word) 0)) parts ≡ words_of (drop (position_or_len is_blank text) text))
+first_part [] = ([], refl, refl)
+first_part (b ∷ text) = ⊎_elim
+    (λ (blank : is_blank b ≡ true). rw blank (slice_split is_blank text, refl, rw blank refl))
+    (λ (byte : is_blank b ≡ false).
+    let rest = first_part text in
+    let more = sym (one-add (position_or_len is_blank text)) in
+    rw byte (
+      rest.0,
+      subst (λ k. onto_first b (slice_split is_blank text) ≡ take k (b ∷ text) ∷ rest.0) more (ap (onto_first b) rest.1),
+      subst (λ k. filter (λ word. not (nat_eq (length word) 0)) rest.0 ≡ words_of (drop k (b ∷ text))) more rest.2,
+    )) (cases_Bool (is_blank b))
+
+none_passes : (b : Bool) (n : ℕ) → cond b (Some n) None ≡ None → b ≡ false
+none_passes true n e = cc
+none_passes false n e = refl
+
+-- a text of blanks has no word
+pub no_word : (text : List ℕ) → position is_no_blank text ≡ None → words_of text ≡ []
+no_word text none =
+    let n = position_or_len is_no_blank text in
+    let all : length text ≤ n = ⊎_elim (λ (below : n < length text). absurd (true≢false (sym (lt-ltb n (length text) below) ∙ none_passes _ n none))) (λ h. h) (cases_lt n (length text)) in
+    behind_blanks text ∙ ap (λ rest. words_of rest) (drop_of_length-le text all)
+
+-- a first byte that is no blank begins a word
+some_part : (text : List ℕ) → 0 < length text → is_no_blank (get_or text 0 0) ≡ true → 0 < position_or_len is_blank text
+some_part [] some byte = absurd (omega arith)
+some_part (b ∷ text) some byte = ⊎_elim
+    (λ (blank : is_blank b ≡ true). cc)
+    (λ (no : is_blank b ≡ false). rw no (omega arith)) (cases_Bool (is_blank b))
+
+pub some_byte : (word : List ℕ) → 0 < length word → not (nat_eq (length word) 0) ≡ true
+some_byte [] some = absurd (omega arith)
+some_byte (b ∷ word) some = rw (ne_eqb (length (b ∷ word)) 0 (λ e. omega (arith, some, e))) refl
+
+-- the first word, where a text has one, and the words behind it
+pub one_word : (text rest : List ℕ) (start : ℕ) → position is_no_blank text ≡ Some start → rest ≡ drop start text
+    → (words_of text ≡ take (position_or_len is_blank rest) rest ∷ words_of (drop (position_or_len is_blank rest) rest)) × (0 < position_or_len is_blank rest)
+one_word text rest start found is =
+    let n = position_or_len is_no_blank text in
+    let at = cond_some (nat_lt n (length text)) n start found in
+    let below : n < length text = ltb-true n (length text) at.0 in
+    let byte : is_no_blank (get_or (drop n text) 0 0) ≡ true = rw (get_or-drop n text 0 0, add-zero n) (passes_at_first is_no_blank text 0 below) in
+    let same : rest ≡ drop n text = is ∙ ap (λ k. drop k text) (sym at.1) in
+    let some : 0 < position_or_len is_blank rest = subst (λ r. 0 < position_or_len is_blank r) (sym same) (some_part (drop n text) (omega (arith, length-drop n text)) byte) in
+    let part = first_part rest in
+    let long : 0 < length (take (position_or_len is_blank rest) rest) = omega (arith, length-take-le (position_or_len is_blank rest) rest (prefix_len-le-length _ rest), some) in (
+      behind_blanks text ∙ ap (λ r. words_of r) (sym same) ∙ ap (λ parts. filter (λ word. not (nat_eq (length word) 0)) parts) part.1
+          ∙ cond-true (not (nat_eq (length (take (position_or_len is_blank rest) rest)) 0)) _ _ (some_byte _ long)
+          ∙ ap (λ words. take (position_or_len is_blank rest) rest ∷ words) part.2,
+      some,
+    )
+
+-- where the first part ends
+pub part_end : (rest : List ℕ) (end : ℕ) → end ≡ unwrap_or (position is_blank rest) (length rest) → end ≡ position_or_len is_blank rest
+part_end rest end is =
+    let n = position_or_len is_blank rest in
+    ⊎_elim (λ (below : n < length rest). is ∙ ap (λ o. unwrap_or o (length rest)) (cond-true (nat_lt n (length rest)) (Some n) None (lt-ltb n (length rest) below)))
+    (λ (all : length rest ≤ n). is ∙ ap (λ o. unwrap_or o (length rest)) (cond-false (nat_lt n (length rest)) (Some n) None (le-ltb n (length rest) all)) ∙ (omega (arith, all, prefix_len-le-length (λ b. not (is_blank b)) rest)))
+    (cases_lt n (length rest))
+
+-- a word that is found by the place of its first byte and by the blank behind it
+pub found_word : (text part : List ℕ) (start end : ℕ) → position is_no_blank text ≡ Some start → part ≡ take (length text - start) (drop start text)
+    → end ≡ unwrap_or (position is_blank part) (length part)
+    → (words_of text ≡ take end part ∷ words_of (take (length part - end) (drop end part))) × (0 < length (take end part))
+found_word text part start end found is ends =
+    let rest : part ≡ drop start text = is ∙ take_all (length text - start) (drop start text) (omega (arith, length-drop start text)) in
+    let more : take (length part - end) (drop end part) ≡ drop end part = take_all (length part - end) (drop end part) (omega (arith, length-drop end part)) in
+    let at : end ≡ position_or_len is_blank part = part_end part end ends in
+    let word = one_word text part start found rest in
+    (rw (more, at) word.0, omega (arith, at, word.1, length-take-le end part (omega (arith, at, prefix_len-le-length (λ b. not (is_blank b)) part))))
+
+-- ---- lines that say nothing
+
+short_line : (line : List ℕ) → length line ≤ 1024 → meaning_of line ≡ words_said (words_of line)
+unfolding meaning_of
+short_line line short = cond-false (nat_lt 1024 (length line)) (Err LineTooLong) (words_said (words_of line)) (le-ltb 1024 (length line) short)
+
+-- a line of blanks
+pub empty_line : (line : List ℕ) → length line ≤ 1024 → position is_no_blank line ≡ None → meaning_of line ≡ Ok Nothing
+unfolding words_said
+empty_line line short none = short_line line short ∙ ap words_said (no_word line none)
+
+-- a comment
+pub comment_line : (line : List ℕ) (start : ℕ) → length line ≤ 1024 → position is_no_blank line ≡ Some start → get_or line start 0 ≡ 35 → meaning_of line ≡ Ok Nothing
+unfolding words_said
+comment_line line start short found mark =
+    let rest = drop start line in
+    let end = position_or_len is_blank rest in
+    let word = one_word line rest start found refl in
+    let first : slice_index (take end rest) 0 ≡ 35 = get_or-take end rest 0 0 word.1 ∙ get_or-drop start line 0 0 ∙ rw (add-zero start) mark in
+    short_line line short ∙ ap words_said word.0
+    ∙ cond-true (nat_eq (slice_index (take end rest) 0) 35) (Ok Nothing) (keyword_said (keyword_of (take end rest)) (words_of (drop end rest))) (eq-eqb _ 35 first)

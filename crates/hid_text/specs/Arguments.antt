@@ -1,0 +1,91 @@
+-- What the words behind a line's first one say (our choice: the script language of docs/SCRIPT.md).
+use Rattle.std.specs.Prelude.{ℕ, List, [], ◌∷◌, Option, None, Some, Result, Ok, Err, codes, ℤ}
+use Rattle.arrayvec.specs.ArrayVec.{ArrayVec}
+use Rattle.hid_descriptor.specs.declared.usage.Usage.{Usage}
+use Rattle.usb_transact.specs.declared.transaction.Fate.{Fate}
+use Rattle.usb_transact.specs.declared.transaction.Fate.TheVariants.{Clean, TokenLost, ReplyLost, AckLost}
+use Rattle.hid_requests.specs.declared.boot.Boot.{Boot}
+use Rattle.hid_requests.specs.declared.boot.Boot.TheVariants.{No, Keyboard, Mouse}
+use Rattle.hid_bus.specs.declared.start.Start.{Start}
+use Rattle.hid_bus.specs.declared.start.Start.TheVariants.{Ready, Cold}
+use Rattle.hid_text.specs.declared.fault.LineFault.{LineFault}
+use Rattle.hid_text.specs.declared.fault.LineFault.TheVariants.{Syntax, BadHex}
+use Rattle.hid_text.specs.Words.{Word, look_up}
+use Rattle.hid_text.specs.Numbers.{device_of, usage_of, count_of, signed_of, amount_of}
+
+-- START
+abbrev pub start_of : Word → Option Start
+start_of = look_up ((codes "ready", Ready) ∷ (codes "cold", Cold) ∷ [])
+
+-- KIND
+abbrev pub boot_of : Word → Option Boot
+boot_of = look_up ((codes "plain", No) ∷ (codes "keyboard", Keyboard) ∷ (codes "mouse", Mouse) ∷ [])
+
+-- FATE
+abbrev pub fate_of : Word → Option Fate
+fate_of = look_up (
+    (codes "clean", Clean) ∷ (codes "token", TokenLost) ∷ (codes "reply", ReplyLost)
+    ∷ (codes "ack", AckLost) ∷ [])
+
+-- words that are all understood, or no line of the script's
+abbrev pub or_syntax : {A B : Type 0} → (A → B) → Option A → Result B LineFault
+or_syntax make None = Err Syntax
+or_syntax make (Some said) = Ok (make said)
+
+-- words of hex
+abbrev pub with_bytes : {A : Type 0} → (ArrayVec ℕ → A) → Option (List ℕ) → Result A LineFault
+with_bytes make None = Err BadHex
+with_bytes make (Some bytes) = Ok (make (record { items = bytes }))
+
+-- two words that are both understood
+abbrev pub two : {A B : Type 0} → Option A → Option B → Option (A × B)
+two (Some a) (Some b) = Some (a, b)
+two (Some a) None = None
+two None b = None
+
+-- and three
+abbrev pub three : {A B C : Type 0} → Option A → Option B → Option C → Option (A × B × C)
+three (Some a) (Some b) (Some c) = Some (a, b, c)
+three (Some a) (Some b) None = None
+three (Some a) None c = None
+three None b c = None
+
+-- D U
+unfoldable pub control_said : List Word → Option (ℕ × Usage)
+control_said (dev ∷ usage ∷ []) = two (device_of dev) (usage_of usage)
+control_said _ = None
+
+-- D U N, of a value
+unfoldable pub set_said : List Word → Option (ℕ × Usage × ℤ)
+set_said (dev ∷ usage ∷ value ∷ []) = three (device_of dev) (usage_of usage) (signed_of value)
+set_said _ = None
+
+-- D U N, of a motion
+unfoldable pub move_said : List Word → Option (ℕ × Usage × ℤ)
+move_said (dev ∷ usage ∷ by ∷ []) = three (device_of dev) (usage_of usage) (amount_of by)
+move_said _ = None
+
+-- [COUNT]
+unfoldable pub frame_said : List Word → Option ℕ
+frame_said [] = Some 1
+frame_said (count ∷ []) = count_of count
+frame_said _ = None
+
+-- [FATE [COUNT]]
+unfoldable pub tries_said : List Word → Option (Fate × ℕ)
+tries_said [] = Some (Clean, 1)
+tries_said (fate ∷ []) = two (fate_of fate) (Some 1)
+tries_said (fate ∷ count ∷ []) = two (fate_of fate) (count_of count)
+tries_said _ = None
+
+-- D [FATE [COUNT]]
+unfoldable pub poll_said : List Word → Option (ℕ × Fate × ℕ)
+poll_said (dev ∷ []) = three (device_of dev) (Some Clean) (Some 1)
+poll_said (dev ∷ fate ∷ []) = three (device_of dev) (fate_of fate) (Some 1)
+poll_said (dev ∷ fate ∷ count ∷ []) = three (device_of dev) (fate_of fate) (count_of count)
+poll_said _ = None
+
+-- D
+unfoldable pub one_device_said : List Word → Option ℕ
+one_device_said (dev ∷ []) = device_of dev
+one_device_said _ = None

@@ -1,0 +1,63 @@
+-- What a line says (our choice: the script language of docs/SCRIPT.md).
+use Rattle.std.specs.Prelude.{◌==◌, ℕ, List, [], ◌∷◌, length, nat_lt, slice_index, Option, None, Some, Result, Ok, Err, codes, if◌then◌else◌}
+use Rattle.hid_requests.specs.declared.boot.Boot.{Boot}
+use Rattle.hid_bus.specs.declared.start.Start.{Start}
+use Rattle.hid_text.specs.declared.line.Keyword.{Keyword}
+use Rattle.hid_text.specs.declared.line.Keyword.TheVariants as keywords
+use Rattle.hid_text.specs.declared.line.Line.{Line}
+use Rattle.hid_text.specs.declared.line.Line.TheVariants.{Nothing, Layout, Values, Device, Press, Release, Null, Set, Move, Frame, Poll, Control, Reset, Halt}
+use Rattle.hid_text.specs.declared.fault.LineFault.{LineFault}
+use Rattle.hid_text.specs.declared.fault.LineFault.TheVariants.{Syntax, LineTooLong}
+use Rattle.hid_text.specs.Words.{Word, words_of, look_up, hex_of}
+use Rattle.hid_text.specs.Arguments.{or_syntax, with_bytes, two, start_of, boot_of, control_said, set_said, move_said, frame_said, poll_said, one_device_said}
+use Rattle.hid_text.specs.Requests.{begin_said}
+
+-- the first word of a line
+abbrev pub keyword_of : Word → Option Keyword
+keyword_of = look_up (
+    (codes "layout", keywords.Layout) ∷ (codes "values", keywords.Values) ∷ (codes "device", keywords.Device)
+    ∷ (codes "press", keywords.Press) ∷ (codes "release", keywords.Release) ∷ (codes "null", keywords.Null)
+    ∷ (codes "set", keywords.Set) ∷ (codes "move", keywords.Move) ∷ (codes "frame", keywords.Frame)
+    ∷ (codes "poll", keywords.Poll) ∷ (codes "control", keywords.Control) ∷ (codes "begin", keywords.Begin)
+    ∷ (codes "reset", keywords.Reset) ∷ (codes "halt", keywords.Halt) ∷ [])
+
+-- a device and its descriptor: START and KIND are looked at before the hex words
+abbrev pub attachment : Option (Start × Boot) → List Word → Result Line LineFault
+attachment None hex = Err Syntax
+attachment (Some said) hex = with_bytes (Device said.0 said.1) (hex_of hex)
+
+-- START KIND HEX
+unfoldable pub device_said : List Word → Result Line LineFault
+device_said (start ∷ kind ∷ hex) = attachment (two (start_of start) (boot_of kind)) hex
+device_said _ = Err Syntax
+
+-- what the words behind the first one say
+unfoldable pub said_by : Keyword → List Word → Result Line LineFault
+said_by keywords.Layout words = with_bytes Layout (hex_of words)
+said_by keywords.Values words = with_bytes Values (hex_of words)
+said_by keywords.Device words = device_said words
+said_by keywords.Press words = or_syntax (λ said. Press said.0 said.1) (control_said words)
+said_by keywords.Release words = or_syntax (λ said. Release said.0 said.1) (control_said words)
+said_by keywords.Null words = or_syntax (λ said. Null said.0 said.1) (control_said words)
+said_by keywords.Set words = or_syntax (λ said. Set said.0 said.1 said.2) (set_said words)
+said_by keywords.Move words = or_syntax (λ said. Move said.0 said.1 said.2) (move_said words)
+said_by keywords.Frame words = or_syntax Frame (frame_said words)
+said_by keywords.Poll words = or_syntax (λ said. Poll said.0 said.1 said.2) (poll_said words)
+said_by keywords.Control words = or_syntax (λ said. Control said.0 said.1 said.2) (poll_said words)
+said_by keywords.Begin words = begin_said words
+said_by keywords.Reset words = or_syntax Reset (one_device_said words)
+said_by keywords.Halt words = or_syntax Halt (one_device_said words)
+
+-- a line that begins with another word is none of the script's
+abbrev pub keyword_said : Option Keyword → List Word → Result Line LineFault
+keyword_said None words = Err Syntax
+keyword_said (Some keyword) words = said_by keyword words
+
+-- a line without words, or whose first word begins with `#`, does nothing
+unfoldable pub words_said : List Word → Result Line LineFault
+words_said [] = Ok Nothing
+words_said (first ∷ words) = if slice_index first 0 == 35 then Ok Nothing else keyword_said (keyword_of first) words
+
+-- a line of more than 1,024 bytes is refused whatever it says
+unfoldable pub meaning_of : List ℕ → Result Line LineFault
+meaning_of line = if nat_lt 1024 (length line) then Err LineTooLong else words_said (words_of line)

@@ -1,0 +1,305 @@
+//! The lines of a script.
+
+ghost use Rattle.std.specs.Prelude.{◌≡◌, ◌≤◌, true, IsTrue, length};
+ghost use Rattle.hid_text.specs.Arguments.{with_bytes};
+ghost use Rattle.hid_text.specs.Short.{may_be_long};
+ghost use Rattle.hid_text.specs.Words.{hex_of, words_of};
+ghost use Rattle.hid_text.specs.Line.{keyword_of, meaning_of, words_said, said_by, device_said};
+
+use super::arguments::{read_boot, read_start};
+use super::fault::LineFault;
+use super::requests::read_begin;
+use super::short::read_short_words;
+use super::words::{first_two_words, first_word, look_up, no_blank, read_hex};
+use arrayvec::ArrayVec;
+use hid_bus::Start;
+use hid_descriptor::Usage;
+use hid_requests::{Boot, Request};
+use usb_transact::Fate;
+
+/// The most bytes of a line, without its end.
+pub const LINE_LIMIT: usize = 1024;
+
+/// The most bytes that the hex words of a line spell.
+pub const HEX_LIMIT: usize = 512;
+
+/// What a line says, with its words as values. A device is numbered from 1, and a usage names the least control that has it.
+#[derive(Drop)]
+pub enum Line {
+    /// An empty line, or a comment.
+    Nothing,
+    /// `layout HEX`: a report descriptor.
+    Layout {
+        /// The descriptor.
+        bytes: ArrayVec<u8, HEX_LIMIT>,
+    },
+    /// `values HEX`: the bytes of an Input report, with its ID byte where reports are numbered.
+    Values {
+        /// The report.
+        bytes: ArrayVec<u8, HEX_LIMIT>,
+    },
+    /// `device START KIND HEX`: a device, with its report descriptor.
+    Device {
+        /// How device and host begin.
+        start: Start,
+        /// Whether its reports are those of the boot protocol.
+        boot: Boot,
+        /// The report descriptor.
+        bytes: ArrayVec<u8, HEX_LIMIT>,
+    },
+    /// `press D U`
+    Press {
+        /// The device, from 1.
+        dev: u8,
+        /// The usage of the control that is pressed.
+        usage: Usage,
+    },
+    /// `release D U`
+    Release {
+        /// The device, from 1.
+        dev: u8,
+        /// The usage of the control that is released.
+        usage: Usage,
+    },
+    /// `null D U`
+    Null {
+        /// The device, from 1.
+        dev: u8,
+        /// The usage of the control that is set to null.
+        usage: Usage,
+    },
+    /// `set D U N`
+    Set {
+        /// The device, from 1.
+        dev: u8,
+        /// The usage of the control that is set.
+        usage: Usage,
+        /// The value that it is set to.
+        value: i64,
+    },
+    /// `move D U N`
+    Move {
+        /// The device, from 1.
+        dev: u8,
+        /// The usage of the control that moves.
+        usage: Usage,
+        /// How far it moves.
+        by: i32,
+    },
+    /// `frame [COUNT]`: so many frames, 1 to 10,000.
+    Frame {
+        /// How many frames pass, 1 to 10,000.
+        count: u16,
+    },
+    /// `poll D [FATE [COUNT]]`: so many polls, 1 to 10,000.
+    Poll {
+        /// The device, from 1.
+        dev: u8,
+        /// What is lost of each poll.
+        fate: Fate,
+        /// How many polls, 1 to 10,000.
+        count: u16,
+    },
+    /// `control D [FATE [COUNT]]`: so many tries of the transfer that runs, 1 to 10,000 (USB 2.0, 8.5.3).
+    Control {
+        /// The device, from 1.
+        dev: u8,
+        /// What is lost of each try.
+        fate: Fate,
+        /// How many tries, 1 to 10,000.
+        count: u16,
+    },
+    /// `begin D REQUEST`: a request that the host begins (USB 2.0, 9.4; HID 1.11, 7.2).
+    Begin {
+        /// The device, from 1.
+        dev: u8,
+        /// What the host asks, with the data that go with it.
+        request: Request,
+    },
+    /// `reset D`: the bus resets a device (USB 2.0, 7.1.7.5), and its host forgets it.
+    Reset {
+        /// The device, from 1.
+        dev: u8,
+    },
+    /// `halt D`: a device halts the endpoint that is polled (USB 2.0, 8.4.5 and 9.4.5).
+    Halt {
+        /// The device, from 1.
+        dev: u8,
+    },
+}
+
+#[derive(Clone, Copy)]
+pub(crate) enum Keyword {
+    Layout,
+    Values,
+    Device,
+    Press,
+    Release,
+    Null,
+    Set,
+    Move,
+    Frame,
+    Poll,
+    Control,
+    Begin,
+    Reset,
+    Halt,
+}
+
+pub(crate) fn read_keyword(word: &[u8]) -> Option<Keyword>
+    ensures { result ≡ keyword_of word.now }
+{
+    match word.len() {
+        3 => look_up(&[(b"set", Keyword::Set)], word),
+        4 => look_up(
+            &[
+                (b"null", Keyword::Null),
+                (b"move", Keyword::Move),
+                (b"poll", Keyword::Poll),
+                (b"halt", Keyword::Halt),
+            ],
+            word,
+        ),
+        5 => look_up(
+            &[
+                (b"press", Keyword::Press),
+                (b"frame", Keyword::Frame),
+                (b"begin", Keyword::Begin),
+                (b"reset", Keyword::Reset),
+            ],
+            word,
+        ),
+        6 => look_up(
+            &[
+                (b"layout", Keyword::Layout),
+                (b"values", Keyword::Values),
+                (b"device", Keyword::Device),
+            ],
+            word,
+        ),
+        7 => look_up(
+            &[
+                (b"release", Keyword::Release),
+                (b"control", Keyword::Control),
+            ],
+            word,
+        ),
+        _ => None,
+    }
+}
+
+/// Whether a line, without its end, is empty or a comment, and not too long: `true` only where [`read_line`] gives `Nothing`.
+#[tactic(auto, unfolding(crate::specs::Line::meaning_of))]
+pub fn says_nothing(line: &[u8]) -> bool
+    ensures { IsTrue result → meaning_of line.now ≡ Ok Line.Nothing }
+{
+    if LINE_LIMIT < line.len() {
+        return false;
+    }
+    match no_blank(line) {
+        None => true,
+        Some(start) => line[start] == b'#',
+    }
+}
+
+/// Reads one line, without its end. No memory is taken: the words are read where they stand.
+///
+/// # Errors
+/// Of several causes the first that is looked for: X2, X1, X3.
+#[inline(never)] // one place for what a line says
+#[tactic(auto, unfolding(crate::specs::Line::meaning_of))]
+pub fn read_line(line: &[u8]) -> Result<Line, LineFault>
+    ensures exact { result ≡ meaning_of line.now }
+{
+    if line.len() > LINE_LIMIT {
+        return Err(LineFault::LineTooLong);
+    }
+    read_words(line)
+}
+
+#[tactic(auto, unfolding(crate::specs::Line::words_said))]
+fn read_words(text: &[u8]) -> Result<Line, LineFault>
+    requires { length text.now ≤ 1024 }
+    ensures { result ≡ words_said (words_of text.now) }
+{
+    let Some((first, rest)) = first_word(text) else {
+        return Ok(Line::Nothing);
+    };
+    if first[0] == b'#' {
+        return Ok(Line::Nothing);
+    }
+    match read_keyword(first) {
+        None => Err(LineFault::Syntax),
+        Some(keyword) => read_arguments(keyword, rest),
+    }
+}
+
+#[tactic(auto, using(crate::proofs::ShortLemmas::short_lines))]
+fn read_arguments(keyword: Keyword, text: &[u8]) -> Result<Line, LineFault>
+    requires { length text.now ≤ 1024 }
+    ensures { result ≡ said_by keyword (words_of text.now) }
+{
+    match keyword {
+        Keyword::Layout | Keyword::Values | Keyword::Device | Keyword::Begin => {
+            read_long(keyword, text)
+        }
+        _ => match read_short_words(keyword, text) {
+            Some(short) => Ok(Line::of(short)),
+            None => Err(LineFault::Syntax),
+        },
+    }
+}
+
+/// What stands behind a keyword whose line may have many bytes.
+#[inline(never)] // no other line makes room for them
+#[tactic(auto, unfolding(crate::specs::Line::said_by))]
+fn read_long(keyword: Keyword, text: &[u8]) -> Result<Line, LineFault>
+    requires short { length text.now ≤ 1024 }
+    requires long { may_be_long keyword ≡ true }
+    ensures { result ≡ said_by keyword (words_of text.now) }
+{
+    match keyword {
+        Keyword::Layout => read_layout(text),
+        Keyword::Values => read_values(text),
+        Keyword::Device => read_attachment(text),
+        Keyword::Begin => read_begin(text),
+        _ => unreachable!(),
+    }
+}
+
+/// `HEX`: a report descriptor.
+#[inline(never)]
+fn read_layout(text: &[u8]) -> Result<Line, LineFault>
+    requires { length text.now ≤ 1024 }
+    ensures { result ≡ with_bytes Line.Layout (hex_of (words_of text.now)) }
+{
+    let bytes = read_hex(text)?;
+    Ok(Line::Layout { bytes })
+}
+
+/// `HEX`: the bytes of an Input report.
+#[inline(never)]
+fn read_values(text: &[u8]) -> Result<Line, LineFault>
+    requires { length text.now ≤ 1024 }
+    ensures { result ≡ with_bytes Line.Values (hex_of (words_of text.now)) }
+{
+    let bytes = read_hex(text)?;
+    Ok(Line::Values { bytes })
+}
+
+/// `START KIND HEX`: a device, with its report descriptor.
+#[inline(never)]
+#[tactic(auto, unfolding(crate::specs::Line::device_said))]
+fn read_attachment(text: &[u8]) -> Result<Line, LineFault>
+    requires { length text.now ≤ 1024 }
+    ensures { result ≡ device_said (words_of text.now) }
+{
+    let Some((start, kind, hex)) = first_two_words(text) else {
+        return Err(LineFault::Syntax);
+    };
+    let Some((start, boot)) = read_start(start).zip(read_boot(kind)) else {
+        return Err(LineFault::Syntax);
+    };
+    let bytes = read_hex(hex)?;
+    Ok(Line::Device { start, boot, bytes })
+}
