@@ -8,7 +8,7 @@ use Rattle.hid_notation.specs.Causes.{layout_words}
 use Rattle.hid_notation.specs.Text.{joined_below}
 use Rattle.hid_page.specs.declared.drawing.Form.{Form}
 use Rattle.hid_page.specs.declared.drawing.Form.TheVariants.{Page, Svg, Characters}
-use Rattle.hid_pieces.specs.Items.{AreItemsOf, place_of}
+use Rattle.hid_drawing.specs.Items.{AreItemsOf, place_of}
 use Rattle.hid_page.specs.Page.{page_of, refused_page, svg_of, characters_of, mains_of}
 
 -- the pictures of all reports in characters, an empty line behind each

@@ -8,12 +8,12 @@ use Rattle.hid_items.specs.Spelling.{data_of, prefix_of, unsigned_of, signed_of}
 use Rattle.hid_items.specs.declared.spelling.Item.{Item}
 use Rattle.hid_notation.specs.Text.{hex_text, bytes_text, joined_below}
 use Rattle.hid_page.specs.declared.item_table.TheConstants.{ITEM_NAMES, ITEMS_HEAD, TABLE_END}
-use Rattle.hid_picture.specs.Escape.{escaped}
-use Rattle.hid_pieces.specs.Frames.{round_at}
-use Rattle.hid_pieces.specs.Items.{spelled_at}
-use Rattle.hid_pieces.specs.Label.{usage_label}
-use Rattle.hid_pieces.specs.Makers.{global_place}
-use Rattle.hid_pieces.specs.Words.{flags_text, collection_name}
+use Rattle.hid_drawing.specs.Escape.{escaped}
+use Rattle.hid_drawing.specs.Frames.{round_at}
+use Rattle.hid_drawing.specs.Items.{spelled_at}
+use Rattle.hid_drawing.specs.Label.{usage_label}
+use Rattle.hid_drawing.specs.Makers.{global_place}
+use Rattle.hid_drawing.specs.Words.{flags_text, collection_name}
 
 -- what a table of names has under a prefix
 abbrev pub named_in : List (ℕ × List ℕ) → ℕ → List ℕ

@@ -16,16 +16,16 @@ use Rattle.hid_notation.specs.Text.{joined_below}
 use Rattle.hid_page.specs.declared.item_table.TheConstants.{TABLE_END}
 use Rattle.hid_page.specs.declared.page.TheConstants.{HEAD, ACCEPTED, REFUSED, END}
 use Rattle.hid_page.specs.declared.field_table.TheConstants.{FIELDS_HEAD, NEXT, MARK}
-use Rattle.hid_picture.specs.Escape.{escaped}
-use Rattle.hid_pieces.specs.Frames.{frames_of, main_at}
-use Rattle.hid_pieces.specs.Items.{place_of}
+use Rattle.hid_drawing.specs.Escape.{escaped}
+use Rattle.hid_drawing.specs.Frames.{frames_of, main_at}
+use Rattle.hid_drawing.specs.Items.{place_of}
 use Rattle.hid_page.specs.ItemTable.{item_table}
 use Rattle.hid_page.specs.Windows.{windows}
-use Rattle.hid_pieces.specs.Makers.{makes, listed_below}
-use Rattle.hid_pieces.specs.Pieces.{pieces_of}
-use Rattle.hid_picture.specs.Svg.{picture_at}
-use Rattle.hid_picture.specs.Terminal.{terminal_at}
-use Rattle.hid_pieces.specs.Words.{count_text, bit_text, flags_text, is_input_item, collection_text, entry_text, report_name}
+use Rattle.hid_drawing.specs.Makers.{makes, listed_below}
+use Rattle.hid_drawing.specs.Pieces.{pieces_of}
+use Rattle.hid_drawing.specs.Svg.{picture_at}
+use Rattle.hid_drawing.specs.Terminal.{terminal_at}
+use Rattle.hid_drawing.specs.Words.{count_text, bit_text, flags_text, is_input_item, collection_text, entry_text, report_name}
 
 -- which rows a field points at: its own, when it is pointed at or chosen
 unfoldable pub mark_head : ℕ → List ℕ

@@ -6,12 +6,12 @@ use Rattle.hid_layout.specs.Layout.{Contents}
 use Rattle.hid_layout.specs.Reports.{report_bytes}
 use Rattle.hid_notation.specs.Text.{joined_below}
 use Rattle.hid_page.specs.declared.windows.TheConstants.{WINDOW, WINDOW_HEAD}
-use Rattle.hid_picture.specs.Areas.{gap_of, row_top, name_left}
-use Rattle.hid_picture.specs.declared.areas.TheConstants.{RIGHT}
-use Rattle.hid_picture.specs.Lines.{rows_of}
-use Rattle.hid_pieces.specs.Frames.{deepest}
-use Rattle.hid_pieces.specs.declared.frames.Frame.{Frame}
-use Rattle.hid_pieces.specs.declared.pieces.Piece.{Piece}
+use Rattle.hid_drawing.specs.Areas.{gap_of, row_top, name_left}
+use Rattle.hid_drawing.specs.declared.areas.TheConstants.{RIGHT}
+use Rattle.hid_drawing.specs.Lines.{rows_of}
+use Rattle.hid_drawing.specs.Frames.{deepest}
+use Rattle.hid_drawing.specs.declared.frames.Frame.{Frame}
+use Rattle.hid_drawing.specs.declared.pieces.Piece.{Piece}
 
 -- how many windows a report of so many bytes has: none where one would hold all of it
 abbrev pub window_count : ℕ → ℕ

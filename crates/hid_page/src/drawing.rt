@@ -2,14 +2,14 @@
 
 ghost use Rattle.std.specs.Prelude.{◌≡◌, ◌++◌, ◌<◌, ◌≤◌, ◌^◌, All, length, IfOk, OnOk, string_bytes};
 ghost use Rattle.std.specs.Option.{option_map};
-ghost use Rattle.hid_pieces.specs.Items.{IsWhole};
+ghost use Rattle.hid_drawing.specs.Items.{IsWhole};
 ghost use Rattle.hid_page.specs.Drawing.{all_characters, form_text, IsDrawn, begun_below, refusal_words, IsRefusal};
 
 use crate::page::{print_characters, print_page, print_refused, print_svg};
+use hid_drawing::{listed_places, place_of, read_items};
 use hid_items::Item;
 use hid_layout::{Layout, LayoutFault};
 use hid_notation::layout_words;
-use hid_pieces::{listed_places, place_of, read_items};
 use std::alloc::{AllocError, Global};
 
 /// What is asked for.

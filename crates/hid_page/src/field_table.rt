@@ -1,20 +1,19 @@
 //! The fields of a report as a table, and the rules by which a field marks the items that made it.
 
 ghost use Rattle.std.specs.Prelude.{◌≡◌, ◌++◌, ◌<◌, length, OnOk, string_bytes};
-ghost use Rattle.hid_pieces.specs.Makers.{in_force};
-ghost use Rattle.hid_pieces.specs.Pieces.{LiesIn};
-ghost use Rattle.hid_picture.specs.Escape.{escaped};
-ghost use Rattle.hid_pieces.specs.Words.{entry_text, collection_text};
+ghost use Rattle.hid_drawing.specs.Makers.{in_force};
+ghost use Rattle.hid_drawing.specs.Pieces.{LiesIn};
+ghost use Rattle.hid_drawing.specs.Escape.{escaped};
+ghost use Rattle.hid_drawing.specs.Words.{entry_text, collection_text};
 ghost use Rattle.hid_page.specs.Page.{mark_head, mark_at, marks_of, mark_rule, mark_rules, number_cell, size_cell, usages_cell, meaning_cell, limits_text, range_cell, path_cell, item_link, link_at, links_cell, place_cells, meaning_cells, origin_cells, field_row, field_row_of, field_rows, field_table};
 
 use crate::item_table::TABLE_END;
+use hid_drawing::{
+    InForce, first_bit_of, in_force, is_input_item, item_at, main_at, makes, place_of, print_bit,
+    print_collection, print_count, print_entry, print_flags, push_escaped,
+};
 use hid_items::Item;
 use hid_layout::{Collection, Layout, MainItem, Shape, Usage};
-use hid_picture::push_escaped;
-use hid_pieces::{
-    InForce, first_bit_of, in_force, is_input_item, item_at, main_at, makes, place_of, print_bit,
-    print_collection, print_count, print_entry, print_flags,
-};
 use std::alloc::{AllocError, Global};
 
 /// What the table begins with.

@@ -1,11 +1,11 @@
 //! The frames of a report.
 
 ghost use Rattle.std.specs.Prelude.{◌≡◌, IfOk};
-ghost use Rattle.hid_pieces.specs.Frames.{frames_of};
+ghost use Rattle.hid_drawing.specs.Frames.{frames_of};
 
+use hid_drawing::{Drawn, Frame};
 use hid_items::Item;
 use hid_layout::Layout;
-use hid_pieces::{Drawn, Frame};
 use std::alloc::{AllocError, Global};
 
 /// The frames of the report r, for a layout with the items of its descriptor and the places of its main items.

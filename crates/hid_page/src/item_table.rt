@@ -2,19 +2,18 @@
 
 ghost use Rattle.std.specs.Prelude.{◌≡◌, ◌++◌, ◌+◌, ◌<◌, ◌^◌, All, codes, length, slice_get, Some, OnOk, string_bytes};
 ghost use Rattle.hid_notation.specs.Text.{joined_below};
-ghost use Rattle.hid_picture.specs.Escape.{escaped};
-ghost use Rattle.hid_pieces.specs.Items.{IsWhole};
-ghost use Rattle.hid_pieces.specs.Label.{usage_label};
+ghost use Rattle.hid_drawing.specs.Escape.{escaped};
+ghost use Rattle.hid_drawing.specs.Items.{IsWhole};
+ghost use Rattle.hid_drawing.specs.Label.{usage_label};
 ghost use Rattle.hid_page.specs.ItemTable.{named_in, names_of, item_name, first_of, words_of, next_main, page_place, number_of, signed_number, exponent_of, number_at, page_at, usage_on, is_signed, is_usage, number_text, data_text, item_head, item_words, item_row, item_rows, item_table};
 
+use hid_drawing::{
+    COLLECTION, UsageLabel, collection_name, global_place, is_field, is_main, prefix_of,
+    print_flags, push_escaped, round_at,
+};
 use hid_items::Item;
 use hid_layout::{MainFlags, Usage};
 use hid_notation::{HexText, print_bytes};
-use hid_picture::push_escaped;
-use hid_pieces::{
-    COLLECTION, UsageLabel, collection_name, global_place, is_field, is_main, prefix_of,
-    print_flags, round_at,
-};
 use std::alloc::{AllocError, Global};
 
 /// The names of short items by their prefix (HID 1.11, 6.2.2).

@@ -1,17 +1,19 @@
 //! The page of a descriptor: pictures, the fields as tables, and the items with their places.
 
 ghost use Rattle.std.specs.Prelude.{◌≡◌, ◌++◌, ◌<◌, ◌≤◌, All, length, slice_get, OnOk, string_bytes};
-ghost use Rattle.hid_pieces.specs.Items.{IsWhole};
+ghost use Rattle.hid_drawing.specs.Items.{IsWhole};
 ghost use Rattle.hid_page.specs.Page.{heading, heading_at, svg_of, characters_of, section, sections, page_of, refusal, refused_page};
 
 use crate::field_table::{print_field_table, print_mark_rules};
 use crate::frames::frames_in;
 use crate::item_table::print_item_table;
 use crate::windows::print_windows;
+use hid_drawing::{
+    pieces_of, print_count, print_picture, print_report_name, print_terminal, push_escaped,
+    report_at,
+};
 use hid_items::Item;
 use hid_layout::{Layout, Report};
-use hid_picture::{print_picture, print_terminal, push_escaped};
-use hid_pieces::{pieces_of, print_count, print_report_name, report_at};
 use std::alloc::{AllocError, Global};
 
 /// What a page begins with.

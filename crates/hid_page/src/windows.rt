@@ -7,10 +7,9 @@ ghost use Rattle.hid_page.specs.Page.{windows_of};
 ghost use Rattle.hid_page.specs.Windows.{window_count, cut_above, window_box, window_use, window, windows_by, windows};
 
 use crate::frames::frames_in;
+use hid_drawing::{RIGHT, deepest, gap_of, name_left, pieces_of, report_at, row_top, rows_of};
 use hid_items::Item;
 use hid_layout::Layout;
-use hid_picture::{RIGHT, gap_of, name_left, row_top, rows_of};
-use hid_pieces::{deepest, pieces_of, report_at};
 use std::alloc::{AllocError, Global};
 
 /// The bytes of a window: as many rows as the smaller of the usual sheets holds below a heading.

@@ -1,4 +1,4 @@
-use Rattle.hid_pieces.proofs.ItemLemmas.{same_whole}
+use Rattle.hid_drawing.proofs.ItemLemmas.{same_whole}
 use Rattle.hid_page.proofs.drawing.draw.Goals as goal
 
 pub draw_form-requires : goal.draw_form-requires

@@ -1,4 +1,4 @@
-use Rattle.hid_pieces.proofs.ItemLemmas.{same_whole}
+use Rattle.hid_drawing.proofs.ItemLemmas.{same_whole}
 use Rattle.hid_page.proofs.drawing.draw_refused.Goals as goal
 
 pub print_refused-requires-clause-whole : goal.print_refused-requires-clause-whole

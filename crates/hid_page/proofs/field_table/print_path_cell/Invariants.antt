@@ -1,8 +1,8 @@
 use Rattle.std.proofs.Common.{◌≡◌, ◌++◌, take}
 use Rattle.std.specs.Prelude.{string_bytes, codes}
 use Rattle.std.specs.List.{flat_map}
-use Rattle.hid_picture.specs.Escape.{escaped}
-use Rattle.hid_pieces.specs.Words.{collection_text}
+use Rattle.hid_drawing.specs.Escape.{escaped}
+use Rattle.hid_drawing.specs.Words.{collection_text}
 use Rattle.hid_page.proofs.field_table.print_path_cell.Given as goal
 
 -- the collections so far

@@ -1,6 +1,6 @@
 use Rattle.std.proofs.Common.{append_assoc}
 use Rattle.hid_page.specs.Page.{page_of}
-use Rattle.hid_picture.proofs.TextLemmas.{last_added}
+use Rattle.hid_drawing.proofs.TextLemmas.{last_added}
 use Rattle.hid_page.proofs.page.print_page.Goals as goal
 
 pub returns : goal.returns

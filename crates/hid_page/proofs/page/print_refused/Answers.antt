@@ -1,7 +1,7 @@
 use Rattle.std.proofs.Common.{append_assoc, arith}
 use Rattle.std.proofs.lemmas.Grind.{common_steps}
 use Rattle.hid_page.specs.Page.{refused_page}
-use Rattle.hid_picture.proofs.TextLemmas.{last_added}
+use Rattle.hid_drawing.proofs.TextLemmas.{last_added}
 use Rattle.hid_page.proofs.page.print_refused.Goals as goal
 
 pub print_item_table-requires : goal.print_item_table-requires

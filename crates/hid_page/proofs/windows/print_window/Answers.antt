@@ -1,5 +1,5 @@
 use Rattle.std.proofs.Common.{append_assoc}
-use Rattle.hid_picture.proofs.TextLemmas.{last_added}
+use Rattle.hid_drawing.proofs.TextLemmas.{last_added}
 use Rattle.hid_page.specs.Windows.{window}
 use Rattle.hid_page.proofs.windows.print_window.Goals as goal
 

@@ -1,0 +1,11 @@
+use Rattle.std.proofs.Common.{◌≡◌, ◌++◌, take, [], ◌∷◌}
+use Rattle.std.specs.Prelude.{string_bytes, codes}
+use Rattle.std.specs.List.{flat_map}
+use Rattle.hid_drawing.specs.Words.{entry_text}
+use Rattle.hid_drawing.proofs.terminal.print_usage_lines.Given as goal
+
+-- the usages so far
+abbrev pub invariant-loop-entry : goal.invariant-loop-entry
+invariant-loop-entry l =
+    string_bytes l.text
+    ≡ string_bytes l.fn.text ++ flat_map (λ entry. codes "  " ++ entry_text entry ++ 10 ∷ []) (take l.entry-index l.entries)

@@ -1,0 +1,58 @@
+-- Laws of what is drawn (HID 1.11, 6.2.2.4 and 6.2.2.7).
+use Rattle.std.specs.Prelude.{◌≡◌, ℕ, zero, suc, ◌+◌, ◌*◌, ◌/◌, ◌%◌, ◌<◌, ◌≤◌, Bool, ◌==◌, ◌&&◌, nat_le, nat_lt, List, [], ◌∷◌, length, map, count_by}
+use Rattle.hid_descriptor.specs.Faults.{Accepts}
+use Rattle.hid_descriptor.specs.Fields.{Field, fields, field_of}
+use Rattle.hid_descriptor.specs.Items.{Spelled}
+use Rattle.hid_items.specs.declared.spelling.Item.{Item}
+use Rattle.hid_layout.specs.Layout.{main_item, layout_of}
+use Rattle.hid_layout.specs.Reports.{report_bytes}
+use Rattle.hid_drawing.specs.Items.{AreItemsOf, spelled_at}
+use Rattle.hid_drawing.specs.Makers.{listed_below}
+use Rattle.hid_drawing.specs.Pieces.{pieces_of}
+use Rattle.hid_drawing.specs.declared.pieces.Piece.{Piece}
+
+-- so many of the first items, the last one first
+abbrev pub spelled_before : List Item → ℕ → List Spelled
+spelled_before items zero = []
+spelled_before items (suc k) = spelled_at items k ∷ spelled_before items k
+
+-- the field that the main item at a place describes
+abbrev pub field_from : List Item → ℕ → Field
+field_from items m =
+    field_of (fields (spelled_before items m)) (spelled_before items m) (spelled_at items m)
+
+-- the fields of a descriptor are those that the places with bits describe, in order
+abbrev pub ListsAllFields : Type 0
+ListsAllFields = (descriptor : List ℕ) (items : List Item) (before : List Spelled)
+    → AreItemsOf descriptor items → Accepts descriptor before
+    → fields before ≡ map (field_from items) (listed_below items (length items))
+
+-- the listed items of its layout are those of these places
+abbrev pub ListsAllItems : Type 0
+ListsAllItems = (descriptor : List ℕ) (items : List Item) (before : List Spelled)
+    → AreItemsOf descriptor items → Accepts descriptor before
+    → (layout_of before).items
+    ≡ map (λ m. main_item (layout_of before).reports (field_from items m)) (listed_below items (length items))
+
+-- pieces with bits lie one behind the other, from one bit of a report to another one
+abbrev pub LieFrom : ℕ → List Piece → ℕ → Type 0
+LieFrom from [] to = from ≡ to
+LieFrom from (piece ∷ pieces) to =
+    (8 * piece.byte + piece.low ≡ from) × (piece.low < piece.high) × (piece.high ≤ 8)
+    × LieFrom (8 * piece.byte + piece.high) pieces to
+
+-- the pieces of a report lie so from its first bit to the last one of its last byte
+abbrev pub FillReports : Type 0
+FillReports = (descriptor : List ℕ) (before : List Spelled) (r : ℕ)
+    → Accepts descriptor before → r < length (layout_of before).reports
+    → LieFrom 0 (pieces_of (layout_of before) r) (8 * report_bytes (layout_of before) r)
+
+-- a piece has a bit of its report
+abbrev pub has_bit : ℕ → Piece → Bool
+has_bit bit piece = (piece.byte == bit / 8) && (nat_le piece.low (bit % 8) && nat_lt (bit % 8) piece.high)
+
+-- so each bit of a report is in one piece, and in one alone
+abbrev pub HaveBitsOnce : Type 0
+HaveBitsOnce = (descriptor : List ℕ) (before : List Spelled) (r bit : ℕ)
+    → Accepts descriptor before → r < length (layout_of before).reports → bit < 8 * report_bytes (layout_of before) r
+    → count_by (has_bit bit) (pieces_of (layout_of before) r) ≡ 1

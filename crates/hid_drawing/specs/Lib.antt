@@ -1,0 +1,13 @@
+pub mod Label
+pub mod Items
+pub mod Makers
+pub mod Pieces
+pub mod Frames
+pub mod Words
+pub mod Laws
+pub mod Areas
+pub mod Escape
+pub mod Lines
+pub mod Svg
+pub mod Terminal
+pub mod PictureWords

@@ -1,0 +1,210 @@
+-- The picture of a report: a row of eight bits for each byte, bit 7 at the left as in the tables of the standard (HID
+-- 1.11, B.1 and 8.3; colors and measures are our choice: docs/PICTURES.md).
+use Rattle.std.specs.Prelude.{ℕ, ◌+◌, ◌-◌, ◌*◌, ◌%◌, Bool, true, nat_lt, if◌then◌else◌, List, [], ◌∷◌, ◌++◌, length, slice_get, Option, None, Some, codes}
+use Rattle.std.specs.List.{flat_map}
+use Rattle.std.specs.Fmt.{decimal}
+use Rattle.hid_descriptor.specs.declared.report.Report.{Report}
+use Rattle.hid_descriptor.specs.declared.shape.Shape.{Shape}
+use Rattle.hid_descriptor.specs.declared.shape.Shape.TheVariants.{Padding, Variable, Array}
+use Rattle.hid_layout.specs.declared.main_item.MainItem.{MainItem}
+use Rattle.hid_layout.specs.Layout.{Contents}
+use Rattle.hid_layout.specs.Reports.{report_bytes}
+use Rattle.hid_notation.specs.Text.{joined_below}
+use Rattle.hid_drawing.specs.declared.frames.Frame.{Frame}
+use Rattle.hid_drawing.specs.declared.pieces.Part.{Part}
+use Rattle.hid_drawing.specs.declared.pieces.Part.TheVariants.{ReportId, Field, Filler}
+use Rattle.hid_drawing.specs.declared.pieces.Piece.{Piece}
+use Rattle.hid_drawing.specs.declared.areas.Area.{Area}
+use Rattle.hid_drawing.specs.declared.svg.TheConstants.{STYLE, OPENING, EDGE}
+use Rattle.hid_drawing.specs.declared.areas.TheConstants.{LINE, RIGHT}
+use Rattle.hid_drawing.specs.declared.lines.TheConstants.{NAME_COLUMNS}
+use Rattle.hid_drawing.specs.Escape.{escaped}
+use Rattle.hid_drawing.specs.Frames.{deepest}
+use Rattle.hid_drawing.specs.Words.{report_name, count_text, piece_name, part_details, part_flags, place_text}
+use Rattle.hid_drawing.specs.Areas.{left_of, cell_height, row_top, piece_area, frame_area, bit_middle, name_left}
+use Rattle.hid_drawing.specs.Lines.{line_count, both_counts, columns_of, line_of, lines_in_front, rows_of}
+use Rattle.hid_drawing.specs.PictureWords.{frame_name}
+
+-- where an area lies, as attributes
+unfoldable pub area_text : Area → List ℕ
+area_text b =
+    codes " x='" ++ decimal b.x ++ codes "' y='" ++ decimal b.y ++ codes "' width='" ++ decimal b.width
+    ++ codes "' height='" ++ decimal b.height ++ codes "'"
+
+-- the color of a listed item: one of six, and another one for padding
+abbrev pub color_class : ℕ → Shape → List ℕ
+color_class item Padding = codes "p"
+color_class item Variable = 107 ∷ decimal (item % 6)
+color_class item Array = 107 ∷ decimal (item % 6)
+
+-- the class of a listed item that there may be, and where its cell leads
+abbrev pub field_class : ℕ → Option MainItem → List ℕ
+field_class item None = []
+field_class item (Some main) =
+    codes " class='" ++ color_class item main.shape ++ codes " f" ++ decimal item ++ codes "' href='#f" ++ decimal item
+    ++ codes "'"
+
+-- the class of a part
+unfoldable pub part_class : Contents → Part → List ℕ
+part_class layout ReportId = codes " class='i'"
+part_class layout Filler = codes " class='p'"
+part_class layout (Field item element) = field_class item (slice_get layout.items item)
+
+-- what is said of a part behind its place: the filler has nothing, and only fields have flags
+unfoldable pub part_saying : Contents → ℕ → Part → List ℕ
+part_saying layout r ReportId = codes "; " ++ part_details layout r ReportId
+part_saying layout r Filler = []
+part_saying layout r (Field i j) =
+    codes "; " ++ part_details layout r (Field i j) ++ codes "; " ++ part_flags layout (Field i j)
+
+-- what a cell is read as: its name, its place, what is said of it and its flags
+unfoldable pub cell_title : Contents → ℕ → Piece → List ℕ
+cell_title layout r piece =
+    codes "<title>" ++ escaped (piece_name layout piece) ++ codes ": " ++ place_text piece
+    ++ part_saying layout r piece.part ++ codes "</title>"
+
+-- the class of a line: a name, or what is said of it
+abbrev pub line_class : ℕ → ℕ → List ℕ
+line_class count k = if nat_lt k count then codes "n" else codes "d"
+
+-- where a line of a cell begins
+unfoldable pub line_head : ℕ → ℕ → ℕ → List ℕ
+line_head count k y =
+    codes "<text class='" ++ line_class count k ++ codes "' x='6' y='" ++ decimal y ++ codes "'>"
+
+-- a line of two texts, one below the other
+unfoldable pub text_line : List ℕ → List ℕ → ℕ → ℕ → List ℕ
+text_line name details columns k =
+    line_head (line_count name columns) k (15 + LINE * k) ++ escaped (line_of name details columns k) ++ codes "</text>"
+
+-- the lines of two texts
+unfoldable pub text_lines : List ℕ → List ℕ → ℕ → List ℕ
+text_lines name details columns = joined_below (both_counts name details columns) (text_line name details columns)
+
+-- what a cell shows: its name, and what is said of it
+unfoldable pub cell_words : Contents → ℕ → Piece → List ℕ
+cell_words layout r piece =
+    text_lines (piece_name layout piece) (part_details layout r piece.part) (columns_of true piece)
+
+-- the edge of a cell
+unfoldable pub edge_text : ℕ → List ℕ
+edge_text height = EDGE.now ++ decimal (height - 2) ++ codes "' rx='3'/>"
+
+-- a cell begins with its class, and with the area in which it lies
+unfoldable pub cell_head : Contents → ℕ → List ℕ → Piece → List ℕ
+cell_head layout depth rows piece =
+    codes "<a" ++ part_class layout piece.part ++ codes "><svg" ++ area_text (piece_area depth rows piece)
+    ++ edge_text (cell_height rows piece.byte)
+
+-- a cell stands where its piece says
+unfoldable pub cell_text : Contents → ℕ → ℕ → List ℕ → Piece → List ℕ
+cell_text layout r depth rows piece =
+    cell_head layout depth rows piece ++ cell_title layout r piece ++ cell_words layout r piece
+    ++ codes "</svg></a>" ++ 10 ∷ []
+
+-- what a frame is read as
+unfoldable pub frame_title : Contents → Frame → List ℕ
+frame_title layout frame =
+    codes "<g><title>" ++ escaped (frame_name layout frame) ++ codes ": bytes " ++ decimal frame.first ++ codes " to "
+    ++ decimal frame.last ++ codes "</title>"
+
+-- where a name begins
+unfoldable pub label_head : ℕ → ℕ → List ℕ
+label_head x y = codes "<text class='o' x='" ++ decimal x ++ codes "' y='" ++ decimal y ++ codes "'>"
+
+-- a line of the name beside a frame
+unfoldable pub label_line : ℕ → ℕ → List ℕ → ℕ → List ℕ
+label_line depth top name k =
+    label_head (name_left depth) (top + LINE * k) ++ escaped (line_of name [] NAME_COLUMNS k) ++ codes "</text>"
+
+-- the lines of the name beside a frame
+unfoldable pub label_lines : ℕ → ℕ → List ℕ → List ℕ
+label_lines depth top name =
+    joined_below (line_count name NAME_COLUMNS) (label_line depth top name) ++ codes "</g>" ++ 10 ∷ []
+
+-- the name beside a frame stands at its first byte, below so many other lines
+unfoldable pub frame_label : Contents → ℕ → List ℕ → ℕ → Frame → List ℕ
+frame_label layout depth rows front frame =
+    label_lines depth (row_top depth rows frame.first + 11 + LINE * front) (frame_name layout frame)
+
+-- the frame of a collection, with its name beside it
+unfoldable pub frame_text : Contents → ℕ → List ℕ → ℕ → Frame → List ℕ
+frame_text layout depth rows front frame =
+    frame_title layout frame ++ codes "<rect class='o' rx='4'" ++ area_text (frame_area depth rows frame) ++ codes "/>"
+    ++ frame_label layout depth rows front frame
+
+-- a frame that there may be, its name below those of the frames in front of it that begin in its first byte
+unfoldable pub frame_behind : Contents → ℕ → List ℕ → List Frame → ℕ → Option Frame → List ℕ
+frame_behind layout depth rows frames k None = []
+frame_behind layout depth rows frames k (Some frame) =
+    frame_text layout depth rows (lines_in_front layout frames frame.first k) frame
+
+-- the number above a bit
+unfoldable pub bit_number : ℕ → ℕ → List ℕ
+bit_number left k =
+    codes "<text class='r' text-anchor='middle' x='" ++ decimal (bit_middle left k) ++ codes "' y='14'>" ++ decimal k
+    ++ codes "</text>"
+
+-- the number beside a byte
+unfoldable pub byte_number : ℕ → List ℕ → ℕ → List ℕ
+byte_number depth rows b =
+    codes "<text class='r' x='0' y='" ++ decimal (row_top depth rows b + 22) ++ codes "'>byte " ++ decimal b
+    ++ codes "</text>"
+
+-- the numbers above the bits
+unfoldable pub bit_ruler : ℕ → List ℕ
+bit_ruler left = joined_below 8 (bit_number left)
+
+-- the numbers beside the bytes
+unfoldable pub byte_ruler : ℕ → List ℕ → ℕ → List ℕ
+byte_ruler depth rows bytes = joined_below bytes (byte_number depth rows)
+
+-- the rulers of a report
+unfoldable pub rulers : ℕ → List ℕ → ℕ → List ℕ
+rulers depth rows bytes = bit_ruler (left_of depth) ++ byte_ruler depth rows bytes ++ 10 ∷ []
+
+-- the measures of a picture
+unfoldable pub measures : ℕ → ℕ → List ℕ
+measures width height = codes " viewBox='0 0 " ++ decimal width ++ 32 ∷ decimal height ++ codes "'>"
+
+-- a picture of this width and height
+unfoldable pub opening : ℕ → ℕ → List ℕ
+opening width height = OPENING.now ++ measures width height
+
+-- what a picture is
+unfoldable pub description : Bool → ℕ → Report → List ℕ
+description numbered bytes report =
+    codes "<title>" ++ report_name numbered report ++ codes "</title><desc>" ++ count_text bytes (codes "byte")
+    ++ codes ", a row each, bit 7 at the left; each cell is a field.</desc>"
+
+-- what a picture begins with
+unfoldable pub picture_head : Bool → ℕ → List ℕ → ℕ → Report → List ℕ
+picture_head numbered depth rows bytes report =
+    opening (name_left depth + RIGHT) (row_top depth rows bytes) ++ description numbered bytes report
+    ++ codes "<style>" ++ STYLE.now ++ codes "</style>" ++ 10 ∷ []
+
+-- the frames of a report
+unfoldable pub frames_text : Contents → ℕ → List ℕ → List Frame → List ℕ
+frames_text layout depth rows frames =
+    joined_below (length frames) (λ k. frame_behind layout depth rows frames k (slice_get frames k))
+
+-- the cells of a report
+unfoldable pub cells_text : Contents → ℕ → ℕ → List ℕ → List Piece → List ℕ
+cells_text layout r depth rows pieces = flat_map (λ piece. cell_text layout r depth rows piece) pieces
+
+-- the picture of a report of so many bytes, by its frames, its pieces and the lines of its rows
+unfoldable pub picture_by : Contents → ℕ → ℕ → List Frame → List Piece → Report → ℕ → List ℕ → List ℕ
+picture_by layout r bytes frames pieces report depth rows =
+    picture_head layout.numbered depth rows bytes report ++ codes "<g id='g" ++ decimal r ++ codes "'>"
+    ++ rulers depth rows bytes ++ frames_text layout depth rows frames ++ cells_text layout r depth rows pieces
+    ++ codes "</g></svg>" ++ 10 ∷ []
+
+-- the picture of a report of so many bytes, by its frames and its pieces
+unfoldable pub picture_of : Contents → ℕ → ℕ → List Frame → List Piece → Report → List ℕ
+picture_of layout r bytes frames pieces report =
+    picture_by layout r bytes frames pieces report (deepest frames) (rows_of layout r bytes frames pieces)
+
+-- the picture of a report that there may be
+abbrev pub picture_at : Contents → ℕ → List Frame → List Piece → Option Report → List ℕ
+picture_at layout r frames pieces None = []
+picture_at layout r frames pieces (Some report) = picture_of layout r (report_bytes layout r) frames pieces report

@@ -1,0 +1,56 @@
+//! Drawings of reports, as SVG and in characters: where each field stands, which items of the descriptor made it, its words.
+//! ```text
+//!   Layout         ---- pieces_of -------> pieces   what of a field lies in one byte
+//!   descriptor     ---- read_items ------> items    by their places, up to where it is cut off
+//!   items          ---- frames ----------> frames   the bytes of each collection
+//!   pieces, frames ---- print_picture ---> SVG: a cell for each piece, in its area
+//!   pieces, frames ---- print_terminal --> the same in characters
+//!
+//!      ┌─────────────────────────────────────────────────┬─────────┬─────────┬─────────┐╮╮
+//!    0 │padding                                          │Button 3 │Button 2 │Button 1 │││
+//!      │5 bits                                           │0..1     │0..1     │0..1     │││
+//!      ├─────────────────────────────────────────────────┴─────────┴─────────┴─────────┤││
+//! ```
+//! The rules to know: a piece lies where the layout says: `pieces_of` of `specs/Pieces.antt` takes `element_of` of the layout.
+//! A cell stands where its piece says (`piece_area` of `specs/Areas.antt`): a row for each byte, bit 7 at the left. The
+//! descriptor gives only places: those of the items that made a field, and of the collections round it.
+//!
+//! The pieces of a report have each of its bits once, and those of all its fields: [`laws`]. Each `print_` call adds exactly the
+//! text that `specs/` states (`Words.antt`, `picture_at`, `terminal_at`). Words that a device's bytes choose are escaped, and
+//! can't end a tag or an attribute: [`words_are_inert`].
+#![tactic(auto)]
+
+mod areas;
+mod escape;
+mod frames;
+mod glyphs;
+mod items;
+mod label;
+pub mod laws;
+mod lines;
+mod listed;
+mod makers;
+mod picture_words;
+mod pieces;
+mod svg;
+mod terminal;
+mod words;
+
+pub use areas::{RIGHT, gap_of, name_left, row_top};
+pub use escape::{push_escaped, words_are_inert};
+pub use frames::{Drawn, Frame, deepest, main_at, round_at};
+pub use items::{place_of, prefix_of, read_items};
+pub use label::UsageLabel;
+pub use lines::rows_of;
+pub use listed::{first_bit_of, item_at, report_at};
+pub use makers::{
+    COLLECTION, InForce, global_place, in_force, is_field, is_main, listed_places, makes,
+};
+pub use pieces::{Part, Piece, piece_at, pieces_of};
+pub use svg::print_picture;
+pub use terminal::print_terminal;
+pub use words::{
+    collection_name, is_input_item, print_bit, print_collection, print_count, print_entry,
+    print_flags, print_part_details, print_part_flags, print_piece_name, print_place,
+    print_report_name,
+};

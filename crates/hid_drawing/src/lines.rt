@@ -1,0 +1,210 @@
+//! Words in lines of so many columns, and how high they make a row.
+
+ghost use Rattle.std.specs.Prelude.{◌≡◌, ◌≤◌, ◌<◌, length, Some, IfOk};
+ghost use Rattle.hid_drawing.specs.Lines.{byte_at, last_space, first_width, behind_line, line_at, line_count, columns_of, both_counts, piece_lines, row_lines, line_of, name_lines, lines_in_front, rows_of};
+
+use crate::frames::Frame;
+use crate::picture_words::print_frame_name;
+use crate::pieces::Piece;
+use crate::words::{print_part_details, print_piece_name};
+use hid_layout::Layout;
+use std::alloc::{AllocError, Global};
+
+/// So many columns has the name of a frame.
+pub const NAME_COLUMNS: usize = 24;
+
+/// So many lines has each row at least.
+pub const LEAST_LINES: u16 = 2;
+
+/// The byte at a place, and a space behind the end.
+pub fn byte_at(words: &[u8], k: usize) -> u8
+    ensures { result ≡ byte_at words.now k }
+{
+    match words.get(k) {
+        None => b' ',
+        Some(byte) => *byte,
+    }
+}
+
+/// The last place from 1 on, up to one behind the columns, that has a space; 0 where none has one.
+fn last_space(words: &[u8], columns: usize) -> usize
+    ensures { result ≡ last_space words.now columns }
+{
+    let mut place = 0;
+    for n in 0..columns {
+        if byte_at(words, n + 1) == b' ' {
+            place = n + 1;
+        }
+    }
+    place
+}
+
+/// A line ends at the last space that has room, and where there is none it is full.
+fn first_width(words: &[u8], columns: usize) -> usize
+    ensures value { result ≡ first_width words.now columns }
+    ensures within { result ≤ length words.now }
+{
+    let space = last_space(words, columns);
+    let width = if space == 0 { columns } else { space };
+    width.min(words.len())
+}
+
+/// What stands behind the first line, and behind the space at its end.
+fn behind_line(words: &[u8], columns: usize) -> &[u8]
+    ensures { result.now ≡ behind_line words.now columns }
+{
+    let rest = &words[first_width(words, columns)..];
+    match rest {
+        [] => rest,
+        [first, behind @ ..] => { if *first == b' ' { behind } else { rest } }
+    }
+}
+
+/// The line behind k others.
+fn line_at(words: &[u8], columns: usize, k: usize) -> &[u8]
+    ensures { result.now ≡ line_at words.now columns k }
+{
+    let mut rest = words;
+    for _i in 0..k {
+        rest = behind_line(rest, columns);
+    }
+    &rest[..first_width(rest, columns)]
+}
+
+/// How many lines words take.
+pub fn line_count(words: &[u8], columns: usize) -> u16
+    ensures { result ≡ line_count words.now columns }
+{
+    let mut rest = words;
+    let mut count = 0u16;
+    for _i in 0..words.len() {
+        if rest.len() != 0 {
+            count = count.saturating_add(1);
+        }
+        rest = behind_line(rest, columns);
+    }
+    count
+}
+
+/// So many columns has a cell.
+pub fn columns_of(drawn: bool, piece: &Piece) -> usize
+    ensures { result ≡ columns_of drawn piece.now }
+{
+    let bits = u64::from(piece.high.saturating_sub(piece.low));
+    if drawn {
+        (14 * bits).saturating_sub(2) as usize
+    } else {
+        (10 * bits).saturating_sub(1) as usize
+    }
+}
+
+/// The line of two texts, one below the other.
+pub fn line_of<'a>(name: &'a [u8], details: &'a [u8], columns: usize, k: u16) -> &'a [u8]
+    ensures { result.now ≡ line_of name.now details.now columns k }
+{
+    let count = line_count(name, columns);
+    if k < count {
+        line_at(name, columns, usize::from(k))
+    } else {
+        line_at(details, columns, usize::from(k - count))
+    }
+}
+
+/// How many lines two texts take, one below the other.
+pub fn both_counts(name: &[u8], details: &[u8], columns: usize) -> u16
+    ensures { result ≡ both_counts name.now details.now columns }
+{
+    line_count(name, columns).saturating_add(line_count(details, columns))
+}
+
+/// How many lines a cell has.
+fn piece_lines(
+    alloc: Global,
+    layout: &Layout,
+    r: usize,
+    drawn: bool,
+    piece: &Piece,
+) -> Result<u16, AllocError>
+    requires { r < length layout.now.reports }
+    ensures { IfOk result (λ lines. lines ≡ piece_lines layout.now r drawn piece.now) }
+{
+    let columns = columns_of(drawn, piece);
+    let mut name = String::new(alloc);
+    print_piece_name(&mut name, layout, piece)?;
+    let mut details = String::new(alloc);
+    print_part_details(&mut details, layout, r, piece.part)?;
+    Ok(both_counts(name.as_bytes(), details.as_bytes(), columns))
+}
+
+/// How many lines a row has for its cells.
+pub fn row_lines(
+    alloc: Global,
+    layout: &Layout,
+    r: usize,
+    drawn: bool,
+    byte: u32,
+    pieces: &[Piece],
+) -> Result<u16, AllocError>
+    requires { r < length layout.now.reports }
+    ensures { IfOk result (λ lines. lines ≡ row_lines layout.now r drawn byte pieces.now) }
+{
+    let mut lines = LEAST_LINES;
+    for piece in pieces {
+        if piece.byte == byte {
+            lines = lines.max(piece_lines(alloc, layout, r, drawn, piece)?);
+        }
+    }
+    Ok(lines)
+}
+
+/// How many lines the name of a frame has, where it begins in the byte.
+fn name_lines(alloc: Global, layout: &Layout, byte: u32, frame: &Frame) -> Result<u16, AllocError>
+    ensures { IfOk result (λ lines. lines ≡ name_lines layout.now byte (Some frame.now)) }
+{
+    if frame.first != byte {
+        return Ok(0);
+    }
+    let mut name = String::new(alloc);
+    print_frame_name(&mut name, layout, frame)?;
+    Ok(line_count(name.as_bytes(), NAME_COLUMNS))
+}
+
+/// How many lines the names of the first frames have beside the byte.
+pub fn lines_in_front(
+    alloc: Global,
+    layout: &Layout,
+    frames: &[Frame],
+    byte: u32,
+    count: usize,
+) -> Result<u16, AllocError>
+    requires { count ≤ length frames.now }
+    ensures { IfOk result (λ lines. lines ≡ lines_in_front layout.now frames.now byte count) }
+{
+    let mut lines = 0u16;
+    for k in 0..count {
+        lines = lines.saturating_add(name_lines(alloc, layout, byte, &frames[k])?);
+    }
+    Ok(lines)
+}
+
+/// The lines of the rows of a drawing, for cells and for the names of the frames.
+pub fn rows_of(
+    alloc: Global,
+    layout: &Layout,
+    r: usize,
+    bytes: u32,
+    frames: &[Frame],
+    pieces: &[Piece],
+) -> Result<Vec<u16>, AllocError>
+    requires { r < length layout.now.reports }
+    ensures { IfOk result (λ rows. rows.items
+        ≡ rows_of layout.now r bytes frames.now pieces.now) }
+{
+    let mut rows = Vec::new(alloc);
+    for byte in 0..bytes {
+        let cells = row_lines(alloc, layout, r, true, byte, pieces)?;
+        let names = lines_in_front(alloc, layout, frames, byte, frames.len())?;
+        rows.push(cells.max(names))?;
+    }
+    Ok(rows)
+}

@@ -1,0 +1,565 @@
+//! The picture of a report in characters: a row for each byte, ten columns for each bit.
+
+ghost use Rattle.std.specs.Prelude.{◌≡◌, ◌++◌, ◌-◌, ◌<◌, min, codes, length, slice_get, Some, OnOk, string_bytes};
+ghost use Rattle.hid_notation.specs.Text.{joined_below};
+ghost use Rattle.hid_drawing.specs.Pieces.{LiesIn};
+ghost use Rattle.hid_drawing.specs.declared.terminal.TheConstants.{MOST_STEPS};
+ghost use Rattle.hid_drawing.specs.Terminal.{fitted, is_edge, is_edge_above, end_corner, corner, corner_at, edge_line, is_held, is_held_on, bracket, bracket_at, brackets, side_at, sides, cell_line, byte_cell, cells_line, line_number, row_line, line_above, two_columns, row_number, row_text, frame_line, frame_lines, usage_lines, item_lines, field_lines, fields_text, terminal_head, rows_text, terminal_of, terminal_at};
+
+use crate::escape::push_printed;
+use crate::frames::{Frame, deepest};
+use crate::glyphs::{
+    BIT_LINE, BIT_RULER, BLANK, CROSS, DOWNWARD, FLAT, FRAME_FIRST, FRAME_LAST, LEFT_BOTH,
+    LEFT_FIRST, LEFT_LAST, RIGHT_BOTH, RIGHT_FIRST, RIGHT_LAST, SIDE, UPWARD,
+};
+use crate::lines::{byte_at, columns_of, line_of, row_lines};
+use crate::listed::{first_bit_of, item_at, report_at};
+use crate::picture_words::print_frame_name;
+use crate::pieces::{Piece, piece_at};
+use crate::words::{
+    is_input_item, print_bit, print_count, print_entry, print_flags, print_part_details,
+    print_piece_name, print_report_name,
+};
+use hid_layout::{Layout, MainItem, Report, Usage};
+use std::alloc::{AllocError, Global};
+
+/// The name of a frame is indented by so many steps at most: the longest line, of a name of
+/// 55 columns and bytes of three digits, then has 99.
+pub const MOST_STEPS: usize = 13;
+
+/// Adds so many columns of words: what has room, and spaces.
+#[tactic(auto, unfolding(crate::specs::Terminal::fitted))]
+fn push_fitted(text: &mut String, words: &[u8], columns: usize) -> Result<(), AllocError>
+    ensures { OnOk result (string_bytes text.new
+        ≡ string_bytes text.old ++ fitted words.now columns) }
+{
+    for k in 0..columns {
+        push_printed(text, byte_at(words, k))?;
+    }
+    Ok(())
+}
+
+/// Whether a cell of a byte begins or ends in front of the bit k.
+fn is_edge(pieces: &[Piece], byte: u32, k: u32) -> bool
+    ensures { result ≡ is_edge pieces.now byte k }
+{
+    pieces.iter().any(|piece| piece.byte == byte && (piece.low == k || piece.high == k))
+}
+
+/// Whether one of the byte in front does.
+fn is_edge_above(pieces: &[Piece], byte: u32, k: u32) -> bool
+    ensures { result ≡ is_edge_above pieces.now byte k }
+{
+    0 < byte && is_edge(pieces, byte - 1, k)
+}
+
+/// The character at an end of the line above a byte.
+fn end_corner(
+    above: bool,
+    below: bool,
+    both: &'static str,
+    first: &'static str,
+    last: &'static str,
+) -> &'static str
+    ensures { result.now ≡ end_corner above below both.now first.now last.now }
+{
+    if above && below {
+        both
+    } else if below {
+        first
+    } else {
+        last
+    }
+}
+
+/// The character in front of the bit k on the line above a byte.
+fn corner(k: u32, above: bool, below: bool) -> &'static str
+    ensures { result.now ≡ corner k above below }
+{
+    if k == 8 {
+        return end_corner(above, below, LEFT_BOTH, LEFT_FIRST, LEFT_LAST);
+    }
+    if k == 0 {
+        return end_corner(above, below, RIGHT_BOTH, RIGHT_FIRST, RIGHT_LAST);
+    }
+    match (above, below) {
+        (true, true) => CROSS,
+        (true, false) => UPWARD,
+        (false, true) => DOWNWARD,
+        (false, false) => FLAT,
+    }
+}
+
+/// Adds the corner in front of the bit k.
+#[tactic(auto, unfolding(crate::specs::Terminal::corner_at))]
+fn print_corner(text: &mut String, pieces: &[Piece], byte: u32, k: u32) -> Result<(), AllocError>
+    ensures { OnOk result (string_bytes text.new
+        ≡ string_bytes text.old ++ corner_at pieces.now byte k) }
+{
+    let above = is_edge_above(pieces, byte, k);
+    let below = is_edge(pieces, byte, k);
+    text.push_str(corner(k, above, below))
+}
+
+/// Adds the line above a byte, bit 7 first.
+#[tactic(auto, unfolding(crate::specs::Terminal::edge_line))]
+fn print_edge_line(text: &mut String, pieces: &[Piece], byte: u32) -> Result<(), AllocError>
+    ensures { OnOk result (string_bytes text.new
+        ≡ string_bytes text.old ++ edge_line pieces.now byte) }
+{
+    for i in 0..8u32 {
+        print_corner(text, pieces, byte, 8 - i)?;
+        text.push_str(BIT_LINE)?;
+    }
+    print_corner(text, pieces, byte, 0)
+}
+
+/// Whether a frame of a level holds a byte.
+fn is_held(frames: &[Frame], level: usize, byte: u32) -> bool
+    ensures { result ≡ is_held frames.now level byte }
+{
+    frames.iter().any(|frame| frame.level == level && (frame.first <= byte && byte <= frame.last))
+}
+
+/// Whether one frame of a level holds a byte and the one in front of it.
+fn is_held_on(frames: &[Frame], level: usize, byte: u32) -> bool
+    ensures { result ≡ is_held_on frames.now level byte }
+{
+    frames.iter().any(|frame| frame.level == level && (frame.first < byte && byte <= frame.last))
+}
+
+/// The character of a frame on the line above a byte.
+fn bracket(on: bool, above: bool, below: bool) -> &'static str
+    ensures { result.now ≡ bracket on above below }
+{
+    if on {
+        return SIDE;
+    }
+    match (above, below) {
+        (true, true) => RIGHT_BOTH,
+        (true, false) => FRAME_LAST,
+        (false, true) => FRAME_FIRST,
+        (false, false) => BLANK,
+    }
+}
+
+/// Adds the frame of a level on the line above a byte.
+#[tactic(auto, unfolding(crate::specs::Terminal::bracket_at))]
+fn print_bracket(
+    text: &mut String,
+    frames: &[Frame],
+    level: usize,
+    byte: u32,
+) -> Result<(), AllocError>
+    ensures { OnOk result (string_bytes text.new
+        ≡ string_bytes text.old ++ bracket_at frames.now level byte) }
+{
+    let on = is_held_on(frames, level, byte);
+    let above = 0 < byte && is_held(frames, level, byte - 1);
+    let below = is_held(frames, level, byte);
+    text.push_str(bracket(on, above, below))
+}
+
+/// Adds the frames on the line above a byte, the innermost first.
+#[tactic(auto, unfolding(crate::specs::Terminal::brackets))]
+fn print_brackets(
+    text: &mut String,
+    frames: &[Frame],
+    depth: usize,
+    byte: u32,
+) -> Result<(), AllocError>
+    ensures { OnOk result (string_bytes text.new
+        ≡ string_bytes text.old ++ brackets frames.now depth byte) }
+{
+    for i in 0..depth {
+        print_bracket(text, frames, depth - i, byte)?;
+    }
+    Ok(())
+}
+
+/// Adds the frame of a level beside a byte.
+fn print_side(
+    text: &mut String,
+    frames: &[Frame],
+    level: usize,
+    byte: u32,
+) -> Result<(), AllocError>
+    ensures { OnOk result (string_bytes text.new
+        ≡ string_bytes text.old ++ side_at frames.now level byte) }
+{
+    if is_held(frames, level, byte) {
+        text.push_str(SIDE)
+    } else {
+        text.push_str(BLANK)
+    }
+}
+
+/// Adds the frames beside a byte, the innermost first.
+#[tactic(auto, unfolding(crate::specs::Terminal::sides))]
+fn print_sides(
+    text: &mut String,
+    frames: &[Frame],
+    depth: usize,
+    byte: u32,
+) -> Result<(), AllocError>
+    ensures { OnOk result (string_bytes text.new
+        ≡ string_bytes text.old ++ sides frames.now depth byte) }
+{
+    for i in 0..depth {
+        print_side(text, frames, depth - i, byte)?;
+    }
+    Ok(())
+}
+
+/// Adds a line of a cell.
+#[tactic(auto, unfolding(crate::specs::Terminal::cell_line))]
+fn print_cell_line(
+    alloc: Global,
+    text: &mut String,
+    layout: &Layout,
+    r: usize,
+    k: u16,
+    piece: &Piece,
+) -> Result<(), AllocError>
+    requires { r < length layout.now.reports }
+    ensures { OnOk result (string_bytes text.new
+        ≡ string_bytes text.old ++ cell_line layout.now r k piece.now) }
+{
+    let mut name = String::new(alloc);
+    print_piece_name(&mut name, layout, piece)?;
+    let mut details = String::new(alloc);
+    print_part_details(&mut details, layout, r, piece.part)?;
+    let columns = columns_of(false, piece);
+    text.push_str(SIDE)?;
+    push_fitted(
+        text,
+        line_of(name.as_bytes(), details.as_bytes(), columns, k),
+        columns,
+    )
+}
+
+/// Adds a line of a piece, where it lies in the byte.
+fn print_byte_cell(
+    alloc: Global,
+    text: &mut String,
+    layout: &Layout,
+    r: usize,
+    k: u16,
+    byte: u32,
+    piece: &Piece,
+) -> Result<(), AllocError>
+    requires { r < length layout.now.reports }
+    ensures { OnOk result (string_bytes text.new
+        ≡ string_bytes text.old ++ byte_cell layout.now r k byte (Some piece.now)) }
+{
+    if piece.byte != byte {
+        return Ok(());
+    }
+    print_cell_line(alloc, text, layout, r, k, piece)
+}
+
+/// Adds a line of the cells of a byte, the last one first.
+#[tactic(auto, unfolding(crate::specs::Terminal::cells_line))]
+fn print_cells_line(
+    alloc: Global,
+    text: &mut String,
+    layout: &Layout,
+    r: usize,
+    k: u16,
+    byte: u32,
+    pieces: &[Piece],
+) -> Result<(), AllocError>
+    requires { r < length layout.now.reports }
+    ensures { OnOk result (string_bytes text.new
+        ≡ string_bytes text.old ++ cells_line layout.now r k byte pieces.now) }
+{
+    for i in 0..pieces.len() {
+        let piece = piece_at(pieces, pieces.len() - 1 - i);
+        print_byte_cell(alloc, text, layout, r, k, byte, piece)?;
+    }
+    Ok(())
+}
+
+/// Adds the line above a row.
+#[tactic(auto, unfolding(crate::specs::Terminal::line_above))]
+fn print_line_above(
+    text: &mut String,
+    byte: u32,
+    frames: &[Frame],
+    pieces: &[Piece],
+) -> Result<(), AllocError>
+    ensures { OnOk result (string_bytes text.new
+        ≡ string_bytes text.old ++ line_above byte frames.now pieces.now) }
+{
+    text.push_str("   ")?;
+    print_edge_line(text, pieces, byte)?;
+    print_brackets(text, frames, deepest(frames), byte)?;
+    text.push_str("\n")
+}
+
+/// Adds the number of a byte, at the right of two columns.
+fn print_two_columns(text: &mut String, byte: u32) -> Result<(), AllocError>
+    ensures { OnOk result (string_bytes text.new ≡ string_bytes text.old ++ two_columns byte) }
+{
+    if byte < 10 {
+        return write!(text, " {byte}");
+    }
+    write!(text, "{byte}")
+}
+
+/// Adds the number of a byte, of so many, in three columns.
+#[tactic(auto, unfolding(crate::specs::Terminal::row_number))]
+fn print_row_number(text: &mut String, bytes: u32, byte: u32) -> Result<(), AllocError>
+    ensures { OnOk result (string_bytes text.new
+        ≡ string_bytes text.old ++ row_number bytes byte) }
+{
+    if bytes <= 100 {
+        print_two_columns(text, byte)?;
+        return text.push_str(" ");
+    }
+    if byte < 100 {
+        text.push_str(" ")?;
+        return print_two_columns(text, byte);
+    }
+    write!(text, "{byte}")
+}
+
+/// Adds what stands in front of a line of a row.
+fn print_line_number(text: &mut String, bytes: u32, byte: u32, k: u16) -> Result<(), AllocError>
+    ensures { OnOk result (string_bytes text.new
+        ≡ string_bytes text.old ++ line_number bytes byte k) }
+{
+    if k == 0 {
+        print_row_number(text, bytes, byte)
+    } else {
+        text.push_str("   ")
+    }
+}
+
+/// Adds a line of a row.
+#[tactic(auto, unfolding(crate::specs::Terminal::row_line))]
+fn print_row_line(
+    alloc: Global,
+    text: &mut String,
+    layout: &Layout,
+    r: usize,
+    bytes: u32,
+    frames: &[Frame],
+    pieces: &[Piece],
+    byte: u32,
+    k: u16,
+) -> Result<(), AllocError>
+    requires { r < length layout.now.reports }
+    ensures { OnOk result (string_bytes text.new
+        ≡ string_bytes text.old ++ row_line layout.now r bytes byte frames.now pieces.now k) }
+{
+    print_line_number(text, bytes, byte, k)?;
+    print_cells_line(alloc, text, layout, r, k, byte, pieces)?;
+    text.push_str(SIDE)?;
+    print_sides(text, frames, deepest(frames), byte)?;
+    text.push_str("\n")
+}
+
+/// Adds a row: the line above it, and the lines of its cells.
+#[tactic(auto, unfolding(crate::specs::Terminal::row_text))]
+fn print_row(
+    alloc: Global,
+    text: &mut String,
+    layout: &Layout,
+    r: usize,
+    bytes: u32,
+    frames: &[Frame],
+    pieces: &[Piece],
+    byte: u32,
+) -> Result<(), AllocError>
+    requires { r < length layout.now.reports }
+    ensures { OnOk result (string_bytes text.new
+        ≡ string_bytes text.old ++ row_text layout.now r bytes frames.now pieces.now byte) }
+{
+    print_line_above(text, byte, frames, pieces)?;
+    let lines = row_lines(alloc, layout, r, false, byte, pieces)?;
+    for k in 0..lines {
+        print_row_line(alloc, text, layout, r, bytes, frames, pieces, byte, k)?;
+    }
+    Ok(())
+}
+
+/// Adds the indentation of a level.
+fn print_indentation(text: &mut String, level: usize) -> Result<(), AllocError>
+    ensures { OnOk result (string_bytes text.new
+        ≡ string_bytes text.old ++ joined_below (min (level - 1) MOST_STEPS) (λ i. codes "  ")) }
+{
+    for _i in 0..level.saturating_sub(1).min(MOST_STEPS) {
+        text.push_str("  ")?;
+    }
+    Ok(())
+}
+
+/// Adds a frame by its name and its bytes.
+#[tactic(auto, unfolding(crate::specs::Terminal::frame_line))]
+fn print_frame_line(text: &mut String, layout: &Layout, frame: &Frame) -> Result<(), AllocError>
+    ensures { OnOk result (string_bytes text.new
+        ≡ string_bytes text.old ++ frame_line layout.now frame.now) }
+{
+    let Frame { first, last, .. } = *frame;
+    print_indentation(text, frame.level)?;
+    print_frame_name(text, layout, frame)?;
+    writeln!(text, ": bytes {first} to {last}")
+}
+
+/// Adds the frames of a report.
+#[tactic(auto, unfolding(crate::specs::Terminal::frame_lines))]
+fn print_frame_lines(text: &mut String, layout: &Layout, frames: &[Frame]) -> Result<(), AllocError>
+    ensures { OnOk result (string_bytes text.new
+        ≡ string_bytes text.old ++ frame_lines layout.now frames.now) }
+{
+    for frame in frames {
+        print_frame_line(text, layout, frame)?;
+    }
+    Ok(())
+}
+
+/// Adds the usages of a field, a line each.
+#[tactic(auto, unfolding(crate::specs::Terminal::usage_lines))]
+fn print_usage_lines(text: &mut String, entries: &[(Usage, Usage)]) -> Result<(), AllocError>
+    ensures { OnOk result (string_bytes text.new
+        ≡ string_bytes text.old ++ usage_lines entries.now) }
+{
+    for entry in entries {
+        text.push_str("  ")?;
+        print_entry(text, entry.0, entry.1)?;
+        text.push_str("\n")?;
+    }
+    Ok(())
+}
+
+/// Adds an item of the report: its number, where it begins, its flags and its usages.
+#[tactic(auto, unfolding(crate::specs::Terminal::item_lines))]
+fn print_item_lines(
+    text: &mut String,
+    layout: &Layout,
+    i: usize,
+    item: &MainItem,
+    entries: &[(Usage, Usage)],
+) -> Result<(), AllocError>
+    requires { LiesIn layout.now item.now }
+    ensures { OnOk result (string_bytes text.new
+        ≡ string_bytes text.old ++ item_lines layout.now i item.now entries.now) }
+{
+    write!(text, "field {i}: ")?;
+    print_bit(text, first_bit_of(layout, item))?;
+    text.push_str("\n  ")?;
+    print_flags(text, is_input_item(layout, item), item.flags)?;
+    text.push_str("\n")?;
+    print_usage_lines(text, entries)
+}
+
+/// Adds the lines of an item, where it stands in the report.
+fn print_field_lines(
+    text: &mut String,
+    layout: &Layout,
+    r: usize,
+    i: usize,
+    item: &MainItem,
+    entries: &[(Usage, Usage)],
+) -> Result<(), AllocError>
+    requires { LiesIn layout.now item.now }
+    ensures { OnOk result (string_bytes text.new ≡ string_bytes text.old
+        ++ field_lines layout.now r i (Some item.now) (Some entries.now)) }
+{
+    if item.report != r {
+        return Ok(());
+    }
+    print_item_lines(text, layout, i, item, entries)
+}
+
+/// Adds the fields of a report.
+#[tactic(auto, unfolding(crate::specs::Terminal::fields_text))]
+fn print_fields(text: &mut String, layout: &Layout, r: usize) -> Result<(), AllocError>
+    ensures { OnOk result (string_bytes text.new
+        ≡ string_bytes text.old ++ fields_text layout.now r) }
+{
+    for i in 0..layout.items().len() {
+        print_field_lines(text, layout, r, i, item_at(layout, i), layout.entries(i))?;
+    }
+    Ok(())
+}
+
+/// Adds what the picture of a report begins with.
+#[tactic(auto, unfolding(crate::specs::Terminal::terminal_head))]
+fn print_head(
+    text: &mut String,
+    numbered: bool,
+    bytes: u64,
+    report: &Report,
+) -> Result<(), AllocError>
+    ensures { OnOk result (string_bytes text.new
+        ≡ string_bytes text.old ++ terminal_head numbered bytes report.now) }
+{
+    print_report_name(text, numbered, report)?;
+    text.push_str(": ")?;
+    print_count(text, bytes, "byte")?;
+    text.push_str("\n")?;
+    text.push_str(BIT_RULER)
+}
+
+/// Adds the rows of a report of so many bytes.
+#[tactic(auto, unfolding(crate::specs::Terminal::rows_text))]
+fn print_rows(
+    alloc: Global,
+    text: &mut String,
+    layout: &Layout,
+    r: usize,
+    bytes: u32,
+    frames: &[Frame],
+    pieces: &[Piece],
+) -> Result<(), AllocError>
+    requires { r < length layout.now.reports }
+    ensures { OnOk result (string_bytes text.new
+        ≡ string_bytes text.old ++ rows_text layout.now r bytes frames.now pieces.now) }
+{
+    for byte in 0..bytes {
+        print_row(alloc, text, layout, r, bytes, frames, pieces, byte)?;
+    }
+    print_line_above(text, bytes, frames, pieces)
+}
+
+/// Adds the picture of a report of so many bytes.
+#[tactic(auto, unfolding(crate::specs::Terminal::terminal_of))]
+fn print_sized(
+    alloc: Global,
+    text: &mut String,
+    layout: &Layout,
+    r: usize,
+    bytes: u32,
+    frames: &[Frame],
+    pieces: &[Piece],
+    report: &Report,
+) -> Result<(), AllocError>
+    requires { r < length layout.now.reports }
+    ensures { OnOk result (string_bytes text.new ≡ string_bytes text.old
+        ++ terminal_of layout.now r bytes frames.now pieces.now report.now) }
+{
+    print_head(text, layout.numbered(), u64::from(bytes), report)?;
+    print_rows(alloc, text, layout, r, bytes, frames, pieces)?;
+    print_frame_lines(text, layout, frames)?;
+    print_fields(text, layout, r)
+}
+
+/// Adds the picture of a report in characters, by its frames and its pieces.
+pub fn print_terminal(
+    alloc: Global,
+    text: &mut String,
+    layout: &Layout,
+    r: usize,
+    frames: &[Frame],
+    pieces: &[Piece],
+) -> Result<(), AllocError>
+    requires { r < length layout.now.reports }
+    ensures { OnOk result (string_bytes text.new ≡ string_bytes text.old
+        ++ terminal_at layout.now r frames.now pieces.now (slice_get layout.now.reports r)) }
+{
+    let report = report_at(layout, r);
+    let bytes = layout.report_bytes(r) as u32;
+    print_sized(alloc, text, layout, r, bytes, frames, pieces, report)
+}

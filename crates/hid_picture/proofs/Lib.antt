@@ -1,3 +1,0 @@
-mod EscapeLemmas
-pub mod TextLemmas
-mod Vectors

@@ -1,7 +1,0 @@
-use Rattle.std.proofs.Common.{◌≡◌}
-use Rattle.hid_picture.specs.Lines.{last_space}
-use Rattle.hid_picture.proofs.lines.last_space.Given as goal
-
--- the last one so far
-abbrev pub invariant-loop-n : goal.invariant-loop-n
-invariant-loop-n l = l.place ≡ last_space l.words l.n

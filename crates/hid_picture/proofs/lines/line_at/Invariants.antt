@@ -1,7 +1,0 @@
-use Rattle.std.proofs.Common.{◌≡◌}
-use Rattle.hid_picture.specs.Lines.{behind_lines}
-use Rattle.hid_picture.proofs.lines.line_at.Given as goal
-
--- what stands behind the lines so far
-abbrev pub invariant-loop-i : goal.invariant-loop-i
-invariant-loop-i l = l.rest ≡ behind_lines l.words l.columns l._i

@@ -1,9 +1,0 @@
-use Rattle.std.proofs.Common.{◌≡◌, drop}
-use Rattle.hid_picture.specs.Lines.{most_lines, row_lines}
-use Rattle.hid_picture.proofs.lines.row_lines.Given as goal
-
--- what the rest of the pieces gives is what all give
-abbrev pub invariant-loop-piece : goal.invariant-loop-piece
-invariant-loop-piece l =
-    most_lines l.layout l.r l.drawn l.byte l.lines (drop l.piece-index l.pieces)
-    ≡ row_lines l.layout l.r l.drawn l.byte l.pieces

@@ -1,9 +1,0 @@
-use Rattle.std.proofs.Common.{◌≡◌, ◌++◌}
-use Rattle.std.specs.Prelude.{string_bytes}
-use Rattle.hid_notation.specs.Text.{joined_below}
-use Rattle.hid_picture.specs.Svg.{bit_number}
-use Rattle.hid_picture.proofs.svg.print_bit_ruler.Given as goal
-
--- the bits so far
-abbrev pub invariant-loop-k : goal.invariant-loop-k
-invariant-loop-k l = string_bytes l.text ≡ string_bytes l.fn.text ++ joined_below l.k (bit_number l.left)

@@ -1,6 +1,0 @@
-pub mod MakerLemmas
-pub mod PieceLemmas
-pub mod ItemLemmas
-pub mod FieldLemmas
-pub mod FillLemmas
-mod Vectors

@@ -1,6 +1,0 @@
-use Rattle.hid_pieces.proofs.ItemLemmas.{HaveRead}
-use Rattle.hid_pieces.proofs.items.read_items.Given as goal
-
--- the items so far, and what is left
-abbrev pub invariant-loop-item : goal.invariant-loop-item
-invariant-loop-item l = HaveRead l.descriptor l.items.items l.item-iterator

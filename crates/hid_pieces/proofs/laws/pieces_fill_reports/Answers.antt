@@ -1,8 +1,0 @@
-use Rattle.hid_pieces.proofs.FillLemmas.{reports_filled, bits_once}
-use Rattle.hid_pieces.proofs.laws.pieces_fill_reports.Goals as goal
-
-pub returns-clause-order : goal.returns-clause-order
-returns-clause-order c = reports_filled
-
-pub returns-clause-once : goal.returns-clause-once
-returns-clause-once c = bits_once

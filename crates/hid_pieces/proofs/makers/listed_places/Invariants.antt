@@ -1,7 +1,0 @@
-use Rattle.std.proofs.Common.{◌≡◌}
-use Rattle.hid_pieces.specs.Makers.{listed_below}
-use Rattle.hid_pieces.proofs.makers.listed_places.Given as goal
-
--- the places so far
-abbrev pub invariant-loop-m : goal.invariant-loop-m
-invariant-loop-m l = l.places.items ≡ listed_below l.items l.m

@@ -1,6 +1,0 @@
-use Rattle.std.proofs.Common.{arith}
-use Rattle.std.proofs.lemmas.Grind.{common_steps}
-use Rattle.hid_pieces.proofs.pieces.push_elements.Goals as goal
-
-pub loop-j-preserved : goal.loop-j-preserved
-loop-j-preserved c = grind (arith, common_steps)

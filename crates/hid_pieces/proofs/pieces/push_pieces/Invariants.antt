@@ -1,7 +1,0 @@
-use Rattle.std.proofs.Common.{◌≡◌, ◌++◌, [], ◌∷◌}
-use Rattle.hid_pieces.specs.Pieces.{gathered, piece_of}
-use Rattle.hid_pieces.proofs.pieces.push_pieces.Given as goal
-
--- the pieces so far
-abbrev pub invariant-loop-k : goal.invariant-loop-k
-invariant-loop-k l = l.pieces.items ≡ l.fn.pieces.items ++ gathered l.k (λ k. piece_of l.stretch k ∷ [])
