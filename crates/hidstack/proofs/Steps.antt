@@ -29,7 +29,7 @@ use Rattle.std_alloc.specs.Box.Ownership.{box_owns}
 use Rattle.std_heap.specs.contracts.Global as heap
 use Rattle.std_heap.specs.contracts.GlobalAllocator.TheImpl.{ghosts, dict}
 use Rattle.std_heap.proofs.Global.TheLaws as heap_laws
-use Rattle.hid_session.specs.contracts.session.Session as session
+use Rattle.hidstack_session.specs.contracts.session.Session as session
 use Rattle.hidstack.specs.Held.{block_right, held}
 use Rattle.hidstack.specs.contracts.address.Address as address
 use Rattle.hidstack.specs.contracts.handle.Handle as handle

@@ -1,11 +1,11 @@
 -- What a report makes of a handle (our choice).
 use Rattle.std.specs.Prelude.{◌≡◌, ℕ, List, Option, Some, None, Result, Ok, Err}
 use Rattle.hid_snapshots.specs.declared.fault.ReportFault.TheVariants.{Short, UnknownReport}
-use Rattle.hid_session.specs.declared.event.HidEvent.{HidEvent}
-use Rattle.hid_session.specs.declared.session.FeedFault.{FeedFault}
-use Rattle.hid_session.specs.declared.session.FeedFault.TheVariants.{NoRoom, Refused}
-use Rattle.hid_session.specs.States.{State}
-use Rattle.hid_session.specs.Sessions.{Feeds, room_of}
+use Rattle.hidstack_session.specs.declared.event.HidEvent.{HidEvent}
+use Rattle.hidstack_session.specs.declared.session.FeedFault.{FeedFault}
+use Rattle.hidstack_session.specs.declared.session.FeedFault.TheVariants.{NoRoom, Refused}
+use Rattle.hidstack_session.specs.States.{State}
+use Rattle.hidstack_session.specs.Sessions.{Feeds, room_of}
 use Rattle.hidstack.specs.declared.status.TheConstants.{OK, CLOSED, NO_ROOM, SHORT, UNKNOWN}
 
 -- the status of an answer

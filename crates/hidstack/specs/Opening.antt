@@ -2,10 +2,10 @@
 use Rattle.std.specs.Prelude.{◌≡◌, ℕ, List, length, Option, Some, None}
 use Rattle.hid_descriptor.specs.declared.fault.Cause.{Cause}
 use Rattle.hid_descriptor.specs.Faults.{Explains}
-use Rattle.hid_session.specs.Causes.{cause_number}
-use Rattle.hid_session.specs.Elements.{one_of}
-use Rattle.hid_session.specs.States.{State}
-use Rattle.hid_session.specs.Sessions.{IsFirst, room_of}
+use Rattle.hidstack_session.specs.Causes.{cause_number}
+use Rattle.hidstack_session.specs.Elements.{one_of}
+use Rattle.hidstack_session.specs.States.{State}
+use Rattle.hidstack_session.specs.Sessions.{IsFirst, room_of}
 use Rattle.hidstack.specs.declared.session.HidOpened.{HidOpened}
 
 -- what is told of a session that was opened

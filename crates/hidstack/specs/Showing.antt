@@ -2,7 +2,7 @@
 use Rattle.std.specs.Prelude.{◌≡◌, ℕ, List, Option, Some, None}
 use Rattle.hid_snapshots.specs.declared.cell.Cell.{Cell}
 use Rattle.hid_layout.specs.Layout.{Contents}
-use Rattle.hid_session.specs.States.{State}
+use Rattle.hidstack_session.specs.States.{State}
 use Rattle.hidstack.specs.declared.status.TheConstants.{OK, CLOSED, NONE}
 
 -- what is there is written; where nothing is there, nothing changes

@@ -6,10 +6,10 @@ use Rattle.hid_descriptor.specs.Faults.{Accepts, Explains}
 use Rattle.hid_snapshots.specs.declared.fault.ReportFault.{ReportFault}
 use Rattle.hid_snapshots.specs.declared.fault.ReportFault.TheVariants.{Short, UnknownReport}
 use Rattle.hid_layout.specs.Layout.{layout_of}
-use Rattle.hid_session.specs.Causes.{cause_number}
-use Rattle.hid_session.specs.declared.element.HidElement.{HidElement}
-use Rattle.hid_session.specs.Elements.{HoldsNumber}
-use Rattle.hid_session.specs.Tables.{elements_of}
+use Rattle.hidstack_session.specs.Causes.{cause_number}
+use Rattle.hidstack_session.specs.declared.element.HidElement.{HidElement}
+use Rattle.hidstack_session.specs.Elements.{HoldsNumber}
+use Rattle.hidstack_session.specs.Tables.{elements_of}
 use Rattle.hidstack.specs.declared.elements.HidTabled.{HidTabled}
 use Rattle.hidstack.specs.declared.status.TheConstants.{OK, REFUSED, NO_ROOM, SHORT, UNKNOWN}
 

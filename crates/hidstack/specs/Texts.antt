@@ -4,7 +4,7 @@ use Rattle.hid_descriptor.specs.declared.fault.Cause.{Cause}
 use Rattle.hid_descriptor.specs.Codes.{code_of}
 use Rattle.hid_names.specs.Names.{Name, name_text}
 use Rattle.hid_notation.specs.Causes.{layout_words}
-use Rattle.hid_session.specs.Causes.{cause_number}
+use Rattle.hidstack_session.specs.Causes.{cause_number}
 use Rattle.hidstack.specs.declared.status.TheConstants.{OK, NO_ROOM, NONE, MEMORY}
 
 -- the text stands first, and what is behind it stays

@@ -6,7 +6,7 @@ ghost use Rattle.hidstack.specs.Tabling.{TablesElements, Tabled, Misses, Refuses
 
 use crate::status::{NO_ROOM, OK, REFUSED, SHORT, UNKNOWN};
 use hid_layout::{Cause, Layout};
-use hid_session::{
+use hidstack_session::{
     HidElement, LayoutFault, ReportFault, cause_number, list_elements, number_in, put_elements,
 };
 use std::alloc::Global;

@@ -1,12 +1,12 @@
 //! A session by its address, as C keeps it.
 
 ghost use Rattle.std.specs.Prelude.{◌≡◌, Option, None, Some, MatchOption};
-ghost use Rattle.hid_session.specs.States.{State};
-ghost use Rattle.hid_session.specs.contracts.session.Session.{the_row};
+ghost use Rattle.hidstack_session.specs.States.{State};
+ghost use Rattle.hidstack_session.specs.contracts.session.Session.{the_row};
 ghost use Rattle.hidstack.specs.Held.{held};
 
 use crate::address::{Address, lower, raise};
-use hid_session::Session;
+use hidstack_session::Session;
 use std::alloc::Global;
 use std::marker::Model;
 use std::mem;

@@ -9,7 +9,7 @@ use crate::status::{MEMORY, NO_ROOM, NONE, OK};
 use hid_layout::Usage;
 use hid_names::usage_name;
 use hid_notation::{UsageText, layout_words};
-use hid_session::cause_with;
+use hidstack_session::cause_with;
 use std::alloc::Global;
 
 /// Writes a text over the first bytes of a room.

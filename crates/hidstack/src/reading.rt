@@ -3,12 +3,12 @@
 ghost use Rattle.std.specs.Prelude.{◌≡◌, Some};
 ghost use Rattle.hid_snapshots.specs.Snapshots.{is_pressed, cell_at};
 ghost use Rattle.hid_snapshots.specs.Views.{value_in};
-ghost use Rattle.hid_session.specs.Elements.{one_of};
+ghost use Rattle.hidstack_session.specs.Elements.{one_of};
 ghost use Rattle.hidstack.specs.Showing.{ShowsView};
 
 use crate::handle::Handle;
 use crate::status::{CLOSED, NONE, OK};
-use hid_session::ControlId;
+use hidstack_session::ControlId;
 use std::alloc::Global;
 
 /// Whether a switch or a key is held: 1, else 0; 0 of another control too, and where there is none.

@@ -2,14 +2,16 @@
 
 ghost use Rattle.std.specs.Prelude.{◌≡◌, ◌≤◌, Some, None, Ok, Err, IfOk, IfErr};
 ghost use Rattle.hid_descriptor.specs.Faults.{Explains};
-ghost use Rattle.hid_session.specs.Causes.{cause_number};
-ghost use Rattle.hid_session.specs.Sessions.{IsFirst};
+ghost use Rattle.hidstack_session.specs.Causes.{cause_number};
+ghost use Rattle.hidstack_session.specs.Sessions.{IsFirst};
 ghost use Rattle.hidstack.specs.Opening.{Opens, Refuses, IsBusy, opened_as};
 ghost use Rattle.hidstack.specs.Feeding.{FeedsHandle, status_of};
 
 use crate::handle::Handle;
 use crate::status::{BUSY, CLOSED, NO_ROOM, OK, REFUSED, SHORT, UNKNOWN};
-use hid_session::{Cause, FeedFault, HidEvent, LayoutFault, ReportFault, Session, cause_number};
+use hidstack_session::{
+    Cause, FeedFault, HidEvent, LayoutFault, ReportFault, Session, cause_number,
+};
 use std::alloc::Global;
 
 /// What `hidstack_open` tells beside its status.

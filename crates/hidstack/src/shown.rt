@@ -1,13 +1,13 @@
 //! What a handle's layout shows: reports, elements, usages and collections.
 
 ghost use Rattle.std.specs.Prelude.{◌≡◌};
-ghost use Rattle.hid_session.specs.Elements.{element_at};
-ghost use Rattle.hid_session.specs.Shown.{report_at, collection_at, usage_at};
+ghost use Rattle.hidstack_session.specs.Elements.{element_at};
+ghost use Rattle.hidstack_session.specs.Shown.{report_at, collection_at, usage_at};
 ghost use Rattle.hidstack.specs.Showing.{ShowsLayout};
 
 use crate::handle::Handle;
 use crate::status::{CLOSED, NONE, OK};
-use hid_session::{
+use hidstack_session::{
     HidCollection, HidElement, HidReport, HidUsage, collection_at, element_at, report_at, usage_at,
 };
 use std::alloc::Global;

@@ -1,9 +1,9 @@
-//! A session of `hid_session`, as steps with `;` between them: `feed N HEX` gives a report and a table of N places, and tells
+//! A session of `hidstack_session`, as steps with `;` between them: `feed N HEX` gives a report and a table of N places, and tells
 //! the events or the fault; `room` tells how many events come at most, and `held C` whether a switch is held.
 
 use crate::words::control_of;
-use hid_session::{FeedFault, HidElement, HidEvent, Session, list_elements, number_in};
 use hid_usages::ReportFault;
+use hidstack_session::{FeedFault, HidElement, HidEvent, Session, list_elements, number_in};
 use std::alloc::Global;
 use test_rows::{
     RowFault, Sheet, bytes_of, number_of, split, tell, tell_debug, tell_number, tell_numbers,

@@ -9,8 +9,8 @@ use Rattle.std.specs.Prelude.{Option, None, Some}
 use Rattle.std_alloc.proofs.SendSync.{quiet, lies}
 use Rattle.std.proofs.Crossing as heap
 use Rattle.hidstack.specs.Held.{held}
-use Rattle.hid_session.specs.contracts.session.Session as session
-use Rattle.hid_session.proofs.session.Session.TheSendSync.{the_send as session_send}
+use Rattle.hidstack_session.specs.contracts.session.Session as session
+use Rattle.hidstack_session.proofs.session.Session.TheSendSync.{the_send as session_send}
 use Rattle.hidstack.specs.contracts.handle.Handle.{the_row, the_type}
 
 keyless : (p : Ptr) (kept : Option (session.the_row).Denot) → base.Shift.Keyless (held session.the_row p kept)

@@ -1,0 +1,22 @@
+-- Events as records of numbers (our choice).
+use Rattle.std.specs.Prelude.{ℕ, ℤ, pos}
+use Rattle.hid_descriptor.specs.declared.usage.Usage.{Usage}
+use Rattle.hid_layout.specs.declared.control.ControlId.{ControlId}
+use Rattle.hid_snapshots.specs.declared.event.Event.{Event}
+use Rattle.hid_snapshots.specs.declared.event.Event.TheVariants.{Down, Up, Value, Null, Motion, Dropped}
+use Rattle.hidstack_session.specs.declared.event.HidEvent.{HidEvent}
+use Rattle.hidstack_session.specs.declared.event.TheConstants.{UP, DOWN, VALUE, NULL, MOTION, DROPPED}
+
+-- a record of this kind, of a control with its usage, and of a number
+abbrev pub told_as : ℕ → ControlId → Usage → ℤ → HidEvent
+told_as kind control usage value =
+    record { value = value; item = control.item; index = control.index; page = usage.page; id = usage.id; kind = kind }
+
+-- the record of an event
+abbrev pub event_of : Event → HidEvent
+event_of (Up control usage) = told_as UP control usage (pos 0)
+event_of (Down control usage) = told_as DOWN control usage (pos 1)
+event_of (Value control usage value) = told_as VALUE control usage value
+event_of (Null control usage) = told_as NULL control usage (pos 0)
+event_of (Motion control usage by) = told_as MOTION control usage by
+event_of (Dropped control usage by) = told_as DROPPED control usage by

@@ -1,0 +1,145 @@
+//! A device whose reports are read: its descriptor once, then one report at a time.
+
+ghost use Rattle.std.specs.Prelude.{◌≡◌, ◌≤◌, Ok, Err, IfOk, IfErr, IfSome, vec_capacity};
+ghost use Rattle.hid_descriptor.specs.Faults.{Explains};
+ghost use Rattle.hid_layout.specs.Layout.{Contents};
+ghost use Rattle.hid_layout.specs.Controls.{items_of, max_events};
+ghost use Rattle.hid_layout.specs.Reports.{IsLayout};
+ghost use Rattle.hid_snapshots.specs.Cells.{FitsView, blank};
+ghost use Rattle.hid_snapshots.specs.Snapshots.{is_pressed, cell_at};
+ghost use Rattle.hid_snapshots.specs.Views.{value_in};
+ghost use Rattle.hidstack_session.specs.Sessions.{IsFirst, IsFirstOf, Feeds};
+
+use crate::event::{HidEvent, put_events};
+use hid_fields::WordCodec;
+use hid_layout::{Cause, ControlId, Layout, LayoutFault};
+use hid_usages::{Event, Reader, ReportFault, View};
+use std::alloc::Global;
+use std::marker::Model;
+
+/// Why a report is not read, in the order in which causes are looked for.
+#[derive(Clone, Copy, Debug)]
+pub enum FeedFault {
+    /// The table has fewer places than a report can tell events.
+    NoRoom,
+    /// U8 or U9: the bytes are no Input report of the device.
+    Refused(ReportFault),
+}
+
+/// A device's layout, and what a host has read of it.
+#[derive(Drop)]
+pub struct Session {
+    reader: Reader,
+    /// Room for the events of a report.
+    events: Vec<Event>,
+}
+
+impl Model for Session {
+    ghost use Rattle.std.specs.Prelude.{◌≤◌, vec_capacity};
+    ghost use Rattle.hid_layout.specs.Controls.{items_of, max_events};
+    ghost use Rattle.hidstack_session.specs.States.{State};
+
+    ghost Value = { State };
+
+    ghost view = { λ s. record { layout = s.reader.layout; view = s.reader.view } };
+
+    ghost invariant = { λ s. max_events (items_of s.reader.layout) ≤ vec_capacity s.events };
+}
+
+/// Want of memory, where a descriptor is read.
+fn want() -> LayoutFault
+    ensures { result ≡ record { cause = Cause.Memory; at = 0 } }
+{
+    LayoutFault {
+        cause: Cause::Memory,
+        at: 0,
+    }
+}
+
+/// A blank view of a layout, and room for the events of a report.
+fn blank(alloc: Global, layout: &Layout) -> Option<(View, Vec<Event>)>
+    ensures layout { IsLayout layout.now }
+    ensures view { IfSome result (λ made. (made.0 ≡ blank (items_of layout.now))
+        × FitsView (items_of layout.now) made.0) }
+    ensures room { IfSome result (λ made. max_events (items_of layout.now) ≤ vec_capacity made.1) }
+{
+    let _ = layout.items();
+    let view = View::initial(alloc, layout).ok()?;
+    let events = Vec::with_capacity(alloc, layout.max_events()).ok()?;
+    Some((view, events))
+}
+
+impl Session {
+    /// Reads a report descriptor. Nothing is held, and values are those of a blank snapshot.
+    pub fn open(alloc: Global, descriptor: &[u8]) -> Result<Session, LayoutFault>
+        ensures ok { IfOk result (λ session. IsFirst descriptor.now session) }
+        // Memory was wanting, or this is the one refusal.
+        ensures err { IfErr result (λ f. Explains descriptor.now f.cause f.at) }
+    {
+        Session::of_layout(alloc, Layout::parse(alloc, descriptor))
+    }
+
+    /// A session of the layout, with a blank view. A fault in the layout's place is handed on as it is.
+    fn of_layout(alloc: Global, laid: Result<Layout, LayoutFault>) -> Result<Session, LayoutFault>
+        ensures ok { IfOk result (λ session. IsFirstOf laid session) }
+        ensures fault { (f : LayoutFault) → laid ≡ Err f → result ≡ Err f }
+        ensures memory { (c : Contents) → laid ≡ Ok c → IfErr result (λ f. f ≡ record { cause = Cause.Memory; at = 0 }) }
+    {
+        let layout = laid?;
+        match blank(alloc, &layout) {
+            Some((view, events)) => Ok(Session {
+                reader: Reader::new(layout, view),
+                events,
+            }),
+            None => Err(want()),
+        }
+    }
+
+    /// How many events a report tells at most.
+    pub fn room(&self) -> usize
+        ensures { result ≡ max_events (items_of self.now.layout) }
+    {
+        self.reader.layout().max_events()
+    }
+
+    /// Reads a report, and writes its events over the first places of the table. No memory is taken.
+    pub fn feed(&mut self, report: &[u8], out: &mut [HidEvent]) -> Result<usize, FeedFault>
+        ensures { Feeds self.old report.now out.old result self.new out.new }
+    {
+        if out.len() < self.reader.layout().max_events() {
+            return Err(FeedFault::NoRoom);
+        }
+        self.events.clear();
+        match self
+            .reader
+            .take_report::<WordCodec>(report, &mut self.events)
+        {
+            Ok(()) => {
+                put_events(&self.events, out);
+                Ok(self.events.len())
+            }
+            Err(fault) => Err(FeedFault::Refused(fault)),
+        }
+    }
+
+    /// The layout of the descriptor.
+    pub fn layout(&self) -> &Layout
+        ensures { result.now ≡ self.now.layout }
+    {
+        self.reader.layout()
+    }
+
+    /// Whether a switch or a key is held; false for another control, and where there is none.
+    pub fn held(&self, control: ControlId) -> bool
+        ensures { result ≡ is_pressed (cell_at self.now.view control.item) control.index }
+    {
+        self.reader.view().held(control)
+    }
+
+    /// The value of an absolute control; none where it is null, for another control, and where there is none.
+    pub fn value(&self, control: ControlId) -> Option<i64>
+        ensures { result ≡ value_in (cell_at self.now.view control.item) control.index }
+    {
+        self.reader.view().value(control)
+    }
+}
