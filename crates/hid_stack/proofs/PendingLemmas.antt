@@ -21,6 +21,7 @@ use Rattle.hid_stack.specs.Transfers.{IsEvenAgain, IsOver, IsUndone}
 use Rattle.hid_stack.proofs.ClearLemmas.{Pends, begins_pending, even_there, halted_pends, idle_step, polls_none, scheduled_pends, tried_pends, tried_transfer}
 use Rattle.hid_stack.proofs.CountLemmas.{runs_as}
 use Rattle.hid_stack.proofs.LawLemmas.{short_so}
+use Rattle.hid_stack.proofs.TryLemmas.{clear_is}
 
 -- ---- a Clear is pending, which isn't done; where one runs, it is the one of both ends
 
@@ -72,29 +73,12 @@ on_begin None m request s =
     }
 
 -- a try, of a Clear or of another request, that ends no Clear
-asks_clear : (request : Request) → is_clear request ≡ true → request ≡ requests.Clear
-asks_clear requests.Clear is = refl
-asks_clear requests.Device is = absurd (cc)
-asks_clear requests.Config is = absurd (cc)
-asks_clear requests.Report is = absurd (cc)
-asks_clear requests.Configure is = absurd (cc)
-asks_clear requests.Status is = absurd (cc)
-asks_clear requests.GetConfiguration is = absurd (cc)
-asks_clear (requests.Idle id time) is = absurd (cc)
-asks_clear (requests.GetIdle id) is = absurd (cc)
-asks_clear (requests.Protocol boot) is = absurd (cc)
-asks_clear requests.GetProtocol is = absurd (cc)
-asks_clear (requests.GetReport kind id) is = absurd (cc)
-asks_clear (requests.SetReport kind id bytes) is = absurd (cc)
-asks_clear requests.Halt is = absurd (cc)
-asks_clear requests.EndpointStatus is = absurd (cc)
-
 kept_if_other : (b clearing : Bool) → (b ≡ true → ⊥) → (not b && clearing) ≡ clearing
 kept_if_other true clearing other = absurd (other refl)
 kept_if_other false clearing other = refl
 
 clearing_kept : (stage : HostStage) (request : Request) (clearing : Bool) → ((request ≡ requests.Clear) × (stage ≡ stages.Done) → ⊥) → clearing_behind stage request clearing ≡ clearing
-clearing_kept stages.Done request clearing undone = kept_if_other (is_clear request) clearing (λ is. undone (asks_clear request is, refl))
+clearing_kept stages.Done request clearing undone = kept_if_other (is_clear request) clearing (λ is. undone (clear_is request is, refl))
 clearing_kept stages.Setup request clearing undone = refl
 clearing_kept (stages.DataIn one) request clearing undone = refl
 clearing_kept (stages.DataOut sent one) request clearing undone = refl

@@ -223,7 +223,7 @@ joint_tried fate device device_then host t phase next sound control_is l parsed 
     })
 
 -- the one request that ends a halt
-clear_is : (request : Request) → is_clear request ≡ true → request ≡ requests.Clear
+pub clear_is : (request : Request) → is_clear request ≡ true → request ≡ requests.Clear
 clear_is requests.Clear is = refl
 clear_is requests.Device is = absurd (cc)
 clear_is requests.Config is = absurd (cc)

@@ -1,5 +1,5 @@
 -- What a run of a script answers (our choice; what a script tells: hid_script).
-use Rattle.std.specs.Prelude.{◌≡◌, ℕ, ◌/◌, ◌%◌, ◌==◌, ◌<◌, ◌⊎◌, List, [], length, Result, Ok, Err}
+use Rattle.std.specs.Prelude.{◌≡◌, ℕ, ◌/◌, ◌%◌, ◌==◌, ◌<◌, ◌⊎◌, List, [], length, Result, Ok, Err, IsOk, IsErr}
 use Rattle.std.specs.Str.Lines.{lines}
 use Rattle.hid_script.specs.declared.fault.Options.{Options}
 use Rattle.hid_script.specs.declared.fault.ScriptFault.{ScriptFault}
@@ -38,26 +38,46 @@ fault_told (Err fault) = fault_text fault
 abbrev pub IsShort : List ℕ → List ℕ → List ℕ → List ℕ → Type 0
 IsShort told out text fault = (length out < length told) ⊎ (length fault < length text)
 
--- all lines were run, and their text is written
-abbrev pub RunsWhole : Options → List ℕ → List ℕ → List ℕ → List ℕ → List ℕ → HidRan → Type 0
-RunsWhole options script out out' fault fault' ran =
-    (written : List ℕ) × (summary : Summary) × RunsScript options script written (Ok summary)
-    × Written written out out' × (fault' ≡ fault) × (ran ≡ ran_as (Ok summary) written)
+-- all lines were run, and the text that they wrote is written
+abbrev pub PutsWhole : Result Summary ScriptFault → List ℕ → List ℕ → List ℕ → List ℕ → List ℕ → HidRan → Type 0
+PutsWhole answer written out out' fault fault' ran =
+    IsOk answer × Written written out out' × (fault' ≡ fault) × (ran ≡ ran_as answer written)
 
 -- the run ended early; what it told and the line that names its fault are written
-abbrev pub RunsRefused : Options → List ℕ → List ℕ → List ℕ → List ℕ → List ℕ → HidRan → Type 0
-RunsRefused options script out out' fault fault' ran =
-    (written : List ℕ) × (wrong : ScriptFault) × RunsScript options script written (Err wrong)
-    × Written written out out' × Written (fault_text wrong) fault fault' × (ran ≡ ran_as (Err wrong) written)
+abbrev pub PutsRefused : Result Summary ScriptFault → List ℕ → List ℕ → List ℕ → List ℕ → List ℕ → HidRan → Type 0
+PutsRefused answer written out out' fault fault' ran =
+    IsErr answer × Written written out out' × Written (fault_told answer) fault fault' × (ran ≡ ran_as answer written)
 
 -- one of the texts has too little room, and nothing is written
+abbrev pub PutsNone : Result Summary ScriptFault → List ℕ → List ℕ → List ℕ → List ℕ → List ℕ → HidRan → Type 0
+PutsNone answer written out out' fault fault' ran =
+    (out' ≡ out) × (fault' ≡ fault) × (ran ≡ ran_as answer written) × IsShort written out (fault_told answer) fault
+
+-- the run ended early, memory was wanting for the line that names its fault, and nothing is written
+abbrev pub PutsMemory : Result Summary ScriptFault → List ℕ → List ℕ → List ℕ → List ℕ → HidRan → Type 0
+PutsMemory answer out out' fault fault' ran =
+    IsErr answer × (out' ≡ out) × (fault' ≡ fault) × (ran ≡ record { line = 0; told = 0; fault = 0 })
+
+-- all lines of the script were run, and their text is written
+abbrev pub RunsWhole : Options → List ℕ → List ℕ → List ℕ → List ℕ → List ℕ → HidRan → Type 0
+RunsWhole options script out out' fault fault' ran =
+    (written : List ℕ) × (answer : Result Summary ScriptFault) × RunsScript options script written answer
+    × PutsWhole answer written out out' fault fault' ran
+
+-- the script's run ended early; what it told and the line that names its fault are written
+abbrev pub RunsRefused : Options → List ℕ → List ℕ → List ℕ → List ℕ → List ℕ → HidRan → Type 0
+RunsRefused options script out out' fault fault' ran =
+    (written : List ℕ) × (answer : Result Summary ScriptFault) × RunsScript options script written answer
+    × PutsRefused answer written out out' fault fault' ran
+
+-- the script was run; one of the texts has too little room, and nothing is written
 abbrev pub Misses : Options → List ℕ → List ℕ → List ℕ → List ℕ → List ℕ → HidRan → Type 0
 Misses options script out out' fault fault' ran =
     (written : List ℕ) × (answer : Result Summary ScriptFault) × RunsScript options script written answer
-    × (out' ≡ out) × (fault' ≡ fault) × (ran ≡ ran_as answer written) × IsShort written out (fault_told answer) fault
+    × PutsNone answer written out out' fault fault' ran
 
--- the run ended early, memory was wanting for the line that names its fault, and nothing is written
+-- the script's run ended early, memory was wanting for the line that names its fault, and nothing is written
 abbrev pub Wants : Options → List ℕ → List ℕ → List ℕ → List ℕ → List ℕ → HidRan → Type 0
 Wants options script out out' fault fault' ran =
-    ((written : List ℕ) × (wrong : ScriptFault) × RunsScript options script written (Err wrong))
-    × (out' ≡ out) × (fault' ≡ fault) × (ran ≡ record { line = 0; told = 0; fault = 0 })
+    (written : List ℕ) × (answer : Result Summary ScriptFault) × RunsScript options script written answer
+    × PutsMemory answer out out' fault fault' ran

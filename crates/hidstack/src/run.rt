@@ -1,9 +1,9 @@
 //! A whole script, as `hidrun` runs it.
 
-ghost use Rattle.std.specs.Prelude.{◌≡◌, []};
+ghost use Rattle.std.specs.Prelude.{◌≡◌, [], IfOk, IsErr};
 ghost use Rattle.std.specs.Bool.{OnTrue, OnFalse};
 ghost use Rattle.hidstack.specs.Texts.{Written};
-ghost use Rattle.hidstack.specs.Running.{options_of, RunsScript, AnswersRun, RunsWhole, RunsRefused, Misses, Wants, IsShort};
+ghost use Rattle.hidstack.specs.Running.{options_of, fault_told, RunsScript, AnswersRun, PutsWhole, PutsRefused, PutsNone, PutsMemory, RunsWhole, RunsRefused, Misses, Wants, IsShort};
 
 use crate::names::put_text;
 use crate::status::{MEMORY, NO_ROOM, OK, REFUSED};
@@ -66,6 +66,52 @@ fn put_both(told: &[u8], text: &[u8], out: &mut [u8], fault: &mut [u8]) -> bool
     true
 }
 
+/// The line that names a run's fault, and no text where all lines were run.
+fn text_of(alloc: Global, ended: &Result<Summary, ScriptFault>) -> Result<Vec<u8>, ScriptFault>
+    ensures told { IfOk result (λ text. text.items ≡ fault_told ended.now) }
+    ensures memory { IsErr result → IsErr ended.now }
+{
+    match ended {
+        Ok(_) => Ok(Vec::new(alloc)),
+        Err(wrong) => fault_line(alloc, wrong),
+    }
+}
+
+/// Writes what a run told and the line that names its fault, and answers how it ended. Memory is wanted for a run that
+/// ended early alone.
+fn put_run(
+    alloc: Global,
+    ended: &Result<Summary, ScriptFault>,
+    told: &[u8],
+    out: &mut [u8],
+    fault: &mut [u8],
+    ran: &mut HidRan,
+) -> u32
+    ensures status { AnswersRun result }
+    ensures whole { result ≡ OK → PutsWhole ended.now told.now out.old out.new fault.old fault.new ran.new }
+    ensures refused { result ≡ REFUSED → PutsRefused ended.now told.now out.old out.new fault.old fault.new ran.new }
+    ensures missed { result ≡ NO_ROOM → PutsNone ended.now told.now out.old out.new fault.old fault.new ran.new }
+    ensures memory { result ≡ MEMORY → PutsMemory ended.now out.old out.new fault.old fault.new ran.new }
+{
+    *ran = HidRan {
+        line: 0,
+        told: 0,
+        fault: 0,
+    };
+    let Ok(text) = text_of(alloc, ended) else {
+        return MEMORY;
+    };
+    ran.told = told.len() as u64;
+    ran.fault = text.len() as u64;
+    if let Err(wrong) = ended {
+        ran.line = wrong.line as u64;
+    }
+    if !put_both(told, &text, out, fault) {
+        return NO_ROOM;
+    }
+    if ended.is_ok() { OK } else { REFUSED }
+}
+
 /// Runs the script, and writes what it tells over the first bytes of `out`, and the line that names its fault over the
 /// first of `fault`.
 #[unsafe(no_mangle)]
@@ -87,33 +133,7 @@ pub extern "C" fn hidstack_run(
     ensures memory { result ≡ MEMORY → Wants (options_of options) script.now out.old out.new
         fault.old fault.new ran.new }
 {
-    *ran = HidRan {
-        line: 0,
-        told: 0,
-        fault: 0,
-    };
     let mut told = Vec::new(alloc);
-    match run_script(alloc, script, options_of(options), &mut told) {
-        Ok(_) => {
-            ran.told = told.len() as u64;
-            if put_both(&told, &[], out, fault) {
-                OK
-            } else {
-                NO_ROOM
-            }
-        }
-        Err(wrong) => match fault_line(alloc, &wrong) {
-            Ok(text) => {
-                ran.line = wrong.line as u64;
-                ran.told = told.len() as u64;
-                ran.fault = text.len() as u64;
-                if put_both(&told, &text, out, fault) {
-                    REFUSED
-                } else {
-                    NO_ROOM
-                }
-            }
-            Err(_) => MEMORY,
-        },
-    }
+    let ended = run_script(alloc, script, options_of(options), &mut told);
+    put_run(alloc, &ended, &told, out, fault, ran)
 }
