@@ -47,7 +47,7 @@ LivesOn items from deeds =
     (happenings items deeds (course_from from)) (course_behind items deeds (course_from from))
     (told_in items from deeds) (befallen_all items from deeds)
 
--- a poll tells nothing and leaves the view
+-- A poll of an open round whose piece at hand isn't the last tells nothing and leaves the view.
 abbrev pub IsQuietPoll : List Item → Station → Fate → Type 0
 IsQuietPoll items s fate = (events_at items s (Polls fate) ≡ []) × ((after items s (Polls fate)).view ≡ s.view)
 
@@ -70,13 +70,16 @@ pub record FollowsRounds (items : List Item) (before : List Cell) (odd : Bool)
   pub toggle : s.odd ≡ flips (pieces_in pieces_closed gone) odd
   pub expects : expected s ≡ flips (pieces_in pieces_crossed gone) odd
 
--- a station stands as the rounds of these steps say
+-- A station stands as the rounds of these steps say: as its course does, with the round that is open there; the view
+-- took the parts that crossed; the device's toggle was changed once for each piece closed, the host's once for each
+-- piece crossed.
 abbrev pub StandsByRounds : List Item → Station → List OwnStep → Station → Type 0
 StandsByRounds items from steps s =
     FollowsRounds items from.view from.odd
     (rounds items steps (course_from from)) (after_steps items steps (course_from from)) s
 
--- a station stands as the rounds of an epoch say in which this befalls it
+-- A station stands as the rounds of an epoch say, in which these deeds befall it. Example: idle time 1, a press, and
+-- polls three and four frames after the round: down 07:04, and two rounds
 abbrev pub StandsInEpoch : List Item → Station → List Deed → Station → Type 0
 StandsInEpoch items from deeds s =
     FollowsRounds items from.view from.odd (rounds_ended (happenings items deeds (course_from from)))

@@ -20,7 +20,7 @@ pub data Deed : Type 0 where
   Clears : Deed
   Resets : Deed
 
--- own steps as deeds
+-- a list of own steps as deeds
 abbrev pub owns : List OwnStep → List Deed
 owns steps = map (λ x. Own x) steps
 
@@ -73,7 +73,7 @@ abbrev pub happenings : List Item → List Deed → Course → List Happening
 happenings items [] c = ended (still_open c.current)
 happenings items (x ∷ deeds) c = happens_by items c x ++ happenings items deeds (course_after items c x)
 
--- the rounds that ended, in order
+-- The rounds that ended in a life, in order.
 abbrev pub rounds_ended : List Happening → List Round
 rounds_ended [] = []
 rounds_ended (Ended round ∷ rest) = round ∷ rounds_ended rest
@@ -91,7 +91,7 @@ IsWithinEpoch Halts = ⊥
 IsWithinEpoch Clears = ⊥
 IsWithinEpoch Resets = ⊥
 
--- and so is each of these
+-- each of these deeds is within an epoch: an own step, or idle times that are set
 abbrev pub AreWithinEpoch : List Deed → Type 0
 AreWithinEpoch [] = Unit {0}
 AreWithinEpoch (x ∷ deeds) = IsWithinEpoch x × AreWithinEpoch deeds
@@ -134,7 +134,7 @@ abbrev pub gone_told : List Item → List Cell → Option Round → List Event
 gone_told items view None = changes_between items view (blank items)
 gone_told items view (Some round) = round_gone items view (has_crossed round) round
 
--- The events of a life, from a view on.
+-- The events of a life, from a view on. Example: a key that is held through a configuration is told again
 abbrev pub told_from : List Item → List Cell → List Happening → List Event
 told_from items view [] = []
 told_from items view (Ended round ∷ rest) =
@@ -176,7 +176,8 @@ toggle_from pieces odd (Gone current ∷ rest) = toggle_from pieces false rest
 
 -- The station after a deed: behind a configuration both ends are freshly configured, the host with its initial view. (A
 -- host that is ready hears nothing of it: it is made anew, or reads the device again.) Behind a reset they are too, but
--- without idle times. A halt and a clear end the open round, whose report is due, and a clear begins at DATA0.
+-- without idle times. A halt and a clear end the open round, whose report is due, and a clear begins at DATA0. Example:
+-- a press and motion, a lost reply, a halt, a clear and a poll: dropped 01:30 5, down 09:01
 abbrev pub befallen : List Item → Station → Deed → Station
 befallen items s (Own x) = after items s x
 befallen items s (Idles idle) = record s { standing = with_idle idle s.standing }
@@ -187,7 +188,7 @@ befallen items s Clears =
     record s { standing = cut_at (report_open s.current) s.standing; current = None; odd = false; halted = false }
 befallen items s Resets = fresh items s.standing.snapshot (no_idle s.standing.idle)
 
--- and after a list of them
+-- the station after a list of deeds
 abbrev pub befallen_all : List Item → Station → List Deed → Station
 befallen_all items s [] = s
 befallen_all items s (x ∷ deeds) = befallen_all items (befallen items s x) deeds
@@ -219,7 +220,7 @@ events_on items s Halts = cut_events items s
 events_on items s Clears = cut_events items s
 events_on items s Resets = reset_events items s
 
--- The events of a list of them, one after another.
+-- The events of a list of deeds, one after another.
 abbrev pub told_in : List Item → Station → List Deed → List Event
 told_in items s [] = []
 told_in items s (x ∷ deeds) = events_on items s x ++ told_in items (befallen items s x) deeds

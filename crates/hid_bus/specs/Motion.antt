@@ -65,7 +65,8 @@ open_motion items fixed None c = pos 0
 open_motion items fixed (Some round) c =
     if not (is_whole round) && is_of round.report (item_at items c.item) then motion_of fixed c else pos 0
 
--- The motion that a station still has: in its snapshot, and in an open round that hasn't crossed.
+-- the motion that a station still has: in its snapshot, and in an open round that hasn't crossed. Example: of 200 moved
+-- 127 are given and 73 kept
 abbrev pub station_motion : List Item → Station → ControlId → ℤ
 station_motion items s c =
     motion_of s.standing.snapshot c +ℤ open_motion items s.standing.fixed s.current c
@@ -90,7 +91,7 @@ abbrev pub accepted : List Item → Station → List OwnStep → List OwnStep
 accepted items s [] = []
 accepted items s (x ∷ steps) = step_if (is_accepted items s x) x ++ accepted items (after items s x) steps
 
--- all steps are accepted where they come
+-- each change of these steps is accepted where it comes
 abbrev pub are_accepted : List Item → Station → List OwnStep → Bool
 are_accepted items s [] = true
 are_accepted items s (x ∷ steps) = is_accepted items s x && are_accepted items (after items s x) steps
@@ -129,7 +130,7 @@ KeepsMotion items s steps =
     (c : ControlId) → Conserves c (accepted items s steps) (station_motion items s c)
     (events_in items s steps) (station_motion items (after_all items s steps) c)
 
--- the same where all of the steps are accepted
+-- Steps that are all accepted neither lose nor double the motion of any control.
 abbrev pub KeepsAccepted : List Item → Station → List OwnStep → Type 0
 KeepsAccepted items s steps =
     (c : ControlId) → Conserves c steps (station_motion items s c)
@@ -155,13 +156,13 @@ IsBetweenRounds s Halts = Unit {0}
 IsBetweenRounds s Clears = Unit {0}
 IsBetweenRounds s Resets = Unit {0}
 
--- and so at each configuration of a life
+-- no round is open at any configuration of a life
 abbrev pub AreBetweenRounds : List Item → Station → List Deed → Type 0
 AreBetweenRounds items s [] = Unit {0}
 AreBetweenRounds items s (x ∷ deeds) = IsBetweenRounds s x × AreBetweenRounds items (befallen items s x) deeds
 
--- Neither does what else befalls a device, halts, clears and resets too, whose drops are told: a configuration would
--- forget the motion of an open round alone.
+-- A life neither loses nor doubles the motion of any control, with idle times, halts, clears and resets, whose drops are
+-- told. A configuration alone would forget the motion of an open round.
 abbrev pub KeepsThroughLife : List Item → Station → List Deed → Type 0
 KeepsThroughLife items s deeds =
     (c : ControlId) → Conserves c (accepted_in items s deeds) (station_motion items s c)

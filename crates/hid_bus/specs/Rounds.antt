@@ -21,21 +21,22 @@ pub data OwnStep : Type 0 where
   Polls : Fate → OwnStep
 
 -- A round: its report and in how many pieces that goes, the parts as they were fixed when it opened, and the fates of
--- its polls, the opening one first.
+-- its polls, the opening one first. Example: a round of one piece with a lost ACK and then a clean poll crosses at the
+-- first and closes at the second
 pub record Round : Type 0 where
   pub report : ℕ
   pub pieces : ℕ
   pub parts : List Cell
   pub polls : List Fate
 
--- what is sent reaches the host
+-- with this fate the device's reply reaches the host
 abbrev pub reaches_host : Fate → Bool
 reaches_host Clean = true
 reaches_host TokenLost = false
 reaches_host ReplyLost = false
 reaches_host AckLost = true
 
--- and its acknowledgement the device
+-- with this fate nothing is lost, so the host's acknowledgement reaches the device
 abbrev pub is_clean : Fate → Bool
 is_clean Clean = true
 is_clean TokenLost = false
@@ -55,7 +56,7 @@ ahead_after ahead TokenLost = ahead
 ahead_after ahead ReplyLost = ahead
 ahead_after ahead AckLost = true
 
--- and once these came
+-- whether the piece at hand has crossed, once these polls came
 abbrev pub ahead_in : Bool → List Fate → Bool
 ahead_in ahead [] = ahead
 ahead_in ahead (fate ∷ polls) = ahead_in (ahead_after ahead fate) polls
@@ -64,19 +65,20 @@ ahead_in ahead (fate ∷ polls) = ahead_in (ahead_after ahead fate) polls
 abbrev pub crossed_with : ℕ → Bool → ℕ
 crossed_with closed ahead = if ahead then closed + 1 else closed
 
--- the pieces of a round that closed
+-- how many pieces of a round closed: each at its first poll of which nothing is lost
 abbrev pub pieces_closed : Round → ℕ
 pieces_closed round = closed_in round.polls
 
--- and those that crossed
+-- how many pieces of a round crossed: each at its first poll that reaches the host. Example: of two pieces a clean poll
+-- and a lost ACK: two crossed, one closed
 abbrev pub pieces_crossed : Round → ℕ
 pieces_crossed round = crossed_with (pieces_closed round) (ahead_in false round.polls)
 
--- A round crosses with its last piece, and closes with it.
+-- A round crosses with its last piece.
 abbrev pub has_crossed : Round → Bool
 has_crossed round = nat_le round.pieces (pieces_crossed round)
 
--- and whether all pieces closed
+-- A round closes with its last piece.
 abbrev pub has_closed : Round → Bool
 has_closed round = nat_le round.pieces (pieces_closed round)
 
@@ -123,7 +125,7 @@ abbrev pub open_after : Option Round → Fate → Option Round
 open_after None fate = None
 open_after (Some round) fate = if has_closed (polled round fate) then None else Some (polled round fate)
 
--- and the round that it closes
+-- the round that a poll closes, if it closes one
 abbrev pub closed_by_poll : Option Round → Fate → List Round
 closed_by_poll None fate = []
 closed_by_poll (Some round) fate = if has_closed (polled round fate) then polled round fate ∷ [] else []
@@ -154,7 +156,8 @@ abbrev pub still_open : Option Round → List Round
 still_open None = []
 still_open (Some round) = round ∷ []
 
--- The rounds of a schedule, in order: those that it closes, and the one that is open at its end.
+-- The rounds of a schedule, in order: those that it closes, and the one that is open at its end. A schedule of changes,
+-- frames and polls is cut where polls open and close rounds; no toggle is kept.
 abbrev pub rounds : List Item → List OwnStep → Course → List Round
 rounds items [] c = still_open c.current
 rounds items (s ∷ steps) c = closed_by items c s ++ rounds items steps (after_step items c s)
@@ -175,7 +178,8 @@ abbrev pub view_of : List Item → List Cell → List Round → List Cell
 view_of items view [] = view
 view_of items view (round ∷ rest) = view_of items (seen items round.report view round.parts) rest
 
--- a device that was just configured, with this snapshot and these idle times: no round is open, and no halt stands
+-- the course of a device that was just configured, with this snapshot and these idle times: no round is open, and no
+-- halt stands
 abbrev pub fresh_course : List Item → List Cell → List ℕ → Course
 fresh_course items snapshot idle =
     record { standing = configured items snapshot idle; current = None; halted = false }
@@ -184,7 +188,7 @@ fresh_course items snapshot idle =
 abbrev pub crossed_rounds : List Item → List Cell → List ℕ → List OwnStep → List Round
 crossed_rounds items snapshot idle steps = filter has_crossed (rounds items steps (fresh_course items snapshot idle))
 
--- The events of a schedule since the configuration: the changes between the parts that crossed, from the initial
--- view on.
+-- The events of a schedule since the configuration: the changes between the parts that crossed, from the initial view
+-- on. Example: press, lost ACK, press, two clean polls: down 07:04, down 07:05
 abbrev pub events_of_epoch : List Item → List Cell → List ℕ → List OwnStep → List Event
 events_of_epoch items snapshot idle steps = events_of items (blank items) (crossed_rounds items snapshot idle steps)

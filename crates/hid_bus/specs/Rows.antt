@@ -78,7 +78,7 @@ LifeTells items idle deeds events =
 abbrev pub behind : List Item → ℕ → List Deed → Station
 behind items idle deeds = befallen_all items (fresh items (blank items) (idle ∷ [])) deeds
 
--- and behind its own steps alone, where no idle time is set
+-- how both ends stand after own steps alone, if no idle time is set
 abbrev pub stands_after : List Item → List OwnStep → Station
 stands_after items steps = after_all items (fresh items (blank items) (0 ∷ [])) steps
 

@@ -43,11 +43,13 @@ is_due items d r =
     (is_changed items r d.snapshot d.fixed || is_idle_over (slice_index d.idle r) (slice_index d.frames r))
     || slice_index_or d.cut r false
 
--- the due report of the lowest number
+-- The due report of the lowest number: its controls call for it, or its idle time isn't 0 and is over, or its last round
+-- was cut. Example: a key pressed and released again calls for nothing
 abbrev pub first_due : List Item → Standing → Option ℕ
 first_due items d = find (is_due items d) (range_with_len 0 (length d.frames))
 
--- the report whose round a token opens: a halted endpoint opens none (USB 2.0, 8.5.4)
+-- The report whose round a token opens: a halted endpoint answers STALL and opens none, whatever is due (USB 2.0,
+-- 8.5.4).
 abbrev pub due_where : List Item → Bool → Standing → Option ℕ
 due_where items halted d = if halted then None else first_due items d
 
@@ -70,7 +72,7 @@ after_frame d = record {
 }
 
 -- These idle times are set, one for each Input report. Nothing else changes: frames are counted on, so a report may be
--- due at once (HID 1.11, 7.2.4; our choice).
+-- due at once (HID 1.11, 7.2.4; our choice). Example: after eight frames an idle time of two units is over
 abbrev pub with_idle : List ℕ → Standing → Standing
 with_idle idle d = record { snapshot = d.snapshot; fixed = d.fixed; frames = d.frames; idle = idle; cut = d.cut }
 
@@ -78,7 +80,8 @@ with_idle idle d = record { snapshot = d.snapshot; fixed = d.fixed; frames = d.f
 abbrev pub no_idle : List ℕ → List ℕ
 no_idle idle = replicate (length idle) 0
 
--- A halt or a clear ends the round of this report, where one is open: the report is due (USB 2.0, 9.4.5; our choice).
+-- A halt or a clear ends the round of this report, if one is open, also if it has crossed: the report is due until a
+-- round of it opens, or a configuration or a reset begins anew (USB 2.0, 9.4.5; our choice).
 abbrev pub cut_at : Option ℕ → Standing → Standing
 cut_at None d = d
 cut_at (Some r) d =

@@ -109,7 +109,9 @@ round_polled items s round ReplyLost = s
 abbrev pub answered : List Item → Station → Fate → Station
 answered items s fate = elim s.current [ None ↦ s | Some round ↦ round_polled items s round fate ]
 
--- The station after a step.
+-- the station after a step: a token that arrives opens a round if one is due and the endpoint isn't halted; a piece that
+-- reaches the host has crossed, and with the last one the view takes the part; a piece of which nothing is lost closes.
+-- Example: after a lost ACK the round is open and has crossed
 abbrev pub after : List Item → Station → OwnStep → Station
 after items s (Changes change) = record s { standing = after_change items s.standing change }
 after items s Frame = record s { standing = after_frame s.standing }
@@ -137,18 +139,18 @@ events_at items s (Changes change) = []
 events_at items s Frame = []
 events_at items s (Polls fate) = round_events items (arrived items s fate) fate
 
--- whole lists of steps
+-- the station after a list of steps
 abbrev pub after_all : List Item → Station → List OwnStep → Station
 after_all items s [] = s
 after_all items s (x ∷ steps) = after_all items (after items s x) steps
 
--- and their events, one after another
+-- the events of a list of steps, one after another
 abbrev pub events_in : List Item → Station → List OwnStep → List Event
 events_in items s [] = []
 events_in items s (x ∷ steps) = events_at items s x ++ events_in items (after items s x) steps
 
--- The toggle that a host expects which knows what became of its polls: the device's, or the other one where the piece
--- at hand has crossed. (A host isn't told that its endpoint halted, nor that a clear took effect which isn't done:
--- until it is done its host keeps the toggle that it had.)
+-- The toggle that a host expects which knows what became of its polls: the device's, or the other one if the piece at
+-- hand has crossed. It isn't that of a host whose endpoint halted, or whose clear took effect and isn't done: such a
+-- host keeps the toggle that it had. Example: DATA1 after a lost ACK
 abbrev pub expected : Station → Bool
 expected s = elim s.current [ None ↦ s.odd | Some round ↦ (if round.crossed then not s.odd else s.odd) ]

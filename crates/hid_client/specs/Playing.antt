@@ -37,8 +37,9 @@ abbrev pub view_played : Contents → List Step → List Cell
 view_played layout steps =
     view_of (items_of layout) (blank (items_of layout)) (rounds_played layout steps)
 
--- The device has a layout that suits it; where no step is of a transfer, a halt or a reset, its events are what the rounds
--- that crossed tell, and a control is held exactly where the view that took their parts holds it.
+-- The device has a layout that suits it; if no step is of a transfer, a halt or a reset, its events are what the rounds
+-- that crossed tell, and a control is held exactly if the view that took their parts holds it. Example: press, lost ACK,
+-- press, two clean polls: down 07:04, down 07:05, and 07:05 is held
 pub record IsPlayed (config : Config) (descriptor : List ℕ) (steps : List Step) (control : ControlId)
     (given : List Delivered) (is_held : Bool) : Type 0 where
   pub layout : Contents
@@ -54,7 +55,8 @@ pub record IsStopped (config : Config) (descriptor : List ℕ) (steps : List Ste
   pub at : ℕ
   pub stops : StopsAt (fresh_member 1 config descriptor layout ∷ []) steps at fault
 
--- Why nothing is told: memory was wanting, there is no such device, or a step is refused.
+-- Why nothing is told: out of memory, there is no such device, or a step is refused. Example: a press of item 9 of the
+-- boot keyboard is S3 U1
 abbrev pub IsNotPlayed : Config → List ℕ → List Step → StackFault → Type 0
 IsNotPlayed config descriptor steps fault =
     (fault ≡ Memory) ⊎ IsNoPair 1 config descriptor fault ⊎ IsStopped config descriptor steps fault

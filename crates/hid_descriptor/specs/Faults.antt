@@ -69,7 +69,7 @@ value_tests field paired es =
     ∷ (used && not (has_value field.min field.max field.size), BadRange)
     ∷ []
 
--- the same, with no test where the item is Constant or has no elements
+-- what is wrong with the values of an item, with no test if it is Constant or has no elements
 abbrev pub checked_values : Field → Bool → List Entry → List (Bool × Cause)
 checked_values field paired es =
     if has_flag CONSTANT field.flags || (field.count == 0) then [] else value_tests field paired es
@@ -149,8 +149,8 @@ IsRefusedAsWhole bytes cause at = ⊥
 abbrev pub Refuses : List ℕ → Cause → ℕ → Type 0
 Refuses bytes cause at = IsRefusedAtItem bytes cause at ⊎ IsRefusedAsWhole bytes cause at
 
--- why parse gave no layout: want of memory, which is told at 0 and of no descriptor that is too long, or the one
--- refusal
+-- Why parse gave no layout: out of memory, which is reported at 0 and of no descriptor that is too long, or the one
+-- refusal, the first cause in their order at the earliest item.
 abbrev pub Explains : List ℕ → Cause → ℕ → Type 0
 Explains bytes Memory at = (length bytes ≤ MAX_DESCRIPTOR) × (at ≡ 0)
 Explains bytes cause at = Refuses bytes cause at

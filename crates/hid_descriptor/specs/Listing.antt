@@ -9,7 +9,8 @@ use Rattle.hid_descriptor.specs.Heads.{head_of}
 use Rattle.hid_descriptor.specs.Reporting.{reports_of}
 use Rattle.hid_descriptor.specs.Totals.{are_in_order}
 
--- these are the listed fields of these items (the last one first), with their reports
+-- These are the listed fields of these items (the last one first): the fields of accepted items, with their reports,
+-- usages and paths, and whether an item sets a Report ID.
 pub record ListsFields (before : List Spelled) (listed : ListedFields) : Type 0 where
   pub heads : listed.fields.items ≡ map head_of (fields before)
   pub reports : listed.reports.items ≡ reports_of (fields before)

@@ -13,6 +13,7 @@ collection_of (before, item) = record {
   usage = slice_get (usage_list (entries before)) 0;
 }
 
--- the collections that are open behind these items, the outermost first
+-- The collections that are open after these items, the outermost first, each with the first of its own usages. Example:
+-- 1/01:02 0/01:01 in the mouse
 abbrev pub path : List Spelled → List Collection
 path before = map collection_of (open_items COLLECTION END_COLLECTION 0 before)

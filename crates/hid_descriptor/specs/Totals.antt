@@ -5,7 +5,7 @@ use Rattle.hid_descriptor.specs.declared.report.Report.{Report}
 use Rattle.hid_descriptor.specs.declared.report.ReportKind.{ReportKind}
 use Rattle.hid_descriptor.specs.Kinds.{same_kind, rank}
 
--- the report of a kind with an ID
+-- whether a report is that of a kind with an ID
 abbrev pub is_report : ReportKind → ℕ → Report → Bool
 is_report kind id r = same_kind r.kind kind && (r.id == id)
 
@@ -41,7 +41,7 @@ abbrev pub place_of : ReportKind → ℕ → List Report → ℕ
 place_of kind id [] = 0
 place_of kind id (r ∷ rs) = if is_report kind id r then 0 else place_of kind id rs + 1
 
--- reports by kind and then by ID, no two of them alike: each stands before all behind it
+-- Reports by kind and then by ID, no two of them alike: each stands before all after it (5.6; the order is our choice).
 abbrev pub are_in_order : List Report → Bool
 are_in_order [] = true
 are_in_order (r ∷ rs) = list_all (λ later. comes_before later.kind later.id r) rs && are_in_order rs
@@ -51,7 +51,8 @@ pub record IsFound (kind : ReportKind) (id : ℕ) (reports : List Report) (i : �
   pub its_place : i ≡ place_for kind id reports
   pub there : has_report kind id (slice_get reports i) ≡ true
 
--- there is no report of a kind with an ID, and this would be its place
+-- There is no report of a kind with an ID, and this would be its place. Example: of Input 1 and Input 3, Input 2 would
+-- stand at place 1
 pub record IsAbsent (kind : ReportKind) (id : ℕ) (reports : List Report) (i : ℕ) : Type 0 where
   pub its_place : i ≡ place_for kind id reports
   pub within : i ≤ length reports

@@ -75,11 +75,12 @@ abbrev pub rising : ℕ → ℕ → ℕ → List Usage
 rising page id zero = []
 rising page id (suc n) = record { page = page; id = id } ∷ rising page (id + 1) n
 
--- a range has so many usages, and none where its minimum is over its maximum
+-- a range has as many usages as IDs, and none if its minimum is over its maximum
 abbrev pub entry_count : Entry → ℕ
 entry_count e = (e.1.id + 1) - e.0.id
 
--- the usage list: each range written out, on its minimum's page
+-- the usage list: each range written out by rising ID, on its minimum's page. Example: 09:01-09:03 is 09:01, 09:02,
+-- 09:03
 abbrev pub usage_list : List Entry → List Usage
 usage_list es = flat_map (λ e. rising e.0.page e.0.id (entry_count e)) es
 
@@ -88,14 +89,14 @@ abbrev pub starts_from : ℕ → List Entry → List ℕ
 starts_from n [] = []
 starts_from n (e ∷ es) = n ∷ starts_from (n + entry_count e) es
 
--- for each range of a main item how many of its usages stand before it
+-- for each range of a main item how many of its usages stand before it. Example: 0 and 3 for 09:01-09:03, 09:05
 abbrev pub starts_of : List Entry → List ℕ
 starts_of es = starts_from 0 es
 
--- a usage is a keyboard's ErrorRollOver (HID Usage Tables, Keyboard/Keypad page)
+-- the usage is a keyboard's ErrorRollOver, 07:01 (HID Usage Tables, Keyboard/Keypad page)
 abbrev pub is_rollover : Usage → Bool
 is_rollover u = (u.page == 7) && (u.id == 1)
 
--- a usage is a keyboard's ErrorRollOver, POSTFail or ErrorUndefined, which tell an error
+-- the usage is a keyboard's ErrorRollOver, POSTFail or ErrorUndefined, 07:01 to 07:03, which report an error
 abbrev pub tells_error : Usage → Bool
 tells_error u = (u.page == 7) && ((u.id == 1) || ((u.id == 2) || (u.id == 3)))

@@ -8,18 +8,18 @@ use Rattle.hid_device.specs.Standing.{with_idle}
 use Rattle.hid_device.specs.Core.{CoreState, cleared_core, halted_core}
 use Rattle.hid_device.specs.Device.{DeviceState, core_of, with_core}
 
--- a write that is carried out configures the device where this was asked for
+-- whether what is carried out configures the device
 abbrev pub carries_out : Effect → Pending → Bool
 carries_out (Applies bytes) Configure = true
 carries_out _ _ = false
 
--- and it ends a round that is open where a halt, or the end of one, was asked for
+-- whether what is carried out ends an open round: a halt, or the end of one
 abbrev pub cuts : Effect → Pending → Bool
 cuts (Applies bytes) Halt = true
 cuts (Applies bytes) Clear = true
 cuts _ _ = false
 
--- what it makes of the inside then
+-- the inside of a device after a halt, or the end of one, is carried out
 abbrev pub cut_core : CoreState → Pending → CoreState
 cut_core core Halt = halted_core core
 cut_core core Clear = cleared_core core
@@ -49,7 +49,7 @@ LeavesRequests old new =
       toggle = new.toggle;
     }
 
--- and so does the stage of endpoint 0
+-- what requests go by stays, and so do the device's address and the stage of endpoint 0
 pub record LeavesEndpoint (old new : DeviceState) : Type 0 where
   pub address : new.addr ≡ old.addr
   pub stage : new.control.stage ≡ old.control.stage
@@ -59,7 +59,8 @@ pub record LeavesEndpoint (old new : DeviceState) : Type 0 where
 abbrev pub with_halt : DeviceState → Bool → DeviceState
 with_halt d halted = with_core d (record (core_of d) { halted = halted })
 
--- and what is waited for: the data of a token to endpoint 0, or the host's ACK
+-- what requests go by stays, the stage of endpoint 0, and what is waited for: the data of a token to endpoint 0, or the
+-- host's ACK
 pub record LeavesWaits (old new : DeviceState) : Type 0 where
   pub endpoint : LeavesEndpoint old new
   pub heard : new.control.heard ≡ old.control.heard

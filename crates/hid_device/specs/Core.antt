@@ -1,5 +1,5 @@
--- What a contract sees of a device's inside, and what befalls it (USB 2.0, 8.5.4, 8.6, 9.1.1.3, 9.2, 9.4.5 and 9.4.7;
--- HID 1.11, 7.2.4 and 7.2.6).
+-- What a contract sees of a device's inside, and what befalls it (USB 2.0, 5.7.3, 8.5.4, 8.6, 9.1.1.3, 9.2, 9.4.1,
+-- 9.4.5, 9.4.7 and 9.4.9; HID 1.11, 7.2.4 and 7.2.6).
 use Rattle.std.specs.Prelude.{◌≡◌, ℕ, ◌+◌, ◌<◌, Bool, true, false, not, if◌then◌else◌, List, length, unwrap_or, Option, Some, None, IfSome}
 use Rattle.hid_layout.specs.Layout.{Contents}
 use Rattle.hid_layout.specs.Controls.{Item, items_of}
@@ -23,10 +23,10 @@ use Rattle.hid_device.specs.Inputs.{input_count, AreInputsFirst}
 use Rattle.hid_device.specs.Outputs.{AreOutputs, bare_outputs}
 use Rattle.hid_device.specs.Standing.{Standing, configured, cut_at, due_where, after_change, after_frame, after_opening, no_idle}
 
--- Its layout, its configuration and its descriptor; whether SET_CONFIGURATION took effect; how it stands; the report of
--- the round that is open, where one is, and which of its pieces goes out, from 0; whether data go out as DATA1, and
--- whether the endpoint that they go out of is halted; its protocol, and its Output and Feature reports as they were set
--- last; and of the last request the answer, where it has one, and what is carried out when its status is asked for.
+-- The inside of a device: its layout, its configuration and its descriptor; whether SET_CONFIGURATION took effect; how
+-- it stands; the report of the open round, if there is one, and which of its pieces goes out, from 0; whether data go
+-- out as DATA1, and whether that endpoint is halted; its protocol, and its Output and Feature reports as they were set
+-- last; of the last request the answer, if it has one, and what is carried out when its status is asked for.
 pub record CoreState : Type 0 where
   pub layout : Contents
   pub config : Config
@@ -102,7 +102,7 @@ configured_core core = record core {
 }
 
 -- The endpoint is halted: the round that is open ends, and its report is due (USB 2.0, 9.4.5; our choice). The toggle
--- stays.
+-- stays. Example: the status of a halted endpoint is 01 00
 abbrev pub halted_core : CoreState → CoreState
 halted_core core =
     record core { standing = cut_at core.current core.standing; current = None; piece = 0; halted = true }
@@ -139,7 +139,7 @@ reset_core core = record core {
 abbrev pub changed_core : CoreState → Change → CoreState
 changed_core core change = record core { standing = after_change (items_of core.layout) core.standing change }
 
--- a frame counts for each of its reports
+-- A frame counts for each Input report of a device.
 abbrev pub framed_core : CoreState → CoreState
 framed_core core = record core { standing = after_frame core.standing }
 
@@ -154,7 +154,7 @@ abbrev pub piece_armed : Contents → List Cell → Option ℕ → ℕ → Optio
 piece_armed layout parts None piece = None
 piece_armed layout parts (Some r) piece = Some (piece_of (part_bytes layout r parts) piece)
 
--- of a device
+-- what the pipe of a device has armed: the piece that goes out of the open round, if there is one
 abbrev pub armed_of : CoreState → Option (List ℕ)
 armed_of core = piece_armed core.layout core.standing.fixed core.current core.piece
 
@@ -208,8 +208,8 @@ abbrev pub IsCalm : Contents → List Cell → List Cell → Bool → Type 0
 IsCalm layout snapshot fixed true = (r : ℕ) → r < input_count layout.reports → is_changed (items_of layout) r snapshot fixed ≡ false
 IsCalm layout snapshot fixed false = Unit {0}
 
--- the same, with whether it was seen to be calm, what its pipe has armed, the bytes of its round, and with room for the
--- parts that are asked for
+-- what holds of every device, with whether nothing was seen to be due, what its pipe has armed, the bytes of its round,
+-- and room for the parts that are asked for
 pub record IsCore (core : CoreState) (seen : Bool) (sent : Option (List ℕ)) (bytes : List ℕ) (parts : List Cell) : Type 0 where
   pub sound : IsSound core
   pub calm : IsCalm core.layout core.standing.snapshot core.standing.fixed seen

@@ -57,7 +57,8 @@ still_bytes core r =
     part_bytes core.layout r
     (still (items_of core.layout) r core.standing.snapshot (blank_parts (items_of core.layout)))
 
--- the Output or Feature report of this kind and ID as it was set last
+-- the Output or Feature report of this kind and ID as it was set last. Example: an Output report of ID 1 and two bytes
+-- is 01 00 00 at first
 abbrev pub output_of : CoreState → ReportKind → ℕ → Option (List ℕ)
 output_of core kind id = option_and_then (slice_get core.outputs) (kept_place core.layout.reports kind id)
 
@@ -88,7 +89,7 @@ abbrev pub sets_idle_of : ℕ → Option ℕ → Decided
 sets_idle_of time None = Refuses
 sets_idle_of time (Some r) = Writes (Idle (Some r) time)
 
--- and with ID 0 those of all Input reports (HID 1.11, 7.2.4)
+-- the Input reports whose idle time is set: that with the ID, and with ID 0 all (HID 1.11, 7.2.4)
 abbrev pub sets_idle : CoreState → ℕ → ℕ → Decided
 sets_idle core id time =
     if id == 0 then Writes (Idle None time)
@@ -126,7 +127,8 @@ abbrev pub decided_on : CoreState → Option Asked → Decided
 decided_on core None = Refuses
 decided_on core (Some asked) = decided_row core asked
 
--- What is decided on a request.
+-- what is decided on a request: it reads bytes, writes and brings something about, or is refused. Example:
+-- GET_CONFIGURATION reads 00 before SET_CONFIGURATION, 01 after it
 unfoldable pub decide : CoreState → Setup → Decided
 decide core setup = decided_on core (asked_of setup)
 
@@ -156,7 +158,7 @@ effected core bytes (pendings.Protocol protocol) = record core { protocol = prot
 effected core bytes Halt = halted_core core
 effected core bytes Clear = cleared_core core
 
--- What answers the requests of a device.
+-- what answers the requests of a device, as functions
 abbrev pub core_table : Table CoreState
 core_table = record {
   answer_of = λ core. core.answer;

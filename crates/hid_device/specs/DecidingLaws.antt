@@ -117,6 +117,7 @@ answer_there s t setup (Reads bytes) of accepted left is_read =
     subst (λ (x : CoreState). IsSome x.answer) (sym left) refl
 answer_there s t setup (Writes pending) of accepted left is_read = let no = of.0 in absurd (cc)
 
+-- a read that is accepted has an answer
 pub read_has_answer :
     (s t : CoreState) (setup : Setup) → PreparesBy core_table s setup true t → reads setup ≡ true
     → IsSome (core_table.answer_of t)
@@ -128,6 +129,7 @@ short_there setup Refuses of accepted writes = absurd (cc)
 short_there setup (Reads bytes) of accepted writes = absurd (cc)
 short_there setup (Writes pending) of accepted writes = of.1
 
+-- a write that is accepted has no more bytes than endpoint 0 collects
 pub write_is_short :
     (s t : CoreState) (setup : Setup) → PreparesBy core_table s setup true t → reads setup ≡ false
     → setup.length ≤ MAX_WRITE
@@ -137,7 +139,7 @@ write_is_short s t setup h writes = short_there setup (decide s setup) (decides 
 abbrev pub with_request : CoreState → Option (List ℕ) → Pending → CoreState
 with_request core answer pending = record core { answer = answer; pending = pending }
 
--- the same but for what the last request left
+-- nothing changed but the answer and the pending effect of the last request
 abbrev pub SameButRequest : CoreState → CoreState → Type 0
 SameButRequest s t = t ≡ with_request s t.answer t.pending
 
@@ -146,6 +148,7 @@ kept s Refuses = refl
 kept s (Reads bytes) = refl
 kept s (Writes pending) = refl
 
+-- a decision changes nothing but the answer and the pending effect
 pub prepare_keeps :
     (s t : CoreState) (setup : Setup) (said : Bool) → PreparesBy core_table s setup said t → SameButRequest s t
 prepare_keeps s t setup said h =
@@ -202,6 +205,7 @@ forgotten s u answer pending setup said h = (
       ∙ ap (left_by s) (same_decided s answer pending setup),
 )
 
+-- a decision depends on no earlier answer, and on no write that waits
 pub prepare_forgets :
     (s t u : CoreState) (setup : Setup) (said : Bool) → SameButRequest s t → PreparesBy core_table t setup said u
     → PreparesBy core_table s setup said u
@@ -214,6 +218,7 @@ nothing_pending s setup Refuses of is_read = refl
 nothing_pending s setup (Reads bytes) of is_read = refl
 nothing_pending s setup (Writes pending) of is_read = let no = of.0 in absurd (cc)
 
+-- a read brings nothing about
 pub read_has_no_effect :
     (s t u : CoreState) (setup : Setup) (bytes : List ℕ) → PreparesBy core_table s setup true t → reads setup ≡ true
     → AppliesBy core_table t bytes u → u ≡ t

@@ -12,14 +12,14 @@ use Rattle.hid_requests.specs.declared.codes.TheConstants.{REPORT_ENDPOINT}
 use Rattle.hid_device.specs.Core.{CoreState, opening_of, closed_core, configured_core, halted_core, reset_core, changed_core, framed_core, poll_answer}
 use Rattle.hid_device.specs.Deciding.{core_table}
 
--- its address, its endpoint 0 with its inside, and whether the last packet was answered with data of its pipe, so that
--- an ACK counts there
+-- A device: its address, its endpoint 0 with its inside, and whether the last packet was answered with data of its pipe,
+-- so that an ACK counts there.
 pub record DeviceState : Type 0 where
   pub addr : ℕ
   pub control : DevControlState CoreState
   pub waits : Bool
 
--- the inside
+-- the inside of a device
 abbrev pub core_of : DeviceState → CoreState
 core_of d = d.control.requests
 
@@ -47,7 +47,7 @@ is_poll d Ack = false
 is_poll d Nak = false
 is_poll d Stall = false
 
--- it waits for an ACK exactly where it answers with data
+-- A device after a poll: it waits for an ACK exactly if it answers with data.
 abbrev pub polled_device : DeviceState → CoreState → DeviceState
 polled_device d core = passed d core (is_some core.current)
 
@@ -89,12 +89,12 @@ device_after d packet = if is_poll d packet then polled_device d (opening_of (co
 abbrev pub control_answer : DeviceState → Packet → Option Packet
 control_answer d packet = if is_control d packet then answer_to (effect_of d packet) else None
 
--- What it answers: a poll as it stands once a round was opened for it, and endpoint 0.
+-- What a device answers: a poll as it stands once a round was opened for it, and a packet to endpoint 0 as that does.
 abbrev pub device_answer : DeviceState → Packet → Option Packet
 device_answer d packet =
     if is_poll d packet then Some (poll_answer (opening_of (core_of d))) else control_answer d packet
 
--- a configuration without a transfer ends the pipe's wait too
+-- The device after a configuration without a transfer, which ends the pipe's wait too.
 abbrev pub configured_device : DeviceState → DeviceState
 configured_device d = record (with_core d (configured_core (core_of d))) { waits = false }
 
@@ -109,10 +109,10 @@ halted_device d =
 abbrev pub reset_device : DeviceState → DeviceState
 reset_device d = record { addr = d.addr; control = idle (reset_core (core_of d)); waits = false }
 
--- a change reaches its inside alone
+-- The device after a change, which reaches its inside alone.
 abbrev pub changed_device : DeviceState → Change → DeviceState
 changed_device d change = with_core d (changed_core (core_of d) change)
 
--- and so does a frame
+-- The device after a frame, which reaches its inside alone.
 abbrev pub framed_device : DeviceState → DeviceState
 framed_device d = with_core d (framed_core (core_of d))

@@ -68,7 +68,7 @@ abbrev pub new_device : ℕ → Config → List ℕ → Contents → DeviceState
 new_device addr config descriptor layout =
     record { addr = addr; control = idle (new_core config descriptor layout); waits = false }
 
--- the same device, whose controls are as this snapshot has them
+-- a new device whose controls are as this snapshot has them
 abbrev pub new_device_with : ℕ → Config → List ℕ → Contents → List Cell → DeviceState
 new_device_with addr config descriptor layout snapshot =
     let core : CoreState = new_core config descriptor layout in
@@ -114,7 +114,8 @@ MakesCore config descriptor (Ok core) =
     (layout : Contents) × CanServe descriptor layout × (core ≡ new_core config descriptor layout)
 MakesCore config descriptor (Err fault) = RefusesDescriptor descriptor fault.cause fault.at
 
--- The device is made where address and configuration fit and it can serve its descriptor, else it is refused.
+-- the device is made if address and configuration fit and it can serve its descriptor, else it is refused for the first
+-- cause. Example: B4 is V3 at 0
 abbrev pub MakesDevice : ℕ → Config → List ℕ → Result DeviceState DeviceFault → Type 0
 MakesDevice addr config descriptor (Ok device) =
     (is_config addr config descriptor ≡ true) × ((layout : Contents) × CanServe descriptor layout

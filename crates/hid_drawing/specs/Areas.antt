@@ -10,7 +10,7 @@ use Rattle.hid_drawing.specs.declared.pieces.Piece.{Piece}
 abbrev pub inset : ℕ → ℕ
 inset level = STEP * min level MAX_OPEN_COLLECTIONS
 
--- between two bytes: room for the frames that end above it and begin below
+-- the gap between two bytes: room for the frames that end above it and begin below
 abbrev pub gap_of : ℕ → ℕ
 gap_of depth = max GAP (inset depth)
 
@@ -22,12 +22,13 @@ left_of depth = LEFT + inset depth
 abbrev pub cell_height : List ℕ → ℕ → ℕ
 cell_height rows byte = CELL + LINE * (unwrap_or (slice_get rows byte) 2 - 2)
 
--- where the cells of a byte begin, below all those in front of it
+-- where the cells of a byte begin: below all those of the bytes before it
 abbrev pub row_top : ℕ → List ℕ → ℕ → ℕ
 row_top depth rows zero = TOP + gap_of depth / 2
 row_top depth rows (suc byte) = row_top depth rows byte + (cell_height rows byte + gap_of depth)
 
--- bit 7 is the first from the left, and each byte has its row
+-- the area of a piece: bit 7 is the first from the left, and each byte has its row, as high as its cells and frame names
+-- need. Example: Button 1 of the mouse stands at 848, 34
 unfoldable pub piece_area : ℕ → List ℕ → Piece → Area
 piece_area depth rows piece = record {
   x = left_of depth + (8 - piece.high) * BIT;

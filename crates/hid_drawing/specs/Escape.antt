@@ -20,10 +20,11 @@ escape_of byte =
     else if byte == 34 then codes "&#34;"
     else printed byte ∷ []
 
--- each byte of the words
+-- words with a reference for each byte that could end text, a tag or an attribute, and ? for one that isn't printed.
+-- Example: < is &lt;
 abbrev pub escaped : List ℕ → List ℕ
 escaped words = flat_map escape_of words
 
--- a byte that is printed, and no angle bracket and no quote
+-- the byte is printed, and is no angle bracket and no quote
 abbrev pub is_inert : ℕ → Bool
 is_inert byte = is_printed byte && not ((byte == 60) || ((byte == 62) || ((byte == 39) || (byte == 34))))

@@ -27,7 +27,7 @@ ListsAllFields = (descriptor : List ℕ) (items : List Item) (before : List Spel
     → AreItemsOf descriptor items → Accepts descriptor before
     → fields before ≡ map (field_from items) (listed_below items (length items))
 
--- the listed items of its layout are those of these places
+-- The listed items of a descriptor's layout are those of the places with bits, in order.
 abbrev pub ListsAllItems : Type 0
 ListsAllItems = (descriptor : List ℕ) (items : List Item) (before : List Spelled)
     → AreItemsOf descriptor items → Accepts descriptor before
@@ -41,7 +41,7 @@ LieFrom from (piece ∷ pieces) to =
     (8 * piece.byte + piece.low ≡ from) × (piece.low < piece.high) × (piece.high ≤ 8)
     × LieFrom (8 * piece.byte + piece.high) pieces to
 
--- the pieces of a report lie so from its first bit to the last one of its last byte
+-- the pieces of a report lie one after another, from its first bit to the last one of its last byte
 abbrev pub FillReports : Type 0
 FillReports = (descriptor : List ℕ) (before : List Spelled) (r : ℕ)
     → Accepts descriptor before → r < length (layout_of before).reports
@@ -51,7 +51,7 @@ FillReports = (descriptor : List ℕ) (before : List Spelled) (r : ℕ)
 abbrev pub has_bit : ℕ → Piece → Bool
 has_bit bit piece = (piece.byte == bit / 8) && (nat_le piece.low (bit % 8) && nat_lt (bit % 8) piece.high)
 
--- so each bit of a report is in one piece, and in one alone
+-- each bit of a report is in one piece, and in one alone
 abbrev pub HaveBitsOnce : Type 0
 HaveBitsOnce = (descriptor : List ℕ) (before : List Spelled) (r bit : ℕ)
     → Accepts descriptor before → r < length (layout_of before).reports → bit < 8 * report_bytes (layout_of before) r

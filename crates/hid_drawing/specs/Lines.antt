@@ -78,7 +78,8 @@ most_lines layout r drawn byte lines (piece ∷ pieces) =
 abbrev pub row_lines : Contents → ℕ → Bool → ℕ → List Piece → ℕ
 row_lines layout r drawn byte pieces = most_lines layout r drawn byte LEAST_LINES pieces
 
--- the line of two texts, one below the other
+-- a line of a cell: of its name, and below that of what is said of it. A line ends at the last space that has room, or
+-- when it is full. Example: Keyboard LeftControl in nine columns has three lines
 abbrev pub line_of : List ℕ → List ℕ → ℕ → ℕ → List ℕ
 line_of name details columns k =
     if nat_lt k (line_count name columns) then line_at name columns k

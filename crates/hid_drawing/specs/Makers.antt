@@ -64,7 +64,8 @@ in_force items m = record {
   locals = locals_start items m;
 }
 
--- the item k made fields of the main item m
+-- The item k made fields of the main item m. Example: the buttons of the mouse are made by the items at 4, 8 and 10 to
+-- 24
 abbrev pub makes : List Item → ℕ → ℕ → Bool
 makes items m k =
     let prefix = prefix_of (spelled_at items k) in

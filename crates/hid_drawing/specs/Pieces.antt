@@ -72,7 +72,7 @@ filler_pieces layout (Some report) =
     if (report.bits % 8) == 0 then []
     else stretch_pieces (record { part = Filler; bit = first_bit layout + report.bits; width = 8 - report.bits % 8 })
 
--- the pieces of a report, from its first bit on
+-- The pieces of a report, from its first bit on: a piece is what of a field lies in one byte.
 unfoldable pub pieces_of : Contents → ℕ → List Piece
 pieces_of layout r =
     (id_pieces layout ++ gathered (length layout.items) (λ i. item_pieces layout r i (slice_get layout.items i)))

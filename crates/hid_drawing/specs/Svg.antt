@@ -204,7 +204,7 @@ unfoldable pub picture_of : Contents → ℕ → ℕ → List Frame → List Pie
 picture_of layout r bytes frames pieces report =
     picture_by layout r bytes frames pieces report (deepest frames) (rows_of layout r bytes frames pieces)
 
--- the picture of a report that there may be
+-- the picture of the report at a place, or nothing if there is none
 abbrev pub picture_at : Contents → ℕ → List Frame → List Piece → Option Report → List ℕ
 picture_at layout r frames pieces None = []
 picture_at layout r frames pieces (Some report) = picture_of layout r (report_bytes layout r) frames pieces report

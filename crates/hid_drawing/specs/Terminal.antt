@@ -182,7 +182,7 @@ terminal_of layout r bytes frames pieces report =
     terminal_head layout.numbered bytes report ++ rows_text layout r bytes frames pieces
     ++ frame_lines layout frames ++ fields_text layout r
 
--- the picture of a report that there may be
+-- the picture in characters of the report at a place, or nothing if there is none
 abbrev pub terminal_at : Contents → ℕ → List Frame → List Piece → Option Report → List ℕ
 terminal_at layout r frames pieces None = []
 terminal_at layout r frames pieces (Some report) =

@@ -61,7 +61,7 @@ unfoldable pub report_name : Bool → Report → List ℕ
 report_name numbered report =
     kind_name report.kind ++ codes " report" ++ (if numbered then 32 ∷ decimal report.id else [])
 
--- so many things
+-- a number of things, in words
 unfoldable pub count_text : ℕ → List ℕ → List ℕ
 count_text count thing = decimal count ++ 32 ∷ thing ++ (if count == 1 then [] else codes "s")
 
@@ -83,7 +83,7 @@ abbrev pub purpose_text : Option Usage → List ℕ
 purpose_text None = []
 purpose_text (Some usage) = usage_label usage ++ 32 ∷ []
 
--- Mouse (Application)
+-- a collection by its usage and its kind. Example: Mouse (Application)
 unfoldable pub collection_text : Collection → List ℕ
 collection_text collection = purpose_text collection.usage ++ 40 ∷ collection_name collection.kind ++ 41 ∷ []
 
@@ -180,7 +180,7 @@ part_flags layout ReportId = []
 part_flags layout Filler = []
 part_flags layout (Field i j) = item_flags layout (slice_get layout.items i)
 
--- where a bit stands
+-- a bit by its byte, and its place there
 unfoldable pub bit_text : ℕ → List ℕ
 bit_text bit = codes "byte " ++ decimal (bit / 8) ++ codes ", bit " ++ decimal (bit % 8)
 

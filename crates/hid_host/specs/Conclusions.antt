@@ -61,7 +61,7 @@ leads_to next (Err fault) = Err fault
 
 -- The phase behind a request that is done, or why its answer is refused: nothing is kept of a device descriptor, what a
 -- configuration says and the layout are kept, a device that is configured is polled, and one whose endpoint was cleared
--- is expected to begin with DATA0.
+-- is expected to begin with DATA0. Example: B4 as report descriptor is L3 at 0
 abbrev pub Makes : ℕ → Request → HostPhase → List ℕ → Result HostPhase StackFault → Type 0
 Makes addr requests.Device phase bytes made =
     (read : Result (Unit {0}) StackFault) × DeviceRead bytes read × (made ≡ leads_to (λ _. phase) read)

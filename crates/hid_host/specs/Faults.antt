@@ -16,7 +16,7 @@ descriptor_text ReportLength = codes "B6"
 descriptor_text (Layout fault) = layout_fault_text fault
 descriptor_text (Device fault) = device_fault_text fault.cause fault.at
 
--- each refusal with the one that caused it
+-- each refusal with the one that caused it, from the outermost code to the innermost
 abbrev pub stack_text : StackFault → List ℕ
 stack_text NoDevice = codes "S1"
 stack_text NotReady = codes "S2"

@@ -32,8 +32,8 @@ use Rattle.hid_host.specs.Conclusions.{Makes, phase_made}
 use Rattle.hid_host.specs.Phase.{asking_at, may_begin, state_of}
 use Rattle.hid_host.specs.Ready.{Known, known_at_start, known_behind}
 
--- the device's address, how far the host has come with it, the transfer that it began last, and whether a Clear is
--- pending: it was begun, and none has been done since
+-- The host of one device: the device's address, how far the host has come with it, the transfer that it began last, and
+-- whether a Clear is pending: it was begun, and none has been done since.
 pub record HostEnd : Type 0 where
   pub addr : ℕ
   pub phase : HostPhase
@@ -69,7 +69,7 @@ running_at transfer Done = None
 running_at transfer (Failed fault) = None
 running_at transfer _ = Some transfer
 
--- the transfer that runs, where one does
+-- the transfer that runs, if one does
 abbrev pub running : Option Transfer → Option Transfer
 running None = None
 running (Some transfer) = running_at transfer transfer.ends.stage
@@ -81,7 +81,7 @@ begin_refusal_in transfer host request =
     else if may_begin request host then None
     else Some NotReady
 
--- the same of a host, by its transfer and its state
+-- why a host can't begin a request: another transfer runs, or the host isn't in the state that the request needs
 abbrev pub begin_refusal : HostEnd → Request → Option StackFault
 begin_refusal host request = begin_refusal_in host.transfer (state_of host.phase) request
 
@@ -97,11 +97,12 @@ abbrev pub is_clear : Request → Bool
 is_clear requests.Clear = true
 is_clear _ = false
 
--- a Clear is pending from its begin on
+-- whether a Clear is pending after a request begins: it is from its begin on
 abbrev pub clearing_with : Request → Bool → Bool
 clearing_with request clearing = is_clear request || clearing
 
--- until it is done; one that failed leaves it so, for its status may have taken effect (8.5.3.3)
+-- whether a Clear is pending after a try: until one is done. One that failed leaves it so, for its status may have taken
+-- effect (8.5.3.3).
 abbrev pub clearing_behind : HostStage → Request → Bool → Bool
 clearing_behind Done request clearing = not (is_clear request) && clearing
 clearing_behind stage request clearing = clearing
@@ -113,7 +114,7 @@ begun host request = record host {
   clearing = clearing_with request host.clearing;
 }
 
--- the bytes of a read
+-- the bytes that a read got
 abbrev pub bytes_got : HostTransferState → List ℕ
 bytes_got ends = if reads ends.setup then ends.bytes else []
 
@@ -146,7 +147,8 @@ pub record TriesOnce {R : Type 0} (prepare_gives : PrepareGives R) (apply_gives 
     clearing = clearing_behind ends.stage transfer.request host.clearing;
   }
 
--- One control step: where no transfer runs nothing is sent, and nothing changes.
+-- One control step: one try of the transfer that runs, whose answer is concluded on if it is done. If no transfer runs
+-- nothing is sent, and nothing changes.
 abbrev pub ControlSteps :
     {R : Type 0} → PrepareGives R → ApplyGives R → AnswerOf R → Fate → HostEnd → DevControlState R
     → Result Progress StackFault → HostEnd → DevControlState R → Type 0
@@ -168,7 +170,7 @@ cuts_round requests.Halt = true
 cuts_round requests.Clear = true
 cuts_round _ = false
 
--- a transfer that runs may
+-- whether the transfer that runs may cut a round: it is a Halt or a Clear
 abbrev pub may_cut : Option Transfer → Bool
 may_cut None = false
 may_cut (Some transfer) = cuts_round transfer.request

@@ -11,7 +11,8 @@ use Rattle.hid_host.specs.declared.phase.HostState.{HostState}
 use Rattle.hid_host.specs.declared.phase.HostState.TheVariants as states
 use Rattle.hid_host.specs.Ready.{Known, known_cleared}
 
--- the phase without what is known there
+-- the state of a host, by its phase: it knows nothing of its device; what the configuration says; the layout of its
+-- reports; or it has configured the device and polls it
 abbrev pub state_of : HostPhase → HostState
 state_of Cold = states.Cold
 state_of (Described info) = states.Described
@@ -51,7 +52,7 @@ may_begin Halt state = has_endpoint state
 may_begin Clear state = has_endpoint state
 may_begin EndpointStatus state = has_endpoint state
 
--- the state in which a host may poll, by whether a Clear is pending: none is in flight while the toggle begins anew
+-- whether a host may poll: it is ready, and no Clear is pending, since none is in flight while the toggle begins anew
 abbrev pub may_poll : HostState → Bool → Bool
 may_poll states.Ready clearing = not clearing
 may_poll _ clearing = false
@@ -64,7 +65,7 @@ asking_at (Described info) = record { report_length = info.report_length; endpoi
 asking_at (Parsed info layout) = record { report_length = info.report_length; endpoint = info.endpoint }
 asking_at (Ready known) = record { report_length = 0; endpoint = known.pipe.endp }
 
--- a Clear that is done leads to a pipe that begins anew
+-- the phase after a Clear that is done: the pipe begins anew
 abbrev pub cleared_phase : HostPhase → HostPhase
 cleared_phase (Ready known) = Ready (known_cleared known)
 cleared_phase phase = phase

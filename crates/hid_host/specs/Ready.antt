@@ -53,7 +53,8 @@ is_whole layout bytes last = nat_lt last 64 || nat_le (bytes_awaited layout byte
 abbrev pub bytes_with : Known → List ℕ → List ℕ
 bytes_with known payload = known.collected ++ payload
 
--- and whether it ends with them
+-- whether a report ends with this packet: it has its last byte, or 256 bytes if its first byte names none, or the packet
+-- has under 64 bytes. Example: of 100 bytes the second packet, of 36, ends it
 abbrev pub ends_with : Known → List ℕ → Bool
 ends_with known payload = is_whole known.layout (bytes_with known payload) (length payload)
 
@@ -72,7 +73,7 @@ abbrev pub told_read : Took → Result (Unit {0}) ReportFault → Result Took St
 told_read taken (Ok done) = Ok taken
 told_read taken (Err fault) = Err (Report fault)
 
--- what is told of each: all but fresh data as it is
+-- What the host tells of what it took: a report that ended is read, or refused; all else is told as it is.
 abbrev pub told_of : Known → Took → Result Took StackFault
 told_of known (Fresh payload) = told_read (Fresh payload) (data_read known payload.items)
 told_of known Again = Ok Again
@@ -105,7 +106,7 @@ abbrev pub events_with : Known → List ℕ → List Event
 events_with known payload =
     if ends_with known payload then events_read known.layout (bytes_with known payload) known.view else []
 
--- and nothing else gives any
+-- the events of what came: fresh data alone give any
 abbrev pub events_behind : Known → Took → List Event
 events_behind known (Fresh payload) = events_with known payload.items
 events_behind known _ = []

@@ -32,7 +32,7 @@ pub record GivesItem (old : Items) (item : Item) (new : Items) : Type 0 where
   pub rest : left old ≡ item.bytes.now ++ left new
   pub after : place new ≡ place old + length item.bytes.now
 
--- an item, the one refusal, or the end; after a refusal the end comes
+-- what the iterator returns: an item, the one refusal, or the end; after a refusal comes the end
 abbrev pub GivesNext : Items → Option (Result Item ItemFault) → Items → Type 0
 GivesNext old None new = (left old ≡ []) × (left new ≡ [])
 GivesNext old (Some (Ok item)) new = GivesItem old item new

@@ -14,12 +14,13 @@ IsLongRest (n ∷ tag ∷ bytes) = length bytes ≡ n
 IsLongRest (n ∷ []) = ⊥
 IsLongRest [] = ⊥
 
--- the bytes of one item: FE with a long item's rest, or another first byte with its data
+-- the bytes of one item: FE with a long item's length, tag and data, or another first byte with the 0, 1, 2 or 4 bytes
+-- that its low two bits name. Example: 96 01 01, or FE 02 10 AA BB
 abbrev pub IsSpelling : List ℕ → Type 0
 IsSpelling [] = ⊥
 IsSpelling (first ∷ rest) = MatchBool (first == 0xFE) (IsLongRest rest) (length rest ≡ data_length first)
 
--- the bytes are these items, one after another
+-- The bytes are these items, one after another. Example: 05 01 C0 is 05 01, then C0
 pub record AreItems (bytes : List ℕ) (items : List (List ℕ)) : Type 0 where
   pub joined : flat_map (λ item. item) items ≡ bytes
   pub spelled : All IsSpelling items
@@ -29,7 +30,8 @@ pub record IsCut (rest : List ℕ) : Type 0 where
   pub some : 0 < length rest
   pub none : (item more : List ℕ) → IsSpelling item → rest ≡ item ++ more → ⊥
 
--- the first `at` bytes are these items, and what follows them is cut off
+-- The first `at` bytes are these items, and what follows them isn't empty and begins with no item: it is cut off.
+-- Example: 05 is truncated at 0
 pub record IsTruncatedAt (bytes : List ℕ) (at : ℕ) (items : List (List ℕ)) : Type 0 where
   pub within : at < length bytes
   pub items_before : AreItems (take at bytes) items
@@ -54,10 +56,10 @@ little_endian (byte ∷ bytes) = byte + 256 * little_endian bytes
 abbrev pub two's_complement : ℕ → ℕ → ℤ
 two's_complement patterns n = if nat_lt (2 * n) patterns then pos n else pos n -ℤ pos patterns
 
--- data read as a number without sign; no data is 0 (5.8)
+-- data read as a number without sign, the lowest byte first; no data is 0 (5.8). Example: 15 81 is 129
 abbrev pub unsigned_of : List ℕ → ℕ
 unsigned_of bytes = little_endian bytes
 
--- data read as a number in two's complement of its size; no data is 0 (5.8)
+-- data read as a number in two's complement of its size; no data is 0 (5.8). Example: 15 81 is -127
 abbrev pub signed_of : List ℕ → ℤ
 signed_of bytes = two's_complement (256 ^ length bytes) (little_endian bytes)

@@ -1,4 +1,6 @@
--- The controls that a layout gives (HID 1.11, 6.2.2.5 and 8).
+-- The controls that a layout gives (HID 1.11, 6.2.2.5, 6.2.2.7, 6.2.2.8 and 8). The elements of an item have the part of
+-- the logical range that some pattern of their width stands for, and the last usage is for all elements that have none
+-- of their own.
 use Rattle.std.specs.Prelude.{ℕ, zero, suc, ◌+◌, ◌*◌, Bool, true, false, not, ◌==◌, ◌&&◌, ◌||◌, nat_lt, if◌then◌else◌, List, [], ◌∷◌, length, take, sum_by, slice_get, Option, Some, None, ℤ, pos, ◌+ℤ◌, int_le, int_lt}
 use Rattle.std.specs.Int.{int_min, int_max}
 use Rattle.std.specs.Ordering.{int_eq}
@@ -58,7 +60,8 @@ abbrev pub has_outside : MainItem → Bool
 has_outside item =
     int_lt (least_value item.min item.size) item.min || int_lt item.max (greatest_value item.min item.size)
 
--- of what kind the elements of a variable item are
+-- the kind of a variable item's controls (6.2.2.5): a Relative one is a motion; 0 to 1 without Null State is a switch;
+-- Null State with a pattern out of the range is a value or null; all else is a value
 abbrev pub element_kind : MainItem → ControlKind
 element_kind item =
     if has_flag RELATIVE item.flags.0 then Relative
@@ -159,7 +162,8 @@ abbrev pub control_of_item : ℕ → Option Item → Option Control
 control_of_item j None = None
 control_of_item j (Some item) = control_in item.form j
 
--- the control that an ID names
+-- the control that an ID names: of an Input item, by the place of its element, or of its key in the usage list. Example:
+-- 07:E0 at place 0 of the keyboard's modifiers
 abbrev pub control_of : List Item → ControlId → Option Control
 control_of items c = control_of_item c.index (slice_get items c.item)
 
@@ -169,11 +173,12 @@ events_in NoControls = 0
 events_in (Elements kind least greatest usages) = length usages
 events_in (Keys elements rolls keys) = 2 * elements
 
--- the events of all items together
+-- the most events of one report of a layout: one for each variable Input element, two for each array Input element.
+-- Example: 20 for the keyboard, 5 for the mouse
 abbrev pub max_events : List Item → ℕ
 max_events items = sum_by (λ item. events_in item.form) items
 
--- what is told of controls without their usages
+-- what the controls of an item are, without their usages
 abbrev pub head_of : Form → Controls
 head_of NoControls = head.None
 head_of (Elements kind least greatest usages) = head.Elements kind least greatest (length usages)
@@ -184,6 +189,6 @@ abbrev pub form_of_item : Option Item → Form
 form_of_item None = NoControls
 form_of_item (Some item) = item.form
 
--- the controls of the item at a place
+-- the controls of the listed item at a place
 abbrev pub form_at : List Item → ℕ → Form
 form_at items i = form_of_item (slice_get items i)

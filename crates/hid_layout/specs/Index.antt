@@ -14,7 +14,7 @@ places_from i r [] = []
 places_from i r (item ∷ items) =
     if item.report == r then i ∷ places_from (i + 1) r items else places_from (i + 1) r items
 
--- the places of a report's items, in order
+-- The places of a report's items, in order. Example: 0, 1 and 4 for the keyboard's Input report
 abbrev pub plan_of : Contents → ℕ → List ℕ
 plan_of layout r = places_from 0 r layout.items
 

@@ -11,7 +11,8 @@ use Rattle.hid_descriptor.specs.Fields.{Field, fields}
 use Rattle.hid_descriptor.specs.Reporting.{reports_of}
 pub use Rattle.hid_descriptor.specs.Totals.{place_of}
 
--- what callers see of a layout
+-- What callers see of a layout: the reports that have bits, by kind and then by ID, and the listed items with their
+-- usages and paths.
 pub record Contents : Type 0 where
   pub reports : List Report
   pub numbered : Bool
@@ -23,7 +24,8 @@ pub record Contents : Type 0 where
 abbrev pub bits_of : List Report → ℕ → ℕ
 bits_of reports r = elim (slice_get reports r) [ None ↦ 0 | Some report ↦ report.bits ]
 
--- the bits filled up to whole bytes, and one ID byte where any Report ID item stands
+-- the bytes of a report: its bits filled up to whole bytes, and one ID byte if there is any Report ID item. Example: the
+-- mouse's report has 3
 abbrev pub report_bytes : Contents → ℕ → ℕ
 report_bytes layout r = (bits_of layout.reports r + 7) / 8 + (if layout.numbered then 1 else 0)
 

@@ -1,4 +1,4 @@
--- The reports of a layout, and what holds of every layout (HID 1.11, 5.6 and 8).
+-- The reports of a layout, and what holds of every layout (HID 1.11, 5.6, 6.2.2.5, 6.2.2.7 and 8).
 use Rattle.std.specs.Prelude.{◌≡◌, ℕ, ◌+◌, ◌*◌, ◌<◌, ◌≤◌, true, false, if◌then◌else◌, Option, not, ◌&&◌, ◌==◌, nat_lt, int_lt, List, length, slice_get, Some, None, pos, neg_ℤ, ◌^◌, ◌≤ℤ◌}
 use Rattle.std.specs.List.{list_any}
 use Rattle.hid_descriptor.specs.declared.limits.TheConstants.{MAX_ENTRIES, MAX_REPORT_BYTES, MAX_WIDTH}
@@ -36,7 +36,8 @@ abbrev pub element_in : MainItem → ℕ → Option Element
 element_in item j =
     if not (is_padding item.shape) && nat_lt j item.count then Some (field_at item j) else None
 
--- the data field at a place of the listed item at a place
+-- the data field at a place of the listed item at a place: field j of an item lies j times its size after the item's
+-- first one, and padding has none (6.2.2.5)
 abbrev pub element_of : Contents → ℕ → ℕ → Option Element
 element_of layout item j = option_and_then (λ found. element_in found j) (slice_get layout.items item)
 
@@ -54,8 +55,9 @@ pub record HasElements (item : MainItem) : Type 0 where
   pub not_low : neg_ℤ (pos (2 ^ 32)) ≤ℤ item.min
   pub not_high : item.min ≤ℤ pos (2 ^ 32)
 
--- What holds of every layout: fields lie behind one another in their report, each report has an item, reports are
--- short, and no two of them have the same kind and ID.
+-- What holds of every layout: the fields of a report lie one after another inside it, each report has an item, reports
+-- are short, no two of them have the same kind and ID, and data fields have 1 to 32 bits and a range that a pattern
+-- meets.
 pub record IsLayout (layout : Contents) : Type 0 where
   pub entries_there : length layout.entries ≡ length layout.items
   pub few_entries : (i : ℕ) (es : List Entry) → slice_get layout.entries i ≡ Some es → length es ≤ MAX_ENTRIES

@@ -67,7 +67,9 @@ empty_number item us = code_number item (empty_code item us)
 abbrev pub rollover_number : MainItem → List Usage → Option ℤ
 rollover_number item us = option_map (λ i. item.min +ℤ pos i) (rollover_from item 0 us)
 
--- the codes of an item with these usages
+-- the codes of an item with these usages: null is the least pattern whose number is out of the range; empty is the least
+-- one that names neither a key nor 07:01 to 07:03; rollover is the number of the first encodable place with 07:01.
+-- Example: the keyboard's empty code is 0, its rollover code 1
 pub record AreCodes (item : MainItem) (us : List Usage) (codes : Codes) : Type 0 where
   pub for_null : codes.null ≡ null_number item
   pub for_empty : codes.empty ≡ empty_number item us

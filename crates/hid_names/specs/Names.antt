@@ -12,19 +12,20 @@ pub data Name : Type 0 where
   Button : ℕ → Name
   Instance : ℕ → Name
 
--- the name that a value stands for
+-- the name that a value of a usage's name stands for
 abbrev pub named : UsageName → Name
 named (kinds.Known name) = Known name.now
 named (kinds.Button number) = Button number
 named (kinds.Instance number) = Instance number
 
--- what is printed
+-- the name of a usage as it is printed
 abbrev pub name_text : Name → List ℕ
 name_text (Known name) = name
 name_text (Button number) = codes "Button " ++ decimal number
 name_text (Instance number) = codes "Instance " ++ decimal number
 
--- buttons and instances are called by their ID, and others as the table of their page says
+-- the name of a usage: buttons and instances are called by their ID, and others as the table of their page says.
+-- Example: 01:30 is X
 unfoldable pub name_of : ℕ → ℕ → Option Name
 name_of page id =
     if (page == 0x09) && not (id == 0) then Some (Button id)

@@ -3,7 +3,7 @@ use Rattle.std.specs.Prelude.{ℕ, List, codes}
 use Rattle.hid_descriptor.specs.declared.fault.Cause as layouts
 use Rattle.hid_descriptor.specs.declared.fault.Cause.TheVariants.{Truncated, TooLong, PopEmpty, PushDepth, CollectionDepth, EndWithout, Unclosed, BadReportId, MixedReportId, BadRange, BadSize, BadUsageRange, UnpairedUsage, Delimiter, ReportTooLong, TooMany, Memory}
 
--- why a descriptor is refused
+-- the words for each cause of which a descriptor is refused. Example: L3 is a Pop without a Push
 abbrev pub layout_words : layouts.Cause → List ℕ
 layout_words Truncated = codes "the descriptor ends in the middle of an item"
 layout_words TooLong = codes "a descriptor of over 4096 bytes"

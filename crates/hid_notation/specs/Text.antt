@@ -9,11 +9,11 @@ use Rattle.hid_descriptor.specs.Usages.{Entry}
 unfoldable pub hex_text : ℕ → List ℕ
 hex_text n = if nat_lt n 16 then 48 ∷ digits 16 true n else digits 16 true n
 
--- each byte behind a space
+-- bytes in hex, each after a space
 abbrev pub bytes_text : List ℕ → List ℕ
 bytes_text bytes = flat_map (λ b. 32 ∷ hex_text b) bytes
 
--- page and ID, joined by a colon
+-- a usage in hex: page and ID, joined by a colon. Example: 01:30
 abbrev pub usage_text : Usage → List ℕ
 usage_text usage = hex_text usage.page ++ 58 ∷ hex_text usage.id
 

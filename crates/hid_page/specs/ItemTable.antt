@@ -54,7 +54,8 @@ number_of item = if prefix_of item == LONG then 0 else unsigned_of (data_of item
 abbrev pub signed_number : Spelled → ℤ
 signed_number item = if prefix_of item == LONG then pos 0 else signed_of (data_of item)
 
--- an exponent: codes of four bits from 8 on are -8 to -1 (HID 1.11, 6.2.2.7), other numbers are as they are
+-- A unit's exponent: codes of four bits from 8 on are -8 to -1 (HID 1.11, 6.2.2.7), other numbers are as they are.
+-- Example: 55 0E is -2
 abbrev pub exponent_of : ℕ → ℤ → ℤ
 exponent_of code number = if nat_le 8 code && nat_le code 15 then pos code -ℤ pos 16 else number
 

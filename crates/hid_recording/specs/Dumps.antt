@@ -41,7 +41,7 @@ abbrev pub or_next : Option ℕ → ℕ → Option ℕ
 or_next (Some place) count = Some place
 or_next None count = if nat_lt count 16 then Some count else None
 
--- the number of the device of an interface
+-- the number of the device of an interface: how many interfaces came before it first came, of sixteen
 abbrev pub numbered : List Address → Address → Option ℕ
 numbered known address = or_next (position (is_same address) known) (length known)
 

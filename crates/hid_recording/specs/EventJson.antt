@@ -68,7 +68,7 @@ event_members time device names event =
     source_tokens time device ++ usage_tokens (event_word event) (usage_in event)
     ++ value_tokens event ++ name_tokens names (name_of (usage_in event).page (usage_in event).id)
 
--- an event
+-- an event as a JSON object
 unfoldable pub event_tokens : List ℕ → ℕ → Bool → Event → List Token
 event_tokens time device names event = object (event_members time device names event)
 
@@ -77,10 +77,10 @@ abbrev pub refusal_members : ℕ → List ℕ → List Token
 refusal_members line words =
     key (codes "line") ∷ number (decimal line) ∷ key (codes "refused") ∷ string words ∷ []
 
--- a refusal
+-- a refusal as a JSON object
 unfoldable pub refusal_tokens : ℕ → List ℕ → List Token
 refusal_tokens line words = object (refusal_members line words)
 
--- a line of JSON
+-- a line of JSON: the text of these tokens. Example: {"line":1,"refused":"R4: the count isn't that of the bytes"}
 abbrev pub json_text : List Token → List ℕ
 json_text tokens = print tokens ++ 10 ∷ []

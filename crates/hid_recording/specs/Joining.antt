@@ -47,8 +47,8 @@ ends_with member chunk = is_whole member.layout (bytes_with member chunk) (lengt
 abbrev pub kept_of : Member → List ℕ → Member
 kept_of member bytes = record member { collected = bytes }
 
--- what a chunk makes of a device that there may be: nothing where there is none; it is passed over where a part may be
--- missing; or the report goes on behind it, or ends with it
+-- What a chunk makes of a device that there may be: nothing if there is none; it is passed over if a part may be
+-- missing; or the report goes on behind it, or ends with it. Example: 64 bytes, then 17, are a report of 81
 abbrev pub Joins : Option Member → List ℕ → Joined → Option Member → Type 0
 Joins slot chunk Unknown after = (slot ≡ None) × (after ≡ None)
 Joins slot chunk Doubtful after =

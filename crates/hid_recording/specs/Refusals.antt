@@ -24,7 +24,7 @@ abbrev pub report_words : ReportFault → List ℕ
 report_words Short = codes "the report is too short"
 report_words UnknownReport = codes "the device has no such Input report"
 
--- a code, and words
+-- a refusal as its code, and words
 abbrev pub refusal_text : Refusal → List ℕ
 refusal_text Syntax = codes "R1: no line of a recording"
 refusal_text BadHex = codes "R3: a byte isn't two hex digits"
@@ -39,7 +39,7 @@ refusal_text PartMissing = codes "R15: a part of the report may be missing"
 refusal_text (Layout fault) = layout_fault_text fault ++ codes ": " ++ layout_words fault.cause
 refusal_text (Report fault) = report_code fault ++ codes ": " ++ report_words fault
 
--- the same, of what ends a run
+-- what ends a run, as its code and words
 abbrev pub cause_text : Cause → List ℕ
 cause_text (causes.Refused refusal) = refusal_text refusal
 cause_text causes.LineTooLong = codes "R2: a line of over 16384 bytes"

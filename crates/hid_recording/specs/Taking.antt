@@ -8,6 +8,6 @@ use Rattle.hid_recording.specs.Session.{Member}
 abbrev pub read_member : Member → ℕ → List ℕ → Member
 read_member member report bytes = record member { cells = read_view member.layout report bytes member.cells }
 
--- the events of a report
+-- the events of a report: what its bytes tell after the earlier reports of the same device
 abbrev pub member_events : Member → ℕ → List ℕ → List Event
 member_events member report bytes = read_events member.layout report bytes member.cells

@@ -33,7 +33,7 @@ goes_on session refusal =
     accepted (refusal_line session.options.json session.lines refusal)
     (record session { refused = counted session.refused 1 })
 
--- of a strict run it is the end
+-- a line that is refused: of a strict run it is the end, else the run goes on
 abbrev pub refuses : Session → Refusal → Outcome
 refuses session refusal = if session.options.strict then refused (Refused refusal) else goes_on session refusal
 
@@ -87,7 +87,7 @@ report_text options time device member report bytes =
     values_asked options.values time device member.layout (Ok report) bytes
     ++ event_lines time device options (member_events member report bytes)
 
--- a report is read
+-- a report that is read: its text, and the session behind it
 abbrev pub reads : Session → List ℕ → List ℕ → Member → ℕ → Outcome
 reads session time bytes member report =
     accepted (report_text session.options time session.current member report bytes)
@@ -132,7 +132,7 @@ devices_behind session =
 abbrev pub dropped : Session → Session
 dropped session = record session { devices = devices_behind session; gathered = left_out }
 
--- the device of these lines has no descriptor, or that of an interface, which has come
+-- the device of an R: line, or that of an interface, has no descriptor any more
 abbrev pub undescribed : Session → Option Address → Session
 undescribed session None = with_device session None
 undescribed session (Some address) = record session {
@@ -140,7 +140,7 @@ undescribed session (Some address) = record session {
   addresses = with_address session.addresses address;
 }
 
--- a descriptor can't be read: the device that it was for has none
+-- A descriptor can't be read: the device that it was for has none. Example: R: 2 05, then E: 1 1 00, is R4, then R7
 abbrev pub unread : Session → Option Address → Refusal → Outcome
 unread session interface refusal = refuses (dropped (undescribed session interface)) refusal
 
@@ -160,7 +160,7 @@ begins_of session address content time None = refuses (dropped session) refusals
 begins_of session address content time (Some device) =
     begins_behind session.gathered.content session (with_dump session address content time device)
 
--- a dump begins
+-- a dump that begins
 abbrev pub begins : Session → Address → Content → List ℕ → Outcome
 begins session address content time =
     begins_of session address content time (numbered session.addresses address)
@@ -182,7 +182,7 @@ abbrev pub gathers_none : Session → Outcome
 gathers_none session =
     if session.gathered.is_dropped then accepted [] session else refuses (dropped session) refusals.Syntax
 
--- bytes, where a dump is open; it has 4,096 at most
+-- bytes of a dump that is open, which has 4,096 at most
 abbrev pub gathers : Session → Option (List ℕ) → Option Content → Outcome
 gathers session bytes None = gathers_none session
 gathers session None (Some content) = refuses (dropped session) refusals.BadHex
@@ -209,7 +209,7 @@ chunk_of session time chunk None = refuses session refusals.NoLayout
 chunk_of session time chunk (Some member) =
     chunk_in session time chunk member member.in_doubt (ends_with member chunk)
 
--- a chunk of the device of these lines
+-- what a chunk of a report of the current device tells
 abbrev pub chunk_told : List ℕ → List ℕ → Session → Outcome
 chunk_told time chunk session = chunk_of session time chunk (known_at (slice_get session.devices session.current))
 

@@ -1,4 +1,5 @@
--- What a setup asks of a device: the standard and class requests that it answers (USB 2.0, 9.4; HID 1.11, 7.1 and 7.2).
+-- What a setup asks of a device: the standard and class requests that it answers (USB 2.0, 9.3.1 and 9.4, tables 9-2,
+-- 9-4 and 9-5; HID 1.11, 7.1 and 7.2).
 use Rattle.std.specs.Prelude.{◌≡◌, ℕ, ◌/◌, ◌%◌, ◌^◌, Bool, true, false, ◌&&◌, ◌==◌, if◌then◌else◌, Option, Some, None, option_map}
 use Rattle.usb_control.specs.declared.setup.Setup.{Setup}
 use Rattle.usb_control.specs.SetupBytes.{reads}
@@ -74,7 +75,9 @@ class_row setup =
     else if is_bare_row setup 0x21 11 1 0 then Some (SetProtocol Report)
     else None
 
--- Its row.
+-- The row of the request that a setup is: by bmRequestType, bRequest, wValue and wIndex, and of a write by its wLength,
+-- which is 0 but for SET_REPORT. Of features there is ENDPOINT_HALT alone, of endpoint 1 to the host. Example: 81 06 00
+-- 22 00 00 3F 00 asks for the report descriptor, A1 01 07 03 00 00 40 00 for the Feature report of ID 7
 unfoldable pub asked_of : Setup → Option Asked
 asked_of setup = elim (standard_row setup) [ None ↦ class_row setup | Some asked ↦ Some asked ]
 

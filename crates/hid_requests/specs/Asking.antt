@@ -1,4 +1,5 @@
--- What a host asks: the setup data of its requests, and the data that go with them (USB 2.0, 9.4; HID 1.11, 7.2).
+-- What a host asks: the setup data of its requests, and the data that go with them (USB 2.0, 9.3.4, 9.4 and 9.4.5; HID
+-- 1.11, 7.1 and 7.2).
 use Rattle.std.specs.Prelude.{◌≡◌, ℕ, ◌+◌, ◌*◌, ◌<◌, ◌≤◌, ◌^◌, Bool, true, false, List, [], length}
 use Rattle.usb_control.specs.declared.setup.Setup.{Setup}
 use Rattle.hid_requests.specs.declared.asked.Asked.{Asked}
@@ -50,12 +51,13 @@ setup_for Halt asking = asks_endpoint 0x02 3 asking.endpoint 0
 setup_for Clear asking = asks_endpoint 0x02 1 asking.endpoint 0
 setup_for EndpointStatus asking = asks_endpoint 0x82 0 asking.endpoint 2
 
--- the data that go with it: those of the report that is set
+-- The data that go with a request: those of the report that is set.
 abbrev pub sends_of : Request → List ℕ
 sends_of (SetReport kind id bytes) = bytes.items
 sends_of _ = []
 
--- its ID and its idle time are bytes, and the report that is set has at most 256
+-- A request fits its setup: its ID and its idle time are bytes, and the report that is set has at most 256 (HID 1.11,
+-- 7.2).
 abbrev pub FitsRequest : Request → Type 0
 FitsRequest (Idle id time) = (id < 2 ^ 8) × (time < 2 ^ 8)
 FitsRequest (GetIdle id) = id < 2 ^ 8
@@ -63,14 +65,15 @@ FitsRequest (GetReport kind id) = id < 2 ^ 8
 FitsRequest (SetReport kind id bytes) = (id < 2 ^ 8) × (length bytes.items ≤ 256)
 FitsRequest _ = Unit {0}
 
--- the endpoint that a request is about, where it is about one, is 1: that of Input reports (our choice)
+-- The endpoint that a request is about, if it is about one, is 1: that of Input reports (our choice). Example: Halt is
+-- 02 03 00 00 81 00 00 00
 abbrev pub IsOfReports : Request → Asking → Type 0
 IsOfReports Halt asking = asking.endpoint ≡ 1
 IsOfReports Clear asking = asking.endpoint ≡ 1
 IsOfReports EndpointStatus asking = asking.endpoint ≡ 1
 IsOfReports _ asking = Unit {0}
 
--- and the row that it means
+-- The row of the request tables that a host's request means.
 abbrev pub row_of : Request → Asked
 row_of Device = rows.DeviceDescriptor
 row_of Config = rows.Configuration

@@ -1,4 +1,5 @@
--- What class requests speak of: the types of reports, and protocols (HID 1.11, 7.2).
+-- What class requests speak of: the types of reports, 1 Input, 2 Output and 3 Feature, and protocols, 0 boot and 1
+-- report (HID 1.11, 7.2.1 and 7.2.5).
 use Rattle.std.specs.Prelude.{ℕ, ◌==◌, if◌then◌else◌, Option, Some, None}
 use Rattle.hid_descriptor.specs.declared.report.ReportKind.{ReportKind}
 use Rattle.hid_descriptor.specs.declared.report.ReportKind.TheVariants.{Input, Output, Feature}

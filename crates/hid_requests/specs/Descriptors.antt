@@ -1,4 +1,5 @@
--- The descriptors of a device: what it answers to GET_DESCRIPTOR (USB 2.0, 9.5 and 9.6; HID 1.11, 6.2.1).
+-- The descriptors of a device: what it answers to GET_DESCRIPTOR (USB 2.0, 9.5, 9.6.1, 9.6.3, 9.6.5 and 9.6.6; HID 1.11,
+-- 6.2.1 and 7.1).
 use Rattle.std.specs.Prelude.{ℕ, ◌+◌, ◌^◌, ◌<◌, ◌≤◌, List, [], ◌∷◌, ◌++◌, length}
 use Rattle.std.specs.Int.{w16, to_le_bytes}
 use Rattle.std.specs.List.{concat}
@@ -45,16 +46,16 @@ configuration_walk info interval =
     configuration_descriptor ∷ interface_descriptor info.subclass info.protocol
     ∷ hid_bytes info.report_length ∷ endpoint_descriptor info.endpoint interval ∷ []
 
--- and their bytes
+-- the bytes of a configuration: its own descriptor, the interface's, HID's and the endpoint's, one after another
 abbrev pub configuration_bytes : ConfigInfo → ℕ → List ℕ
 configuration_bytes info interval = concat (configuration_walk info interval)
 
--- the length is a word, and the endpoint has four bits
+-- what a configuration says fits its fields: the length is a word, and the endpoint has four bits
 pub record FitsConfig (info : ConfigInfo) : Type 0 where
   pub report_length : info.report_length < 2 ^ 16
   pub endpoint : info.endpoint ≤ 15
 
--- both are words
+-- what a device descriptor says fits its fields: vendor and product are words
 pub record FitsDevice (info : DeviceInfo) : Type 0 where
   pub vendor : info.vendor < 2 ^ 16
   pub product : info.product < 2 ^ 16

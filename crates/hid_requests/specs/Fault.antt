@@ -26,7 +26,7 @@ layout_code cause.ReportTooLong = codes "V15"
 layout_code cause.TooMany = codes "V16"
 layout_code cause.Memory = codes "V17"
 
--- the code of each cause
+-- the code of each cause for which there is no device: V1 to V21
 abbrev pub code_of : DeviceCause → List ℕ
 code_of BadConfig = codes "V20"
 code_of (Layout found) = layout_code found
@@ -39,7 +39,7 @@ abbrev pub is_memory : Cause → Bool
 is_memory cause.Memory = true
 is_memory _ = false
 
--- the code, and the place of a cause that has one
+-- the code of a cause, and its place if it has one
 abbrev pub device_fault_text : DeviceCause → ℕ → List ℕ
 device_fault_text (Layout found) at =
     if is_memory found then layout_code found else layout_code found ++ codes " at " ++ decimal at

@@ -10,13 +10,13 @@ use Rattle.hid_script.specs.declared.fault.Cause.{Cause}
 use Rattle.hid_script.specs.declared.fault.Cause.TheVariants.{Syntax, LineTooLong, BadHex, Step, Read, Write, Memory, TooManyReads, NoLayout}
 use Rattle.hid_script.specs.declared.fault.ScriptFault.{ScriptFault}
 
--- a descriptor's cause is printed with its place
+-- the text of a step's fault: a descriptor's cause is printed with its place
 abbrev pub step_text : StepFault → List ℕ
 step_text (Layout fault) = layout_fault_text fault
 step_text (Report fault) = report_code fault
 step_text (Stack fault) = stack_text fault
 
--- the codes from the outermost to the innermost
+-- the text of a cause: the codes from the outermost to the innermost
 abbrev pub cause_text : Cause → List ℕ
 cause_text Syntax = codes "X1"
 cause_text LineTooLong = codes "X2"
@@ -28,6 +28,6 @@ cause_text Memory = codes "X7"
 cause_text TooManyReads = codes "X8"
 cause_text NoLayout = codes "X9"
 
--- line N: and the codes
+-- the line of a fault: its number and the codes. Example: line 1: X4 L3 at 0
 abbrev pub fault_text : ScriptFault → List ℕ
 fault_text fault = codes "line " ++ decimal fault.line ++ codes ": " ++ cause_text fault.cause ++ 10 ∷ []

@@ -29,7 +29,7 @@ abbrev pub LinesPrintLives : Type 0
 LinesPrintLives = (options : Options) (script : List (List ℕ)) (text : List ℕ) (last : Session)
     → AllTell (at_first options) script text last → PrintsLives (AllDo [] script) text last.members
 
--- and so does what a run of a script wrote
+-- What a run of a script wrote prints the lives of its devices.
 abbrev pub RunsPrintLives : Type 0
 RunsPrintLives = (options : Options) (script : List (List ℕ)) (written : List ℕ) (result : Result Summary ScriptFault)
     → RunsTo (at_first options) script 0 written result → RunPrintsLives script written result

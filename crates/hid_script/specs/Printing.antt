@@ -1,5 +1,5 @@
 -- What the lines of a script do to its bus, and what the text that they print tells of each device (our choice:
--- docs/SCRIPT.md).
+-- docs/SCRIPT.md; USB 2.0, 8.5.4, 8.6 and 9.4.7).
 use Rattle.std.specs.Prelude.{◌≡◌, ◌⊎◌, ℕ, ◌+◌, List, [], ◌∷◌, ◌++◌, length, map, replicate, Some, None, Result, Ok, Err}
 use Rattle.hid_descriptor.specs.declared.usage.Usage.{Usage}
 use Rattle.hid_layout.specs.declared.control.ControlId.{ControlId}
@@ -90,8 +90,8 @@ pub record PrintsLives (Did : List Act → Type 0) (text : List ℕ) (members : 
       × LivesThrough m (deeds_by m (own_story before since)) n told
   pub none : (dev : ℕ) → member_at members dev ≡ None → event_lines dev text ≡ []
 
--- What a run prints of them: by all its lines; or by those before the one at which it ends, and by the first times of that
--- one, of which only a writer cuts something off.
+-- What a run prints of the lives of its devices: by all its lines; or by those before the one at which it ends, and by
+-- the first times of that one, of which only a writer cuts something off.
 abbrev pub RunPrintsLives : List (List ℕ) → List ℕ → Result Summary ScriptFault → Type 0
 RunPrintsLives script written (Ok summary) = (last : List Member) × PrintsLives (AllDo [] script) written last
 RunPrintsLives script written (Err fault) =

@@ -62,7 +62,8 @@ AllTell session (line ∷ more) text last =
     × AllTell next more rest last
     × (text ≡ first ++ rest)
 
--- All these lines were run. So many lines came before them. The events are those that were delivered.
+-- All these lines were run. The summary counts them, with this many lines before them, and the events that were
+-- delivered.
 pub record Finishes (session : Session) (script : List (List ℕ)) (before : ℕ) (written : List ℕ)
     (summary : Summary) : Type 0 where
   pub last : Session
@@ -90,7 +91,7 @@ abbrev pub RunsTo : Session → List (List ℕ) → ℕ → List ℕ → Result 
 RunsTo session script before written (Ok summary) = Finishes session script before written summary
 RunsTo session script before written (Err fault) = Stops session script before written fault
 
--- the line at which a run ended: behind the last one, where all were run
+-- the line at which a run ended, or the one after the last if all were run
 abbrev pub line_of : Result Summary ScriptFault → ℕ
 line_of (Ok summary) = summary.lines + 1
 line_of (Err fault) = fault.line

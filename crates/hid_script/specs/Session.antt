@@ -26,7 +26,7 @@ pub record Outcome : Type 0 where
 abbrev pub accepted : List ℕ → Session → Outcome
 accepted text session = record { text = text; end = Ok session }
 
--- a part that is refused prints nothing
+-- the outcome of a part of a script that is refused: nothing is printed
 abbrev pub refused : Cause → Outcome
 refused cause = record { text = []; end = Err cause }
 

@@ -49,15 +49,16 @@ bytes_in (Gave bytes) = bytes
 bytes_in Interrupted = []
 bytes_in Failed = []
 
--- So many reads, one after the other, led from one reader to another, each of them so that a run reads on, and gave these
--- bytes in all.
+-- These reads, one after the other, led from one reader to another, each gave bytes or was interrupted, so that a run
+-- reads on, and gave these bytes in all.
 unfoldable pub ReadsOn : {R : Type 0} → (R → Answer → R → Type 0) → R → ℕ → List ℕ → R → Type 0
 ReadsOn {R} reads first zero bytes last = (bytes ≡ []) × (last ≡ first)
 ReadsOn {R} reads first (suc n) bytes last =
     (front : List ℕ) × (before : R) × (answer : Answer) × ReadsOn reads first n front before
     × reads before answer last × GoesOn answer × (bytes ≡ front ++ bytes_in answer)
 
--- the number of the line in which the byte behind these would stand: of the one that a line feed there would end
+-- The number of the line in which the byte after these would stand: of the one that a line feed there would end.
+-- Example: 2 after layout, a line feed and lay
 abbrev pub line_behind : List ℕ → ℕ
 line_behind bytes = length (lines (bytes ++ 10 ∷ []))
 

@@ -18,7 +18,8 @@ use Rattle.hid_text.specs.Line.{meaning_of}
 use Rattle.hid_script.specs.Session.{Session, Outcome, accepted, refused, Repeats}
 use Rattle.hid_script.specs.Steps.{TellsLayout, TellsValues, TellsDevice, TellsChange, TellsStep}
 
--- what a line tells each time that it is carried out
+-- What a line tells each time that it is carried out: what it prints and the session that it leaves, or why it is
+-- refused. Example: press 1 07:01 is X4 S3 U1
 unfoldable pub Once : Line → Session → Outcome → Type 0
 Once line.Nothing session o = o ≡ accepted [] session
 Once (line.Layout bytes) session o = TellsLayout bytes.items session o
@@ -47,13 +48,13 @@ times _ = 1
 abbrev pub CarriesOut : Session → Line → Outcome → Type 0
 CarriesOut session said o = Repeats (times said) (Once said) session o
 
--- the fault of a line that says nothing is the script's
+-- the script's cause for a line that says nothing: X1, X2 or X3, as the line has it
 abbrev pub line_cause : LineFault → Cause
 line_cause lines.LineTooLong = causes.LineTooLong
 line_cause lines.Syntax = causes.Syntax
 line_cause lines.BadHex = causes.BadHex
 
--- what a line says, or the script's cause for which it is refused
+-- what a line says, or the script's cause for which it is refused. Example: values 0 is X3
 abbrev pub line_or_cause : Result Line LineFault → Result Line Cause
 line_or_cause (Ok said) = Ok said
 line_or_cause (Err fault) = Err (line_cause fault)
@@ -85,11 +86,11 @@ abbrev pub cause_from : layouts.Cause → LayoutFault → Cause
 cause_from causes_of.Memory fault = causes.Memory
 cause_from _ fault = causes.Step (faults.Layout fault)
 
--- the same, of the whole fault
+-- the script's cause for the refusal of a layout: X7 if memory was missing, else X4
 abbrev pub cause_of : LayoutFault → Cause
 cause_of fault = cause_from fault.cause fault
 
--- and so is the stack's
+-- the script's cause for a refusal by the stack: X7 if memory was missing, else X4
 abbrev pub stack_cause : StackFault → Cause
 stack_cause stack.Memory = causes.Memory
 stack_cause fault = causes.Step (faults.Stack fault)

@@ -15,7 +15,7 @@ use Rattle.hid_snapshots.specs.declared.cell.Cell.TheVariants.{Vacant, Pressed, 
 abbrev pub is_i32 : ℤ → Bool
 is_i32 v = is_in (negsuc 0x7FFF_FFFF) (pos 0x7FFF_FFFF) v
 
--- how many are pressed
+-- how many places are pressed
 abbrev pub pressed_count : List Bool → ℕ
 pressed_count ps = count_by (λ p. p) ps
 
@@ -36,7 +36,7 @@ blank_cell (head.Elements NullValue least greatest count) =
 blank_cell (head.Elements Relative least greatest count) = Moved (replicate count (pos 0))
 blank_cell (head.Keys elements rolls_over count) = Pressed (replicate count false)
 
--- the cells of a layout of which nothing is pressed and nothing has moved
+-- The cells of a layout of which nothing is pressed and nothing has moved. Example: a blank hat switch is null
 abbrev pub blank : List Item → List Cell
 blank items = map (λ item. blank_cell (head_of item.form)) items
 

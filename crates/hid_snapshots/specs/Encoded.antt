@@ -41,6 +41,6 @@ packed_bytes bits i (suc n) = packed bits (8 * i) 8 ∷ packed_bytes bits (i + 1
 abbrev pub bytes_sent : Contents → ℕ → (ℕ → List ℤ) → List ℕ
 bytes_sent layout r numbers = packed_bytes (bit_sent layout r numbers 0 layout.items) 0 (report_bytes layout r)
 
--- The bytes that show the part of a report.
+-- The bytes that show the part of a report. Example: more keys than elements on the keyboard is 00 00 01 01 01 01 01 01
 unfoldable pub part_bytes : Contents → ℕ → List Cell → List ℕ
 part_bytes layout r parts = bytes_sent layout r (part_numbers layout parts)

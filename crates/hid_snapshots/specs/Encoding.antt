@@ -42,8 +42,8 @@ bare_report layout r =
     if layout.numbered then report_id layout r ∷ replicate (report_bytes layout r - 1) 0
     else replicate (report_bytes layout r) 0
 
--- The bytes of a report whose elements have these numbers: its ID first where there are IDs, and 0
--- in every bit that no element covers.
+-- the bytes of a report whose elements have these numbers: its ID first if there are IDs, and 0 in every bit that no
+-- element covers. Example: Shift and a on the keyboard is 02 00 04 00 00 00 00 00
 pub record IsEncoding (layout : Contents) (r : ℕ) (numbers : ℕ → List ℤ) (bytes : List ℕ) : Type 0 where
   pub whole : length bytes ≡ report_bytes layout r
   pub shows : Shows layout r numbers (length layout.items) (bare_report layout r) bytes

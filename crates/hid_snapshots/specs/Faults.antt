@@ -20,6 +20,6 @@ abbrev pub report_code : ReportFault → List ℕ
 report_code Short = codes "U8"
 report_code UnknownReport = codes "U9"
 
--- the code of a want of memory
+-- the code of being out of memory
 abbrev pub memory_code : List ℕ
 memory_code = codes "U10"

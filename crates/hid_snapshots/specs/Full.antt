@@ -1,6 +1,6 @@
--- Lists without spare room.
+-- Lists without spare room (our choice).
 use Rattle.std.specs.Prelude.{◌≡◌, Vec, vec_len, vec_capacity}
 
--- what the list has reserved is what it holds
+-- the capacity of a list is its length: it has reserved what it holds, and no more
 abbrev pub IsFull : {X Z : Type 0} → Vec X Z → Type 0
 IsFull v = vec_capacity v ≡ vec_len v

@@ -52,7 +52,8 @@ shown_cell controls cell = cell
 abbrev pub shown_of : ℕ → Item → Cell → Cell → Cell
 shown_of r item cell part = if is_of r item then shown_cell (head_of item.form) cell else part
 
--- what a snapshot shows in the part of report r, and the parts of the others as they were
+-- what a snapshot shows in the part of report r, and the parts of the others as they were: motions are clamped to what
+-- elements carry, and an array with more keys than elements is rolled over. Example: 200 to the right shows 127
 abbrev pub shown : List Item → ℕ → List Cell → List Cell → List Cell
 shown items r snapshot parts = by_item (shown_of r) items snapshot parts
 
@@ -66,7 +67,8 @@ abbrev pub still_of : ℕ → Item → Cell → Cell → Cell
 still_of r item cell part =
     if is_of r item then without_motion (shown_cell (head_of item.form) cell) else part
 
--- the still part of report r of a snapshot, and the parts of the others as they were
+-- the still part of report r of a snapshot, with every motion 0, and the parts of the others as they were. Example:
+-- button 1 and 200 to the right is 01 00 00
 abbrev pub still : List Item → ℕ → List Cell → List Cell → List Cell
 still items r snapshot parts = by_item (still_of r) items snapshot parts
 
@@ -92,15 +94,15 @@ minus_motion cell part = cell
 abbrev pub taken_of : ℕ → Item → Cell → Cell → Cell
 taken_of r item cell part = if is_of r item then minus_motion cell part else cell
 
--- the snapshot once the motion of the part of report r is taken out
+-- the snapshot once the motion of the part of report r is taken out. Example: 73 stay of 200
 abbrev pub taken : List Item → ℕ → List Cell → List Cell → List Cell
 taken items r snapshot parts = by_item (taken_of r) items snapshot parts
 
--- the same places are pressed
+-- whether two lists have the same places pressed
 abbrev pub same_flags : List Bool → List Bool → Bool
 same_flags xs bs = pointwise beq xs bs
 
--- the same values, or null
+-- whether two lists have the same values, or null
 abbrev pub same_values : List (Option ℤ) → List (Option ℤ) → Bool
 same_values xs bs = pointwise (option_eq int_eq) xs bs
 
@@ -127,7 +129,8 @@ is_shown cell controls part = is_same_still (shown_cell controls cell) part
 abbrev pub calls_for : ℕ → Item → Cell → Cell → Bool
 calls_for r item cell part = is_of r item && (has_motion cell || not (is_shown cell (head_of item.form) part))
 
--- some control calls for report r
+-- Some control calls for report r: something has moved, or its still part isn't the one fixed last. Example: a key
+-- pressed and released calls for nothing
 abbrev pub is_changed : List Item → ℕ → List Cell → List Cell → Bool
 is_changed items r snapshot parts = list_any (λ called. called) (by_item (calls_for r) items snapshot parts)
 
@@ -150,7 +153,7 @@ abbrev pub has_zero : Controls → Bool
 has_zero (head.Elements Relative least greatest count) = is_in least greatest (pos 0)
 has_zero controls = true
 
--- 0 can be sent by every relative control
+-- every relative control can send 0
 abbrev pub has_zeros : List Item → Bool
 has_zeros items = list_all (λ item. has_zero (head_of item.form)) items
 

@@ -4,7 +4,8 @@ use Rattle.std.specs.Prelude.{ℕ, ◌+◌, ◌-◌, ◌*◌, ◌/◌, Bool, nat
 use Rattle.hid_layout.specs.Controls.{Item}
 use Rattle.hid_snapshots.specs.Parts.{is_of}
 
--- so many bytes: each piece but the last is full, and there is one at least
+-- in how many pieces a report of this many bytes goes: each piece but the last is full, and there is one at least.
+-- Example: one for 64 bytes, two for 65, four for 256
 abbrev pub pieces_for : ℕ → ℕ
 pieces_for bytes = (bytes - 1) / 64 + 1
 

@@ -37,10 +37,10 @@ wheel_and_button =
     input_item 0 2 (Elements Relative (negsuc 126) (pos 127) (usage 1 0x30 ∷ []))
     ∷ input_item 1 2 (Elements Switch (pos 0) (pos 1) (usage 9 1 ∷ [])) ∷ []
 
--- so many values of a byte each, in one item
+-- a layout with this many values of a byte each, in one item
 abbrev pub byte_values : ℕ → List Item
 byte_values n = input_item 0 n (Elements Value (pos 0) (pos 255) (replicate n (usage 1 0x30))) ∷ []
 
--- so many motions of a byte each, in one item
+-- a layout with this many motions of a byte each, in one item
 abbrev pub byte_motions : ℕ → List Item
 byte_motions n = input_item 0 n (Elements Relative (negsuc 126) (pos 127) (replicate n (usage 1 0x30))) ∷ []

@@ -25,7 +25,7 @@ OrFault A = Result A ChangeFault
 abbrev pub unless : {A : Type 0} → Bool → ChangeFault → OrFault A → OrFault A
 unless refused fault rest = if refused then Err fault else rest
 
--- the place of a cell is pressed
+-- whether the place of a cell is pressed
 abbrev pub is_pressed : Cell → ℕ → Bool
 is_pressed (Pressed ps) j = unwrap_or (slice_get ps j) false
 is_pressed cell j = false
@@ -119,7 +119,8 @@ changed_at items cells change (Some control) =
 abbrev pub changed : List Item → List Cell → Change → OrFault (List Cell)
 changed items cells change = changed_at items cells change (control_of items (target change))
 
--- What a change does: it is done, or it is refused for the first fault that stands and the snapshot stays.
+-- What a change does: it is done, or it is refused for the first of U1 to U7 that stands and the snapshot stays.
+-- Example: 1 more than a motion of 7FFFFFFF hex is U6
 abbrev pub Changes : List Item → List Cell → Change → OrFault (Unit {0}) → List Cell → Type 0
 Changes items old change (Ok _) new = changed items old change ≡ Ok new
 Changes items old change (Err fault) new = (changed items old change ≡ Err fault) × (new ≡ old)

@@ -1,4 +1,5 @@
--- A host's view of the controls, and the events between two views (our choice).
+-- A host's view of the controls, and the events between two views (our choice): item by item in layout order; of an
+-- array each release, then each press.
 use Rattle.std.specs.Prelude.{ℕ, ◌+◌, if◌then◌else◌, List, [], ◌∷◌, ◌++◌, map, Option, None, ℤ, unwrap_or, slice_get}
 use Rattle.hid_descriptor.specs.declared.usage.Usage.{Usage}
 use Rattle.hid_layout.specs.Controls.{Form, NoControls, Elements, Keys, Item}
@@ -74,6 +75,7 @@ as_dropped (event.Up c u) = event.Up c u
 as_dropped (event.Value c u v) = event.Value c u v
 as_dropped (event.Null c u) = event.Null c u
 
--- What changes from one view to another, and the motions of report r's part, which are dropped.
+-- what changes from one view to another, and the motions of report r's part, which are dropped. Example: a reset ends a
+-- round with 5 to the right: dropped 5
 abbrev pub drops_between : List Item → ℕ → List Cell → List Cell → List Cell → List Event
 drops_between items r before after parts = map as_dropped (events_between items r before after parts)

@@ -13,16 +13,17 @@ unfoldable pub words_in : ℕ → List Bool → List ℕ
 words_in zero ps = []
 words_in (suc n) ps = word (take 64 ps) ∷ words_in n (drop 64 ps)
 
--- as many words as the places need
+-- as many words as the places need, in which word k has bit b set exactly if place 64k + b is pressed. Example: 07:04 to
+-- 07:0A pressed is 7F0 hex, then 0
 abbrev pub words_of : List Bool → List ℕ
 words_of ps = words_in (div_ceil (length ps) 64) ps
 
--- the lowest bits of a word
+-- the lowest bits of a word, as pressed places
 unfoldable pub bits_in : ℕ → ℕ → List Bool
 bits_in zero w = []
 bits_in (suc n) w = (w % 2 == 1) ∷ bits_in n (w / 2)
 
--- the places that are kept in words
+-- the pressed places that are kept in words
 unfoldable pub places_in : List ℕ → ℕ → List Bool
 places_in [] n = []
 places_in (w ∷ ws) n = bits_in (min n 64) w ++ places_in ws (n - 64)
@@ -37,7 +38,7 @@ pub record AreWords (ws : List ℕ) (n : ℕ) : Type 0 where
 abbrev pub is_on : List Bool → ℕ → Bool
 is_on ps i = unwrap_or (slice_get ps i) false
 
--- pressed in the first and not in the second
+-- the place is pressed in the first list and not in the second
 abbrev pub is_alone : List Bool → List Bool → ℕ → Bool
 is_alone ps qs i = is_on ps i && not (is_on qs i)
 

@@ -49,7 +49,7 @@ IsNoPair addr config descriptor Memory =
     (is_config addr config descriptor ≡ true) × (length descriptor ≤ MAX_DESCRIPTOR)
 IsNoPair addr config descriptor _ = ⊥
 
--- how the device and its host begin
+-- how a device and its host begin: freshly configured, or cold
 abbrev pub member_at_start : Start → ℕ → Config → List ℕ → Contents → Member
 member_at_start starts.Ready addr config descriptor layout = fresh_member addr config descriptor layout
 member_at_start starts.Cold addr config descriptor layout = cold_member addr config descriptor layout
@@ -65,7 +65,7 @@ Attaches room config descriptor start old (Err fault) new =
     (length old < room) × IsNoPair (length old + 1) config descriptor fault × (new ≡ old)
 
 -- A device that was attached has the next number, begins under it with a layout that suits it, and the others stand as
--- they did.
+-- they did. Example: the first is number 1
 pub record IsAttached (config : Config) (descriptor : List ℕ) (start : Start) (old : List Member) (dev : ℕ)
     (new : List Member) : Type 0 where
   pub number : dev ≡ length old + 1

@@ -73,7 +73,7 @@ abbrev pub cuts_in : Fate → HostTransferState → DevControlState CoreState �
 cuts_in TokenLost ends control = false
 cuts_in fate ends control = cuts (effect_reached core_table ends control) control.requests.pending
 
--- an effect ends a halt
+-- the effect ends a halt
 abbrev pub clears : Effect → Pending → Bool
 clears (Applies bytes) pendings.Clear = true
 clears _ _ = false

@@ -23,7 +23,7 @@ pub record HoldsToggle (m : Member) : Type 0 where
   pub needs : IfSome (running m.transfer) (λ t. may_begin t.request m.host ≡ true)
   pub pends : IfSome (running m.transfer) (λ t. t.request ≡ requests.Clear → m.clearing ≡ true)
 
--- every host of a bus does
+-- every host of a bus holds its toggle
 abbrev pub AllHoldToggles : List Member → Type 0
 AllHoldToggles members = All HoldsToggle members
 
@@ -35,13 +35,13 @@ parity_behind m steps =
     (happenings (items_of m.layout) (deeds_in m steps) (course_from m.station))
 
 -- While a host may poll, so is ready with no Clear pending, also while the endpoint is halted, it expects the parity of
--- the pieces that crossed since the configuration or the last clear.
+-- the pieces that crossed since the configuration or the last clear. Example: DATA1 after a press, a lost ACK and a halt
 abbrev pub ExpectsParity : Member → List MemberStep → Type 0
 ExpectsParity m steps =
     m.station.current ≡ None → m.clearing ≡ false → polls_it (member_after_all m steps) ≡ true
     → expects_of (member_after_all m steps) ≡ parity_behind m steps
 
--- and so does each host of a bus
+-- Each host of a bus expects the parity of the pieces that crossed, while it may poll.
 abbrev pub HostsExpectParity : List Member → List Step → List Member → Type 0
 HostsExpectParity before steps after =
     (device : ℕ) (m n : Member) → member_at before device ≡ Some m → member_at after device ≡ Some n

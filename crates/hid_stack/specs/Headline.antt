@@ -31,8 +31,9 @@ DeliversChanges before steps old new =
     → from_device device new
     ≡ from_device device old ++ events_of_epoch (items_of m.layout) snapshot idle (own device steps)
 
--- Each device whose host polls it, without an open round, stands behind its own steps as the rounds of those steps
--- say; nothing else of it changes.
+-- Each device whose host polls it, without an open round, stands behind its own steps as the rounds of those steps say;
+-- nothing else of it changes. Example: after a lost ACK the round is open and has crossed, with DATA0 at the device and
+-- DATA1 at the host
 abbrev pub KeepsToRounds : List Member → List Step → List Member → Type 0
 KeepsToRounds before steps after =
     (device : ℕ) (m : Member) → member_at before device ≡ Some m → polls_it m ≡ true → m.station.current ≡ None
@@ -50,7 +51,8 @@ LivesThrough m deeds n told =
     (happenings (items_of m.layout) deeds (course_from m.station))
     (course_behind (items_of m.layout) deeds (course_from m.station)) told n.station
 
--- and so does each device of a bus
+-- Each device of a bus lives through its steps: from any state without an open round on, its events and its station are
+-- what its life says.
 abbrev pub DevicesLive : List Member → List Step → List Member → List Delivered → List Delivered → Type 0
 DevicesLive before steps after old new =
     (device : ℕ) (m : Member) → member_at before device ≡ Some m → m.station.current ≡ None

@@ -105,7 +105,7 @@ pub record KnowsBy (trail : Trail) (host : HostEnd) (control : DevControlState C
   pub transfer : IfSome host.transfer (λ transfer. Carries trail host.phase transfer control)
   pub clears : IfSome host.transfer (IsPending host.clearing)
 
--- the same by some trail, where what came before isn't told
+-- a host knows its device by some trail of its transfer
 pub record Knows (host : HostEnd) (control : DevControlState CoreState) : Type 0 where
   pub trail : Trail
   pub by : KnowsBy trail host control

@@ -62,7 +62,7 @@ pub record IsPollOfPair (fate : Fate) (device : DeviceState) (host : HostEnd)
       ≡ events_at (items_of (core_of device).layout) (station_of (core_of device) host.phase) (Polls fate)
   pub pair : IsPair device_then host_then.clearing host_then.phase
 
--- the packets that a fate lets arrive come to that
+-- The packets that a fate lets arrive come to the table of polls.
 abbrev pub PacketsMakePolls : Type 0
 PacketsMakePolls =
     (fate : Fate) (device : DeviceState) (host : HostEnd) (result : Result Told StackFault)

@@ -1,5 +1,5 @@
--- A device of a bus with its host, and what each step of the bus makes of the two (USB 2.0, 8.5, 9.1.1, 9.4.5 and
--- 9.4.7; our choice).
+-- A device of a bus with its host, and what each step of the bus makes of the two (USB 2.0, 5.7.3, 7.1.7.5, 8.5, 8.6,
+-- 9.1.1, 9.4.5 and 9.4.7; HID 1.11, 7.2; our choice).
 use Rattle.std.specs.Prelude.{ℕ, ◌*◌, Bool, true, false, ◌||◌, if◌then◌else◌, List, [], ◌∷◌, replicate, take, Option, Some, None}
 use Rattle.std.specs.List.{cons_option}
 use Rattle.std.specs.Option.{option_map}
@@ -55,8 +55,8 @@ pub record Endpoint : Type 0 where
 
 -- A device with its host: its address, the configuration and the descriptor that it was made with, its layout, how the
 -- two stand, the device's endpoint 0, how far the host has come with it, the transfer that the host began last, whether
--- a clear is pending, and the toggle that is held then or while the endpoint is halted: the one that its ready host
--- expects, of which a round that was ended so tells no more.
+-- a clear is pending, and as `held` the toggle that the host expects while the endpoint is halted or a clear is pending.
+-- (Otherwise it follows from the open round.)
 pub record Member : Type 0 where
   pub addr : ℕ
   pub config : Config
@@ -139,7 +139,7 @@ abbrev pub got_in : List ℕ → Open → List ℕ
 got_in bytes round = if is_whole round then [] else take (64 * crossed_with round.piece round.crossed) bytes
 
 -- What a host has of a report that isn't whole yet: of these parts, which were fixed as its round opened, the pieces
--- that crossed.
+-- that crossed. Example: 64 bytes of 100 after the first piece
 abbrev pub got_of : Contents → List Cell → Option Open → List ℕ
 got_of layout parts None = []
 got_of layout parts (Some round) = got_in (part_bytes layout round.report parts) round
@@ -196,7 +196,7 @@ scheduled_deed polls (Changes change) = Some (Own (Changes change))
 scheduled_deed polls Frame = Some (Own Frame)
 scheduled_deed polls (Polls fate) = polled_deed polls fate
 
--- a device that isn't configured has no endpoint to halt
+-- what a halt by the device itself does to it: one that isn't configured has no endpoint to halt
 abbrev pub halted_deed : Bool → Option Deed
 halted_deed true = Some deeds.Halts
 halted_deed false = None
@@ -237,14 +237,15 @@ abbrev pub befallen_by : List Item → Station → Option Deed → Station
 befallen_by items s None = s
 befallen_by items s (Some deed) = befallen items s deed
 
--- and the events that it delivers
+-- the events of what befalls a device, if anything does
 abbrev pub events_by : List Item → Station → Option Deed → List Event
 events_by items s None = []
 events_by items s (Some deed) = events_on items s deed
 
 -- ---- the toggle of its host
 
--- the toggle that the host of a member expects where it is ready: the one that is held, or that of the station
+-- the toggle that the host of a member expects if it is ready: the one that is held, or that of the station. Example:
+-- DATA1 after a lost ACK and a halt
 abbrev pub expects_of : Member → Bool
 expects_of m = elim m.held [ Some expects ↦ expects | None ↦ expected m.station ]
 
@@ -300,7 +301,8 @@ state_at stage request host = host
 abbrev pub ends_tried_at : Fate → Member → Transfer → HostTransferState
 ends_tried_at fate m t = ends_after fate t (control_at m)
 
--- a try of a transfer, with the host in this state behind it
+-- the member after a try of a transfer: both ends go on by the functions of a try, and the host is in this state after
+-- it
 abbrev pub tried_to : Fate → Member → Transfer → HostState → Member
 tried_to fate m t host = holding (expects_behind (ends_tried_at fate m t).stage t.request (expects_of m)) (record {
   addr = m.addr;
@@ -325,8 +327,8 @@ abbrev pub halted_if : Bool → Member → Member
 halted_if true m = holding (expects_of m) (record m { station = befallen (items_of m.layout) m.station deeds.Halts })
 halted_if false m = m
 
--- a reset: the device isn't configured, its host knows nothing of it, and the transfer and what is pending are
--- forgotten
+-- the member after a reset: the device isn't configured, its host knows nothing of it, and the transfer and what is
+-- pending are forgotten
 abbrev pub reset_of : Member → Member
 reset_of m = record {
   addr = m.addr;
@@ -356,7 +358,7 @@ abbrev pub unconcluded_of : Fate → Member → Option Transfer → Member
 unconcluded_of fate m None = m
 unconcluded_of fate m (Some t) = if cuts_round t.request then m else tried_to fate m t m.host
 
--- and what befalls the device then
+-- what befalls a device at a try that finds no memory for what its request gives
 abbrev pub unconcluded_deed : Fate → Member → Option Transfer → Option Deed
 unconcluded_deed fate m None = None
 unconcluded_deed fate m (Some t) = if cuts_round t.request then None else tried_deed fate m (Some t)

@@ -55,7 +55,7 @@ pub record IsSameRound (round : Open) (before after : Station) : Type 0 where
   pub piece : (now.piece ≡ round.piece) ⊎ (now.piece ≡ round.piece + 1)
   pub part : after.standing.fixed ≡ before.standing.fixed
 
--- Whatever step comes between two pieces, the open round ends with it or is the one that it was.
+-- Whatever step comes between two pieces, the open round ends with it, or stays of the same report and part.
 abbrev pub KeepsToRound : Member → MemberStep → Type 0
 KeepsToRound m x =
     (round : Open) → m.station.current ≡ Some round

@@ -26,7 +26,7 @@ use Rattle.hid_bus.specs.declared.step.Delivered.{Delivered}
 use Rattle.hid_bus.specs.Delivered.{from_device}
 use Rattle.hid_stack.specs.Members.{Member, MemberStep, Scheduled, Begins, Controls, Halts, Resets, begin_refusal_at, deed_at, deeds_in, ends_tried_at, events_by, member_after, member_after_all, polls_it, unconcluded_of}
 
--- devices are numbered from 1
+-- the member with this number; devices are numbered from 1
 abbrev pub member_at : List Member → ℕ → Option Member
 member_at members dev = if dev == 0 then None else slice_get members (dev - 1)
 
@@ -70,12 +70,12 @@ delivered_at members (Control dev fate) = one_delivers members dev (Controls fat
 delivered_at members (Halt dev) = one_delivers members dev Halts
 delivered_at members (Reset dev) = one_delivers members dev Resets
 
--- whole lists of steps
+-- the bus after a list of steps
 abbrev pub bus_after_all : List Member → List Step → List Member
 bus_after_all members [] = members
 bus_after_all members (x ∷ steps) = bus_after_all (bus_after members x) steps
 
--- and what they deliver, one after another
+-- what a list of steps delivers, one after another
 abbrev pub delivered_in : List Member → List Step → List Delivered
 delivered_in members [] = []
 delivered_in members (x ∷ steps) = delivered_at members x ++ delivered_in (bus_after members x) steps
@@ -95,7 +95,9 @@ abbrev pub control_refusal : Option Transfer → Option StackFault
 control_refusal (Some t) = None
 control_refusal None = Some (faults.Control NoTransfer)
 
--- Why a step is refused, memory aside.
+-- why a step is refused, memory aside: no such device; of a change its refusal; of a poll a host that isn't ready or has
+-- a clear pending; of a request another that runs, then a host in another state; of a try none that runs. Example: press
+-- 1 07:01 is S3 U1
 abbrev pub refusal : List Member → Step → Option StackFault
 refusal members (Change dev change) = elim (member_at members dev) [
   | None ↦ Some NoDevice
@@ -164,8 +166,8 @@ one_unconcluded members dev fate = elim (member_at members dev) [
   | Some m ↦ with_member members dev (unconcluded_of fate m (running m.transfer))
 ]
 
--- What a step that is refused leaves: nothing has changed, but that a try was made where memory is wanting for what its
--- request gives. (One of a halt or a clear is made once there is room for what it drops.)
+-- What a step that is refused leaves: nothing has changed, but that a try was made that found no memory for what its
+-- request gives. (A try of a halt or a clear is made once there is room for what it drops.)
 abbrev pub refused_after : List Member → Step → StackFault → List Member
 refused_after members (Control dev fate) Memory = one_unconcluded members dev fate
 refused_after members x e = members
@@ -194,7 +196,8 @@ abbrev pub most_tried : Contents → Bool → ℕ
 most_tried layout true = max_events (items_of layout)
 most_tried layout false = 0
 
--- how many events a step delivers at most
+-- how many events a step delivers at most: a poll, a halt, a reset, and a try of a request to halt or to clear those of
+-- its device's layout; any other step none. Example: the mouse, polled twice: 10
 abbrev pub most_events : List Member → Step → ℕ
 most_events members (Change dev change) = 0
 most_events members Frame = 0
@@ -208,7 +211,7 @@ most_events members (Begin dev request) = 0
 most_events members (Control dev fate) =
     elim (member_at members dev) [ None ↦ 0 | Some m ↦ most_tried m.layout (may_cut (running m.transfer)) ]
 
--- and steps, one after another
+-- how many events a list of steps delivers at most
 abbrev pub most_in : List Member → List Step → ℕ
 most_in members [] = 0
 most_in members (x ∷ steps) = most_events members x + most_in (bus_after members x) steps
@@ -246,7 +249,7 @@ own_step device (Control dev fate) = None
 own_step device (Halt dev) = None
 own_step device (Reset dev) = None
 
--- and that of a list of steps, in their order
+-- the own steps of a device in a list of steps, in their order
 abbrev pub own : ℕ → List Step → List OwnStep
 own device steps = filter_map (own_step device) steps
 

@@ -47,8 +47,8 @@ ShowsPhase m (Described info) = info ≡ config_info m.config (length m.descript
 ShowsPhase m (Parsed info layout) = (info ≡ config_info m.config (length m.descriptor)) × (layout ≡ m.layout)
 ShowsPhase m (Ready known) = ShowsKnown m known
 
--- Its host: it is the one of the device at the member's address, has come as far, and knows what is so there. It is
--- ready only where the device is configured, and then has its layout.
+-- The host of a member: it is the one of the device at the member's address, has come as far, and knows what is so
+-- there. It is ready only while the device is configured, and then has its layout.
 pub record ShowsHost (m : Member) (h : HostEnd) : Type 0 where
   pub home : h.addr ≡ m.addr
   pub state : state_of h.phase ≡ m.host

@@ -104,7 +104,7 @@ pub record ArePaired (device : DeviceState) (known : Known) (clearing : Bool) : 
   pub laid : IsLayout known.layout
   pub fits : FitsView (items_of known.layout) known.view
 
--- a device and its host are such a pair where the host is ready
+-- a device and its host are a pair: the host is ready, and the two stand together
 abbrev pub IsPair : DeviceState → Bool → HostPhase → Type 0
 IsPair device clearing (Ready known) = ArePaired device known clearing
 IsPair device clearing _ = ⊥

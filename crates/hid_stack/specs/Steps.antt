@@ -1,4 +1,5 @@
--- One step of the bus, whole: what it tells, where it leaves the bus and the events, and when it is refused (our choice).
+-- One step of the bus, whole: what it tells, where it leaves the bus and the events, and when it is refused (our choice;
+-- USB 2.0, 9.1.1).
 use Rattle.std.specs.Prelude.{◌≡◌, ◌≢◌, ◌≤◌, ◌+◌, ◌++◌, ℕ, List, [], ◌∷◌, Option, Some, None, Result, Err, IfOk, IfErr, OnOk, OnErr}
 use Rattle.hid_layout.specs.Controls.{items_of}
 use Rattle.hid_snapshots.specs.Cells.{blank}
@@ -29,7 +30,7 @@ pub record IsUntold (m : Member) : Type 0 where
   pub view : m.station.view ≡ blank (items_of m.layout)
   pub quiet : m.station.current ≡ None
 
--- A step of a device whose host isn't ready delivers nothing, a reset neither.
+-- A step of a device whose host isn't ready delivers nothing, a reset neither. Example: device cold, reset 1: no line
 abbrev pub TellsNothingUnready : List Member → Step → List Delivered → List Delivered → Type 0
 TellsNothingUnready members x old new =
     (dev : ℕ) (m : Member) → named_by x ≡ Some dev → member_at members dev ≡ Some m → m.host ≢ Ready → new ≡ old

@@ -20,8 +20,9 @@ use Rattle.hid_stack.specs.Sums.{CutsByRequest}
 
 -- ---- what is done to a bus
 
--- A device is attached, the bus takes a step, or memory is wanting at a try of a device: the step is refused, and where the
--- try was made the transfer is over.
+-- What is done to a bus: a device is attached, the bus takes a step, or memory is missing at a try of a device: the step
+-- is refused, and if the try was made the transfer is over. Example: S8 at the status of a Configure: the device is
+-- configured, its host is still Parsed
 pub data Act : Type 0 where
   Attached : Member → Act
   Taken : Step → Act
@@ -49,7 +50,7 @@ next_number before = length (bus_behind [] before) + 1
 
 -- ---- what of it is done to one device
 
--- a step of it, or a try of it at which memory is wanting
+-- what is done to one device: a step of it, or a try of it at which memory is missing
 pub data OwnAct : Type 0 where
   Takes : MemberStep → OwnAct
   Unconcludes : Fate → OwnAct
@@ -90,7 +91,7 @@ abbrev pub EndsNoRound : Member → OwnAct → Type 0
 EndsNoRound m (Takes x) = Unit {0}
 EndsNoRound m (Unconcludes fate) = CutsByRequest fate m (running m.transfer)
 
--- at each of them: of steps that were taken nothing is asked
+-- no try at which memory is missing ends a round of the device
 abbrev pub EndNoRounds : Member → List OwnAct → Type 0
 EndNoRounds m [] = Unit {0}
 EndNoRounds m (act ∷ story) = EndsNoRound m act × EndNoRounds (after_act m act) story

@@ -1,4 +1,4 @@
--- What a step tells, by its fate (USB 2.0, 8.4.5, 8.5.3, 8.5.4 and 8.6).
+-- What a step tells, by its fate (USB 2.0, 5.7.3, 8.4.5, 8.5.3, 8.5.4 and 8.6).
 use Rattle.std.specs.Prelude.{◌≡◌, ℕ, Bool, true, false, if◌then◌else◌, List, [], Option, Some, None}
 use Rattle.hid_layout.specs.Controls.{items_of}
 use Rattle.hid_layout.specs.Layout.{Contents}
@@ -24,7 +24,7 @@ use Rattle.hid_host.specs.Host.{running}
 use Rattle.hid_stack.specs.Members.{Member, ends_tried_at}
 use Rattle.hid_stack.specs.Rig.{member_at}
 
--- of the bytes that show the part of the open round the piece at hand
+-- the piece at hand of the bytes that show the part of the open round
 abbrev pub piece_shown : Contents → Station → List ℕ
 piece_shown layout s = elim s.current [
   | None ↦ []

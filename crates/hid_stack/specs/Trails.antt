@@ -13,7 +13,7 @@ pub record Trail : Type 0 where
   pub place : Place
   pub decider : CoreState
 
--- before the first try: no SETUP has arrived, so whatever stands for that device counts for nothing
+-- The trail before the first try: no SETUP has arrived, so whatever stands for that device counts for nothing.
 abbrev pub trail_from : CoreState → Trail
 trail_from core = record { place = start; decider = core }
 
@@ -33,7 +33,7 @@ trail_tried fate t control trail = record {
   decider = decider_behind (act_now core_table trail.place fate (ends_with t control)) control.requests trail.decider;
 }
 
--- and so does a control step, where a transfer runs
+-- a control step leads the trail of the transfer that runs on, if one runs
 abbrev pub trail_behind : Fate → Option Transfer → DevControlState CoreState → Trail → Trail
 trail_behind fate None control trail = trail
 trail_behind fate (Some t) control trail = trail_tried fate t control trail

@@ -144,7 +144,8 @@ IsUnconcludedOnce m request steps =
     → (configurations (deeds_in begun (steps ++ Controls fate ∷ [])) ≡ 1)
     × (core_at (unconcluded_of fate n (running n.transfer)) ≡ core_at (member_after n (Controls fate)))
 
--- the same from its begin on
+-- A request from its begin on, with anything between its tries: both ends stand where the tries lead, a write took
+-- effect as often as these say, and then did what its row says.
 abbrev pub IsWhole : Member → Request → List MemberStep → Type 0
 IsWhole m request steps = IsWholeFrom m request steps (member_after m (Begins request))
 
@@ -171,8 +172,9 @@ pub record IsEvenAgain (m : Member) : Type 0 where
   pub expects : expects_of m ≡ false
   pub clearing : m.clearing ≡ false
 
--- The end of a halt, from its begin on, whatever is lost of it and befalls the device meanwhile: no poll is sent while
--- it isn't done, also where it failed, and where a try ends it both ends begin anew (9.4.5).
+-- A clear, from its begin on, whatever is lost of it and befalls the device meanwhile: no poll is sent while it isn't
+-- done, also if it failed, and when a try ends it both ends begin anew (9.4.5). Example: begin 1 clear, then poll 1 is
+-- S2
 abbrev pub IsClearing : Member → List MemberStep → Type 0
 IsClearing m steps =
     let n = member_after_all (member_after m (Begins Clear)) steps in IsUndone n.transfer

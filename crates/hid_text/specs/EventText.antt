@@ -14,6 +14,6 @@ event_words (Null control usage) = codes " null " ++ usage_text usage
 event_words (Motion control usage by) = codes " motion " ++ usage_text usage ++ 32 ∷ signed_decimal by
 event_words (Dropped control usage by) = codes " dropped " ++ usage_text usage ++ 32 ∷ signed_decimal by
 
--- D down U, and the other events
+-- an event as it is printed: the device, what happened, the usage, and the number if there is one. Example: 1 down 07:04
 abbrev pub event_text : ℕ → Event → List ℕ
 event_text dev event = decimal dev ++ event_words event

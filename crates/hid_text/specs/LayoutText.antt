@@ -95,6 +95,7 @@ layout_lines layout =
     joined_below (length layout.reports) (λ r. report_at layout r (slice_get layout.reports r))
     ++ joined_below (length layout.items) (λ i. item_at layout i (slice_get layout.items i))
 
--- a layout without reports says so
+-- the text of a layout: a line for each report, then a line for each item; no reports if there is none. Example: item 0
+-- input 0 at 0 1x3 variable 0..1 09:01-09:03 in 1/01:02 0/-
 unfoldable pub layout_text : Contents → List ℕ
 layout_text layout = if length layout.reports == 0 then codes "no reports" ++ 10 ∷ [] else layout_lines layout

@@ -58,6 +58,7 @@ unfoldable pub words_said : List Word → Result Line LineFault
 words_said [] = Ok Nothing
 words_said (first ∷ words) = if slice_index first 0 == 35 then Ok Nothing else keyword_said (keyword_of first) words
 
--- a line of more than 1,024 bytes is refused whatever it says
+-- the meaning of a line: nothing, or the line form of its first word with what the others say, or the first cause for
+-- which it is refused. One of more than 1,024 bytes is refused whatever it says. Example: values 0 is X3
 unfoldable pub meaning_of : List ℕ → Result Line LineFault
 meaning_of line = if nat_lt 1024 (length line) then Err LineTooLong else words_said (words_of line)

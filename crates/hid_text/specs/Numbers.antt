@@ -12,7 +12,7 @@ abbrev pub device_of : Word → Option ℕ
 device_of (c ∷ []) = if nat_le 49 c && nat_le c 55 then Some (c - 48) else None
 device_of _ = None
 
--- the number that digits spell in a base, of either case and with zeros in front
+-- The number that digits spell in a base, of either case and with zeros in front.
 unfoldable pub number_of : ℕ → Word → Option ℕ
 number_of base word =
     if not (length word == 0) && list_all (λ c. nat_lt (digit_value c) base) word

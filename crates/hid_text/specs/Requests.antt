@@ -1,4 +1,5 @@
--- What the words behind `begin` say: a device, and what its host asks (our choice: the script language of docs/SCRIPT.md).
+-- What a line says of a request: its name, and after that an ID, an idle time, a protocol or a type of report (our
+-- choice: the script language of docs/SCRIPT.md; USB 2.0, 9.4; HID 1.11, 7.2 and 7.2.2).
 use Rattle.std.specs.Prelude.{ℕ, nat_lt, Bool, true, false, List, [], ◌∷◌, if◌then◌else◌, Option, None, Some, Result, Ok, Err, codes}
 use Rattle.hid_descriptor.specs.declared.report.ReportKind.{ReportKind}
 use Rattle.hid_descriptor.specs.declared.report.ReportKind.TheVariants as kinds

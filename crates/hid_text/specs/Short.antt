@@ -10,7 +10,7 @@ use Rattle.hid_text.specs.declared.short.ShortLine.TheVariants.{Press, Release, 
 use Rattle.hid_text.specs.Words.{Word}
 use Rattle.hid_text.specs.Arguments.{control_said, set_said, move_said, frame_said, poll_said, one_device_said}
 
--- a short line is a line
+-- a short line as a line. Example: poll 1 is short, layout 05 01 isn't
 abbrev pub line_of : ShortLine → Line
 line_of (Press dev usage) = line.Press dev usage
 line_of (Release dev usage) = line.Release dev usage

@@ -22,6 +22,6 @@ told_text trace step told got = []
 abbrev pub events_text : List Delivered → List ℕ
 events_text delivered = flat_map (λ d. event_text d.dev d.event ++ 10 ∷ []) delivered
 
--- the line of the step, where the transfer got these bytes, and its events
+-- what is printed of a step: its line, with the bytes that a transfer got, and its events
 unfoldable pub step_text : Bool → Step → Told → List ℕ → List Delivered → List ℕ
 step_text trace step told got delivered = told_text trace step told got ++ events_text delivered

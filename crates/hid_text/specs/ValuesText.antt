@@ -16,7 +16,8 @@ use Rattle.hid_notation.specs.Text.{usage_or_dash, joined_below}
 unfoldable pub usage_of_element : List Usage → ℕ → Option Usage
 usage_of_element usages j = slice_get usages (min j (length usages - 1))
 
--- of an array the usage that the number names, where it names one (HID 1.11, 6.2.2.5)
+-- the usage that stands beside a value: of a variable item that of its place, of an array the one that the number names,
+-- if it names one (HID 1.11, 6.2.2.5 and 6.2.2.8)
 abbrev pub usage_shown : Shape → MainItem → List Usage → ℕ → ℤ → Option Usage
 usage_shown Padding item usages j number = None
 usage_shown Variable item usages j number = usage_of_element usages j
@@ -55,6 +56,6 @@ values_in layout r bytes i (Some item) =
 unfoldable pub values_at : Contents → ℕ → List ℕ → ℕ → List ℕ
 values_at layout r bytes i = values_in layout r bytes i (slice_get layout.items i)
 
--- a line for each data element of the report r, in the order of the layout
+-- a line for each data element of the report r, in the order of the layout. Example: value 2.1 -127 01:31
 unfoldable pub values_text : Contents → ℕ → List ℕ → List ℕ
 values_text layout r bytes = joined_below (length layout.items) (values_at layout r bytes)

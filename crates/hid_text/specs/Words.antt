@@ -20,7 +20,7 @@ is_blank b = b == 32 || b == 9
 abbrev pub is_no_blank : ℕ → Bool
 is_no_blank b = not (is_blank b)
 
--- the words between blanks
+-- the words of a line: what stands between spaces and tabs, if anything does
 abbrev pub words_of : List ℕ → List Word
 words_of line = filter (λ word. not (length word == 0)) (slice_split is_blank line)
 

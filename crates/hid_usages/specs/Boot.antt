@@ -34,7 +34,7 @@ use Rattle.hid_usages.specs.Taking.{read_view, read_events}
 abbrev pub keyboard_of : List ℕ → KeyboardReport
 keyboard_of bytes = record { modifiers = slice_index bytes 0; keys = map (slice_index bytes) (range_with_len 2 6) }
 
--- the keyboard's report in these bytes; Short where they are under eight
+-- The keyboard's report in these bytes: modifiers in byte 0 and six keys in bytes 2 to 7; Short if they are under eight.
 abbrev pub keyboard_in : List ℕ → Result KeyboardReport ReportFault
 keyboard_in bytes = if nat_lt (length bytes) 8 then Err Short else Ok (keyboard_of bytes)
 
@@ -58,7 +58,8 @@ is_modifier id = nat_le 0xE0 id && nat_le id 0xE7
 abbrev pub is_key : ℕ → Bool
 is_key id = nat_le 0x04 id && nat_le id 0x65
 
--- the report tells that 07:id is held
+-- The report says that 07:id is held: its modifier's bit is set, or it is named and no key is 01. Example: 02 00 01 01
+-- 01 01 01 01 holds E1 alone
 abbrev pub is_held : KeyboardReport → ℕ → Bool
 is_held report id =
     if is_modifier id then bit_at report.modifiers (id - 0xE0) == 1
@@ -78,7 +79,8 @@ mouse_of bytes =
       y = motion_in (slice_index bytes 2);
     }
 
--- the mouse's report in these bytes; Short where they are under three
+-- The mouse's report in these bytes: buttons in the low three bits of byte 0, motions in bytes 1 and 2; Short if they
+-- are under three. Example: 05 7F 81 has buttons 5, x 127 and y -127
 abbrev pub mouse_in : List ℕ → Result MouseReport ReportFault
 mouse_in bytes = if nat_lt (length bytes) 3 then Err Short else Ok (mouse_of bytes)
 
@@ -86,7 +88,7 @@ mouse_in bytes = if nat_lt (length bytes) 3 then Err Short else Ok (mouse_of byt
 abbrev pub mouse_bytes : MouseReport → List ℕ
 mouse_bytes report = report.buttons ∷ pattern_for report.x 8 ∷ pattern_for report.y 8 ∷ []
 
--- What is written is read again. A motion of -128 reads as 0.
+-- A keyboard's report that is written is read again.
 abbrev pub KeyboardReadsBack : Type 0
 KeyboardReadsBack = (modifiers a b c d e f : ℕ) →
     let report : KeyboardReport = record { modifiers = modifiers; keys = a ∷ b ∷ c ∷ d ∷ e ∷ f ∷ [] } in

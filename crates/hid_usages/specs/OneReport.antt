@@ -15,20 +15,20 @@ pub record AgreeOn (items : List Item) (r : ℕ) (parts others : List Cell) : Ty
   pub same : (i : ℕ) (item : Item) → slice_get items i ≡ Some item → is_of r item ≡ true
       → slice_get parts i ≡ slice_get others i
 
--- a view sees nothing of other parts
+-- a view sees nothing of the parts of other reports
 abbrev pub SeesOneReport : Type 0
 SeesOneReport =
     (items : List Item) (r : ℕ) (view parts others : List Cell) → AgreeOn items r parts others
     → seen items r view parts ≡ seen items r view others
 
--- and is told nothing of them
+-- a host is told nothing of the parts of other reports
 abbrev pub TellsOneReport : Type 0
 TellsOneReport =
     (items : List Item) (r : ℕ) (before after parts others : List Cell)
     → AgreeOn items r parts others
     → events_between items r before after parts ≡ events_between items r before after others
 
--- nor do the bytes of a report
+-- the bytes of a report show nothing of the parts of other reports
 abbrev pub ShowsOneReport : Type 0
 ShowsOneReport =
     (layout : Contents) (r : ℕ) (parts others : List Cell) (bytes : List ℕ) → IsLayout layout

@@ -121,7 +121,8 @@ abbrev pub whole_report : Contents → List ℕ → Option ℕ → Result ℕ Re
 whole_report layout bytes None = Err UnknownReport
 whole_report layout bytes (Some r) = if nat_lt (length bytes) (report_bytes layout r) then Err Short else Ok r
 
--- The Input report that the bytes name and fill, or why there is none. More bytes than it has are ignored.
+-- The Input report that the bytes name and fill, or why there is none. More bytes than it has are ignored. Example: 02
+-- 01 is the second report of two
 abbrev pub report_named : Contents → List ℕ → Result ℕ ReportFault
 report_named layout bytes =
     if layout.numbered then elim (first_byte bytes) [

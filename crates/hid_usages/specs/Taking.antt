@@ -1,4 +1,4 @@
--- What the numbers of one listed item's elements make of a view, and what they tell (our choice).
+-- What the numbers of one listed item's elements make of a view, and what they tell (our choice; HID 1.11, 5.6 and 8).
 use Rattle.std.specs.Prelude.{◌≡◌, ℕ, ◌+◌, ◌≤◌, Bool, false, List, [], ◌∷◌, ◌++◌, length, replicate, if◌then◌else◌, Some, None, Result, Ok, Err, ℤ, slice_get}
 use Rattle.hid_snapshots.specs.declared.fault.ReportFault.{ReportFault}
 use Rattle.hid_layout.specs.declared.main_item.MainItem.{MainItem}
@@ -119,7 +119,9 @@ pub record NamesNone (cells : List Cell) (named : List Bool) : Type 0 where
   pub none : named ≡ replicate (length named) false
   pub each : (i : ℕ) (cell : Cell) → slice_get cells i ≡ Some cell → flag_places cell ≤ length named
 
--- Taking a report: the view is read and the events follow, or the report is refused and nothing changes.
+-- Taking a report: each item of the report is read by its numbers, controls of other reports stay, and the events
+-- follow; or the report is refused and nothing changes. Example: 07:04 and 07:05 held, then 00 00 07 06 05: 04 up, 06
+-- and 07 down
 abbrev pub TakesReport : Contents → List ℕ → List Cell → List Event → Result (Unit {0}) ReportFault
     → List Cell → List Event → Type 0
 TakesReport layout bytes view out (Ok _) view' out' =

@@ -21,15 +21,15 @@ with_cause TooManyReads count = count
 abbrev pub refusals_of : RecordingFault → ℕ
 refusals_of fault = with_cause fault.cause fault.played.refused
 
--- "NAME":N
+-- a count as a member: "NAME":N
 abbrev pub count_tokens : List ℕ → ℕ → List Token
 count_tokens name count = key name ∷ number (decimal count) ∷ []
 
--- "line":N,"ended":"CODE: WORDS"
+-- what ended a file, as members: "line":N,"ended":"CODE: WORDS"
 abbrev pub cause_tokens : ℕ → List ℕ → List Token
 cause_tokens line words = key (codes "line") ∷ number (decimal line) ∷ key (codes "ended") ∷ string words ∷ []
 
--- "descriptors":N,"reports":N,"events":N,"refusals":N
+-- what was played, as members: "descriptors":N,"reports":N,"events":N,"refusals":N
 abbrev pub played_tokens : RecordingFault → List Token
 played_tokens fault =
     key (codes "descriptors") ∷ number (decimal fault.played.descriptors)
@@ -37,7 +37,7 @@ played_tokens fault =
     ∷ key (codes "events") ∷ number (decimal fault.played.events)
     ∷ key (codes "refusals") ∷ number (decimal (refusals_of fault)) ∷ []
 
--- all of it, as an object
+-- what ended a file early and what was played of it, as a JSON object
 unfoldable pub end_tokens : RecordingFault → List Token
 end_tokens fault =
     begin_object ∷ cause_tokens fault.line (cause_text fault.cause) ++ played_tokens fault ++ end_object ∷ []

@@ -15,7 +15,8 @@ cause_status Memory = 3
 cause_status TooManyReads = 3
 cause_status Unended = 1
 
--- 0 where nothing was refused
+-- the exit status of a run: 0 if nothing was refused, 1 if a line is refused or too long or a dump isn't ended, 3 if the
+-- file, the writer or memory failed
 abbrev pub status_of : Result Summary RecordingFault → ℕ
 status_of (Ok summary) = if nat_lt 0 summary.refused then 1 else 0
 status_of (Err fault) = cause_status fault.cause
@@ -30,7 +31,7 @@ ends_all_by strict Read = false
 ends_all_by strict Memory = false
 ends_all_by strict TooManyReads = false
 
--- whether no further file is begun
+-- whether no further file is begun: standard output failed, or a strict run met a refusal
 abbrev pub ends_all : Bool → Result Summary RecordingFault → Bool
 ends_all strict (Ok summary) = false
 ends_all strict (Err fault) = ends_all_by strict fault.cause

@@ -10,7 +10,7 @@ use Rattle.hidplay.specs.EndLine.{refusals_of}
 abbrev pub plus : ℕ → ℕ → ℕ
 plus count more = min (count + more) (2 ^ 64 - 1)
 
--- with what was played of a file
+-- the counts of all files with what was played of one more; a count stops at the greatest number of 64 bits
 abbrev pub counted : Total → Summary → Total
 counted total played = record total {
   descriptors = plus total.descriptors played.descriptors;
@@ -25,7 +25,7 @@ abbrev pub added : Total → Result Summary RecordingFault → Total
 added total (Ok summary) = counted (record total { files = plus total.files 1 }) summary
 added total (Err fault) = counted total (record fault.played { refused = refusals_of fault })
 
--- files N, descriptors N, reports N, events N, refused N
+-- the line of totals: files N, descriptors N, reports N, events N, refused N
 abbrev pub total_text : Total → List ℕ
 total_text total =
     codes "files " ++ (decimal total.files

@@ -3,7 +3,8 @@ use Rattle.std.specs.Prelude.{ℕ}
 use Rattle.hid_script.specs.declared.fault.Cause.{Cause}
 use Rattle.hid_script.specs.declared.fault.Cause.TheVariants.{Syntax, LineTooLong, BadHex, Step, Read, Write, Memory, TooManyReads, NoLayout}
 
--- 1 where a line of the script is refused, 3 where memory, the reader or the writer failed
+-- the exit status of a run that ended early: 1 if a line of the script is refused, 3 if memory, the reader or the writer
+-- failed
 abbrev pub status_of : Cause → ℕ
 status_of Syntax = 1
 status_of LineTooLong = 1

@@ -11,7 +11,7 @@ use Rattle.std.specs.Box.Ownership.{box_owns}
 abbrev pub block_right : Ty → Ptr → Fml
 block_right = ghosts.dealloc_token (record { memory = record { seal = tt } })
 
--- what is owned at an address where this may be kept
+-- what a handle owns at an address
 abbrev pub held : (R : RattleType) → Ptr → Option R.Denot → Fml
 held R at None = feq Ptr at null_ptr
 held R at (Some x) = box_owns block_right R at x

@@ -20,7 +20,7 @@ options_of options = record { layout = options / LAYOUTS % 2 == 1; trace = optio
 abbrev pub RunsScript : Options → List ℕ → List ℕ → Result Summary ScriptFault → Type 0
 RunsScript options script written answer = RunsTo (at_first options) (lines script) 0 written answer
 
--- no other answer comes
+-- a run answers OK, REFUSED, NO_ROOM or MEMORY, and nothing else
 abbrev pub AnswersRun : ℕ → Type 0
 AnswersRun status = (status ≡ OK) ⊎ ((status ≡ REFUSED) ⊎ ((status ≡ NO_ROOM) ⊎ (status ≡ MEMORY)))
 

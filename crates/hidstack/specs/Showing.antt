@@ -15,10 +15,10 @@ abbrev pub Shows : {A : Type 0} → (State → Option A) → Option State → A 
 Shows read None old status new = (status ≡ CLOSED) × (new ≡ old)
 Shows read (Some s) old status new = Answers (read s) old status new
 
--- the same of what is read of the session's layout
+-- What a call that reads the layout of a handle's session answers: a closed handle is refused and nothing changes.
 abbrev pub ShowsLayout : {A : Type 0} → (Contents → Option A) → Option State → A → ℕ → A → Type 0
 ShowsLayout read kept old status new = Shows (λ s. read s.layout) kept old status new
 
--- the same of what is read of the session's view
+-- What a call that reads the view of a handle's session answers: a closed handle is refused and nothing changes.
 abbrev pub ShowsView : {A : Type 0} → (List Cell → Option A) → Option State → A → ℕ → A → Type 0
 ShowsView read kept old status new = Shows (λ s. read s.view) kept old status new

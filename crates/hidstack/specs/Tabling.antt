@@ -41,7 +41,7 @@ Refuses bytes out out' told =
     (cause : Cause) × (at : ℕ) × Explains bytes cause at × (out' ≡ out)
     × (told ≡ record { at = at; elements = 0; cause = cause_number cause; spare = 0 })
 
--- no other answer comes
+-- a call for a table answers OK, REFUSED or NO_ROOM, and nothing else
 abbrev pub TablesElements : ℕ → Type 0
 TablesElements status = (status ≡ OK) ⊎ ((status ≡ REFUSED) ⊎ (status ≡ NO_ROOM))
 

@@ -31,7 +31,7 @@ usage_told Variable usages j = usage_or_zero (usage_of_element usages j)
 usage_told Padding usages j = usage_or_zero None
 usage_told Array usages j = usage_or_zero None
 
--- 1 for true
+-- a Boolean as a number: 1 for true
 abbrev pub one_of : Bool → ℕ
 one_of true = 1
 one_of false = 0
@@ -80,7 +80,8 @@ abbrev pub told_if : Contents → ℕ → ℕ → Option MainItem → Option Ele
 told_if layout i j (Some item) (Some element) = Some (told_element layout i j item element)
 told_if layout i j _ _ = None
 
--- the record of the data element at a place of the listed item at a place
+-- the record of the data element at a place of the listed item at a place: where it lies, its range, flags and usage.
+-- Example: Y of the boot mouse has bit 16, 8 bits, -127 to 127
 abbrev pub element_at : Contents → ℕ → ℕ → Option HidElement
 element_at layout i j = told_if layout i j (slice_get layout.items i) (element_of layout i j)
 
@@ -97,7 +98,8 @@ IsNamed element bytes = (element.report ≡ 0) ⊎ (slice_index bytes 0 ≡ elem
 abbrev pub is_signed : HidElement → Bool
 is_signed element = not (element.is_signed == 0)
 
--- The number of an element in the bytes of a report (5.8), or why there is none.
+-- the number of an element in the bytes of a report (5.8), or why there is none. Example: of 05 7F 81 at bit 16 it is
+-- -127
 abbrev pub HoldsNumber : HidElement → List ℕ → Result ℤ ReportFault → Type 0
 HoldsNumber element bytes (Ok number) =
     LiesIn element bytes × IsNamed element bytes

@@ -12,7 +12,7 @@ abbrev pub told_as : ℕ → ControlId → Usage → ℤ → HidEvent
 told_as kind control usage value =
     record { value = value; item = control.item; index = control.index; page = usage.page; id = usage.id; kind = kind }
 
--- the record of an event
+-- the record of an event: its kind as a number, its control, usage and value. Example: the kind of Up is 0
 abbrev pub event_of : Event → HidEvent
 event_of (Up control usage) = told_as UP control usage (pos 0)
 event_of (Down control usage) = told_as DOWN control usage (pos 1)

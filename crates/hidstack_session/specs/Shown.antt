@@ -17,7 +17,7 @@ abbrev pub told_report : Contents → ℕ → Report → HidReport
 told_report layout r report =
     record { bytes = report_bytes layout r; bits = report.bits; kind = rank report.kind; id = report.id; spare = 0 }
 
--- the same, of a report that may be there
+-- the record of the report at a place, if there is one
 abbrev pub report_at : Contents → ℕ → Option HidReport
 report_at layout r = option_map (told_report layout r) (slice_get layout.reports r)
 

@@ -24,7 +24,7 @@ elements_in layout i (Some item) = elements_below layout i item.count
 unfoldable pub elements_of_item : Contents → ℕ → List HidElement
 elements_of_item layout i = elements_in layout i (slice_get layout.items i)
 
--- those of the first listed items
+-- the records of the data elements of the first listed items. Example: the boot mouse has five
 abbrev pub elements_of : Contents → ℕ → List HidElement
 elements_of layout zero = []
 elements_of layout (suc n) = elements_of layout n ++ elements_of_item layout n

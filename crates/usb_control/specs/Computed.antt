@@ -22,12 +22,12 @@ pub record Table (R : Type 0) : Type 0 where
   pub prepared : R → Request → R
   pub applied : R → List ℕ → R
 
--- deciding gives what the functions say
+-- what answers requests decides as the functions of a table say
 abbrev pub PreparesBy : {R : Type 0} → Table R → PrepareGives R
 PreparesBy table =
     λ old setup said new. (said ≡ table.accepts old setup) × (new ≡ table.prepared old setup)
 
--- carrying out a write gives what the functions say
+-- what answers requests carries out a write as the functions of a table say
 abbrev pub AppliesBy : {R : Type 0} → Table R → ApplyGives R
 AppliesBy table = λ old bytes new. new ≡ table.applied old bytes
 

@@ -53,7 +53,7 @@ Acknowledges prepare_gives apply_gives answer_of arrivals true old new =
     (came : Option Packet) × (answer : Option Packet) × Carries arrivals Acknowledgement Ack came
     × Hears prepare_gives apply_gives answer_of came old new answer
 
--- the transaction by its packets, as each end reads them
+-- one transaction of endpoint 0 by its packets, as each end reads them
 pub record Crosses {R : Type 0} (prepare_gives : PrepareGives R) (apply_gives : ApplyGives R)
     (answer_of : AnswerOf R) (arrivals : Arrivals) (host : HostTransferState)
     (old : DevControlState R) (host_then : HostTransferState)

@@ -1,4 +1,4 @@
--- The descriptors that a host reads (USB 2.0, 9.5 and 9.6; HID 1.11, 6.2.1).
+-- The descriptors that a host reads (USB 2.0, 9.5, 9.6.1, 9.6.3, 9.6.5 and 9.6.6; HID 1.11, 6.2.1).
 use Rattle.std.specs.Prelude.{◌≡◌, ℕ, ◌+◌, ◌*◌, ◌%◌, ◌≤◌, Bool, nat_le, ◌==◌, ◌&&◌, if◌then◌else◌, List, [], ◌∷◌, length, drop, slice_index, find, Option, Some, None, option_and_then, Result, Ok, Err}
 use Rattle.std.specs.List.{concat, before_first, after_first}
 use Rattle.usb_control.specs.declared.descriptors.DeviceInfo.{DeviceInfo}
@@ -11,7 +11,7 @@ use Rattle.usb_control.specs.SetupBytes.{word_at}
 abbrev pub IsDevice : List ℕ → Type 0
 IsDevice bytes = slice_index bytes 1 ≡ 1
 
--- idVendor and idProduct (table 9-8)
+-- what a host reads of a device descriptor: idVendor and idProduct (table 9-8)
 abbrev pub device_info_of : List ℕ → DeviceInfo
 device_info_of bytes = record { vendor = word_at bytes 8; product = word_at bytes 10 }
 
@@ -25,12 +25,12 @@ abbrev pub AreDescriptors : List (List ℕ) → Type 0
 AreDescriptors [] = Unit {0}
 AreDescriptors (descriptor ∷ rest) = IsDescriptor descriptor × AreDescriptors rest
 
--- the bytes are these descriptors, one after another
+-- The bytes are these descriptors, one after another. Example: 02 04 03 05 06 are two descriptors
 pub record IsWalk (bytes : List ℕ) (descriptors : List (List ℕ)) : Type 0 where
   pub each : AreDescriptors descriptors
   pub whole : concat descriptors ≡ bytes
 
--- the bytes are descriptors, one after another
+-- The bytes are some descriptors, one after another.
 abbrev pub HasWalk : List ℕ → Type 0
 HasWalk bytes = (descriptors : List (List ℕ)) × IsWalk bytes descriptors
 
@@ -95,7 +95,9 @@ abbrev pub first_type : List (List ℕ) → ℕ
 first_type [] = 0
 first_type (descriptor ∷ rest) = type_of descriptor
 
--- what a host reads of the descriptors of a configuration, which has type 2 (table 9-5)
+-- what a host reads of the descriptors of a configuration, which has type 2 (table 9-5): of the first interface of class
+-- 03, up to the next interface, the length in the first entry of type 22 of its first HID descriptor, and its first
+-- interrupt-IN endpoint. Example: of a boot keyboard 63 bytes, endpoint 1, subclass 1 and protocol 1
 abbrev pub config_of : List (List ℕ) → Result ConfigInfo InfoFault
 config_of descriptors =
     if first_type descriptors == 2

@@ -1,4 +1,4 @@
--- The device's end of a control transfer, packet by packet (USB 2.0, 8.5.3).
+-- The device's end of a control transfer, packet by packet (USB 2.0, 8.4.6 and 8.5.3).
 use Rattle.std.specs.Prelude.{◌≡◌, ℕ, ◌+◌, Bool, true, false, not, nat_le, nat_lt, ◌==◌, ◌&&◌, if◌then◌else◌, List, [], ◌++◌, length, take, Option, Some, None, unwrap_or}
 use Rattle.std.specs.Bool.{beq}
 use Rattle.usb_packet.specs.declared.packet.TokenKind.TheVariants as tokens
@@ -19,7 +19,7 @@ pub record DevControlState (R : Type 0) : Type 0 where
   pub stage : Stage
   pub heard : Heard
 
--- no request is open
+-- endpoint 0 with no request open
 abbrev pub idle : {R : Type 0} → R → DevControlState R
 idle requests = record { requests = requests; stage = Idle; heard = hears.Nothing }
 
@@ -32,7 +32,7 @@ pub data Effect : Type 0 where
   -- the write of these bytes takes effect
   Applies : (bytes : List ℕ) → Effect
 
--- STALL, and no request is open any more
+-- what a packet brings about that is answered by STALL: no request is open any more
 abbrev pub stalled : Effect
 stalled = Answers (Some Stall) Idle hears.Nothing
 
@@ -90,7 +90,7 @@ read_goes_on len sent one count =
     then ReadData len (sent + count) (not one)
     else StatusOut
 
--- an ACK directly after data
+-- what an ACK brings about that comes directly after data
 abbrev pub acknowledged : Option (List ℕ) → Stage → Stage
 acknowledged answer (ReadData len sent one) =
     read_goes_on len sent one (length (read_piece answer len sent))
@@ -109,7 +109,8 @@ abbrev pub ack_heard : Option (List ℕ) → Stage → Heard → Effect
 ack_heard answer stage hears.Answered = Answers None (acknowledged answer stage) hears.Nothing
 ack_heard answer stage _ = ignored stage
 
--- what any packet brings about, by the answer that is fixed, the stage, and what was heard last
+-- what any packet brings about, by the answer that is fixed, the stage, and the last packet. Example: IN after all data
+-- is STALL
 abbrev pub effect : Option (List ℕ) → Stage → Heard → Packet → Effect
 effect answer stage heard (Token tokens.Setup addr endp) = Answers None stage hears.Setup
 effect answer stage heard (Token tokens.Out addr endp) = Answers None stage hears.Out
@@ -119,7 +120,7 @@ effect answer stage heard Ack = ack_heard answer stage heard
 effect answer stage heard Nak = ignored stage
 effect answer stage heard Stall = ignored stage
 
--- the stage after a decision
+-- the stage of endpoint 0 after a decision
 abbrev pub begun : Bool → Bool → ℕ → Stage
 begun false is_read len = Idle
 begun true true len = if len == 0 then StatusIn else ReadData len 0 true

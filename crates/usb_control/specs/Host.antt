@@ -1,4 +1,4 @@
--- The host's end of a control transfer, packet by packet (USB 2.0, 8.5.3).
+-- The host's end of a control transfer, packet by packet (USB 2.0, 8.5.3, 8.6 and 10.2.6).
 use Rattle.std.specs.Prelude.{◌≡◌, ℕ, ◌+◌, Bool, true, false, not, nat_le, nat_lt, ◌==◌, ◌&&◌, if◌then◌else◌, List, [], ◌++◌, length, Option, Some, None}
 use Rattle.std.specs.Bool.{beq}
 use Rattle.usb_packet.specs.declared.packet.TokenKind.{TokenKind}
@@ -42,7 +42,7 @@ progress_of Done = progresses.Done
 progress_of (Failed fault) = progresses.Failed fault
 progress_of _ = progresses.Running
 
--- there is another try to make
+-- the transfer runs: there is another try to make
 abbrev pub IsRunning : HostStage → Type 0
 IsRunning stage = progress_of stage ≡ progresses.Running
 
@@ -158,7 +158,7 @@ took_at StatusIn packet host = in_answered packet status_in host
 took_at StatusOut packet host = handshake packet Done host
 took_at _ packet host = host
 
--- what the host makes of what came
+-- What the host makes of what came. Example: DATA1 of 3 bytes to a read of 2 bytes is C3
 abbrev pub took : Option Packet → HostTransferState → HostTransferState
 took packet host = took_at host.stage packet host
 

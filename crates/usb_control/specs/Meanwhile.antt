@@ -45,7 +45,7 @@ turned table ends (Meanwhile change hears) = record {
   };
 }
 
--- behind a list of turns
+-- both ends after a list of turns
 abbrev pub turned_all : {R : Type 0} → Table R → Ends R → List (Turn R) → Ends R
 turned_all table ends [] = ends
 turned_all table ends (turn ∷ turns) = turned_all table (turned table ends turn) turns
@@ -64,7 +64,7 @@ tries_in table ends (Tries fate ∷ turns) =
 tries_in table ends (Meanwhile change hears ∷ turns) =
     tries_in table (turned table ends (Meanwhile change hears)) turns
 
--- what else happens leaves the answer that is fixed
+-- in a list of turns, what comes between the tries keeps the answer that is fixed
 abbrev pub LeaveAnswers : {R : Type 0} → Table R → List (Turn R) → Type 0
 LeaveAnswers table [] = Unit {0}
 LeaveAnswers table (Tries fate ∷ turns) = LeaveAnswers table turns

@@ -15,7 +15,8 @@ is_open_at None host = true
 abbrev pub is_open : Place → Bool
 is_open place = is_open_at place.fault place.host
 
--- the place after tries with these fates, each with what a SETUP that arrives in it is decided
+-- The place after tries with these fates, each with what a SETUP that arrives in it is decided. Example: the status of a
+-- write, answered and lost three times: one effect, and C2
 abbrev pub run : Shape → List (Fate × Decision) → Place → Place
 run shape [] place = place
 run shape (try ∷ tries) place =
@@ -55,7 +56,7 @@ abbrev pub IsAccepted : Decision → Type 0
 IsAccepted Refused = ⊥
 IsAccepted (Accepted answer) = Unit {0}
 
--- the host is past the last piece, and nothing failed
+-- the transfer is done: the host is past the last piece, and nothing failed
 abbrev pub IsDone : Place → Type 0
 IsDone place = (place.fault ≡ None) × (place.host ≡ Past)
 

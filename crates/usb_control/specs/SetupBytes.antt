@@ -3,7 +3,8 @@ use Rattle.std.specs.Prelude.{◌≡◌, ℕ, Bool, nat_le, ◌++◌, List, ◌�
 use Rattle.std.specs.Int.{w16, to_le_bytes}
 use Rattle.usb_control.specs.declared.setup.Setup.{Setup}
 
--- the eight bytes of a request: its fields in order, words with their low byte first (table 9-2; 8.1)
+-- The eight bytes of a request: bmRequestType, bRequest, and the words wValue, wIndex and wLength, with their low byte
+-- first (table 9-2; 8.1). Example: 80 06 00 01 00 00 12 00 is GET_DESCRIPTOR for a device, of 18 bytes
 abbrev pub setup_bytes : Setup → List ℕ
 setup_bytes s =
     s.request_type ∷ s.request ∷

@@ -67,7 +67,7 @@ TransactsAt prepare_gives apply_gives answer_of fate stage device bytes host old
     Arrives prepare_gives apply_gives answer_of fate stage device bytes host old after
     new
 
--- one transaction
+-- one transaction of endpoint 0 by its fate: what each end makes of what arrives
 abbrev pub Transacts :
     {R : Type 0} → PrepareGives R → ApplyGives R → AnswerOf R → Fate → HostTransferState
     → DevControlState R → HostTransferState → DevControlState R → Type 0

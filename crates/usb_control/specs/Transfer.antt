@@ -1,4 +1,5 @@
--- A control transfer over a bus that may lose packets: two positions in one list of pieces (USB 2.0, 8.5.3).
+-- A control transfer over a bus that may lose packets: two positions in one list of pieces (USB 2.0, 5.5.3, 8.5.3 and
+-- 8.6.4).
 use Rattle.std.specs.Prelude.{◌≡◌, ℕ, suc, ◌+◌, ◌/◌, Bool, true, false, not, nat_lt, ◌==◌, ◌||◌, if◌then◌else◌, List, [], length, take, Option, Some, None, unwrap_or}
 use Rattle.usb_transact.specs.declared.transaction.Fate.{Fate}
 use Rattle.usb_transact.specs.declared.transaction.Fate.TheVariants.{Clean, TokenLost, ReplyLost, AckLost}
@@ -82,8 +83,8 @@ is_same Status Status = true
 is_same Past Past = true
 is_same _ _ = false
 
--- how far the host and the device have come, what the device decided at the last SETUP that arrived, whether
--- a write took effect since, how many tries in a row had no answer, and why the transfer failed
+-- How far the host and the device have come, what the device decided at the last SETUP that arrived, whether a write
+-- took effect since, how many tries in a row had no answer, and why the transfer failed.
 pub record Place : Type 0 where
   pub host : Position
   pub device : Position
@@ -92,7 +93,7 @@ pub record Place : Type 0 where
   pub tries : ℕ
   pub fault : Option ControlFault
 
--- before the first try
+-- the place of a transfer before its first try
 abbrev pub start : Place
 start = record {
   host = Setup;
@@ -110,7 +111,7 @@ silent place =
     then record place { tries = place.tries + 1 }
     else record place { fault = Some BusFault }
 
--- a STALL was heard
+-- the place of a transfer once a STALL was heard
 abbrev pub stalled : Place → Place
 stalled place = record place { fault = Some Stalled }
 
@@ -176,7 +177,8 @@ tried_at Setup shape fate decision place =
     setup_tried fate (data_pieces shape decision) decision place
 tried_at _ shape fate decision place = piece_tried shape fate place.decision place
 
--- one try, where a SETUP that arrives is decided like this
+-- The place after one try with this fate, if a SETUP that arrives in it is decided like this. Example: after a read's
+-- last ACK was lost the host is at the status and the device at the piece before it
 abbrev pub tried : Shape → Fate → Decision → Place → Place
 tried shape fate decision place = tried_at place.host shape fate decision place
 

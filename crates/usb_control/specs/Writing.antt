@@ -1,4 +1,4 @@
--- The bytes of a write, by the packets that the device heard (USB 2.0, 8.5.3 and 8.6.2).
+-- The bytes of a write, by the packets that the device heard (USB 2.0, 8.5.3, 8.5.3.1 and 8.6.2).
 use Rattle.std.specs.Prelude.{◌≡◌, ℕ, Bool, true, false, not, if◌then◌else◌, List, [], ◌∷◌, Option}
 use Rattle.std.specs.Bool.{beq}
 use Rattle.usb_packet.specs.declared.packet.TokenKind.TheVariants.{Out}
@@ -39,7 +39,7 @@ given_data true one (Data toggle payload ∷ rest) =
 given_data behind_out one (Token Out addr endp ∷ rest) = given_data true one rest
 given_data behind_out one (_ ∷ rest) = given_data false one rest
 
--- no stage of a write whose effect is to come
+-- the stage isn't that of a write whose data are under way
 abbrev pub IsNoWrite : Stage → Type 0
 IsNoWrite (WriteData len one bytes more) = ⊥
 IsNoWrite _ = Unit {0}

@@ -8,7 +8,7 @@ use Rattle.usb_packet.specs.declared.fault.PacketFault.{PacketFault}
 use Rattle.usb_packet.specs.declared.fault.PacketFault.TheVariants.{Empty, BadCheck, UnknownPid, BadLength, BadReserved}
 use Rattle.usb_packet.specs.Spelling.{Spells, token_pid, pid_of, body_of}
 
--- the code of a fault, as it is printed
+-- the code of a fault, as it is printed: P1 to P5
 abbrev pub code_of : PacketFault → List ℕ
 code_of Empty = codes "P1"
 code_of BadCheck = codes "P2"
@@ -43,7 +43,9 @@ IsFaultAt BadLength first body = IsKnown first × ¬ HasLength first (length bod
 IsFaultAt BadReserved first body =
     IsToken first × (length body ≡ 2) × (2 ^ 11 ≤ from_le_bytes w16 body)
 
--- the first fault of the bytes
+-- The fault of bytes: the first of five causes that stands. They are said without the order of the code: no PID, the
+-- PID's check, a PID of no packet, a length that no packet with this PID has, and a token's reserved bits. Example: 69
+-- 81 08 is P5
 abbrev pub IsFault : PacketFault → List ℕ → Type 0
 IsFault fault [] = fault ≡ Empty
 IsFault fault (first ∷ body) = IsFaultAt fault first body

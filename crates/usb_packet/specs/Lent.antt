@@ -7,7 +7,7 @@ use Rattle.usb_packet.specs.declared.packet.LentPacket.{LentPacket}
 use Rattle.usb_packet.specs.declared.packet.LentPacket.TheVariants.{Token, Data, Ack, Nak, Stall}
 use Rattle.usb_packet.specs.declared.fault.PacketFault.{PacketFault}
 
--- the packet, with a payload of its own
+-- a lent packet as a packet with a payload of its own. Example: DATA0 with a payload of 07 09 is C3 07 09
 abbrev pub owned : LentPacket → Packet
 owned (Token kind addr endp) = packets.Token kind addr endp
 owned (Data one payload) = packets.Data one (record { items = payload.now })
@@ -15,7 +15,7 @@ owned Ack = packets.Ack
 owned Nak = packets.Nak
 owned Stall = packets.Stall
 
--- its payload is no longer than one may be
+-- the payload of a lent packet is no longer than one may be
 abbrev pub IsShort : LentPacket → Type 0
 IsShort (Data one payload) = length payload.now ≤ MAX_PAYLOAD
 IsShort (Token kind addr endp) = Unit {0}
@@ -23,7 +23,7 @@ IsShort Ack = Unit {0}
 IsShort Nak = Unit {0}
 IsShort Stall = Unit {0}
 
--- what is read of bytes, with a payload of its own
+-- what is read of bytes, as a packet with a payload of its own, or its fault
 abbrev pub owned_or_fault : Result LentPacket PacketFault → Result Packet PacketFault
 owned_or_fault (Ok packet) = Ok (owned packet)
 owned_or_fault (Err fault) = Err fault

@@ -7,7 +7,8 @@ use Rattle.usb_packet.specs.declared.packet.TokenKind.TheVariants.{Out, In, Setu
 use Rattle.usb_packet.specs.declared.packet.Packet.{Packet}
 use Rattle.usb_packet.specs.declared.packet.Packet.TheVariants.{Token, Data, Ack, Nak, Stall}
 
--- a PID has the type of the packet in its low half, and the complement of that in its high half (8.3.1)
+-- a PID has the type of the packet in its low half, and the complement of that in its high half (8.3.1). Example: IN has
+-- type 1001B, so its PID is 69
 abbrev pub pid : ℕ → ℕ
 pid type = type + 2 ^ 4 * (15 - type)
 
@@ -42,7 +43,8 @@ body_of Stall = []
 abbrev pub spelling : Packet → List ℕ
 spelling packet = pid_of packet ∷ body_of packet
 
--- a packet has a spelling where its address and endpoint fit their bits (8.3.2)
+-- A packet has an encoding if its fields fit: of a token an address of at most 127 and an endpoint of at most 15
+-- (8.3.2); every other packet fits.
 abbrev pub Fits : Packet → Type 0
 Fits (Token kind addr endp) = (addr ≤ MAX_ADDRESS) × (endp ≤ MAX_ENDPOINT)
 Fits (Data one payload) = Unit {0}
@@ -50,7 +52,8 @@ Fits Ack = Unit {0}
 Fits Nak = Unit {0}
 Fits Stall = Unit {0}
 
--- the packet fits, its body is no longer than a payload may be, and the bytes are its spelling
+-- The bytes encode the packet: it fits, its body is no longer than a payload may be, and the bytes are its spelling.
+-- Example: IN to address 127, endpoint 15 is 69 FF 07
 pub record Spells (packet : Packet) (bytes : List ℕ) : Type 0 where
   pub fits : Fits packet
   pub short : length (body_of packet) ≤ MAX_PAYLOAD

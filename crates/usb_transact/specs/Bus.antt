@@ -8,12 +8,12 @@ use Rattle.usb_transact.specs.declared.bus.Phase.{Phase}
 abbrev pub Arrivals : Type 0
 Arrivals = Phase → List ℕ → Option (List ℕ)
 
--- these bytes, where something arrives
+-- the bytes that arrive: these, or none if they are lost
 abbrev pub arrived : Bool → List ℕ → Option (List ℕ)
 arrived true bytes = Some bytes
 arrived false bytes = None
 
--- of nothing an end reads nothing, and of bytes the one packet that they spell
+-- what an end reads: of nothing it reads nothing, and of bytes the one packet that they spell
 abbrev pub IsRead : Option (List ℕ) → Option Packet → Type 0
 IsRead None came = came ≡ None
 IsRead (Some bytes) came =

@@ -16,14 +16,15 @@ took_where expects false toggle None = Nak
 took_where expects false toggle (Some bytes) =
     if beq toggle expects then Fresh (record { items = bytes }) else Again
 
--- what the host takes, by the fate: only a clean transaction, and one that loses the ACK alone, bring it the reply
+-- what the host takes, by the fate: only a clean transaction, and one that loses the ACK alone, bring it the reply.
+-- Example: AA armed and AckLost: Fresh AA, and the device as it was
 abbrev pub took_of : Fate → HostPipeState → DevPipeState → Took
 took_of TokenLost host device = Silent
 took_of ReplyLost host device = Silent
 took_of Clean host device = took_where host.expects device.halted device.toggle device.armed
 took_of AckLost host device = took_where host.expects device.halted device.toggle device.armed
 
--- the acknowledgement arrives in a clean transaction alone, and STALL has none
+-- the device's pipe after a transaction: the acknowledgement arrives in a clean one alone, and STALL has none
 abbrev pub device_after : Fate → DevPipeState → DevPipeState
 device_after Clean device = if device.halted then device else closed device
 device_after _ device = device

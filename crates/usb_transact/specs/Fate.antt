@@ -1,4 +1,5 @@
--- What a fate lets arrive: a packet as it was sent, or nothing (our choice).
+-- What a fate lets arrive: a packet as it was sent, or nothing (our choice). TokenLost loses the token and ReplyLost the
+-- reply; AckLost loses the host's ACK to data of an IN, and the device's handshake to SETUP and OUT, as ReplyLost does.
 use Rattle.std.specs.Prelude.{Some, None}
 use Rattle.usb_transact.specs.declared.bus.Phase.TheVariants.{Token, HostData, Reply, Handshake, Acknowledgement}
 use Rattle.usb_transact.specs.declared.transaction.Fate.{Fate}

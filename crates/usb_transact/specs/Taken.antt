@@ -1,4 +1,5 @@
--- What the host takes after a token (USB 2.0, 8.6): data under the toggle that it expects are fresh.
+-- What the host takes after a token (USB 2.0, 8.4.6.2, 8.6.2 and 8.6.4): data under the toggle that it expects are
+-- fresh.
 use Rattle.std.specs.Prelude.{Bool, not, if◌then◌else◌, Option, Some}
 use Rattle.std.specs.Bool.{beq}
 use Rattle.usb_packet.specs.declared.packet.Packet.{Packet}
@@ -8,14 +9,15 @@ use Rattle.usb_transact.specs.declared.host.Took.{Took}
 use Rattle.usb_transact.specs.declared.host.Took.TheVariants.{Fresh, Again, Nak, Stall, Silent}
 use Rattle.usb_transact.specs.Host.{HostPipeState}
 
--- what a host that expects this toggle makes of what came
+-- what a host that expects this toggle makes of what came: data under it are Fresh, other data Again, NAK and STALL are
+-- themselves, and all else is Silent. Example: after a lost ACK the same data are Again
 abbrev pub taken : Bool → Option Packet → Took
 taken expects (Some (Data one payload)) = if beq one expects then Fresh payload else Again
 taken expects (Some packets.Nak) = Nak
 taken expects (Some packets.Stall) = Stall
 taken expects _ = Silent
 
--- fresh data alone change what the host expects
+-- the host's pipe after what it took: Fresh data alone change the toggle that it expects
 abbrev pub host_after : Took → HostPipeState → HostPipeState
 host_after (Fresh payload) host = record host { expects = not host.expects }
 host_after _ host = host
