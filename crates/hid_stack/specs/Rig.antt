@@ -197,7 +197,7 @@ most_tried layout true = max_events (items_of layout)
 most_tried layout false = 0
 
 -- how many events a step delivers at most: a poll, a halt, a reset, and a try of a request to halt or to clear those of
--- its device's layout; any other step none. Example: the mouse, polled twice: 10
+-- its device's layout; any other step none
 abbrev pub most_events : List Member → Step → ℕ
 most_events members (Change dev change) = 0
 most_events members Frame = 0
@@ -211,7 +211,7 @@ most_events members (Begin dev request) = 0
 most_events members (Control dev fate) =
     elim (member_at members dev) [ None ↦ 0 | Some m ↦ most_tried m.layout (may_cut (running m.transfer)) ]
 
--- how many events a list of steps delivers at most
+-- how many events a list of steps delivers at most. Example: the mouse, polled twice: 10
 abbrev pub most_in : List Member → List Step → ℕ
 most_in members [] = 0
 most_in members (x ∷ steps) = most_events members x + most_in (bus_after members x) steps

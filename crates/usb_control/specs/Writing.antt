@@ -39,7 +39,7 @@ given_data true one (Data toggle payload ∷ rest) =
 given_data behind_out one (Token Out addr endp ∷ rest) = given_data true one rest
 given_data behind_out one (_ ∷ rest) = given_data false one rest
 
--- the stage isn't that of a write whose data are under way
+-- the stage isn't that of a write whose effect is to come
 abbrev pub IsNoWrite : Stage → Type 0
 IsNoWrite (WriteData len one bytes more) = ⊥
 IsNoWrite _ = Unit {0}
