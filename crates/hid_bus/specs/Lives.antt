@@ -155,7 +155,7 @@ view_from items view (Cut current ∷ rest) = view_from items (view_cut items vi
 view_from items view (Evened ∷ rest) = view_from items view rest
 view_from items view (Gone current ∷ rest) = view_from items (blank items) rest
 
--- a toggle that was changed so many times (USB 2.0, 8.6)
+-- a toggle that was changed this many times from DATA0 on: DATA1 after an odd number of changes (USB 2.0, 8.6)
 abbrev pub flips : ℕ → Bool → Bool
 flips zero odd = odd
 flips (suc n) odd = not (flips n odd)

@@ -76,7 +76,7 @@ after_frame d = record {
 abbrev pub with_idle : List ℕ → Standing → Standing
 with_idle idle d = record { snapshot = d.snapshot; fixed = d.fixed; frames = d.frames; idle = idle; cut = d.cut }
 
--- no idle times: as many of 0 (HID 1.11, 7.2.4)
+-- as many idle times of 0, as at a reset
 abbrev pub no_idle : List ℕ → List ℕ
 no_idle idle = replicate (length idle) 0
 
@@ -98,6 +98,7 @@ fixed_with items r d parts = record {
   cut = slice_set d.cut r false;
 }
 
--- A round of a report opens: the part that it shows now is fixed.
+-- A round of a report opens: the part that it shows now is fixed, its motion is taken out of the snapshot, its frames
+-- are counted anew, and none of its rounds counts as cut. Example: 200 to the right: 127 fixed, 73 stay
 abbrev pub after_opening : List Item → ℕ → Standing → Standing
 after_opening items r d = fixed_with items r d (shown items r d.snapshot d.fixed)

@@ -1,4 +1,5 @@
--- What the Input, Output and Feature items put into the reports (HID 1.11, 6.2.2.4 and 6.2.2.7).
+-- What the Input, Output and Feature items put into the reports: fields of one kind and ID lie one behind the other in
+-- descriptor order, and the bits of a report are their sum (HID 1.11, 6.2.2.4, 6.2.2.5, 6.2.2.7, 6.2.2.9 and 8).
 use Rattle.std.specs.Prelude.{ℕ, ◌*◌, ◌%◌, Bool, true, false, List, [], ◌∷◌, ◌++◌, filter, sum_by, ◌==◌, ◌&&◌, ◌||◌, if◌then◌else◌, ℤ}
 use Rattle.hid_items.specs.Spelling.{data_of, unsigned_of}
 use Rattle.hid_descriptor.specs.declared.collection.Collection.{Collection}

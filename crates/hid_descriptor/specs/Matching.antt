@@ -1,5 +1,5 @@
--- Which opening item a closing one matches, by counting: Push and Pop, Collection and End Collection
--- (HID 1.11, 6.2.2.6 and 6.2.2.7).
+-- Which opening item a closing one matches: the nearest before it with as many opening as closing items in between, Push
+-- and Pop, Collection and End Collection (HID 1.11, 6.2.2.6 and 6.2.2.7).
 use Rattle.std.specs.Prelude.{ℕ, ◌+◌, ◌-◌, List, [], ◌∷◌, ◌++◌, ◌==◌, ◌&&◌, if◌then◌else◌}
 use Rattle.hid_descriptor.specs.Items.{Spelled, is}
 

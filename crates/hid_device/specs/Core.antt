@@ -203,7 +203,7 @@ pub record IsSound (core : CoreState) : Type 0 where
 abbrev pub KeepsRound : CoreState → List ℕ → Type 0
 KeepsRound core bytes = IfSome core.current (λ r. bytes ≡ part_bytes core.layout r core.standing.fixed)
 
--- where it was seen that the controls of no Input report call for it, none do
+-- If it was seen that the controls of no Input report call for it, none do, so that a poll needn't look at them.
 abbrev pub IsCalm : Contents → List Cell → List Cell → Bool → Type 0
 IsCalm layout snapshot fixed true = (r : ℕ) → r < input_count layout.reports → is_changed (items_of layout) r snapshot fixed ≡ false
 IsCalm layout snapshot fixed false = Unit {0}

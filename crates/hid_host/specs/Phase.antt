@@ -30,7 +30,9 @@ abbrev pub has_endpoint : HostState → Bool
 has_endpoint states.Ready = true
 has_endpoint _ = false
 
--- the state in which a request may begin: a protocol is set before the device is configured
+-- Whether a request may begin in a state: a configuration is read from cold, a report descriptor behind it, a device is
+-- configured behind that, and a protocol is set before; what else concerns its reports is asked once they are known, and
+-- what concerns the endpoint of reports once it is polled; device, status and configuration number at any time.
 abbrev pub may_begin : Request → HostState → Bool
 may_begin Device state = true
 may_begin Config states.Cold = true

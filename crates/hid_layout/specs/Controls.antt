@@ -43,7 +43,7 @@ pub record Item : Type 0 where
   pub bytes : ℕ
   pub form : Form
 
--- the least number of the logical range that some pattern stands for
+-- the least number of the logical range that some pattern of the width stands for. Example: 0 to 7 in two bits is 0 to 3
 abbrev pub least_of : MainItem → ℤ
 least_of item = int_max item.min (least_value item.min item.size)
 
@@ -68,15 +68,17 @@ element_kind item =
     else (if int_eq item.min (pos 0) && int_eq item.max (pos 1) && not (has_flag NULL_STATE item.flags.0) then Switch
     else (if has_flag NULL_STATE item.flags.0 && has_outside item then NullValue else Value))
 
--- of so many elements, each with its usage, or the last one where there are fewer
+-- the usages of an item's elements, one for each: where there are fewer usages, the last one is for the rest (6.2.2.8).
+-- Example: two usages and three fields: the third has the second usage
 unfoldable pub spread : ℕ → List Usage → List Usage
 spread zero us = []
 spread (suc n) [] = []
 spread (suc n) (u ∷ []) = u ∷ spread n (u ∷ [])
 spread (suc n) (u ∷ v ∷ us) = u ∷ spread n (v ∷ us)
 
--- a place of an array's usage list is a key where an element can carry its number and its usage is neither 0
--- nor an error
+-- A place of an array's usage list below 65,536 is a key if an element can carry its number, its usage ID isn't 0, and
+-- it is none of the errors 07:01 to 07:03 (6.2.2.5; HID Usage Tables, page 07). Example: places 4 to 101 of the
+-- keyboard's array
 abbrev pub is_key : MainItem → ℕ → Usage → Bool
 is_key item i u =
     is_encodable item (item.min +ℤ pos i) && (nat_lt i MAX_KEYS && (not (u.id == 0) && not (tells_error u)))
@@ -94,7 +96,8 @@ key_places us = take MAX_KEYS us
 abbrev pub array_keys : MainItem → List Usage → List Key
 array_keys item us = keys_from item 0 (key_places us)
 
--- the least place, from i on, that an element can carry and that names ErrorRollOver
+-- the least place, from i on, also past 65,535, that an element can carry and that names ErrorRollOver, 07:01. Example:
+-- place 1 of the keyboard's array
 unfoldable pub rollover_from : MainItem → ℕ → List Usage → Option ℕ
 rollover_from item i [] = None
 rollover_from item i (u ∷ us) =

@@ -35,7 +35,7 @@ first_passing test n (suc count) = if test n then Some n else first_passing test
 abbrev pub least_pattern : MainItem → (ℤ → Bool) → Option ℕ
 least_pattern item test = first_passing (λ pattern. test (number_of item pattern)) 0 (2 ^ item.size)
 
--- null is sent as the least pattern out of range
+-- the pattern by which null is sent: the least one out of range. Example: 8 of a hat switch from 0 to 7 in four bits
 abbrev pub null_code : MainItem → Option ℕ
 null_code item = least_pattern item (λ v. not (is_in item.min item.max v))
 
@@ -47,7 +47,8 @@ names_nothing item us v =
       | Some i ↦ elim (slice_get us i) [ None ↦ true | Some u ↦ not (is_key item i u || tells_error u) ]
     ]
 
--- an empty element of an array is sent as the least pattern that names neither a key nor an error
+-- the pattern by which an empty element of an array is sent: the least one that names neither a key nor 07:01 to 07:03.
+-- Example: 0 of the keyboard; none if 256 patterns name 256 keys
 abbrev pub empty_code : MainItem → List Usage → Option ℕ
 empty_code item us = least_pattern item (names_nothing item us)
 

@@ -22,7 +22,8 @@ abbrev pub plain_line : List ℕ → ℕ → Bool → Event → List ℕ
 plain_line time device names event =
     time ++ 32 ∷ event_text device event ++ (if names then name_words (usage_in event) else []) ++ 10 ∷ []
 
--- the line of an event
+-- the line of an event: the time as it stands, the device, the event, and with names that of its usage. Example: 0.1 0
+-- down 09:01 Button 1
 unfoldable pub event_line : List ℕ → ℕ → Options → Event → List ℕ
 event_line time device options event =
     if options.json then json_text (event_tokens time device options.names event)

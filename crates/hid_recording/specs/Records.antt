@@ -137,8 +137,9 @@ header_said [] = Err Syntax
 abbrev pub is_digit : ℕ → Bool
 is_digit b = nat_le 48 b && nat_le b 57
 
--- An empty line ends a dump, and one that begins with `#` says nothing; a space stands before the bytes of a dump, and
--- a digit begins its head.
+-- what a line of a recording says: nothing; which device comes; its descriptor, or why that can't be read; a report and
+-- its time; the head, bytes or end of a dump; or the first refusal. An empty line ends a dump, and one that begins with
+-- `#` says nothing; a space stands before the bytes of a dump, and a digit begins its head. Example: R: 2 05 is R4
 unfoldable pub record_of : List ℕ → Result Said Refusal
 record_of [] = Ok Blank
 record_of (first ∷ rest) =

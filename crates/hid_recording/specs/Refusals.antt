@@ -49,7 +49,7 @@ cause_text causes.Memory = codes "R10: memory was wanting"
 cause_text causes.TooManyReads = codes "R11: the end didn't come in 1000000000000 reads"
 cause_text causes.Unended = codes "R12: no empty line ends the last dump"
 
--- line N: CODE: WORDS; with --json the same as members
+-- line N: CODE: WORDS; with --json the same as members. Example: line 1: R4: the count isn't that of the bytes
 abbrev pub refusal_line : Bool → ℕ → Refusal → List ℕ
 refusal_line json line refusal =
     if json then json_text (refusal_tokens line (refusal_text refusal))

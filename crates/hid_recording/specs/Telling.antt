@@ -252,7 +252,7 @@ abbrev pub TellsUnless : Bool → Session → List ℕ → Outcome → Type 0
 TellsUnless true session line o = o ≡ refused LineTooLong
 TellsUnless false session line o = Means (advanced session) (record_of line) o
 
--- what a line of these bytes tells
+-- What a line of these bytes tells: its text and the session that it leaves. Example: E: 1 1 00 as the first line is R7
 unfoldable pub LineTells : Session → List ℕ → Outcome → Type 0
 LineTells session line o = TellsUnless (nat_lt 16384 (length line)) session line o
 

@@ -64,7 +64,8 @@ abbrev pub Means : Session → Result Line LineFault → Outcome → Type 0
 Means session (Ok said) o = CarriesOut session said o
 Means session (Err fault) o = o ≡ refused (line_cause fault)
 
--- a line of these bytes tells what they mean
+-- A line of these bytes tells what they mean: the text that it prints and the session that it leaves, or why it is
+-- refused. Example: layout alone prints no reports
 unfoldable pub LineTells : Session → List ℕ → Outcome → Type 0
 LineTells session bytes o = Means session (meaning_of bytes) o
 

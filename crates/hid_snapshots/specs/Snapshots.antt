@@ -115,7 +115,8 @@ changed_at items cells change (Some control) =
     let i = (target change).item in
     with_cell cells i (changed_cell control.kind (head_of (form_at items i)) (cell_at cells i) change)
 
--- The snapshot after a change, or why the change is refused.
+-- The snapshot after a change, or the first of U1 to U7, in this order, for which the change is refused. Example: 1 more
+-- than a motion of 7FFFFFFF hex is U6
 abbrev pub changed : List Item → List Cell → Change → OrFault (List Cell)
 changed items cells change = changed_at items cells change (control_of items (target change))
 

@@ -27,7 +27,8 @@ abbrev pub value_in : Cell → ℕ → Option ℤ
 value_in (Holding vs) j = unwrap_or (slice_get vs j) None
 value_in cell j = None
 
--- The view after the part of report r; controls of other reports stay.
+-- The view after the part of report r: what the part shows, without motion; keys stay if the array rolled over, and
+-- controls of other reports stay. Example: seven keys and Shift: Shift alone goes down
 abbrev pub seen : List Item → ℕ → List Cell → List Cell → List Cell
 seen items r view parts = by_item (seen_of r) items view parts
 

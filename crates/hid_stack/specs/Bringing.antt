@@ -27,7 +27,8 @@ use Rattle.hid_stack.specs.Knowing.{BeginsAnew, info_of}
 use Rattle.hid_host.specs.Phase.{cleared_phase, may_begin, state_of}
 use Rattle.hid_host.specs.Ready.{known_at_start}
 
--- the phase to which a request that is done leads with this device
+-- The phase to which a request that is done leads with this device: what its configuration says, its layout, polls from
+-- DATA0 and the initial view on, or behind a Clear the pipe at DATA0.
 abbrev pub brought : Request → ℕ → CoreState → HostPhase → HostPhase
 brought Config addr core phase = Described (info_of core)
 brought Report addr core phase = Parsed (info_of core) core.layout

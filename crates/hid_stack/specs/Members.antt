@@ -1,5 +1,5 @@
--- A device of a bus with its host, and what each step of the bus makes of the two (USB 2.0, 5.7.3, 7.1.7.5, 8.5, 8.6,
--- 9.1.1, 9.4.5 and 9.4.7; HID 1.11, 7.2; our choice).
+-- A device of a bus with its host, and what each step of the bus makes of the two (USB 2.0, 5.7.3, 7.1.7.5, 8.5, 8.5.3,
+-- 8.6, 9.1.1, 9.1.1.3, 9.4.5 and 9.4.7; HID 1.11, 7.2; our choice).
 use Rattle.std.specs.Prelude.{ℕ, ◌*◌, Bool, true, false, ◌||◌, if◌then◌else◌, List, [], ◌∷◌, replicate, take, Option, Some, None}
 use Rattle.std.specs.List.{cons_option}
 use Rattle.std.specs.Option.{option_map}

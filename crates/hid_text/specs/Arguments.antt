@@ -1,4 +1,6 @@
--- What the words behind a line's first one say (our choice: the script language of docs/SCRIPT.md).
+-- What the words behind a line's first one say: a device alone or with a usage, a number, a fate and a count, each with
+-- the values that it may have (our choice: the script language of docs/SCRIPT.md). Example: poll 1 ack 2 is device 1, a
+-- lost acknowledgement, twice; halt 8 is X1
 use Rattle.std.specs.Prelude.{ℕ, List, [], ◌∷◌, Option, None, Some, Result, Ok, Err, codes, ℤ}
 use Rattle.arrayvec.specs.ArrayVec.{ArrayVec}
 use Rattle.hid_descriptor.specs.declared.usage.Usage.{Usage}

@@ -18,7 +18,8 @@ abbrev pub words_of_events : List (List ℕ)
 words_of_events =
     codes " down " ∷ codes " up " ∷ codes " value " ∷ codes " null " ∷ codes " motion " ∷ codes " dropped " ∷ []
 
--- a line of an event of a device: its number comes first, and then one of these words
+-- whether a line is of an event of a device: its number comes first, in decimal, and then one of the six words of
+-- events, between spaces. Example: of 1 poll NAK nak, 1 down 07:04 and 11 up 07:04 the second alone is device 1's
 abbrev pub is_event_line : ℕ → List ℕ → Bool
 is_event_line dev line = list_any (λ word. begins_with (decimal dev ++ word) line) words_of_events
 

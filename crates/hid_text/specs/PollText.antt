@@ -1,4 +1,5 @@
--- Polls as they are printed (our choice: docs/SCRIPT.md).
+-- Polls as they are printed: what the device sent, by its PID and bytes, then what the host took (our choice:
+-- docs/SCRIPT.md). Example: 1 poll NAK nak
 use Rattle.std.specs.Prelude.{ℕ, true, false, List, [], ◌∷◌, ◌++◌, length, ◌==◌, ◌&&◌, nat_le, if◌then◌else◌, Option, None, Some, codes}
 use Rattle.std.specs.Fmt.{decimal}
 use Rattle.usb_packet.specs.declared.packet.TheConstants.{MAX_PAYLOAD}

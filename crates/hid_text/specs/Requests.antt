@@ -94,7 +94,8 @@ abbrev pub word_asked : Option RequestWord → List Word → Result Request Line
 word_asked None more = Err Syntax
 word_asked (Some word) more = asked_by word more
 
--- REQUEST
+-- what the words of a request say, behind its name. Example: idle 0 125 is an idle time of 500 ms for all Input reports;
+-- clear 81 is X1
 unfoldable pub request_said : List Word → Result Request LineFault
 request_said [] = Err Syntax
 request_said (first ∷ more) = word_asked (request_word_of first) more

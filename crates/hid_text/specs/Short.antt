@@ -1,4 +1,5 @@
--- Lines without hex words that begin no request (our choice: the script language of docs/SCRIPT.md).
+-- Lines without hex words that begin no request: what one device, the time or a count needs (our choice: the script
+-- language of docs/SCRIPT.md).
 use Rattle.std.specs.Prelude.{Bool, true, false, List, Option, None}
 use Rattle.std.specs.Option.{option_map}
 use Rattle.hid_text.specs.declared.line.Keyword.{Keyword}

@@ -16,7 +16,8 @@ progress_words (Failed fault) got = codes "failed " ++ control_code_of fault
 abbrev pub progress_text : ℕ → Progress → List ℕ → List ℕ
 progress_text dev progress got = decimal dev ++ codes " control " ++ progress_words progress got ++ 10 ∷ []
 
--- the line of a try, of a transfer that goes on with --trace alone
+-- The line of a try: how far the transfer has come, with the bytes of a read that is done or the code of one that
+-- failed; one that goes on has a line with --trace alone. Example: 1 control done 00 00
 unfoldable pub transfer_text : Bool → ℕ → Progress → List ℕ → List ℕ
 transfer_text trace dev Running got = if trace then progress_text dev Running got else []
 transfer_text trace dev progress got = progress_text dev progress got

@@ -49,7 +49,7 @@ abbrev pub look_up : {X : Type 0} → List (Word × X) → Word → Option X
 look_up [] word = None
 look_up (entry ∷ more) word = if bytes_eq word entry.0 then Some entry.1 else look_up more word
 
--- the bytes that words of hex spell, joined: each word is pairs of digits, of either case
+-- the bytes that words of hex spell, joined: each word is pairs of digits, of either case. Example: 0a Ff10 is 0A FF 10
 unfoldable pub hex_of : List Word → Option (List ℕ)
 hex_of words =
     if list_all (λ word. is_ok (decode_of word)) words
@@ -65,7 +65,8 @@ byte_from None low = None
 abbrev pub pair_of : ℕ → ℕ → Option ℕ
 pair_of high low = byte_from (hex_digit_value high) (hex_digit_value low)
 
--- how many bytes words of hex spell, one for two digits, whatever the digits are
+-- How many bytes words of hex spell, one for two digits, whatever the digits are: over 256 are no line of a report that
+-- is set. Example: 513 digits and a bad one is X1
 abbrev pub byte_count : List Word → ℕ
 byte_count words = sum_by (λ word. length word / 2) words
 

@@ -15,7 +15,8 @@ is_variable Variable = true
 is_variable Padding = false
 is_variable Array = false
 
--- the elements of an item are up to 32 switches of one bit each
+-- The elements of an item are up to 32 switches of one bit each, side by side, so that they are the bits of one pattern.
+-- Example: modifiers 02 are the left Shift
 abbrev pub are_bits : MainItem → Bool
 are_bits item = is_variable item.shape && (item.size == 1 && (nat_le item.count 32 && is_switch (element_kind item)))
 

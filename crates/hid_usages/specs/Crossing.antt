@@ -15,8 +15,8 @@ use Rattle.hid_usages.specs.Reading.{report_named}
 use Rattle.hid_usages.specs.Taking.{read_view, read_events, TakesReport}
 use Rattle.hid_snapshots.specs.Views.{seen, events_between}
 
--- The bytes name their report, and a view that reads them sees the part of that report and is told
--- its changes and its motions.
+-- The bytes name their report, and a view that reads them sees the part of that report and is told its changes and its
+-- motions. Example: the mouse's 01 7F 81: button 1 down, X by 127, Y by -127
 pub record ReadsAsShown (layout : Contents) (r : ℕ) (parts : List Cell) (bytes : List ℕ)
     (before : List Cell) : Type 0 where
   pub report : report_named layout bytes ≡ Ok r
@@ -24,7 +24,8 @@ pub record ReadsAsShown (layout : Contents) (r : ℕ) (parts : List Cell) (bytes
   pub events : read_events layout r bytes before
       ≡ events_between (items_of layout) r before (seen (items_of layout) r before parts) parts
 
--- the bytes by which an Input report shows the parts, of a layout whose arrays can all tell that an element is empty
+-- the bytes by which an Input report shows the parts, of a layout whose arrays can all tell that an element is empty.
+-- Example: Shift and a on the keyboard is 02 00 04 00 00 00 00 00
 pub record ShowsParts (layout : Contents) (r : ℕ) (parts : List Cell) (bytes : List ℕ) : Type 0 where
   pub laid : IsLayout layout
   pub input : IsInput layout r

@@ -4,7 +4,8 @@ use Rattle.hid_layout.specs.declared.main_item.MainItem.{MainItem}
 use Rattle.hid_layout.specs.Controls.{Key}
 use Rattle.hid_usages.specs.Reading.{named_from}
 
--- the numbers of the elements from one on, before an end, leave them as they are
+-- the numbers of the elements from one on, before an end, leave them as they are. Example: all elements of a report that
+-- came before
 abbrev pub AreKept : {A : Type 0} → (A × ℤ → A) → List A → List ℤ → ℕ → ℕ → Type 0
 AreKept {A = A} read held numbers from end =
     (j : ℕ) (x : A) (v : ℤ) → from ≤ j → j < end → slice_get held j ≡ Some x → slice_get numbers j ≡ Some v → read (x, v) ≡ x

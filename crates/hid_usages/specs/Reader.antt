@@ -13,7 +13,8 @@ pub record Seen : Type 0 where
   pub layout : Contents
   pub view : List Cell
 
--- where there are bytes, they are an Input report that tells nothing and leaves the view, whatever was told before
+-- if a reader keeps bytes, they are an Input report that tells nothing and leaves the view, whatever was told before:
+-- they needn't be read again
 abbrev pub IsStill : Contents → List Cell → List ℕ → Type 0
 IsStill layout view bytes = 0 < length bytes → (out : List Event) → TakesReport layout bytes view out (Ok tt) view out
 

@@ -98,7 +98,7 @@ told_from layout r bytes i [] = []
 told_from layout r bytes i (cell ∷ cells) =
     told_by_report layout r bytes i cell ++ told_from layout r bytes (i + 1) cells
 
--- Reading a report: controls of other reports stay.
+-- The view after a report: each item of the report by its numbers; controls of other reports stay.
 abbrev pub read_view : Contents → ℕ → List ℕ → List Cell → List Cell
 read_view layout r bytes view = read_from layout r bytes 0 view
 

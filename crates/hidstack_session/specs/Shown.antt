@@ -1,4 +1,5 @@
--- Reports, collections and usages as records of numbers (HID 1.11, 5.6, 6.2.2.6 and 6.2.2.8; the records: our choice).
+-- Reports, collections and usages as records of numbers alone: what the layout has at a place (HID 1.11, 5.6, 6.2.2.6
+-- and 6.2.2.8; the records: our choice).
 use Rattle.std.specs.Prelude.{ℕ, List, slice_get, Option, Some, None}
 use Rattle.std.specs.Option.{option_map}
 use Rattle.hid_descriptor.specs.Kinds.{rank}

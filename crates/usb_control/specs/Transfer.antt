@@ -28,7 +28,8 @@ abbrev pub decision_of : Bool → Option (List ℕ) → Decision
 decision_of false answer = Refused
 decision_of true answer = Accepted answer
 
--- the places of the list of pieces: SETUP, the data from piece 0 on, the status, and the end
+-- The places of the list of pieces: SETUP, the data from piece 0 on, the status, and the end. Example: the data of a
+-- read of 18 bytes that gets 16 are three pieces, the last one empty
 pub data Position : Type 0 where
   Setup : Position
   Piece : (k : ℕ) → Position
