@@ -8,6 +8,6 @@ use Rattle.hid_bus.specs.declared.step.Delivered.{Delivered}
 abbrev pub own_event : ℕ → Delivered → Option Event
 own_event device e = if e.dev == device then Some e.event else None
 
--- and all of that, in its order
+-- all events that were delivered of a device, in their order
 abbrev pub from_device : ℕ → List Delivered → List Event
 from_device device out = filter_map (own_event device) out

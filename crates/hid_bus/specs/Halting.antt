@@ -25,13 +25,13 @@ OpensNone items r s Clean = report_opened items s ≡ Some r → ⊥
 OpensNone items r s ReplyLost = report_opened items s ≡ Some r → ⊥
 OpensNone items r s AckLost = report_opened items s ≡ Some r → ⊥
 
--- nor at a step
+-- a step opens no round of this report
 abbrev pub IsStepWithout : List Item → ℕ → Station → OwnStep → Type 0
 IsStepWithout items r s (Changes change) = Unit {0}
 IsStepWithout items r s Frame = Unit {0}
 IsStepWithout items r s (Polls fate) = OpensNone items r s fate
 
--- nor at a deed that begins no epoch and ends none: idle times, halts and clears open none
+-- a deed begins no epoch and opens no round of this report: idle times, halts and clears open none
 abbrev pub IsWithoutRound : List Item → ℕ → Station → Deed → Type 0
 IsWithoutRound items r s (Own x) = IsStepWithout items r s x
 IsWithoutRound items r s (Idles idle) = Unit {0}
@@ -40,7 +40,7 @@ IsWithoutRound items r s Halts = Unit {0}
 IsWithoutRound items r s Clears = Unit {0}
 IsWithoutRound items r s Resets = ⊥
 
--- and so at each deed of a life
+-- no deed of a life begins an epoch or opens a round of this report
 abbrev pub AreWithoutRound : List Item → ℕ → Station → List Deed → Type 0
 AreWithoutRound items r s [] = Unit {0}
 AreWithoutRound items r s (x ∷ deeds) =

@@ -49,7 +49,7 @@ course_after items c Halts = cut_course true c
 course_after items c Clears = cut_course false c
 course_after items c Resets = fresh_course items c.standing.snapshot (no_idle c.standing.idle)
 
--- and behind a list of them
+-- the course of a device after a list of deeds
 abbrev pub course_behind : List Item → List Deed → Course → Course
 course_behind items [] c = c
 course_behind items (x ∷ deeds) c = course_behind items deeds (course_after items c x)
@@ -100,7 +100,7 @@ AreWithinEpoch (x ∷ deeds) = IsWithinEpoch x × AreWithinEpoch deeds
 abbrev pub round_told : List Item → List Cell → Bool → Round → List Event
 round_told items view crossed round = if crossed then part_events items round.report view round.parts else []
 
--- and the view that took it
+-- the view after a round: it took the part of one that crossed
 abbrev pub view_past : List Item → List Cell → Bool → Round → List Cell
 view_past items view crossed round = if crossed then seen items round.report view round.parts else view
 
@@ -111,7 +111,7 @@ round_cut items view crossed round =
     if crossed then part_events items round.report view round.parts
     else drops_between items round.report view view round.parts
 
--- and where no round is open nothing
+-- what a halt or a clear tells: of the round that it cuts, or nothing if none is open
 abbrev pub cut_told : List Item → List Cell → Option Round → List Event
 cut_told items view None = []
 cut_told items view (Some round) = round_cut items view (has_crossed round) round
@@ -129,7 +129,7 @@ round_gone items view crossed round =
     ++ changes_between items (seen items round.report view round.parts) (blank items)
     else drops_between items round.report view (blank items) round.parts
 
--- and where no round is open
+-- what a reset tells of the round that it ends, or without a round
 abbrev pub gone_told : List Item → List Cell → Option Round → List Event
 gone_told items view None = changes_between items view (blank items)
 gone_told items view (Some round) = round_gone items view (has_crossed round) round
@@ -165,7 +165,7 @@ abbrev pub toggle_past : (Round → ℕ) → Bool → Option Round → Bool
 toggle_past pieces odd None = odd
 toggle_past pieces odd (Some round) = flips (pieces round) odd
 
--- and behind a life
+-- whether the pieces are odd in number after a life, counted like this
 abbrev pub toggle_from : (Round → ℕ) → Bool → List Happening → Bool
 toggle_from pieces odd [] = odd
 toggle_from pieces odd (Ended round ∷ rest) = toggle_from pieces (flips (pieces round) odd) rest

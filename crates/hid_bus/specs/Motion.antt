@@ -30,7 +30,7 @@ given_by c (event.Up d u) = pos 0
 given_by c (event.Value d u v) = pos 0
 given_by c (event.Null d u) = pos 0
 
--- and what a list of events gives
+-- the motion of a control that a list of events gives
 abbrev pub given_motion : ControlId → List Event → ℤ
 given_motion c [] = pos 0
 given_motion c (e ∷ events) = given_by c e +ℤ given_motion c events
@@ -49,7 +49,7 @@ moved_by c (Changes change) = moved_by_change c change
 moved_by c Frame = pos 0
 moved_by c (Polls fate) = pos 0
 
--- and what a list of steps adds
+-- the motion that a list of steps adds to a control
 abbrev pub moved_motion : ControlId → List OwnStep → ℤ
 moved_motion c [] = pos 0
 moved_motion c (s ∷ steps) = moved_by c s +ℤ moved_motion c steps

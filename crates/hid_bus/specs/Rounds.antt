@@ -29,14 +29,14 @@ pub record Round : Type 0 where
   pub parts : List Cell
   pub polls : List Fate
 
--- with this fate the device's reply reaches the host
+-- the device's reply reaches the host
 abbrev pub reaches_host : Fate → Bool
 reaches_host Clean = true
 reaches_host TokenLost = false
 reaches_host ReplyLost = false
 reaches_host AckLost = true
 
--- with this fate nothing is lost, so the host's acknowledgement reaches the device
+-- nothing is lost, so the host's acknowledgement reaches the device
 abbrev pub is_clean : Fate → Bool
 is_clean Clean = true
 is_clean TokenLost = false
@@ -108,7 +108,7 @@ opened_if items c (Some r) = record c {
 abbrev pub opening : List Item → Course → Course
 opening items c = elim c.current [ Some round ↦ c | None ↦ opened_if items c (due_where items c.halted c.standing) ]
 
--- of a poll, before its answer: its token arrives, or is lost
+-- the course of a device at a poll, before its answer: the token arrives, or is lost
 abbrev pub at_arrival : List Item → Course → Fate → Course
 at_arrival items c TokenLost = c
 at_arrival items c Clean = opening items c
@@ -146,7 +146,7 @@ closed_by items c (Changes change) = []
 closed_by items c Frame = []
 closed_by items c (Polls fate) = closed_by_poll (at_arrival items c fate).current fate
 
--- behind a list of steps, one after another
+-- the course of a device after a list of steps, one after another
 abbrev pub after_steps : List Item → List OwnStep → Course → Course
 after_steps items [] c = c
 after_steps items (s ∷ steps) c = after_steps items steps (after_step items c s)

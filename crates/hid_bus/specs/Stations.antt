@@ -64,7 +64,7 @@ opened_by items s (Some r) =
 abbrev pub opened : List Item → Station → Station
 opened items s = elim s.current [ Some round ↦ s | None ↦ opened_by items s (due_where items s.halted s.standing) ]
 
--- of a poll, before its answer
+-- the station at a poll, before its answer: the token arrives, or is lost
 abbrev pub arrived : List Item → Station → Fate → Station
 arrived items s TokenLost = s
 arrived items s Clean = opened items s
@@ -79,7 +79,7 @@ is_last round = nat_le round.pieces (round.piece + 1)
 abbrev pub is_whole : Open → Bool
 is_whole round = round.crossed && is_last round
 
--- with the piece at hand the report is whole, and it wasn't before
+-- the report is whole with the piece at hand, and it wasn't before
 abbrev pub completes : Open → Bool
 completes round = is_last round && not round.crossed
 
@@ -122,7 +122,7 @@ abbrev pub piece_events : List Item → Station → Open → List Event
 piece_events items s round =
     if completes round then part_events items round.report s.view s.standing.fixed else []
 
--- and at a poll
+-- the events of a poll
 abbrev pub polled_events : List Item → Station → Open → Fate → List Event
 polled_events items s round Clean = piece_events items s round
 polled_events items s round AckLost = piece_events items s round

@@ -72,7 +72,7 @@ abbrev pub next_piece : List Item → Option ℕ → ℕ → Option ℕ
 next_piece items None piece = None
 next_piece items (Some r) piece = if is_last_piece items r piece then None else Some (piece + 1)
 
--- of a core
+-- the piece of a device's open round that goes out after this one, if there is one
 abbrev pub next_of : CoreState → Option ℕ
 next_of core = next_piece (items_of core.layout) core.current core.piece
 

@@ -32,7 +32,7 @@ use Rattle.hid_device.specs.Core.{CoreState, cleared_core, configured_core, halt
 abbrev pub device_info : Config → DeviceInfo
 device_info config = record { vendor = config.vendor; product = config.product }
 
--- and its configuration, where its report descriptor has this length
+-- what a host reads of a device's configuration, if its report descriptor has this length
 abbrev pub config_info : Config → ℕ → ConfigInfo
 config_info config len = record {
   report_length = len;

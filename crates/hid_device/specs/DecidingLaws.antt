@@ -135,7 +135,7 @@ pub write_is_short :
     → setup.length ≤ MAX_WRITE
 write_is_short s t setup h writes = short_there setup (decide s setup) (decides s setup) h.0 writes
 
--- the same with another answer and another effect of the last request
+-- the inside of a device with another answer and another effect of the last request
 abbrev pub with_request : CoreState → Option (List ℕ) → Pending → CoreState
 with_request core answer pending = record core { answer = answer; pending = pending }
 

@@ -63,7 +63,7 @@ pub record IsRoom (bytes : List ℕ) (layout : Contents) (room : Room) : Type 0 
   pub outputs : room.outputs.items ≡ bare_outputs layout
   pub full : (IsFull room.descriptor) × (IsFull room.counts.frames) × (IsFull room.counts.idle) × (IsFull room.counts.cut) × IsFull room.outputs
 
--- and such a device at an address, which waits for no ACK, and of which no request is open
+-- a new device at an address, which waits for no ACK, and of which no request is open
 abbrev pub new_device : ℕ → Config → List ℕ → Contents → DeviceState
 new_device addr config descriptor layout =
     record { addr = addr; control = idle (new_core config descriptor layout); waits = false }

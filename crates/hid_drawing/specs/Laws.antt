@@ -11,7 +11,7 @@ use Rattle.hid_drawing.specs.Makers.{listed_below}
 use Rattle.hid_drawing.specs.Pieces.{pieces_of}
 use Rattle.hid_drawing.specs.declared.pieces.Piece.{Piece}
 
--- so many of the first items, the last one first
+-- the first items, this many, the last one first
 abbrev pub spelled_before : List Item → ℕ → List Spelled
 spelled_before items zero = []
 spelled_before items (suc k) = spelled_at items k ∷ spelled_before items k

@@ -50,7 +50,7 @@ lines_below words columns (suc n) =
 abbrev pub line_count : List ℕ → ℕ → ℕ
 line_count words columns = lines_below words columns (length words)
 
--- so many columns has a cell: ten for each bit in characters, and fourteen narrow ones in a drawing
+-- how many columns a cell has: ten for each bit in characters, and fourteen narrow ones in a drawing
 abbrev pub columns_of : Bool → Piece → ℕ
 columns_of drawn piece =
     if drawn then 14 * (piece.high - piece.low) - 2 else 10 * (piece.high - piece.low) - 1

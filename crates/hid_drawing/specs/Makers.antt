@@ -30,7 +30,7 @@ nearest items prefix waiting (suc k) =
 abbrev pub global_place : List Item → ℕ → ℕ → Option ℕ
 global_place items m prefix = nearest items prefix 0 m
 
--- behind how many items the locals of a place begin: behind the main item in front of it
+-- where the locals of a place begin, by how many items stand before: behind the last main item in front of it
 abbrev pub locals_start : List Item → ℕ → ℕ
 locals_start items zero = 0
 locals_start items (suc k) = if is_main (spelled_at items k) then suc k else locals_start items k

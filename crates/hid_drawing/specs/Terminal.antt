@@ -18,7 +18,7 @@ use Rattle.hid_drawing.specs.Lines.{byte_at, columns_of, line_of, row_lines}
 use Rattle.hid_drawing.specs.PictureWords.{frame_name}
 use Rattle.hid_drawing.specs.Words.{report_name, count_text, piece_name, part_details, entry_text, bit_text, flags_text, is_input_item}
 
--- so many columns of words: what has room, and spaces
+-- words in this many columns: what has room, and spaces
 unfoldable pub fitted : List ℕ → ℕ → List ℕ
 fitted words columns = joined_below columns (λ k. printed (byte_at words k) ∷ [])
 

@@ -91,12 +91,12 @@ abbrev pub view_with : Known → List ℕ → List Cell
 view_with known payload =
     if ends_with known payload then view_read known.layout (bytes_with known payload) known.view else known.view
 
--- and nothing else changes it
+-- the host's view after what came: fresh data alone change it
 abbrev pub view_behind : Known → Took → List Cell
 view_behind known (Fresh payload) = view_with known payload.items
 view_behind known _ = known.view
 
--- And the events that they give.
+-- The events of a report that ended: one that is refused gives none.
 abbrev pub events_read : Contents → List ℕ → List Cell → List Event
 events_read layout bytes view =
     elim (report_named layout bytes) [ Ok r ↦ read_events layout r bytes view | Err fault ↦ [] ]
@@ -115,7 +115,7 @@ events_behind known _ = []
 abbrev pub collected_with : Known → List ℕ → List ℕ
 collected_with known payload = if ends_with known payload then [] else bytes_with known payload
 
--- and nothing else changes what is kept
+-- what is kept of a report after what came: fresh data alone change it
 abbrev pub collected_behind : Known → Took → List ℕ
 collected_behind known (Fresh payload) = collected_with known payload.items
 collected_behind known _ = known.collected

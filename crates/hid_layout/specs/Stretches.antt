@@ -20,7 +20,7 @@ is_nothing place (Some u) = not (is_named place u)
 abbrev pub usage_behind : Usage → ℕ → ℕ → Usage
 usage_behind low start place = record { page = low.page; id = low.id + (place - start) }
 
--- of a range: the first place from one on that names nothing, or its end, or a place behind that itself
+-- the first place of a range, from one on, that names nothing, or its end; a place behind the end itself
 pub record IsFirstNothing (low : Usage) (start from end place : ℕ) : Type 0 where
   pub low_bound : from ≤ place
   pub inside : from ≤ end → place ≤ end
@@ -28,7 +28,7 @@ pub record IsFirstNothing (low : Usage) (start from end place : ℕ) : Type 0 wh
   pub nothing : place < end → is_named place (usage_behind low start place) ≡ false
   pub named : (k : ℕ) → from ≤ k → k < place → is_named k (usage_behind low start k) ≡ true
 
--- the same of a whole list, also behind its end
+-- the first place of a whole list, from one on, that names nothing, also behind its end
 pub record IsFirst (us : List Usage) (from place : ℕ) : Type 0 where
   pub low_bound : from ≤ place
   pub nothing : is_nothing place (slice_get us place) ≡ true
@@ -45,14 +45,14 @@ pub record IsLeastNothing (item : MainItem) (us : List Usage) (first end v : ℤ
   pub nothing : names_nothing item us v ≡ true
   pub below : NamesAll item us first v
 
--- of an entry that begins at a place: the place of ErrorRollOver
+-- the place of ErrorRollOver in an entry that begins at a place
 abbrev pub RollsOverAt : Entry → ℕ → Option ℕ → Type 0
 RollsOverAt e start None = (k : ℕ) → k < entry_count e → is_rollover (usage_behind e.0 start (start + k)) ≡ false
 RollsOverAt e start (Some place) =
     (start ≤ place) × (place < start + entry_count e) × (is_rollover (usage_behind e.0 start place) ≡ true)
     × ((k : ℕ) → k < entry_count e → start + k ≢ place → is_rollover (usage_behind e.0 start (start + k)) ≡ false)
 
--- of an item: the search for the rollover ends in this entry, or goes on behind it
+-- the search of an item for the rollover ends in this entry, or goes on behind it
 abbrev pub RollsOverIn : MainItem → Entry → ℕ → List Usage → Option ℕ → Type 0
 RollsOverIn item e start us None =
     rollover_from item start (rising e.0.page e.0.id (entry_count e) ++ us)

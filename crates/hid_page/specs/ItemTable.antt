@@ -50,7 +50,7 @@ LONG = 0xFC
 abbrev pub number_of : Spelled → ℕ
 number_of item = if prefix_of item == LONG then 0 else unsigned_of (data_of item)
 
--- the same in two's complement
+-- the number of a short item in two's complement; 0 of a long one
 abbrev pub signed_number : Spelled → ℤ
 signed_number item = if prefix_of item == LONG then pos 0 else signed_of (data_of item)
 

@@ -32,7 +32,7 @@ described_by None device = None
 described_by (Some Descriptor) device = Some device
 described_by (Some Stream) device = None
 
--- the same interface of the same device
+-- two addresses are one interface of one device
 abbrev pub is_same : Address → Address → Bool
 is_same a b = (a.bus == b.bus) && ((a.device == b.device) && (a.interface == b.interface))
 

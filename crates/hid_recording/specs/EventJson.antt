@@ -54,7 +54,7 @@ abbrev pub named_tokens : Option Name → List Token
 named_tokens None = []
 named_tokens (Some name) = key (codes "name") ∷ string (name_text name) ∷ []
 
--- the same, where it is asked for
+-- the name of a usage as a member, if names are asked for
 abbrev pub name_tokens : Bool → Option Name → List Token
 name_tokens is_asked name = if is_asked then named_tokens name else []
 

@@ -27,7 +27,7 @@ has_long layout = list_any (is_long layout.numbered) layout.reports
 abbrev pub doubted : Member → Member
 doubted member = record member { collected = []; in_doubt = has_long member.layout }
 
--- the same, of a device that there may be
+-- a device that there may be, of which a part of a report may have been left out
 abbrev pub doubted_slot : Option Member → Option Member
 doubted_slot slot = option_map doubted slot
 
@@ -39,7 +39,7 @@ past_chunk member chunk = record member { in_doubt = nat_le 64 (length chunk) }
 abbrev pub bytes_with : Member → List ℕ → List ℕ
 bytes_with member chunk = member.collected ++ chunk
 
--- and whether it ends with that
+-- whether a report ends with this chunk
 abbrev pub ends_with : Member → List ℕ → Bool
 ends_with member chunk = is_whole member.layout (bytes_with member chunk) (length chunk)
 

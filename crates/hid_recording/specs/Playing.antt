@@ -66,7 +66,7 @@ PlaysSlot options time device bytes slot text (Ok events) after more =
     SlotTakesOne options time device bytes slot text events after more
 PlaysSlot options time device bytes slot text (Err cause) after more = SlotTakesNone slot bytes cause after
 
--- the same, by where the report came from
+-- playing a report tells what its line tells, by where the report came from
 abbrev pub PlaysReport : Source → List ℕ → Option Member → List ℕ → Result ℕ Cause → Option Member → List ℕ → Type 0
 PlaysReport source bytes slot text result after more =
     PlaysSlot source.options source.time.now source.device bytes slot text result after more

@@ -40,7 +40,7 @@ EndsAs Cut Tells Begun written cause = (text : List ℕ) × Begun text × IsFron
 EndsAs Silence Tells Begun written cause = written ≡ []
 EndsAs Never Tells Begun written cause = ⊥
 
--- the same, by the cause
+-- what is written of the line at which a run ended, by the cause
 abbrev pub Ends : (Outcome → Type 0) → (List ℕ → Type 0) → List ℕ → Cause → Type 0
 Ends Tells Begun written cause = EndsAs (ending_of cause) Tells Begun written cause
 
@@ -114,7 +114,7 @@ abbrev pub line_of : Result Summary RecordingFault → ℕ
 line_of (Ok summary) = summary.lines + 1
 line_of (Err fault) = fault.line
 
--- and what was played
+-- what was played when a run ended
 abbrev pub played_of : Result Summary RecordingFault → Summary
 played_of (Ok summary) = summary
 played_of (Err fault) = fault.played

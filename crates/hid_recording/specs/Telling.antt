@@ -48,7 +48,7 @@ abbrev pub forgotten : List (Option Member) → Option ℕ → List (Option Memb
 forgotten devices None = devices
 forgotten devices (Some device) = set devices device None
 
--- with --layout the number of the device, and its layout
+-- the text of a descriptor that is accepted: with --layout the number of the device, and its layout
 abbrev pub described_text : Options → ℕ → Contents → List ℕ
 described_text options device layout =
     if options.layout then codes "device " ++ decimal device ++ 10 ∷ layout_text layout else []
@@ -77,11 +77,11 @@ values_in time device layout (Ok report) bytes =
     time ++ 32 ∷ decimal device ++ codes " report" ++ 10 ∷ values_text layout report bytes
 values_in time device layout (Err fault) bytes = []
 
--- the same, where it is asked for
+-- the values of a report, if they are asked for
 abbrev pub values_asked : Bool → List ℕ → ℕ → Contents → Result ℕ ReportFault → List ℕ → List ℕ
 values_asked asked time device layout named bytes = if asked then values_in time device layout named bytes else []
 
--- with --values the values of a report, and then its events
+-- the text of a report: with --values its values, and then its events
 unfoldable pub report_text : Options → List ℕ → ℕ → Member → ℕ → List ℕ → List ℕ
 report_text options time device member report bytes =
     values_asked options.values time device member.layout (Ok report) bytes

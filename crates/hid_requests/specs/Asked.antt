@@ -14,7 +14,7 @@ is_row setup type number value index =
     ((setup.request_type == type) && (setup.request == number))
     && ((setup.value == value) && (setup.index == index))
 
--- and without data
+-- the setup has these fields, and no data
 abbrev pub is_bare_row : Setup → ℕ → ℕ → ℕ → ℕ → Bool
 is_bare_row setup type number value index = is_row setup type number value index && (setup.length == 0)
 
@@ -47,7 +47,7 @@ abbrev pub is_class : Setup → ℕ → ℕ → Bool
 is_class setup type number =
     ((setup.request_type == type) && (setup.request == number)) && (setup.index == 0)
 
--- and without data
+-- the setup of a class request has these fields, and no data
 abbrev pub is_bare_class : Setup → ℕ → ℕ → Bool
 is_bare_class setup type number = is_class setup type number && (setup.length == 0)
 
@@ -55,7 +55,7 @@ is_bare_class setup type number = is_class setup type number && (setup.length ==
 abbrev pub high_of : Setup → ℕ
 high_of setup = setup.value / 2 ^ 8
 
--- and its low byte
+-- wValue's low byte
 abbrev pub low_of : Setup → ℕ
 low_of setup = setup.value % 2 ^ 8
 

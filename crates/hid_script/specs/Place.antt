@@ -20,7 +20,7 @@ abbrev pub AppendsTold : Option (List ℕ) → Option (List ℕ) → (Outcome �
 AppendsTold old new Tells Begun result next =
     (written : List ℕ) × Appends old new written × Writes Tells Begun written result next
 
--- of a part that is told once: nothing, or all
+-- what was written of a part that is told once: nothing, or all
 abbrev pub IsBegun : (Outcome → Type 0) → List ℕ → Type 0
 IsBegun Tells text = (text ≡ []) ⊎ ((next : Session) × Tells (accepted text next))
 
@@ -82,7 +82,7 @@ AppendsTaken before after old bytes result new =
 abbrev pub AppendsRun : Option (List ℕ) → Option (List ℕ) → Place → Result Summary ScriptFault → Type 0
 AppendsRun old new place result = (written : List ℕ) × Appends old new written × RunsFrom place [] written result
 
--- the same of a run of the reader's bytes, where both tell their bytes
+-- The writer's bytes grew by what a run of the reader's bytes writes from a place on, if both tell their bytes.
 abbrev pub AppendsFrom : Place → Option (List ℕ) → Option (List ℕ) → Option (List ℕ)
     → Result Summary ScriptFault → Type 0
 AppendsFrom place reader old new result =

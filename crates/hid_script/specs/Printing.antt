@@ -57,7 +57,7 @@ Does (line.Begin dev request) members acts = acts ≡ Taken (step.Begin dev requ
 Does (line.Reset dev) members acts = acts ≡ Taken (step.Reset dev) ∷ []
 Does (line.Halt dev) members acts = acts ≡ Taken (step.Halt dev) ∷ []
 
--- and what lines do, one after the other
+-- what lines do to the bus, one after the other
 abbrev pub AllDo : List Member → List (List ℕ) → List Act → Type 0
 AllDo members [] acts = acts ≡ []
 AllDo members (bytes ∷ more) acts =

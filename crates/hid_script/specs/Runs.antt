@@ -39,7 +39,7 @@ EndsAs Want Tells Begun written cause = Begun written
 EndsAs Cut Tells Begun written cause = (text : List ℕ) × Begun text × IsFront written text
 EndsAs Silence Tells Begun written cause = written ≡ []
 
--- the same, by the cause
+-- what is written of the line at which a run ended, by the cause
 abbrev pub Ends : (Outcome → Type 0) → (List ℕ → Type 0) → List ℕ → Cause → Type 0
 Ends Tells Begun written cause = EndsAs (ending_of cause) Tells Begun written cause
 

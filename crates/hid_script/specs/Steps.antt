@@ -104,7 +104,7 @@ abbrev pub done_bytes : HostStage → List ℕ → List ℕ
 done_bytes Done bytes = bytes
 done_bytes stage bytes = []
 
--- and those of the transfer that a host began last
+-- the bytes of the read that a host began last, if it is done
 abbrev pub last_bytes : Option Transfer → List ℕ
 last_bytes None = []
 last_bytes (Some transfer) = done_bytes transfer.ends.stage (bytes_got transfer.ends)

@@ -37,7 +37,7 @@ TellsAnswer old (Gave bytes) new = Consumes old new bytes
 TellsAnswer old Interrupted new = Keeps old new
 TellsAnswer old Failed new = Keeps old new
 
--- behind these answers a run reads on: bytes came, or the read was interrupted
+-- a run reads on after these answers: bytes came, or the read was interrupted
 abbrev pub GoesOn : Answer → Type 0
 GoesOn (Gave bytes) = 0 < length bytes
 GoesOn Interrupted = ⊤
@@ -123,7 +123,7 @@ FromLine calls writer cause = ⊤
 abbrev pub EndsText : {W : Type 0} → (W → Reply → W → Type 0) → W → Result (Unit {0}) Cause → Type 0
 EndsText calls writer result = IfErr result (FromLine calls writer)
 
--- the same of lines with their number
+-- how a line with its number ends a run
 abbrev pub EndsLine : {W A : Type 0} → (W → Reply → W → Type 0) → W → Result A ScriptFault → Type 0
 EndsLine calls writer result = IfErr result (λ fault. FromLine calls writer fault.cause)
 

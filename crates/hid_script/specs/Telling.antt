@@ -37,7 +37,7 @@ Once (line.Begin dev request) session o = TellsStep (step.Begin dev request) ses
 Once (line.Reset dev) session o = TellsStep (step.Reset dev) session o
 Once (line.Halt dev) session o = TellsStep (step.Halt dev) session o
 
--- and how many times it is
+-- how many times a line is carried out
 unfoldable pub times : Line → ℕ
 times (line.Frame count) = count
 times (line.Poll dev fate count) = count

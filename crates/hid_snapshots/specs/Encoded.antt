@@ -9,7 +9,7 @@ use Rattle.hid_layout.specs.Reports.{report_bytes}
 use Rattle.hid_snapshots.specs.declared.cell.Cell.{Cell}
 use Rattle.hid_snapshots.specs.Encoding.{place, is_data_in, bare_report, part_numbers}
 
--- of numbers in fields of a width, one behind the other, the bit at a distance from the first
+-- the bit at a distance from the first, of numbers in fields of a width, one behind the other
 abbrev pub bit_among : List ℤ → ℕ → ℕ → ℕ
 bit_among numbers width d =
     elim (slice_get numbers (d / width)) [ None ↦ 0 | Some v ↦ bit_at (pattern_for v width) (d % width) ]
@@ -27,12 +27,12 @@ bit_sent layout r numbers i (item ∷ items) n =
     if covers layout r item n then bit_among (numbers i) item.size (n - place layout item)
     else bit_sent layout r numbers (i + 1) items n
 
--- so many bits from one on, as a number, the lowest first
+-- this many bits from one on, as a number, the lowest first
 abbrev pub packed : (ℕ → ℕ) → ℕ → ℕ → ℕ
 packed bits at zero = 0
 packed bits at (suc k) = packed bits at k + bits (at + k) * 2 ^ k
 
--- so many bytes of them, from one on
+-- this many bytes of bits from one on
 abbrev pub packed_bytes : (ℕ → ℕ) → ℕ → ℕ → List ℕ
 packed_bytes bits i zero = []
 packed_bytes bits i (suc n) = packed bits (8 * i) 8 ∷ packed_bytes bits (i + 1) n

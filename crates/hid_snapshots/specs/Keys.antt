@@ -30,7 +30,7 @@ has_keys (Keys elements rolls keys) = true
 abbrev pub has_keys_at : List Item → ℕ → Bool
 has_keys_at items i = has_keys (form_at items i)
 
--- of a cell, which places are pressed
+-- the pressed places of a cell
 abbrev pub pressed_places : Cell → List Bool
 pressed_places (Pressed ps) = ps
 pressed_places Vacant = []
@@ -47,7 +47,7 @@ pub record AreKeyWords (places : ℕ) (pressed : ℕ → Bool) (words : List ℕ
   pub count : length words ≡ div_ceil places 64
   pub bits : (i : ℕ) → is_bit words i ≡ pressed i
 
--- the same, of controls without their usages
+-- the controls, without their usages, are those of an array
 abbrev pub is_array_head : Controls → Bool
 is_array_head head.None = false
 is_array_head (head.Elements kind least greatest count) = false

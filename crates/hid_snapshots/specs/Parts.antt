@@ -81,7 +81,7 @@ part_shown false = shown_of
 abbrev pub blank_parts : List Item → List Cell
 blank_parts items = map (λ item. shown_cell (head_of item.form) (blank_cell (head_of item.form))) items
 
--- of two lists of motions, what is left of each
+-- what is left of each motion of a list, less that of another list
 abbrev pub differences : List ℤ → List ℤ → List ℤ
 differences ms ns = map (λ p. p.0 -ℤ p.1) (zip ms ns)
 

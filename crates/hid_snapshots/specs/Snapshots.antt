@@ -126,7 +126,7 @@ abbrev pub Changes : List Item → List Cell → Change → OrFault (Unit {0}) �
 Changes items old change (Ok _) new = changed items old change ≡ Ok new
 Changes items old change (Err fault) new = (changed items old change ≡ Err fault) × (new ≡ old)
 
--- the same of one cell
+-- what a change does to one cell: it is done, or it is refused and the cell stays
 abbrev pub ChangesCell : ControlKind → Controls → Cell → Change → OrFault (Unit {0}) → Cell → Type 0
 ChangesCell kind controls old change (Ok _) new = changed_cell kind controls old change ≡ Ok new
 ChangesCell kind controls old change (Err fault) new = (changed_cell kind controls old change ≡ Err fault) × (new ≡ old)

@@ -7,7 +7,7 @@ use Rattle.hid_snapshots.specs.declared.send.Source.{Source}
 use Rattle.hid_snapshots.specs.declared.send.Source.TheVariants.{Switches, Values, Motions, Keys, Same}
 use Rattle.hid_snapshots.specs.Sending.{switch_number, placed_from}
 
--- the same number, so many times
+-- one number, this many times
 abbrev pub repeats : Repeated → List ℤ
 repeats then = replicate then.count then.number
 

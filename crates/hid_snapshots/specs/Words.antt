@@ -8,7 +8,7 @@ use Rattle.std.specs.Simd.Lanes.{mask_l}
 abbrev pub word : List Bool → ℕ
 word ps = mask_l ps
 
--- so many words, of 64 places each
+-- this many words, of 64 places each
 unfoldable pub words_in : ℕ → List Bool → List ℕ
 words_in zero ps = []
 words_in (suc n) ps = word (take 64 ps) ∷ words_in n (drop 64 ps)

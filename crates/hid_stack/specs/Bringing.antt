@@ -51,7 +51,7 @@ TakesMemory _ = ⊥
 abbrev pub ends_after : Fate → Transfer → DevControlState CoreState → HostTransferState
 ends_after fate transfer control = host_tried core_table fate transfer.ends control
 
--- and the host, in this phase
+-- the host after a try, in this phase
 abbrev pub host_after : Fate → HostEnd → Transfer → DevControlState CoreState → HostPhase → HostEnd
 host_after fate host transfer control phase = record host {
   phase = phase;
@@ -93,7 +93,7 @@ abbrev pub carried_out : Effect → CoreState → CoreState
 carried_out (Applies bytes) core = effected core bytes core.pending
 carried_out _ core = core
 
--- and nothing, where its first packets are lost
+-- what a try brings about at the device: nothing if its first packets are lost
 abbrev pub brought_about : Fate → HostTransferState → DevControlState CoreState → CoreState
 brought_about TokenLost ends control = control.requests
 brought_about fate ends control = carried_out (effect_reached core_table ends control) control.requests

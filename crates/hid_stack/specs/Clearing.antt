@@ -17,7 +17,8 @@ abbrev pub LeavesPending : MemberStep → Member → Type 0
 LeavesPending Resets n = ⊥
 LeavesPending x n = IsClearDone n.transfer → ⊥
 
--- and so is each of these: other requests may begin and end among them, and a Clear that failed may begin again
+-- each of these steps leaves a Clear pending: other requests may begin and end among them, and a Clear that failed may
+-- begin again
 abbrev pub LeavePending : Member → List MemberStep → Type 0
 LeavePending m [] = Unit {0}
 LeavePending m (x ∷ steps) = LeavesPending x (member_after m x) × LeavePending (member_after m x) steps

@@ -134,7 +134,7 @@ abbrev pub piece_open : Option Open → ℕ
 piece_open None = 0
 piece_open (Some round) = round.piece
 
--- of the bytes of a report the pieces that crossed, until the last one has
+-- the pieces that crossed of the bytes of a report, until the last one has
 abbrev pub got_in : List ℕ → Open → List ℕ
 got_in bytes round = if is_whole round then [] else take (64 * crossed_with round.piece round.crossed) bytes
 
@@ -164,7 +164,7 @@ core_at m = record {
   halted = m.station.halted;
 }
 
--- and its endpoint 0, between transactions: a try begins with a token, so what was heard before it doesn't count
+-- the member's endpoint 0 between transactions: a try begins with a token, so what was heard before it doesn't count
 abbrev pub control_at : Member → DevControlState CoreState
 control_at m = record { requests = core_at m; stage = m.endpoint.stage; heard = hears.Nothing }
 
@@ -292,7 +292,7 @@ state_behind requests.Report host = states.Parsed
 state_behind requests.Configure host = states.Ready
 state_behind _ host = host
 
--- and that behind a try that leaves its transfer at a stage
+-- the state of the host after a try that leaves its transfer at a stage
 abbrev pub state_at : HostStage → Request → HostState → HostState
 state_at Done request host = state_behind request host
 state_at stage request host = host
@@ -352,8 +352,8 @@ member_after m (Controls fate) = tried_of fate m (running m.transfer)
 member_after m Halts = halted_if m.endpoint.is_configured m
 member_after m Resets = reset_of m
 
--- The same where memory is wanting: for what may be dropped, and then nothing is tried, or for what a request that is
--- done gives, and then the host stays where it is.
+-- The member after a try at which memory is missing: for what may be dropped, and then nothing is tried, or for what a
+-- request that is done gives, and then the host stays where it is.
 abbrev pub unconcluded_of : Fate → Member → Option Transfer → Member
 unconcluded_of fate m None = m
 unconcluded_of fate m (Some t) = if cuts_round t.request then m else tried_to fate m t m.host

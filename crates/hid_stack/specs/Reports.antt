@@ -13,7 +13,7 @@ pub record TellsNothing (m : Member) (x : MemberStep) : Type 0 where
   pub events : events_by (items_of m.layout) m.station (deed_at m x) ≡ []
   pub view : (member_after m x).station.view ≡ m.station.view
 
--- with a poll the last piece of the open round crosses: the part that was fixed as that opened is told, and the view
+-- the last piece of the open round crosses with a poll: the part that was fixed as that opened is told, and the view
 -- sees it
 pub record TellsPart (m : Member) (fate : Fate) : Type 0 where
   pub round : Open

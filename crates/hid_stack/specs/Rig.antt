@@ -263,7 +263,7 @@ member_step device (Control dev fate) = if dev == device then Some (Controls fat
 member_step device (Halt dev) = if dev == device then Some Halts else None
 member_step device (Reset dev) = if dev == device then Some Resets else None
 
--- and those of a list of steps, in their order
+-- all steps of a device in a list of steps, in their order
 abbrev pub member_steps : ℕ → List Step → List MemberStep
 member_steps device steps = filter_map (member_step device) steps
 

@@ -78,12 +78,13 @@ abbrev pub IsEven : Bool → Bool → Option ℕ → Type 0
 IsEven toggle expects None = toggle ≡ expects
 IsEven toggle expects (Some r) = Unit {0}
 
--- but for an endpoint that is halted, or whose clear is pending
+-- Without an open round the host expects the device's toggle, unless the endpoint is halted or its clear is pending.
 abbrev pub IsEvenUnless : Bool → Bool → Bool → Option ℕ → Type 0
 IsEvenUnless true toggle expects current = Unit {0}
 IsEvenUnless false toggle expects current = IsEven toggle expects current
 
--- neither is anything said of what the host has got then: a halt may have ended the round that it was of
+-- The host has got the pieces of the open round that crossed, unless the endpoint is halted or its clear is pending: a
+-- halt may have ended the round that its bytes are of.
 abbrev pub HasGotUnless : Bool → Contents → List Cell → Option Open → List ℕ → Type 0
 HasGotUnless true layout parts current bytes = Unit {0}
 HasGotUnless false layout parts current bytes = bytes ≡ got_of layout parts current

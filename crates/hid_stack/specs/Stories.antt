@@ -70,7 +70,7 @@ abbrev pub after_act : Member → OwnAct → Member
 after_act m (Takes x) = member_after m x
 after_act m (Unconcludes fate) = unconcluded_of fate m (running m.transfer)
 
--- and behind all of them
+-- the member after all acts of a story
 abbrev pub after_story : Member → List OwnAct → Member
 after_story m [] = m
 after_story m (act ∷ story) = after_story (after_act m act) story
@@ -80,7 +80,7 @@ abbrev pub deed_by : Member → OwnAct → Option Deed
 deed_by m (Takes x) = deed_at m x
 deed_by m (Unconcludes fate) = unconcluded_deed fate m (running m.transfer)
 
--- and by all of them
+-- what befalls a device by all acts of a story
 abbrev pub deeds_by : Member → List OwnAct → List Deed
 deeds_by m [] = []
 deeds_by m (act ∷ story) = cons_option (deed_by m act) (deeds_by (after_act m act) story)

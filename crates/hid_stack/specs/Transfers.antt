@@ -105,12 +105,12 @@ HasEffects request trail m (Begins other ∷ steps) = HasEffects request trail (
 HasEffects request trail m (Halts ∷ steps) = HasEffects request trail (member_after m Halts) steps
 HasEffects request trail m (Resets ∷ steps) = HasEffects request trail (member_after m Resets) steps
 
--- Behind its tries both ends of a request that began at this member stand where these lead, whatever came between them.
--- So a read that is done gave the device's answer as it was fixed at the last SETUP that arrived, cut to what was asked
--- for; and a write took effect at the device as often as the places of its tries say, which is `IsOnce`: exactly once
--- where it is done, else once at most, and never where it was refused. The one try in which it took effect did at the
--- device what the row of the request says, with the bytes that were sent. A configuration befell the device as often as a
--- request for it took effect, and never by another request.
+-- Both ends of a request that began at this member stand where its tries lead, whatever came between them. A read that
+-- is done gave the device's answer as it was fixed at the last SETUP that arrived, cut to what was asked for. A write
+-- took effect at the device as often as the places of its tries say, which is `IsOnce`: exactly once where it is done,
+-- else once at most, and never where it was refused. The one try in which it took effect did at the device what the row
+-- of the request says, with the bytes that were sent. A configuration befell the device as often as a request for it
+-- took effect, and never by another request.
 pub record IsWholeFrom (m : Member) (request : Request) (steps : List MemberStep) (begun : Member) : Type 0 where
   pub transfer : Transfer
   pub is : (member_after_all begun steps).transfer ≡ Some transfer
@@ -160,7 +160,7 @@ pub record IsEndedByReset (m : Member) (request : Request) (steps later : List M
 abbrev pub IsUndone : Option Transfer → Type 0
 IsUndone o = IfSome o (λ t. t.ends.stage ≢ Done)
 
--- and one that is
+-- a transfer that is done
 abbrev pub IsOver : Option Transfer → Type 0
 IsOver None = ⊥
 IsOver (Some t) = t.ends.stage ≡ Done

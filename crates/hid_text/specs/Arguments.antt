@@ -45,7 +45,7 @@ two (Some a) (Some b) = Some (a, b)
 two (Some a) None = None
 two None b = None
 
--- and three
+-- three values, if each is there
 abbrev pub three : {A B C : Type 0} → Option A → Option B → Option C → Option (A × B × C)
 three (Some a) (Some b) (Some c) = Some (a, b, c)
 three (Some a) (Some b) None = None

@@ -83,7 +83,7 @@ abbrev pub item_in : Contents → ℕ → MainItem
 item_in layout i item (Some report) (Some entries) (Some path) = item_line i report item entries path
 item_in layout i item _ _ _ = []
 
--- and the line of an item by its own
+-- the line of the listed item at a place, if there is one
 abbrev pub item_at : Contents → ℕ → Option MainItem → List ℕ
 item_at layout i None = []
 item_at layout i (Some item) =

@@ -42,7 +42,7 @@ value_in layout bytes i j (Some item) (Some entries) =
     element_line layout bytes i j item (usage_list entries) (element_in item j)
 value_in layout bytes i j _ _ = []
 
--- the same, by the numbers of both
+-- the line of an element, by the places of its item and of itself
 unfoldable pub value_at : Contents → List ℕ → ℕ → ℕ → List ℕ
 value_at layout bytes i j = value_in layout bytes i j (slice_get layout.items i) (slice_get layout.entries i)
 
@@ -52,7 +52,7 @@ values_in layout r bytes i None = []
 values_in layout r bytes i (Some item) =
     if item.report == r then joined_below item.count (value_at layout bytes i) else []
 
--- the same, by the number of the item
+-- the lines of an item's elements, by the place of the item
 unfoldable pub values_at : Contents → ℕ → List ℕ → ℕ → List ℕ
 values_at layout r bytes i = values_in layout r bytes i (slice_get layout.items i)
 

@@ -16,7 +16,7 @@ Word = List ℕ
 abbrev pub is_blank : ℕ → Bool
 is_blank b = b == 32 || b == 9
 
--- neither
+-- the byte is neither a space nor a tab
 abbrev pub is_no_blank : ℕ → Bool
 is_no_blank b = not (is_blank b)
 
@@ -39,7 +39,7 @@ unfoldable pub two_words : List Word → Option (Word × Word)
 two_words (first ∷ second ∷ []) = Some (first, second)
 two_words _ = None
 
--- and three
+-- three words, if there are exactly three
 unfoldable pub three_words : List Word → Option (Word × Word × Word)
 three_words (first ∷ second ∷ third ∷ []) = Some (first, second, third)
 three_words _ = None

@@ -173,7 +173,7 @@ pub record GivesOnly (descriptor : List ℕ) (layout : Contents) : Type 0 where
   pub accepted : (before : List Spelled) × Accepts descriptor before
   pub only : (before : List Spelled) → Accepts descriptor before → layout_of before ≡ layout
 
--- Of these bytes, the control of 07:id is held in the view that is read exactly where the report tells so.
+-- The control of 07:id is held in the view that is read of these bytes exactly if the report says so.
 abbrev pub IsTold : List Cell → KeyboardReport → ℕ → Type 0
 IsTold view report id =
     (c : ControlId) → shown_at (items_of keyboard_layout) c ≡ Some (usage 7 id)

@@ -28,7 +28,7 @@ drop_event c u by = map as_dropped (motion_event c u by)
 abbrev pub drop_events : ℕ → List Usage → List ℤ → List Event
 drop_events i us ms = each (λ j u m. drop_event (at i j) u m) 0 us ms
 
--- the same of an item's part, by the kind of its controls
+-- what the motions of an item's part tell if they are dropped, by the kind of its controls
 abbrev pub drops_told : ℕ → Form → Cell → List Event
 drops_told i NoControls part = []
 drops_told i (Elements kind least greatest usages) part = drop_events i usages (motions_in part)

@@ -10,7 +10,7 @@ abbrev pub Answers : {A : Type 0} → Option A → A → ℕ → A → Type 0
 Answers (Some x) old status new = (status ≡ OK) × (new ≡ x)
 Answers None old status new = (status ≡ NONE) × (new ≡ old)
 
--- the same of what is read of a session; a closed handle has none, and nothing changes
+-- what a call that reads a session answers: a closed handle has none, and nothing changes
 abbrev pub Shows : {A : Type 0} → (State → Option A) → Option State → A → ℕ → A → Type 0
 Shows read None old status new = (status ≡ CLOSED) × (new ≡ old)
 Shows read (Some s) old status new = Answers (read s) old status new

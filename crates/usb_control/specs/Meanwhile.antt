@@ -33,7 +33,7 @@ ends_tried table fate ends = record {
   control = control_tried table fate ends.host ends.control;
 }
 
--- and after a turn: a transfer that is over is tried no more
+-- both ends after a turn: a transfer that is over is tried no more
 abbrev pub turned : {R : Type 0} → Table R → Ends R → Turn R → Ends R
 turned table ends (Tries fate) = if is_running ends.host.stage then ends_tried table fate ends else ends
 turned table ends (Meanwhile change hears) = record {
