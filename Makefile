@@ -168,13 +168,14 @@ examples: $(HIDRUN) $(HIDPLAY) $(HIDMAP) $(BENCH)
 	tools/check-rows $(HIDRUN)
 
 # Looks whether each file, function, clause, definition and wrong body that documents cite is there, and then whether it
-# tells a wrong name; whether docs/DEFINITIONS.md is made of the comments in specs/; and whether tools/compare-statements
-# tells a statement that was weakened.
+# tells a wrong name; whether docs/DEFINITIONS.md is made of the comments in specs/, and the table of docs/THEOREM.md has the
+# definitions that the headline rests on; and whether tools/compare-statements tells a statement that was weakened.
 documents:
 	tools/check-documents
 	tools/check-documents --self-test
 	tools/definitions --check
 	tools/definitions --self-test
+	tools/theorem-closure --check docs/THEOREM.md
 	tools/compare-statements --self-test
 
 # Looks whether each file of code, definitions and proofs is as `rt fmt` writes it, which the gate says only when it comes to
