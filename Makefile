@@ -13,7 +13,7 @@ DESTDIR ?=
 VERSION := 0.2.0
 MAJOR := $(firstword $(subst ., ,$(VERSION)))
 
-.PHONY: run test try hidrun hidplay hidmap bench examples library library-test library-check library-cost scale play-cost names install deb deb-test documents layout memory refusals mutants descriptors compare-linux clean
+.PHONY: run test try hidrun hidplay hidmap bench examples library library-test library-check library-cost scale play-cost names install deb deb-test documents tour layout memory refusals mutants descriptors compare-linux clean
 
 # Runs the mouse example on the proved program.
 run: $(HIDRUN)
@@ -177,6 +177,10 @@ documents:
 	tools/definitions --self-test
 	tools/theorem-closure --check docs/THEOREM.md
 	tools/compare-statements --self-test
+
+# Runs the program of docs/LIBRARY.md without a proof, in a repository of its own: one to three minutes.
+tour:
+	tools/check-tour
 
 # Looks whether each file of code, definitions and proofs is as `rt fmt` writes it, which the gate says only when it comes to
 # the crate.
