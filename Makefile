@@ -176,6 +176,7 @@ documents:
 	tools/definitions --check
 	tools/definitions --self-test
 	tools/theorem-closure --check docs/THEOREM.md
+	tools/theorem-closure --self-test
 	tools/compare-statements --self-test
 
 # Runs the program of docs/LIBRARY.md without a proof, in a repository of its own: one to three minutes.
