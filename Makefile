@@ -179,7 +179,7 @@ documents:
 	tools/theorem-closure --self-test
 	tools/compare-statements --self-test
 
-# Runs the program of docs/LIBRARY.md without a proof, in a repository of its own: one to three minutes.
+# Runs the program of docs/LIBRARY.md without a proof, in a repository of its own: some minutes.
 tour:
 	tools/check-tour
 
