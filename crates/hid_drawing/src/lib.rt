@@ -46,11 +46,10 @@ pub use listed::{first_bit_of, item_at, report_at};
 pub use makers::{
     COLLECTION, InForce, global_place, in_force, is_field, is_main, listed_places, makes,
 };
-pub use pieces::{Part, Piece, piece_at, pieces_of};
+pub use pieces::{Part, Piece, pieces_of};
 pub use svg::print_picture;
 pub use terminal::print_terminal;
 pub use words::{
     collection_name, is_input_item, print_bit, print_collection, print_count, print_entry,
-    print_flags, print_part_details, print_part_flags, print_piece_name, print_place,
-    print_report_name,
+    print_flags, print_report_name,
 };

@@ -221,7 +221,7 @@ pub fn pieces_of(alloc: Global, layout: &Layout, r: usize) -> Result<Vec<Piece>,
 }
 
 /// The piece at a place.
-pub fn piece_at(pieces: &[Piece], k: usize) -> &Piece
+pub(crate) fn piece_at(pieces: &[Piece], k: usize) -> &Piece
     requires { k < length pieces.now }
     ensures { slice_get pieces.now k ≡ Some result.now }
 {

@@ -296,7 +296,11 @@ fn print_share(text: &mut String, piece: &Piece) -> Result<(), AllocError>
 
 /// Adds what a piece is called.
 #[tactic(auto, unfolding(crate::specs::Words::piece_name))]
-pub fn print_piece_name(text: &mut String, layout: &Layout, piece: &Piece) -> Result<(), AllocError>
+pub(crate) fn print_piece_name(
+    text: &mut String,
+    layout: &Layout,
+    piece: &Piece,
+) -> Result<(), AllocError>
     ensures { OnOk result (string_bytes text.new
         ≡ string_bytes text.old ++ piece_name layout.now piece.now) }
 {
@@ -336,7 +340,7 @@ fn print_details(text: &mut String, item: &MainItem) -> Result<(), AllocError>
 
 /// Adds what is said of a part of the report r.
 #[tactic(auto, unfolding(crate::specs::Words::part_details))]
-pub fn print_part_details(
+pub(crate) fn print_part_details(
     text: &mut String,
     layout: &Layout,
     r: usize,
@@ -363,7 +367,11 @@ pub fn print_part_details(
 
 /// Adds the flags of a part.
 #[tactic(auto, unfolding(crate::specs::Words::part_flags))]
-pub fn print_part_flags(text: &mut String, layout: &Layout, part: Part) -> Result<(), AllocError>
+pub(crate) fn print_part_flags(
+    text: &mut String,
+    layout: &Layout,
+    part: Part,
+) -> Result<(), AllocError>
     ensures { OnOk result (string_bytes text.new
         ≡ string_bytes text.old ++ part_flags layout.now part) }
 {
@@ -391,7 +399,7 @@ pub fn print_bit(text: &mut String, at: u32) -> Result<(), AllocError>
 
 /// Adds the bits of a byte that a piece has.
 #[tactic(auto, unfolding(crate::specs::Words::place_text))]
-pub fn print_place(text: &mut String, piece: &Piece) -> Result<(), AllocError>
+pub(crate) fn print_place(text: &mut String, piece: &Piece) -> Result<(), AllocError>
     ensures { OnOk result (string_bytes text.new ≡ string_bytes text.old ++ place_text piece.now) }
 {
     let Piece {

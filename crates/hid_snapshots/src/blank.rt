@@ -35,7 +35,7 @@ pub fn first_value(kind: ControlKind, least: &i64, greatest: &i64) -> Option<i64
 /// # Errors
 /// Want of memory.
 #[inline(always)] // it stands where its caller wants it
-pub fn blank_cell(alloc: Global, controls: &Controls) -> Result<Cell, AllocError>
+pub(crate) fn blank_cell(alloc: Global, controls: &Controls) -> Result<Cell, AllocError>
     ensures { IfOk result (λ cell. cell ≡ blank_cell controls.now) }
 {
     match controls {
@@ -89,7 +89,7 @@ fn blank_part(alloc: Global, controls: &Controls) -> Result<Cell, AllocError>
 ///
 /// # Errors
 /// Want of memory.
-pub fn blank_parts(alloc: Global, layout: &Layout) -> Result<Vec<Cell>, AllocError>
+pub(crate) fn blank_parts(alloc: Global, layout: &Layout) -> Result<Vec<Cell>, AllocError>
     ensures blank { IfOk result (λ cells. cells.items ≡ blank_parts (items_of layout.now)) }
     ensures full { IfOk result (λ cells. IsFull cells) }
     ensures layout { IsLayout layout.now }

@@ -37,7 +37,7 @@ mod send;
 mod shown;
 mod snapshot;
 
-pub use blank::{blank_cell, blank_cells, blank_parts, first_value};
+pub use blank::{blank_cells, first_value};
 pub use cell::{Cell, Motions, Values};
 pub use change::{Change, ChangeFault};
 pub use codes::has_empty_codes;
@@ -49,8 +49,7 @@ pub use full::{full_from, full_of};
 pub use items::{is_input, is_of, item_at, item_count, plan_of};
 pub use keys::{has_keys, key_words};
 pub use numbers::FieldRun;
-pub use parts::{cell_at, has_zeros, is_changed, show_cells, show_still, take_cells};
+pub use parts::{cell_at, has_zeros};
 pub use pieces::{piece_of, pieces_of};
-pub use reset::reset_parts;
 pub use shown::Shown;
 pub use snapshot::Snapshot;

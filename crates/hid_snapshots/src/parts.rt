@@ -228,7 +228,7 @@ fn show_each(layout: &Layout, report: usize, cells: &[Cell], parts: &mut [Cell],
 }
 
 /// Makes the part of a report what it shows of these cells.
-pub fn show_cells(layout: &Layout, report: usize, cells: &[Cell], parts: &mut [Cell])
+pub(crate) fn show_cells(layout: &Layout, report: usize, cells: &[Cell], parts: &mut [Cell])
     requires input { IsInput layout.now report }
     requires cells { FitsSnapshot (items_of layout.now) cells.now }
     requires parts { FitsShown (items_of layout.now) parts.old }
@@ -239,7 +239,7 @@ pub fn show_cells(layout: &Layout, report: usize, cells: &[Cell], parts: &mut [C
 }
 
 /// Makes the part of a report its still part of these cells: what it shows of them, with every motion 0.
-pub fn show_still(layout: &Layout, report: usize, cells: &[Cell], parts: &mut [Cell])
+pub(crate) fn show_still(layout: &Layout, report: usize, cells: &[Cell], parts: &mut [Cell])
     requires input { IsInput layout.now report }
     requires cells { FitsSnapshot (items_of layout.now) cells.now }
     requires parts { FitsShown (items_of layout.now) parts.old }
@@ -275,7 +275,7 @@ fn calls_for(layout: &Layout, i: usize, report: usize, cell: &Cell, part: &Cell)
 }
 
 /// Takes the motion that the part of a report carries out of these cells.
-pub fn take_cells(layout: &Layout, report: usize, cells: &mut [Cell], parts: &[Cell])
+pub(crate) fn take_cells(layout: &Layout, report: usize, cells: &mut [Cell], parts: &[Cell])
     requires input { IsInput layout.now report }
     requires zeros { has_zeros (items_of layout.now) ≡ true }
     requires cells { FitsSnapshot (items_of layout.now) cells.old }
@@ -290,7 +290,7 @@ pub fn take_cells(layout: &Layout, report: usize, cells: &mut [Cell], parts: &[C
 }
 
 /// Whether some of these cells calls for the report.
-pub fn is_changed(layout: &Layout, report: usize, cells: &[Cell], parts: &[Cell]) -> bool
+pub(crate) fn is_changed(layout: &Layout, report: usize, cells: &[Cell], parts: &[Cell]) -> bool
     requires input { IsInput layout.now report }
     requires cells { length cells.now ≡ length (items_of layout.now) }
     requires parts { length parts.now ≡ length (items_of layout.now) }

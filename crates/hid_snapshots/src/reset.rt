@@ -91,7 +91,7 @@ fn reset_part(layout: &Layout, i: usize, part: &mut Cell)
 }
 
 /// Makes what is shown of each item's controls what it was at first. No memory is taken.
-pub fn reset_parts(layout: &Layout, parts: &mut [Cell])
+pub(crate) fn reset_parts(layout: &Layout, parts: &mut [Cell])
     requires { FitsShown (items_of layout.now) parts.old }
     ensures blank { parts.new ≡ blank_parts (items_of layout.now) }
     ensures layout { IsLayout layout.now }

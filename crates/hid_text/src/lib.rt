@@ -45,7 +45,7 @@ mod words;
 pub use event_text::EventText;
 pub use fault::LineFault;
 pub use layout_text::print_layout;
-pub use line::{HEX_LIMIT, LINE_LIMIT, Line, read_line, says_nothing};
+pub use line::{Line, read_line, says_nothing};
 pub use numbers::read_number;
 pub use short::{ShortLine, read_short};
 pub use step_text::print_step;

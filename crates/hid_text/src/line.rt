@@ -18,10 +18,10 @@ use hid_requests::{Boot, Request};
 use usb_transact::Fate;
 
 /// The most bytes of a line, without its end.
-pub const LINE_LIMIT: usize = 1024;
+pub(crate) const LINE_LIMIT: usize = 1024;
 
 /// The most bytes that the hex words of a line spell.
-pub const HEX_LIMIT: usize = 512;
+pub(crate) const HEX_LIMIT: usize = 512;
 
 /// What a line says, with its words as values. A device is numbered from 1, and a usage names the least control that has it.
 #[derive(Drop)]

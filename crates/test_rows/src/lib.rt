@@ -22,7 +22,7 @@ pub use bytes::bytes_of;
 pub use fault::RowFault;
 pub use sheet::{Answers, Sheet, judge};
 pub use told::{
-    add, add_debug, add_hex, add_shown, part, tell, tell_bytes, tell_debug, tell_hex, tell_number,
+    add, add_debug, add_hex, add_shown, tell, tell_bytes, tell_debug, tell_hex, tell_number,
     tell_numbers, tell_pattern, tell_shown, tell_whether,
 };
 pub use words::{number_of, pattern_of, signed_of, split, width_of};

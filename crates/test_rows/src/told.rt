@@ -7,7 +7,7 @@ use std::fmt::{Debug, Display, Write};
 const FEW: usize = 16;
 
 /// Begins a part.
-pub fn part(told: &mut String) -> Result<(), RowFault> {
+pub(crate) fn part(told: &mut String) -> Result<(), RowFault> {
     if !told.is_empty() {
         told.push_str(", ")?;
     }
