@@ -1,18 +1,18 @@
-//! Does one piece of the stack's work many times over, so that it can be counted what it takes.
+//! Does one piece of the stack's work many times, so that its instructions can be counted.
 //! ```text
 //!   hid_bench parse TURNS DESCRIPTOR             reads a report descriptor, and drops its layout
 //!   hid_bench read  TURNS DESCRIPTOR REPORT..    reads each Input report in turn by one reader
 //!   hid_bench write TURNS DESCRIPTOR USAGE..     writes the report of the first usage, with each pressed, moved or set
 //!   hid_bench step  TURNS DESCRIPTOR USAGE..     moves the controls of the usages, if there are any, and polls the device
 //! ```
-//! Descriptors and reports are hex digits; a usage has four digits of its page and four of its ID. What is told is how many
+//! Descriptors and reports are hex digits; a usage has four digits of its page and four of its ID. The program prints how many
 //! items were listed, events came or bytes were written, in all turns together.
 //!
-//! The rule to know: a turn takes what two runs of a different number of turns differ in, divided by that number; `make
-//! bench` counts so.
+//! The rule to know: the cost of a turn is the difference of two runs, divided by the difference of their turns, as `make
+//! bench` counts.
 //!
-//! The exit status is 0; 1 where the descriptor, a report or a usage is refused; 2 for a wrong command line; 3 where memory
-//! was wanting or standard output can't be written.
+//! The exit status is 0; 1 if the descriptor, a report or a usage is refused; 2 for a wrong command line; 3 if memory runs out
+//! or standard output can't be written.
 #![tactic(auto)]
 
 mod fault;

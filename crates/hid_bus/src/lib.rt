@@ -1,6 +1,6 @@
-//! What can happen on a bus of devices and their hosts: its steps, what they tell and deliver, and the lives of the devices on
-//! it, as how a device and its host stand together, which rounds its polls make, and what is told of them (USB 2.0, 7.1.7.5, 8.4.3,
-//! 8.5.3, 8.5.4, 8.6, 9.1.1, 9.4.5 and 9.4.7; HID 1.11, 7.2.4). Types, definitions and their laws; no code.
+//! What can happen on a bus of devices and their hosts: the steps of the bus with their results, and a model of one device and
+//! its host (USB 2.0, 7.1.7.5, 8.4.3, 8.5.3, 8.5.4, 8.6, 9.1.1, 9.4.5 and 9.4.7; HID 1.11, 7.2.4). Types, definitions and their
+//! laws; no code.
 //! ```text
 //!   Step                       what is sent                     Told                 Delivered, each with its device
 //!   Change, Frame, Begin       nothing                          Quiet                nothing
@@ -8,27 +8,28 @@
 //!   Control                    a try of a transfer              Transfer: progress   1 dropped 01:30 5
 //!   Halt, Reset                nothing                          Quiet                1 up 07:04
 //!
-//!   what befalls a device               what comes of it               what its host is told
+//!   what happens to a device                its outcome                events of its host
 //!   press, frame, poll, idle times,     a round ended, both ends       down 07:04
-//!   configuration, halt, clear, reset       begin anew                     ^
+//!   configuration, halt, clear, reset       begin again                    ^
 //!          |                                ^        |                   |
 //!          +--- Course: standing, round ----+        +--- told_from -----+
 //!          |        no toggle, no view                                   |
 //!          +--- Station: standing, open round, toggle, view --- told_in -+
 //! ```
-//! Devices are numbered from 1, and each step but a frame names its device. What steps make of a bus is said by `hid_stack`, and
-//! what is printed of them by `hid_text`, which doesn't know the bus.
+//! Devices are numbered from 1, and each step but a frame names its device. `hid_stack` says what steps make of a bus, and
+//! `hid_text` prints them without knowing the bus.
 //!
-//! A course keeps whole rounds, with the fates of their polls; a station keeps what both ends know, and no more. The
-//! rule to know: a round's part is the one that was fixed when it opened, and it tells its events where it crossed, once.
-//! A report of over 64 bytes goes in pieces, each with its own toggle, and its round crosses with the last one. A halt and
-//! a clear cut the round that is open: its report is due again, and motion that hadn't crossed is dropped.
+//! A course keeps whole rounds, with the fates of their polls. A station keeps what both ends know, and no more.
 //!
-//! The promise, for every list of deeds: the station delivers what comes of the course, and stands as that says:
-//! [`laws::lives_are_told`]. Its motion is neither lost nor doubled: [`laws::motion_is_kept`]. A report whose round was cut
-//! is due until one opens: [`laws::halts_lose_nothing`]. A report is told whole or not at all:
-//! [`laws::reports_are_told_whole`]. What two lists deliver of a device, one behind the other, is what the first does and then
-//! what the second does.
+//! The rule to know: a round's part is the one that was fixed when the round opened, and it gives its events where it crossed,
+//! once. A report of over 64 bytes goes in pieces, each with its own toggle, and its round crosses with the last one. A halt
+//! and a clear abort the open round: its report is due again, and motion that hadn't crossed is dropped.
+//!
+//! The promise, for every list of deeds:
+//! - The station delivers the outcomes of the course, and its state follows from them: [`laws::lives_are_told`].
+//! - Motion is neither lost nor doubled: [`laws::motion_is_kept`].
+//! - A report whose round was aborted is due until one opens: [`laws::halts_lose_nothing`].
+//! - A report is delivered whole or not at all: [`laws::reports_are_told_whole`].
 #![tactic(auto)]
 
 pub mod laws;

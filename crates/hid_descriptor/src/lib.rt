@@ -14,10 +14,10 @@
 //! Page, the sign of the Logical Maximum and every other global are those in force there, and a Pop
 //! brings back the globals of its matching Push, but never a usage.
 //!
-//! [`list_fields`] accepts exactly the descriptors in which no cause of [`Cause`] stands, and gives the
-//! fields that the definitions of `specs/` give (`ok`); it refuses every other one with the cause and
-//! the place that the order picks (`err`), want of memory aside. [`laws`] says that this pins its
-//! answer. What reports and controls the fields make is said in `hid_layout`, and never here.
+//! The promise: unless memory runs out, [`list_fields`] accepts exactly the descriptors in which no cause of
+//! [`Cause`] stands, and gives the fields of the definitions in `specs/` (`ok`). It refuses all others with
+//! the cause and the place that come first in the order (`err`). By [`laws`] this leaves one result. The
+//! reports and controls that the fields make are defined in `hid_layout`, and never here.
 #![tactic(auto)]
 
 mod collection;

@@ -1,15 +1,15 @@
 //! A virtual human interface device at the far end of the bus (USB 2.0, 8.4.6.1, 8.5.3, 8.5.4, 8.6
 //! and 9.4; HID 1.11, 5 to 8).
 //! ```text
-//!   host                 Device::on_packet                                  Core
+//!   host                 Device::on_packet, or hear_poll and poll_answer    Core
 //!   IN 69 81 00 ------>  no round open: the lowest due report? -------->  Snapshot::due, idle times
 //!                            its part is fixed                             Snapshot::shown -> fixed
 //!                            its motion is taken out                       Snapshot::take_motion
-//!                            its frames are counted anew                   frames
+//!                            its frames are counted from 0                 frames
 //!                            its bytes are kept, and the first 64 armed    write_report -> DevPipe::arm
-//!              <-------  what is armed under the toggle, else NAK          DevPipe::answer; STALL while it is halted
+//!              <-------  what is armed under the toggle, else NAK          DevPipe::lent_answer; STALL while it is halted
 //!   ACK 0xD2 --------->  directly behind data: the next 64 bytes are       DevPipe::acknowledged, DevPipe::arm
-//!                            armed, and behind the last the round is closed
+//!                            armed, and after the last the round is closed
 //!
 //!   SETUP 2D 01 00, DATA0 80 08 .. -->  endpoint 0: DevControl           Core::prepare: decides, fixes the answer
 //!   IN 69 01 00 ------>  the answer, or STALL; or what is pending            Core::answer, Core::apply

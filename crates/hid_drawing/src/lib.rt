@@ -4,20 +4,20 @@
 //!   descriptor     ---- read_items ------> items    by their places, up to where it is cut off
 //!   items          ---- frames ----------> frames   the bytes of each collection
 //!   pieces, frames ---- print_picture ---> SVG: a cell for each piece, in its area
-//!   pieces, frames ---- print_terminal --> the same in characters
+//!   pieces, frames ---- print_terminal --> the picture in characters
 //!
 //!      ┌─────────────────────────────────────────────────┬─────────┬─────────┬─────────┐╮╮
 //!    0 │padding                                          │Button 3 │Button 2 │Button 1 │││
 //!      │5 bits                                           │0..1     │0..1     │0..1     │││
 //!      ├─────────────────────────────────────────────────┴─────────┴─────────┴─────────┤││
 //! ```
-//! The rules to know: a piece lies where the layout says: `pieces_of` of `specs/Pieces.antt` takes `element_of` of the layout.
-//! A cell stands where its piece says (`piece_area` of `specs/Areas.antt`): a row for each byte, bit 7 at the left. The
-//! descriptor gives only places: those of the items that made a field, and of the collections round it.
+//! The rule to know: the layout says where a piece lies (`pieces_of` of `specs/Pieces.antt` takes `element_of` of the layout),
+//! and the piece says where its cell stands (`piece_area` of `specs/Areas.antt`): a row for each byte, bit 7 at the left. The
+//! descriptor gives only places: those of the items that made a field, and of the collections around it.
 //!
-//! The pieces of a report have each of its bits once, and those of all its fields: [`laws`]. Each `print_` call adds exactly the
-//! text that `specs/` states (`Words.antt`, `picture_at`, `terminal_at`). Words that a device's bytes choose are escaped, and
-//! can't end a tag or an attribute: [`words_are_inert`].
+//! The promise: the pieces of a report have each of its bits once, and are those of all its fields ([`laws`]). Each `print_`
+//! call appends exactly the text that `specs/` states (`Words.antt`, `picture_at`, `terminal_at`). Words that a device's bytes
+//! choose are escaped, and can't end a tag or an attribute ([`words_are_inert`]).
 #![tactic(auto)]
 
 mod areas;

@@ -18,10 +18,11 @@
 //! WordCodec::put(&mut bytes, 3, 5, 0);
 //! assert!(bytes == [0x07, 0xFF]);
 //! ```
-//! The caller sees to it that a field has 1 to 32 bits and lies in the slice, and that a pattern
-//! fits its width: these are conditions, and no call refuses anything or takes memory.
-//! After `put` that field has the pattern and every other bit is as before: `field` and `others` on
-//! [`FieldCodec::put`]. `BitCodec` and `WordCodec` are proved by these same clauses, so they agree.
+//! The rule to know: that a field has 1 to 32 bits and lies in the slice, and that a pattern fits its width, are
+//! preconditions. No call refuses anything or takes memory.
+//!
+//! The promise: after `put` the field has the pattern, and every other bit is as before: `field` and `others` on
+//! [`FieldCodec::put`]. `BitCodec` and `WordCodec` are proved by the same clauses, so they agree.
 #![tactic(auto)]
 
 mod bit_codec;

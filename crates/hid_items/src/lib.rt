@@ -7,11 +7,12 @@
 //!                                                         |  size of the data
 //!                                                         the first byte of every long item
 //! ```
-//! An item is known by its spelling, a slice of the descriptor: nothing is copied, and nothing
-//! takes memory. What an item means is said in `hid_descriptor`, and never here.
-//! [`Items`] gives exactly the items whose spellings, one after another, are the descriptor, each
-//! at its place: `next_gives` of its `Iterator`, with [`laws::one_reading`]. Where bytes are left
-//! in which no item begins, it ends with [`ItemFault::Truncated`].
+//! An item is a slice of the descriptor: nothing is copied, and no call takes memory. What an item means is
+//! defined in `hid_descriptor`, and never here.
+//!
+//! The promise: [`Items`] gives exactly the items whose bytes, one after another, are the descriptor, each
+//! with its place: `next_gives` of its `Iterator`, with [`laws::one_reading`]. If the bytes left over are no
+//! whole item, it ends with [`ItemFault::Truncated`].
 //! ```text
 //!   for item in Items::new(&[0x09, 0x02, 0x25]) {      // Ok(Item { at: 0, .. }), whose unsigned() is 2,
 //!       ..                                             // then Err(ItemFault::Truncated { at: 2 })

@@ -12,13 +12,13 @@
 //!             open collections          1/01:02 0/01:01
 //! ```
 //! The rule to know: an item is named by its place among the listed items, the Input, Output and Feature
-//! items that have bits, and a control by its item and its place there. What is read again and again, as
-//! the items of a report, is worked out once, when the layout is made.
+//! items that have bits, and a control by its item and its place there. What is read often, as the items of
+//! a report, is computed once, when the layout is made.
 //!
-//! [`Layout::parse`] accepts exactly the descriptors in which no cause of [`Cause`] stands, and gives the
-//! layout that the definitions of `specs/` give (`ok`); it refuses every other one with the cause and
-//! the place that the order picks (`err`), want of memory aside. [`laws`] says that this pins its
-//! answer. Every reader gives the definition's value and takes no memory.
+//! The promise: unless memory runs out, [`Layout::parse`] accepts exactly the descriptors in which no cause
+//! of [`Cause`] stands, and gives the layout of the definitions in `specs/` (`ok`). It refuses all others
+//! with the cause and the place that come first in the order (`err`). By [`laws`] this leaves one result.
+//! Every reader gives the definition's value and takes no memory.
 //! ```text
 //!   let layout = Layout::parse(alloc, &descriptor)?;    // or Err, printed as `L10 at 12`
 //!   layout.report_bytes(0);                             // 3

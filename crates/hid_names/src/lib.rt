@@ -5,9 +5,10 @@
 //!   page 09, ID 05 --usage_name--> Button(5)           printed as `Button 5`: its ID is its number
 //!   page FF00      --usage_name--> none
 //! ```
-//! The rows stand by rising page and ID, so no usage is named twice: [`laws::rises`].
-//! What is named is what the rows say, and no usage that has a row is left without: `name` on [`usage_name`]. The rows are
-//! those of Debian's list of USB IDs and some more, named as the HID Usage Tables name them; newer usages have none.
+//! The rule to know: the rows rise by page and ID, so no usage is named twice ([`laws::rises`]). They are those of Debian's
+//! list of USB IDs and some more, with the names of the HID Usage Tables; newer usages have none.
+//!
+//! The promise: a usage has the name of its row, if there is one: `name` on [`usage_name`].
 #![tactic(auto)]
 
 pub mod laws;

@@ -1,4 +1,4 @@
-//! How numbers, bytes, usages and refusals of descriptors are written.
+//! How numbers, bytes, usages and refusals of descriptors are printed.
 //! ```text
 //!   HexText(0x0A)                   0A
 //!   print_number(10)                10
@@ -7,8 +7,8 @@
 //!   UsageText(page 1, ID 30)        01:30
 //!   print_usages(09:01, 09:03)      09:01-09:03
 //! ```
-//! What is written is the stated text, byte for byte: `specs/Text.antt` and `specs/Causes.antt`. Where a writer fails, a call
-//! gives its error, and some of the text may be written.
+//! The promise: each call prints the stated text, byte for byte (`specs/Text.antt`, `specs/Causes.antt`). If a writer fails,
+//! the call returns its error, and some of the text may be written.
 #![tactic(auto)]
 
 mod causes;

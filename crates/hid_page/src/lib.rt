@@ -5,11 +5,12 @@
 //!
 //!   <h2>Input report: 3 bytes</h2>   the picture, a cell for each field
 //!   the fields as a table            each with links to the items that made it
-//!   the items with their places      those of the field that is pointed at are marked
+//!   the items with their places      those of the field under the pointer are marked
 //! ```
 //! The rule to know: all that is drawn is defined part by part in `specs/Page.antt` and `specs/ItemTable.antt`, and each
 //! `print_` call adds one part.
-//! [`draw`] gives exactly the stated text (`IsDrawn`), and [`draw_refused`] the page of a refusal (`IsRefusal`).
+//!
+//! The promise: [`draw`] gives exactly the stated text (`IsDrawn`), and [`draw_refused`] the page of a refusal (`IsRefusal`).
 #![tactic(auto)]
 
 mod drawing;

@@ -1,4 +1,4 @@
-//! Recordings of devices, as hid-recorder and usbhid-dump write them, and what a host makes of their reports.
+//! Recordings of devices, as hid-recorder and usbhid-dump write them, and the events that a host reads in their reports.
 //! ```text
 //!   reader --> pieces --> lines --read_record--> Record --played--> text --> writer
 //!
@@ -13,13 +13,14 @@
 //!    01 05 00 00                               its bytes
 //!                                              1263214174.456 0 down 09:01, at the empty line that ends it
 //! ```
-//! A line is read whole and played, and its text is written at once. A line that is refused tells its place and why, and
-//! the next ones go on; of a strict run it is the end. A dump in which a line stands that can't be read is dropped. A device
-//! whose descriptor is refused or can't be read has none, up to its next one. A report that comes in chunks is joined as a
-//! host joins packets (`specs/Joining.antt`).
-//! The rule to know: each device has a view of its own, and an event is a change from the view that its reports made
-//! before.
-//! `play` writes exactly the text that the recording tells: the clause on [`play`].
+//! A line is read whole and played, and its text is written at once. A refused line prints its number and the reason, and
+//! the next ones go on; in a strict run it is the end. A line that can't be read drops the dump in which it stands. A device
+//! whose descriptor is refused or can't be read has none up to its next one. A report that comes in chunks is reassembled as
+//! a host reassembles packets (`specs/Joining.antt`).
+//!
+//! The rule to know: each device has a view of its own, and an event is a change of the view that its earlier reports made.
+//!
+//! The promise: [`play`] writes exactly the text of the recording, by its clause.
 #![tactic(auto)]
 
 mod binary;

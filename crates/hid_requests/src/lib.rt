@@ -1,5 +1,5 @@
-//! What is asked at endpoint 0, at both ends, and the descriptors that answer it (USB 2.0, 9.4 to 9.6; HID 1.11, 6.2.1,
-//! 7.1 and 7.2).
+//! The requests of endpoint 0, at both ends, and the descriptors that answer them (USB 2.0, 9.4 to 9.6; HID 1.11, 6.2.1, 7.1
+//! and 7.2).
 //! ```text
 //!   host                                          device
 //!   Request --setup--> Setup, 8 bytes ----------> what_is_asked --> Asked, or nothing that it answers
@@ -11,17 +11,16 @@
 //!   Idle       21 0A id time 00 00 00 00          SetIdle            of the class: wValue is two bytes
 //!   Halt       02 03 00 00 81 00 00 00            SetFeature         of endpoint 1, to the host
 //! ```
-//! The rule to know: a standard row has one wValue and one wIndex, the status of endpoint 0 two; a request with others is
-//! nothing that a device answers. A row of the class has wIndex 0, and in wValue a Report ID with the type of that report
-//! or its idle time, or a protocol. wLength counts in a write alone; the answer to a read is cut to it as it is sent.
+//! The rule to know: a standard row has one wValue and one wIndex (two for the status of endpoint 0), and a device answers no
+//! request with others. A row of the class has wIndex 0, and in wValue a Report ID with the type of that report or its idle
+//! time, or a protocol. wLength matters in a write only; the answer to a read is cut to it when it is sent.
 //!
-//! The promise: a request is told as the row that the standard's tables have for it ([`what_is_asked`]), what a host asks
-//! has a row ([`laws::requests_have_rows`]) and as much data as it says ([`laws::data_are_announced`]), and what a host
-//! reads of a device's configuration is what it was made of ([`laws::configurations_are_read`]). No call takes memory, and
-//! none is refused.
+//! The promise: [`what_is_asked`] gives the row of the standard's tables. Each request of a host has a row
+//! ([`laws::requests_have_rows`]) and as much data as it says ([`laws::data_are_announced`]). A host reads of a device's
+//! configuration what the device was made of ([`laws::configurations_are_read`]). No call takes memory, and none is refused.
 //!
-//! Both ends, and the lines of a script, speak of the kind of a device ([`Boot`]), and of why there is none
-//! ([`DeviceFault`]); and they agree on the endpoint out of which a device's reports come ([`REPORT_ENDPOINT`]).
+//! Both ends and the lines of a script share the kind of a device ([`Boot`]), why there is none ([`DeviceFault`]), and the
+//! endpoint of a device's reports ([`REPORT_ENDPOINT`]).
 //! ```text
 //!   let setup = Request::Configure.setup(&Asking { report_length: 63, endpoint: 1 });    // 00 09 01 00 00 00 00 00
 //!   what_is_asked(&setup)                                                                // Some(Asked::SetConfiguration)

@@ -1,4 +1,4 @@
-//! The script language: lines lay descriptors out, read reports, and play devices on a bus, and what that tells is text.
+//! The script language: its lines lay descriptors out, read reports and play devices on a bus, and print the results.
 //! ```text
 //!                           --read_short--> ShortLine --
 //!   reader --> pieces --> lines                         carried out, by the rig --> text --> writer
@@ -15,11 +15,12 @@
 //!   halt 1
 //!   poll 1                                              (with `trace`) 1 poll STALL stall
 //! ```
-//! A line is read whole, by `read_short` of `hid_text` or else by `read_line`, carried out, and its text is written
-//! at once, of a line with a count each time: a line that is refused ends the run, and what stands in the output is
-//! what was told before it.
-//! [`parse_line`] says what a line means by itself. `run` writes exactly the text that the script tells: the clause on [`run`]. Its lines of a device's events are the texts
-//! of what the device lives through: law [`laws::lives_are_printed`].
+//! The rule to know: a line is read whole, by `read_short` of `hid_text` or else by `read_line`, and carried out, and then
+//! its text is written (each time, for a line with a count). A refused line ends the run; the text of the lines before it
+//! is written. [`parse_line`] says what a line means by itself.
+//!
+//! The promise: [`run`] writes exactly the text of the script, by its clause. The lines of a device's events are the
+//! text of all that happened to the device: law [`laws::lives_are_printed`].
 #![tactic(auto)]
 
 mod fault;

@@ -1,21 +1,25 @@
-//! The device's side of a layout: what is kept of each listed item, snapshots of a device's controls, and the reports that
-//! show them (HID 1.11, 5.6, 5.8, 5.10, 6.2.2.5 and 8).
+//! The device's side of reports: snapshots of a device's controls, the parts of them that reports show, and the bytes of these
+//! (HID 1.11, 5.6, 5.8, 5.10, 6.2.2.5 and 8).
 //! ```text
-//!   press, move, set --> Snapshot --shown--> Shown --encode_report--> 02 00 04 00 00 00 00 00
-//!                            <--take_motion--
+//!   press, release, set,   --> Snapshot --shown--> Shown --encode_report--> 02 00 04 00 00 00 00 00
+//!   set_null, shift                <--take_motion--
 //!
-//!   Cell of an item    Vacant | Pressed | Holding | Moved | RolledOver      one for each listed item
+//!   Snapshot::blank          nothing is pressed, nothing has moved
+//!   Snapshot::due            whether what a report shows differs from the part shown last, or it has motion
+//!   Snapshot::shown          motions clamped to what elements carry; an array with too many keys rolled over
+//!   Snapshot::still          as `shown`, with every motion 0
+//!   Snapshot::take_motion    takes out the motion that a part carries
 //!
-//!   blank_cells: nothing is pressed, nothing has moved
-//!   show_cells: motions clamped to what elements carry, an array with more keys than elements rolled over
-//!   show_still: the same, with every motion 0
-//!   take_cells: the motion that a part carries is taken out
-//!   reset_parts: the parts that blank cells show, once more in the same room
+//!   Cell of an item          Vacant | Pressed | Holding | Moved | RolledOver
 //! ```
-//! A list of cells is a snapshot, the shown parts of a device's reports, or a host's view; the crates above make a type of the
-//! last. The rule to know: `FitsSnapshot`, `FitsShown` and `FitsView` say that a list belongs to a layout.
+//! A snapshot, the shown parts of a device and a host's view (`View` of `hid_usages`) each have one [`Cell`] for each listed
+//! item of a layout, so a control's ID addresses its state.
 //!
-//! The bytes of a part are the only ones that show it: `shows` and `only` on [`encode_report`].
+//! The rule to know: `FitsSnapshot`, `FitsShown` and `FitsView` say that a list of cells belongs to a layout. A call with a
+//! layout requires the one with which its other values were made.
+//!
+//! The promise: the bytes of a part are the only ones that show it (`shows` and `only` on [`encode_report`]). Only calls with
+//! an allocator take memory.
 #![tactic(auto)]
 
 mod blank;

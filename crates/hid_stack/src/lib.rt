@@ -7,28 +7,30 @@
 //!   Step::Control           <---- SETUP, IN or OUT ------------------------------------ control_step: one try
 //!                           ---------------------------->    endpoint 0 answers
 //!   Step::Poll              <---- IN 69 81 00 ----------------------------------------- token
-//!                           ---------------------------->    on_packet: a round opens where a report is due
-//!                           <---- DATA0 C3 00 00 04 .. ---   armed until it is acknowledged
-//!                           ------------------------------------------------------->   reply
+//!                           ---------------------------->    hear_poll: a round opens if a report is due
+//!                           <---- DATA0 C3 00 00 04 .. ---   poll_answer: armed until it is acknowledged
+//!                           ------------------------------------------------------->   reply_lent
 //!                           ---- ACK 0xD2 --------------->   on_packet                 Down 07:04
 //!   Step::Halt   ---------------------------------------->   halt: STALL from then on  tell_cut: Dropped 01:30 5
 //!   Step::Reset  ---------------------------------------->   reset                     reset: Up 07:04
 //! ```
-//! Each packet goes as its bytes, and is read from the bytes that arrive: [`poll`] says so packet by packet, over any bus.
+//! Each packet goes as its bytes, and is decoded from the bytes that arrive: [`poll`] says so packet by packet, over any bus.
 //! A rig's step is such a poll, and a [`Fate`](usb_transact::Fate) says what is lost of it.
 //!
 //! The rule to know: a device's events come from its polls, from halts and clears, which drop the motion of the round that
-//! they end, and from its resets, which lead the host's view back to the initial one; and a round's part is the one that
-//! was fixed when it opened.
+//! they end, and from its resets, which lead the host's view back to the initial one. A round's part is the one that was
+//! fixed when the round opened.
 //!
-//! The promise, for every report descriptor that both ends accept and every list of changes, frames and polls: the events
-//! delivered are exactly the changes between the successive parts that crossed, in order, none twice: `headline` on
-//! [`Rig::run`]. With transfers, halts and resets between the polls the same holds from each configuration on: `lives`.
-//! Each step is told by its definition: `told`, `after` and `events` on [`Rig::step`]. Each device goes its own way:
-//! `isolated`, and over lists of attaches and steps [`laws::devices_are_their_own`]. A halt or a clear loses no report:
-//! [`laws::halts_lose_nothing`]. The motion of a device is neither lost nor doubled: `conserves`. A host is ready only while
-//! its device is configured, and only with its layout: `shows` on [`Rig::host`]; the toggle that it expects is the parity of the
-//! pieces that crossed: `toggles` on [`Rig::run`].
+//! The promise, for every report descriptor that both ends accept:
+//! - Over every list of changes, frames and polls the events delivered are exactly the changes between the successive parts
+//!   that crossed, in order, none twice: `headline` on [`Rig::run`]. With transfers, halts and resets between the polls this
+//!   holds from each configuration on: `lives`.
+//! - Each step has the result of its definition: `told`, `after` and `events` on [`Rig::step`].
+//! - Each device is independent of the others: `isolated`, and over lists of attaches and steps
+//!   [`laws::devices_are_their_own`].
+//! - A halt or a clear loses no report: [`laws::halts_lose_nothing`]. Motion is neither lost nor doubled: `conserves`.
+//! - A host is ready only while its device is configured, and only with its layout: `shows` on [`Rig::host`]. The toggle that
+//!   it expects is the parity of the pieces that crossed: `toggles` on [`Rig::run`].
 #![tactic(auto)]
 
 mod fault;

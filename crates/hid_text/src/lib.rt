@@ -1,4 +1,4 @@
-//! The text of a script: its lines, read and told (docs/SCRIPT.md), and what is printed of layouts, reports, polls and events.
+//! Scripts as text: what a line says (docs/SCRIPT.md), and what is printed of layouts, reports, polls and events.
 //! ```text
 //!           words_of_line                   read_line
 //!   line ------------------> word by word ---------------> Line, or the first LineFault
@@ -13,18 +13,18 @@
 //!   Layout ---------- print_layout ---> report input 0 bytes 1
 //!                                       item 0 input 0 at 0 8x1 relative -127..127 01:30
 //!   a report 81 ----- print_values ---> value 0.0 -127 01:30
-//!   a step and what
-//!   it told --------- print_step -----> 1 poll DATA0 00 00 04 00 00 00 00 00 fresh
+//!   a step and
+//!   its result ------ print_step -----> 1 poll DATA0 00 00 04 00 00 00 00 00 fresh
 //!                                       1 down 07:04
 //! ```
-//! The rules to know: a line is read without its end, and alone: what came before it doesn't change what it says. A call
-//! that prints adds to the text that it is given, and adds nothing else; where memory runs out, which is its only error, some
-//! of the text may have been added.
+//! The rules to know: a line is read without its end, and alone: earlier lines don't change what it says. A call that prints
+//! appends to its text; its only error is to run out of memory, and some of the text may be appended then.
 //!
-//! Most lines are short: [`read_short`] reads them into a smaller room. [`read_line`] gives exactly what the definition
-//! `meaning_of` says (`exact`), and takes no memory. What is printed is the stated text, byte for byte: `layout_text`,
-//! `values_text` and `step_text` of `specs/`. A line of an event is told from the others by how it begins: law
-//! [`laws::events_are_told_apart`].
+//! Most lines are short: [`read_short`] reads them into a smaller type.
+//!
+//! The promise: [`read_line`] gives exactly what the definition `meaning_of` says (`exact`), and takes no memory. What is
+//! printed is the stated text, byte for byte: `layout_text`, `values_text` and `step_text` of `specs/`. The line of an event is
+//! told from other lines by how it begins: law [`laws::events_are_told_apart`].
 #![tactic(auto)]
 
 mod arguments;

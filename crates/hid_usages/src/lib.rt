@@ -1,5 +1,5 @@
-//! The host's side of a layout: a view of a device's controls, and the events of the reports that it takes (HID 1.11, 5.6, 5.10,
-//! 6.2.2.5 and 8). It exports the device's side, `hid_snapshots`.
+//! The host's side of reports: a view of a device's controls, and the events of the reports that it takes (HID 1.11, 5.6, 5.10,
+//! 6.2.2.5 and 8). It exports what users need of the device's side, `hid_snapshots`.
 //! ```text
 //!   press, move, set --> Snapshot --shown--> Shown --encode_report--> 02 00 04 00 00 00 00 00
 //!                                                                        |
@@ -8,16 +8,18 @@
 //!   an element of 07:01 in an array    the keys of that array stay as they were
 //!   a number out of its range          null where the control has null, else nothing changes
 //! ```
-//! Each of the three keeps one [`Cell`] for each listed item of its layout, so a control's ID addresses its state.
-//! The rule to know: a call with a layout is given the one with which its other values were made, which the conditions
-//! `FitsSnapshot`, `FitsShown` and `FitsView` say; `blank` and `initial` make them, and every call keeps them.
-//! Pressed and held keys are kept as words of 64 bits: `key_words` of a [`Snapshot`] and of a [`View`].
-//! A [`Reader`] owns a layout with its view, and doesn't read the last report again, where it told nothing and has at
-//! most 64 bytes.
-//! No call takes memory but `Snapshot::blank`, `Shown::blank` and `View::initial`; events go into reserved room.
-//! The bytes of a part are the only ones that show it: `shows` and `only` on [`encode_report`]. Any bytes give one view
-//! and one list of events: `taken` on [`View::take_report`]. The reports of the boot keyboard and mouse tell the same
-//! without a layout: [`boot::laws`].
+//! A [`Snapshot`], a [`Shown`] and a [`View`] each have one cell for each listed item of their layout, so a control's ID
+//! addresses its state.
+//!
+//! The rule to know: a call with a layout requires the one with which its other values were made, by the conditions
+//! `FitsSnapshot`, `FitsShown` and `FitsView`; `blank` and `initial` make them, and every call keeps them.
+//!
+//! Pressed and held keys are words of 64 bits: `key_words` of a [`Snapshot`] and of a [`View`]. A [`Reader`] owns a layout with
+//! its view; it doesn't decode a report again that equals the last one, if that gave no events and has at most 64 bytes.
+//!
+//! The promise: any bytes give one view and one list of events (`taken` on [`View::take_report`]). The reports of the boot
+//! keyboard and mouse give the same without a layout ([`boot::laws`]). No call takes memory but `Snapshot::blank`,
+//! `Shown::blank` and `View::initial`; events go into reserved room.
 #![tactic(auto)]
 
 mod back;

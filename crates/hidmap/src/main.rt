@@ -7,9 +7,8 @@
 //!                                                    +-- refused --> draw_refused --> standard output
 //!                                                                    and in words --> standard error
 //! ```
-//! The exit status is 0; 1 where the descriptor, or the text that it stands in, is refused; 2 for a wrong command line,
-//! and for a report that there isn't; 3 where a file can't be read, standard output can't be written, or memory was
-//! wanting.
+//! The exit status is 0; 1 if the descriptor or the text around it is refused; 2 for a wrong command line, and for a report
+//! that doesn't exist; 3 if a file can't be read, standard output can't be written, or memory runs out.
 #![tactic(auto)]
 
 ghost use Rattle.std.specs.Prelude.{◌≤◌, length};

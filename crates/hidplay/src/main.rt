@@ -1,4 +1,4 @@
-//! Plays recordings of devices: tells what a host sees of their reports.
+//! Plays recordings of devices: prints the events that a host reads in their reports.
 //! ```text
 //!   hidplay [OPTIONS] [FILE]...
 //!
@@ -6,9 +6,9 @@
 //!                                                                          |
 //!                                           progress, what ended a run, a summary --> standard error
 //! ```
-//! What ends a file ends all of them where it is R9, or a refusal with --strict.
-//! The exit status is 0; 1 where a line was refused; 2 for a wrong command line; 3 where a file can't be read, standard
-//! output can't be written, or memory was wanting.
+//! R9 ends all files, and so does a refusal with --strict; anything else ends one file.
+//! The exit status is 0; 1 if a line was refused; 2 for a wrong command line; 3 if a file can't be read, standard output can't
+//! be written, or memory runs out.
 #![tactic(auto)]
 
 mod codes;

@@ -9,10 +9,11 @@
 //!   hidstack_number   an element and a report --> the element's number
 //!   hidstack_run      a script --> its text
 //! ```
-//! A handle is the caller's own variable. One that is closed, or all bytes zero, may be opened; one that is open may be
-//! fed, read and closed. The rule to know: a wrong call is told by its status, and changes nothing.
-//! Each call's contract says what the crates below promise: acceptance and refusal of descriptors, the view and the
-//! events of [`hid_usages::View::take_report`], and the layout's own contents.
+//! A handle is the caller's own variable. A closed one, which may be zeroed memory, may be opened; an open one may be fed, read
+//! and closed. The rule to know: a wrong call returns a status and changes nothing.
+//!
+//! The promise: each call's contract has the promises of the crates below: acceptance and refusal of descriptors, the view
+//! and the events of [`hid_usages::View::take_report`], and the contents of the layout.
 #![tactic(auto)]
 
 mod address;

@@ -1,14 +1,14 @@
-//! A device whose reports a host reads, and what of it is told to C as plain records.
+//! A device whose reports a host reads, as the plain records that C sees.
 //! ```text
 //!   descriptor --Session::open--> Session: layout, view, room for the events of a report
 //!
 //!   report     --Session::feed--> events as records: kind, control, usage, value
 //!   a place    --element_at-----> an element: bit, width, sign, range, usage, flags, report
 //! ```
-//! A record is of fixed-width numbers alone, each at its own multiple, so its bytes are the same to each compiler.
-//! The rule to know: places are those of [`hid_layout`], an item among the listed items and an element or a key there.
+//! The rules to know: places are those of [`hid_layout`], an item among the listed items and an element or a key there. A
+//! record has only numbers of fixed width, naturally aligned, so its bytes are the same to each compiler.
 //!
-//! A session is opened, fed and shown by the definitions of its layout and view: `ok` and `err` on [`Session::open`],
+//! The promise: a session is opened and fed by the definitions of its layout and view: `ok` and `err` on [`Session::open`],
 //! and the clause on [`Session::feed`].
 #![tactic(auto)]
 

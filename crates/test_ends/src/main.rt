@@ -1,19 +1,19 @@
-//! Plays rows of the two ends of the bus, `hid_device` and `hid_host`, and of what is asked at endpoint 0, `hid_requests`, by
-//! what they export. The rows stand in the file `stdin` beside this folder, which `rt ci` gives to the program: so they cost no
-//! proof.
+//! Plays rows of the two ends of the bus, `hid_device` and `hid_host`, and of the requests of endpoint 0, `hid_requests`,
+//! through their exports. The rows stand in the file `stdin` beside this folder, which `rt ci` gives to the program: so they
+//! cost no proof.
 //! ```text
-//!   stdin                                                   what is told
+//!   stdin                                                   what is printed
 //!     table a_device_goes_through_its_rounds
 //!     plain mouse: a round                                  a new device, and a new host
-//!         a button: press 0 0 >                             nothing where the row is so
-//!         a poll:   69 81 00  > C3 01 00 00 round 0.0       the table, the schedule, the row and what is told, where it isn't
-//!                                                           at the end: 38 tables, 124 schedules, 2640 rows, 0 wrong
+//!         a button: press 0 0 >                             nothing if the row is right
+//!         a poll:   69 81 00  > C3 01 00 00 round 0.0       if not, the table, the schedule, the row and its result
+//!                                                           at the end, how many there were, and how many wrong
 //! ```
-//! Behind `: ` stands what is done, and behind `>` what is told of it, all of it: `device.rt` has the words of a device,
-//! `host.rt` and `host/foreign.rt` those of a host, `requests.rt` those of requests and descriptors, `making.rt` those of
-//! which devices there are, and `schedule.rt` how a schedule begins. What can't be read is told as wrong.
+//! After `: ` stands what is done, and after `>` the whole result. `device.rt` has the words of a device, `host.rt` and
+//! `host/foreign.rt` those of a host, `requests.rt` those of requests and descriptors, `making.rt` those of which devices
+//! there are, and `schedule.rt` how a schedule begins. A row that can't be read is wrong.
 //!
-//! The exit status is 0 where no row is wrong, else 1; 2 where standard input can't be read or standard output written.
+//! The exit status is 0 if no row is wrong, else 1; 2 if standard input can't be read or standard output written.
 #![tactic(auto)]
 
 mod device;

@@ -1,7 +1,6 @@
-//! Tests of libraries that are no rows: want of memory where a transfer begins (`usb_control`), descriptors that are made by the
-//! thousand and want of memory (`hid_layout`), what is drawn of descriptors (`hid_page`), and recordings (`hid_recording`). They
-//! go by what these export, and stand here, since the gate proves a crate with tests twice. Each file says where its expected
-//! values come from.
+//! Tests of libraries that can't be rows: transfers that run out of memory (`usb_control`), layouts that do and descriptors
+//! made by the thousand (`hid_layout`), drawings (`hid_page`) and recordings (`hid_recording`), through their exports. They are
+//! a crate of their own, since a crate with tests is proved twice. Each file says where its expected values come from.
 #![tactic(auto)]
 
 #[cfg(test)]

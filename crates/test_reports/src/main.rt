@@ -1,8 +1,8 @@
-//! Plays the tables of standard input (`stdin`), which are the tests of items, fields, names, layouts, snapshots, views, boot
-//! reports and sessions: of `hid_items`, `hid_fields`, `hid_names`, `hid_layout`, `hid_snapshots`, `hid_snapshots`, `hid_usages`,
-//! `hid_usages` and `hidstack_session`, by what they export.
+//! Plays the tables of standard input (`stdin`): the tests of items, fields, names, layouts, snapshots, views, boot reports
+//! and sessions, through the exports of `hid_items`, `hid_fields`, `hid_names`, `hid_layout`, `hid_snapshots`, `hid_usages` and
+//! `hidstack_session`.
 //! ```text
-//!   stdin --> test_rows::judge --> each row that is wrong, and `52 tables, 456 rows, 0 wrong`
+//!   stdin --> test_rows::judge --> each row that is wrong, and how many tables and rows there were
 //!                     |
 //!                     +-- question, given --> Answers: a file of src/ for each sort of question
 //! ```

@@ -1,6 +1,6 @@
-//! Tests of the rig that joins devices and hosts, `hid_stack`, by what it exports. They stand here, since the gate proves
-//! a crate with tests twice. What a script shows of the rig is no test: examples/rows has it. Each file says where its
-//! expected values come from.
+//! Tests of the rig that joins devices and hosts, `hid_stack`, through its exports. They are a crate of their own, since a
+//! crate with tests is proved twice. What a script shows of the rig is a row of `examples/rows` and no test. Each file says
+//! where its expected values come from.
 #![tactic(auto)]
 
 #[cfg(test)]

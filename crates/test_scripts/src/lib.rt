@@ -1,6 +1,6 @@
-//! Tests of the script language, of `hid_text` and `hid_script`, by what they export. They stand here, since the gate
-//! proves a crate with tests twice. What `hidrun` prints of a script is no test: examples/rows has it. Each file says where
-//! its expected values come from.
+//! Tests of the script language, `hid_text` and `hid_script`, through their exports. They are a crate of their own, since a
+//! crate with tests is proved twice. What `hidrun` prints of a script is a row of `examples/rows` and no test. Each file says
+//! where its expected values come from.
 #![tactic(auto)]
 
 #[cfg(test)]

@@ -1,5 +1,5 @@
-//! Plays the tables of standard input (`stdin`), which are the tests of packets, transactions and control transfers: of
-//! `usb_packet`, `usb_transact` and `usb_control`, by what they export.
+//! Plays the tables of standard input (`stdin`): the tests of packets, transactions and control transfers, through the
+//! exports of `usb_packet`, `usb_transact` and `usb_control`.
 //! ```text
 //!   stdin --> test_rows::judge --> each row that is wrong, and how many tables and rows there were
 //!                     |

@@ -10,14 +10,13 @@
 //! A PID is one byte: the type of the packet in its low half, and the complement of that in its high half.
 //! No CRC is carried: a packet that a CRC would refuse is one that was lost.
 //!
-//! [`read`] and [`spell_lent`] do the same of a [`LentPacket`], whose payload stands elsewhere, as in the bytes that spell
-//! it.
+//! A [`LentPacket`] borrows its payload, as from the bytes that arrived: [`read`] decodes one, and [`spell_lent`] encodes one.
 //!
 //! The rule to know: only a packet that [`fits`] has a spelling, and [`encode`] asks for one. Packets that aren't tokens
 //! fit: a payload has at most 64 bytes, of a [`Packet`] by its type, of a [`LentPacket`] where a call asks for that.
 //!
-//! The promise: `decode` accepts exactly the spellings, and gives the packet that is spelled: `found`,
-//! `complete` and `fault` on [`decode`]. No call takes memory.
+//! The promise: `decode` accepts exactly the spellings and gives their packets: `found`, `complete` and `fault` on [`decode`].
+//! No call takes memory.
 #![tactic(auto)]
 
 mod decoding;

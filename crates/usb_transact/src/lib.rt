@@ -15,8 +15,11 @@
 //!
 //! The promise: one transaction is its row of the table on [`exchange`]: `took`, `host` and `device`, and packet by
 //! packet over the bytes `packets`. By single packets: `took` and `pipe` on [`HostPipe::take`], `answer` on
-//! [`DevPipe::answer`], `closed` on [`DevPipe::acknowledged`]; [`HostPipe::take_lent`] and [`DevPipe::lent_answer`] do the
-//! same of packets whose payloads stand elsewhere. No call takes memory.
+//! [`DevPipe::answer`], `closed` on [`DevPipe::acknowledged`]; for packets that borrow their payloads,
+//! [`HostPipe::take_lent`] and [`DevPipe::lent_answer`]. No call takes memory.
+//!
+//! The polls of `hid_stack` are built from the single calls and not from [`exchange`], since a device takes the ACK there
+//! and decides what is armed next.
 #![tactic(auto)]
 
 mod bus;
