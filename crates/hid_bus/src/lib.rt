@@ -30,6 +30,7 @@
 //! - Motion is neither lost nor doubled: [`laws::motion_is_kept`].
 //! - A report whose round was aborted is due until one opens: [`laws::halts_lose_nothing`].
 //! - A report is delivered whole or not at all: [`laws::reports_are_told_whole`].
+//! - Two lists, one after the other, deliver of a device what the first delivers, and then what the second does.
 #![tactic(auto)]
 
 pub mod laws;
