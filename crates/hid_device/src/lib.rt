@@ -8,7 +8,7 @@
 //!                            its frames are counted from 0                 frames
 //!                            its bytes are kept, and the first 64 armed    write_report -> DevPipe::arm
 //!              <-------  what is armed under the toggle, else NAK          DevPipe::lent_answer; STALL while it is halted
-//!   ACK 0xD2 --------->  directly behind data: the next 64 bytes are       DevPipe::acknowledged, DevPipe::arm
+//!   ACK 0xD2 --------->  directly after data: the next 64 bytes are        DevPipe::acknowledged, DevPipe::arm
 //!                            armed, and after the last the round is closed
 //!
 //!   SETUP 2D 01 00, DATA0 80 08 .. -->  endpoint 0: DevControl           Core::prepare: decides, fixes the answer

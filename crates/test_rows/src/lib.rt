@@ -1,10 +1,10 @@
-//! Tests as tables in text, which a program reads from standard input: each row has its input and the result that it wants.
+//! Tests as tables in text, which a program reads from standard input: each row has its input and its expected result.
 //! ```text
 //!   -- a remark
 //!   MOUSE = 05 01 09 02 ..                     bytes that rows name, before the first table
 //!   # a_report_tells_what_changes: view        a table: its title, and the question that its rows ask
 //!   two keys: KEYBOARD | take 00*2 05 04 00*4 > down 4.4 07:04, down 4.5 07:05
-//!                                              a row: a name, if it has one; the input; the wanted result
+//!                                              a row: a name, if it has one; the input; the expected result
 //! ```
 //! [`judge`] plays the rows by the answers of a program ([`Answers`]) and prints each row with another result, then the number
 //! of tables, of rows and of wrong rows, so a row that is lost is seen too.
