@@ -22,13 +22,15 @@ use Rattle.hid_script.specs.declared.fault.Summary.{Summary}
 use Rattle.hid_text.specs.declared.fault.LineFault.{LineFault}
 use Rattle.hid_text.specs.declared.line.Line.{Line}
 use Rattle.hid_text.specs.declared.line.Line.TheVariants as line
+use Rattle.hid_text.specs.declared.short.ShortLine.{ShortLine}
+use Rattle.hid_text.specs.declared.short.ShortLine.TheVariants as short
 use Rattle.hid_script.specs.declared.wanted.Wanted.{Wanted}
 use Rattle.hid_script.specs.declared.wanted.Wanted.TheVariants as wanted
 use Rattle.hid_text.specs.Line.{meaning_of}
 use Rattle.hid_script.specs.Output.{IsFront}
 use Rattle.hid_script.specs.Session.{Session, Outcome, accepted, refused, at_first, Repeats}
 use Rattle.hid_script.specs.Steps.{TellsLayout, TellsDevice, TellsStep, TellsFound, TellsChange, valued, read_report, change_of}
-use Rattle.hid_script.specs.Telling.{Once, times, Means, LineTells, LineBegins, Begins, BeginsMeant}
+use Rattle.hid_script.specs.Telling.{TellsShort, Once, times, Means, LineTells, LineBegins, Begins, BeginsMeant}
 use Rattle.hid_script.specs.Runs.{Ending, Refusal, Want, Cut, Silence, ending_of, EndsAs, Ends, FirstTells, FirstBegins, RunsTo, Stops, line_of, AppendsScript}
 use Rattle.hid_script.specs.Place.{Place, Advances, RunsFrom, lines_at, AppendsFrom}
 use Rattle.hid_script.proofs.PlaceLemmas.{first_begins, broken_run}
@@ -77,23 +79,27 @@ no_device_text : (start : Start) (boot : Boot) (bytes : List ℕ) → PrintsNoth
 no_device_text start boot bytes session text cause (inl h) = not_accepted text _ cause _ h.5
 no_device_text start boot bytes session text cause (inr h) = no_text text cause _ h.4
 
+short_prints_nothing : (said : ShortLine) → PrintsNothing (TellsShort said)
+unfolding TellsShort
+short_prints_nothing (short.Press dev usage) session text cause h = no_change_text dev usage wanted.Press session text cause h
+short_prints_nothing (short.Release dev usage) session text cause h = no_change_text dev usage wanted.Release session text cause h
+short_prints_nothing (short.Null dev usage) session text cause h = no_change_text dev usage wanted.Null session text cause h
+short_prints_nothing (short.Set dev usage value) session text cause h = no_change_text dev usage (wanted.Set value) session text cause h
+short_prints_nothing (short.Move dev usage by) session text cause h = no_change_text dev usage (wanted.Move by) session text cause h
+short_prints_nothing (short.Frame count) session text cause h = no_step_text step.Frame session text cause h
+short_prints_nothing (short.Poll dev fate count) session text cause h = no_step_text (step.Poll dev fate) session text cause h
+short_prints_nothing (short.Control dev fate count) session text cause h = no_step_text (step.Control dev fate) session text cause h
+short_prints_nothing (short.Reset dev) session text cause h = no_step_text (step.Reset dev) session text cause h
+short_prints_nothing (short.Halt dev) session text cause h = no_step_text (step.Halt dev) session text cause h
+
 once_prints_nothing : (said : Line) → PrintsNothing (Once said)
 unfolding Once
 once_prints_nothing line.Nothing session text cause h = not_accepted text [] cause session h
 once_prints_nothing (line.Layout bytes) session text cause h = no_layout_text bytes.items session text cause h
 once_prints_nothing (line.Values bytes) session text cause h = no_values session bytes.items text cause session.layout h
 once_prints_nothing (line.Device start boot bytes) session text cause h = no_device_text start boot bytes.items session text cause h
-once_prints_nothing (line.Press dev usage) session text cause h = no_change_text dev usage wanted.Press session text cause h
-once_prints_nothing (line.Release dev usage) session text cause h = no_change_text dev usage wanted.Release session text cause h
-once_prints_nothing (line.Null dev usage) session text cause h = no_change_text dev usage wanted.Null session text cause h
-once_prints_nothing (line.Set dev usage value) session text cause h = no_change_text dev usage (wanted.Set value) session text cause h
-once_prints_nothing (line.Move dev usage by) session text cause h = no_change_text dev usage (wanted.Move by) session text cause h
-once_prints_nothing (line.Frame count) session text cause h = no_step_text step.Frame session text cause h
-once_prints_nothing (line.Poll dev fate count) session text cause h = no_step_text (step.Poll dev fate) session text cause h
-once_prints_nothing (line.Control dev fate count) session text cause h = no_step_text (step.Control dev fate) session text cause h
 once_prints_nothing (line.Begin dev request) session text cause h = no_step_text (step.Begin dev request) session text cause h
-once_prints_nothing (line.Reset dev) session text cause h = no_step_text (step.Reset dev) session text cause h
-once_prints_nothing (line.Halt dev) session text cause h = no_step_text (step.Halt dev) session text cause h
+once_prints_nothing (line.Step said) session text cause h = short_prints_nothing said session text cause h
 
 -- ---- the text of a refused line is that of its first times
 

@@ -29,6 +29,8 @@ use Rattle.hid_stack.proofs.StoryLemmas.{AreTaken, bus_append, delivered_append,
 use Rattle.hid_text.specs.declared.fault.LineFault.{LineFault}
 use Rattle.hid_text.specs.declared.line.Line.{Line}
 use Rattle.hid_text.specs.declared.line.Line.TheVariants as line
+use Rattle.hid_text.specs.declared.short.ShortLine.{ShortLine}
+use Rattle.hid_text.specs.declared.short.ShortLine.TheVariants as short
 use Rattle.hid_text.specs.Line.{meaning_of}
 use Rattle.hid_text.specs.EventLines.{AreFew, ShowsEvents, event_lines}
 use Rattle.hid_text.specs.EventText.{event_text}
@@ -38,12 +40,12 @@ use Rattle.hid_script.specs.declared.fault.Cause.{Cause}
 use Rattle.hid_script.specs.declared.wanted.Wanted.{Wanted}
 use Rattle.hid_script.specs.declared.wanted.Wanted.TheVariants as wanted
 use Rattle.hid_script.specs.Laws.{LinesPrintLives, RunsPrintLives}
-use Rattle.hid_script.specs.Printing.{AllDo, AttachesOne, BeginsToDo, ChangesOne, Does, DoUpTo, PrintsLives}
+use Rattle.hid_script.specs.Printing.{AllDo, AttachesOne, BeginsToDo, ChangesOne, Does, DoesShort, DoUpTo, PrintsLives}
 use Rattle.hid_script.specs.Runs.{AllTell, FirstBegins}
 use Rattle.hid_script.proofs.FlushLemmas.{begun_there}
 use Rattle.hid_script.specs.Session.{Session, Outcome, accepted, after_text, at_first, Repeats}
 use Rattle.hid_script.specs.Steps.{TellsLayout, TellsValues, TellsDevice, TellsStep, TellsChange, attaches, change_of, config_of, counted, got_by, lays_out, read_report, refuses_step, stepped, valued}
-use Rattle.hid_script.specs.Telling.{BeginsMeant, LineBegins, LineTells, Means, Once, times}
+use Rattle.hid_script.specs.Telling.{BeginsMeant, LineBegins, LineTells, Means, Once, TellsShort, short_times, times}
 
 -- ---- what a part does
 
@@ -135,8 +137,8 @@ step_done x session next text few (inl h) =
     }
 
 -- a step so many times over
-steps_done : (said : Line) (x : Step) → ((s : Session) (o : Outcome) → Once said s o → TellsStep x s o) → (n : ℕ) (session next : Session) (text : List ℕ) → length session.members < 10
-    → Repeats n (Once said) session (accepted text next) → Done session.members text (replicate n (Taken x)) next.members
+steps_done : (said : ShortLine) (x : Step) → ((s : Session) (o : Outcome) → TellsShort said s o → TellsStep x s o) → (n : ℕ) (session next : Session) (text : List ℕ) → length session.members < 10
+    → Repeats n (TellsShort said) session (accepted text next) → Done session.members text (replicate n (Taken x)) next.members
 unfolding Repeats
 steps_done said x is zero session next text few h =
     let same = session_is text [] next session h in
@@ -145,7 +147,7 @@ steps_done said x is (suc n) session next text few (inr h) = let ends = ap (λ (
 steps_done said x is (suc n) session next text few (inl h) =
     let said_first = step_done x session h.1 h.0 few (is session (accepted h.0 h.1) h.3) in
     let end : (let r : Result Session Cause = Ok next in r) ≡ h.2.end = ap (λ (o : Outcome). o.end) h.5 in
-    let rest : Repeats n (Once said) h.1 (accepted h.2.text next) = subst (λ e. Repeats n (Once said) h.1 (record { text = h.2.text; end = e })) (sym end) h.4 in
+    let rest : Repeats n (TellsShort said) h.1 (accepted h.2.text next) = subst (λ e. Repeats n (TellsShort said) h.1 (record { text = h.2.text; end = e })) (sym end) h.4 in
     let later = steps_done said x is n h.1 next h.2.text said_first.few rest in
     subst (λ t. Done session.members t (Taken x ∷ replicate n (Taken x)) next.members) (sym (ap (λ (o : Outcome). o.text) h.5))
     (done_both session.members h.1.members next.members h.0 h.2.text (Taken x ∷ []) (replicate n (Taken x)) said_first later)
@@ -214,6 +216,23 @@ values_done bytes session next text few h = by_layout session.layout h
     by_layout None e = let ends = ap (λ (o : Outcome). o.end) e in absurd (cc)
     by_layout (Some layout) e = by_report layout (report_named layout bytes) e
 
+-- what a short line did, and printed
+abbrev ShortDone : ShortLine → Session → List ℕ → Session → Type 0
+ShortDone said session text next = (acts : List Act) × DoesShort said session.members acts × Done session.members text acts next.members
+
+short_done : (said : ShortLine) (session next : Session) (text : List ℕ) → length session.members < 10 → Repeats (short_times said) (TellsShort said) session (accepted text next) → ShortDone said session text next
+unfolding TellsShort short_times DoesShort
+short_done (short.Press dev usage) session next text few h = change_done dev usage wanted.Press session next text few (just_once (TellsShort (short.Press dev usage)) session next text h)
+short_done (short.Release dev usage) session next text few h = change_done dev usage wanted.Release session next text few (just_once (TellsShort (short.Release dev usage)) session next text h)
+short_done (short.Null dev usage) session next text few h = change_done dev usage wanted.Null session next text few (just_once (TellsShort (short.Null dev usage)) session next text h)
+short_done (short.Set dev usage value) session next text few h = change_done dev usage (wanted.Set value) session next text few (just_once (TellsShort (short.Set dev usage value)) session next text h)
+short_done (short.Move dev usage by) session next text few h = change_done dev usage (wanted.Move by) session next text few (just_once (TellsShort (short.Move dev usage by)) session next text h)
+short_done (short.Frame count) session next text few h = (replicate count (Taken Frame), refl, steps_done (short.Frame count) Frame (λ s o told. told) count session next text few h)
+short_done (short.Poll dev fate count) session next text few h = (replicate count (Taken (Poll dev fate)), refl, steps_done (short.Poll dev fate count) (Poll dev fate) (λ s o told. told) count session next text few h)
+short_done (short.Control dev fate count) session next text few h = (replicate count (Taken (Control dev fate)), refl, steps_done (short.Control dev fate count) (Control dev fate) (λ s o told. told) count session next text few h)
+short_done (short.Reset dev) session next text few h = (Taken (Reset dev) ∷ [], refl, step_done (Reset dev) session next text few (just_once (TellsShort (short.Reset dev)) session next text h))
+short_done (short.Halt dev) session next text few h = (Taken (Halt dev) ∷ [], refl, step_done (Halt dev) session next text few (just_once (TellsShort (short.Halt dev)) session next text h))
+
 line_done : (said : Line) (session next : Session) (text : List ℕ) → length session.members < 10 → Repeats (times said) (Once said) session (accepted text next) → LineDone said session text next
 unfolding Once times Does
 line_done line.Nothing session next text few h =
@@ -222,17 +241,8 @@ line_done line.Nothing session next text few h =
 line_done (line.Layout bytes) session next text few h = ([], refl, layout_done bytes.items session next text few (just_once (Once (line.Layout bytes)) session next text h))
 line_done (line.Values bytes) session next text few h = ([], refl, values_done bytes.items session next text few (just_once (Once (line.Values bytes)) session next text h))
 line_done (line.Device start boot bytes) session next text few h = device_done start boot bytes.items session next text (just_once (Once (line.Device start boot bytes)) session next text h)
-line_done (line.Press dev usage) session next text few h = change_done dev usage wanted.Press session next text few (just_once (Once (line.Press dev usage)) session next text h)
-line_done (line.Release dev usage) session next text few h = change_done dev usage wanted.Release session next text few (just_once (Once (line.Release dev usage)) session next text h)
-line_done (line.Null dev usage) session next text few h = change_done dev usage wanted.Null session next text few (just_once (Once (line.Null dev usage)) session next text h)
-line_done (line.Set dev usage value) session next text few h = change_done dev usage (wanted.Set value) session next text few (just_once (Once (line.Set dev usage value)) session next text h)
-line_done (line.Move dev usage by) session next text few h = change_done dev usage (wanted.Move by) session next text few (just_once (Once (line.Move dev usage by)) session next text h)
-line_done (line.Frame count) session next text few h = (replicate count (Taken Frame), refl, steps_done (line.Frame count) Frame (λ s o told. told) count session next text few h)
-line_done (line.Poll dev fate count) session next text few h = (replicate count (Taken (Poll dev fate)), refl, steps_done (line.Poll dev fate count) (Poll dev fate) (λ s o told. told) count session next text few h)
-line_done (line.Control dev fate count) session next text few h = (replicate count (Taken (Control dev fate)), refl, steps_done (line.Control dev fate count) (Control dev fate) (λ s o told. told) count session next text few h)
 line_done (line.Begin dev request) session next text few h = (Taken (Begin dev request) ∷ [], refl, step_done (Begin dev request) session next text few (just_once (Once (line.Begin dev request)) session next text h))
-line_done (line.Reset dev) session next text few h = (Taken (Reset dev) ∷ [], refl, step_done (Reset dev) session next text few (just_once (Once (line.Reset dev)) session next text h))
-line_done (line.Halt dev) session next text few h = (Taken (Halt dev) ∷ [], refl, step_done (Halt dev) session next text few (just_once (Once (line.Halt dev)) session next text h))
+line_done (line.Step said) session next text few h = short_done said session next text few h
 
 meant_done : (session next : Session) (bytes text : List ℕ) (meaning : Result Line LineFault) → meaning_of bytes ≡ meaning → length session.members < 10 → Means session meaning (accepted text next)
     → (said : Line) × (meaning_of bytes ≡ Ok said) × LineDone said session text next
@@ -328,30 +338,25 @@ once_begun said (suc zero) session next text one few below h =
 once_begun said (suc (suc n)) session next text one few below h = absurd (omega (arith, one, below))
 
 -- a step that is taken some times
-steps_begun : (said : Line) (x : Step) (n count : ℕ) (session next : Session) (text : List ℕ) → ((s : Session) (o : Outcome) → Once said s o → TellsStep x s o) → ((acts : List Act) → acts ≡ replicate count (Taken x) → Does said session.members acts)
-    → length session.members < 10 → n ≤ count → Repeats n (Once said) session (accepted text next) → BegunDone said session text next
+steps_begun : (said : ShortLine) (x : Step) (n count : ℕ) (session next : Session) (text : List ℕ) → ((s : Session) (o : Outcome) → TellsShort said s o → TellsStep x s o) → ((acts : List Act) → acts ≡ replicate count (Taken x) → DoesShort said session.members acts)
+    → length session.members < 10 → n ≤ count → Repeats n (TellsShort said) session (accepted text next) → BegunDone (line.Step said) session text next
+unfolding Does
 steps_begun said x n count session next text is does few below h =
     let whole : n + (count - n) ≡ count = omega (arith, below) in
     let parts : replicate n (Taken x) ++ replicate (count - n) (Taken x) ≡ replicate count (Taken x) = replicate-append-replicate n (count - n) (Taken x) ∙ ap (λ k. replicate k (Taken x)) whole in
     (replicate n (Taken x), inr (replicate (count - n) (Taken x), does (replicate n (Taken x) ++ replicate (count - n) (Taken x)) parts), steps_done said x is n session next text few h)
 
+short_begun : (said : ShortLine) (n : ℕ) (session next : Session) (text : List ℕ) → length session.members < 10 → n ≤ short_times said → Repeats n (TellsShort said) session (accepted text next) → BegunDone (line.Step said) session text next
+unfolding Once times TellsShort short_times DoesShort
+short_begun (short.Frame count) n session next text few below h = steps_begun (short.Frame count) Frame n count session next text (λ s o told. told) (λ acts is. is) few below h
+short_begun (short.Poll dev fate count) n session next text few below h = steps_begun (short.Poll dev fate count) (Poll dev fate) n count session next text (λ s o told. told) (λ acts is. is) few below h
+short_begun (short.Control dev fate count) n session next text few below h = steps_begun (short.Control dev fate count) (Control dev fate) n count session next text (λ s o told. told) (λ acts is. is) few below h
+short_begun said n session next text few below h = once_begun (line.Step said) n session next text refl few below h
+
 begun_done : (said : Line) (n : ℕ) (session next : Session) (text : List ℕ) → length session.members < 10 → n ≤ times said → Repeats n (Once said) session (accepted text next) → BegunDone said session text next
-unfolding Once times Does
-begun_done (line.Frame count) n session next text few below h = steps_begun (line.Frame count) Frame n count session next text (λ s o told. told) (λ acts is. is) few below h
-begun_done (line.Poll dev fate count) n session next text few below h = steps_begun (line.Poll dev fate count) (Poll dev fate) n count session next text (λ s o told. told) (λ acts is. is) few below h
-begun_done (line.Control dev fate count) n session next text few below h = steps_begun (line.Control dev fate count) (Control dev fate) n count session next text (λ s o told. told) (λ acts is. is) few below h
-begun_done line.Nothing n session next text few below h = once_begun line.Nothing n session next text refl few below h
-begun_done (line.Layout bytes) n session next text few below h = once_begun (line.Layout bytes) n session next text refl few below h
-begun_done (line.Values bytes) n session next text few below h = once_begun (line.Values bytes) n session next text refl few below h
-begun_done (line.Device start boot bytes) n session next text few below h = once_begun (line.Device start boot bytes) n session next text refl few below h
-begun_done (line.Press dev usage) n session next text few below h = once_begun (line.Press dev usage) n session next text refl few below h
-begun_done (line.Release dev usage) n session next text few below h = once_begun (line.Release dev usage) n session next text refl few below h
-begun_done (line.Null dev usage) n session next text few below h = once_begun (line.Null dev usage) n session next text refl few below h
-begun_done (line.Set dev usage value) n session next text few below h = once_begun (line.Set dev usage value) n session next text refl few below h
-begun_done (line.Move dev usage by) n session next text few below h = once_begun (line.Move dev usage by) n session next text refl few below h
-begun_done (line.Begin dev request) n session next text few below h = once_begun (line.Begin dev request) n session next text refl few below h
-begun_done (line.Reset dev) n session next text few below h = once_begun (line.Reset dev) n session next text refl few below h
-begun_done (line.Halt dev) n session next text few below h = once_begun (line.Halt dev) n session next text refl few below h
+unfolding Once times
+begun_done (line.Step said) n session next text few below h = short_begun said n session next text few below h
+begun_done said n session next text few below h = once_begun said n session next text refl few below h
 
 -- what the first of some lines began to do, and printed
 abbrev NextBegun : Session → List (List ℕ) → List ℕ → Type 0

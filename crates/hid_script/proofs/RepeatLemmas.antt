@@ -1,10 +1,10 @@
 -- A part that is told some times over.
-use Rattle.std.proofs.Common.{◌≡◌, ℕ, zero, suc, ◌<◌, List, [], ◌++◌, refl, sym, ap, ◌∙◌, subst, inl, inr, arith, append-nil, append_assoc, Result, Ok, Err, IsErrAnd}
+use Rattle.std.proofs.Common.{◌≡◌, ℕ, zero, suc, ◌<◌, List, [], ◌++◌, refl, sym, ap, ◌∙◌, subst, inl, inr, arith, append-nil, append_assoc, Option, Result, Ok, Err, IsErrAnd}
 use Rattle.hid_script.specs.declared.fault.Cause.{Cause}
 use Rattle.hid_script.specs.Session.{Session, Outcome, accepted, Repeats}
 use Rattle.hid_script.specs.Telling.{Begins}
 use Rattle.hid_script.specs.Runs.{Ending, Refusal, Want, Cut, Silence, ending_of, EndsAs, Ends}
-use Rattle.hid_script.specs.Place.{IsBegun, OnceEndsAs, WritesOnce, Writes}
+use Rattle.hid_script.specs.Place.{AppendsOnce, AppendsTold, IsBegun, OnceEndsAs, WritesOnce, Writes}
 
 -- not once
 pub no_times : (Once : Session → Outcome → Type 0) (session : Session) → Repeats 0 Once session (accepted [] session)
@@ -69,6 +69,10 @@ pub all_times : (n count : ℕ) (Once : Session → Outcome → Type 0) (session
 all_times n count Once session now x same h = subst (λ m. Repeats m Once session (accepted x now)) same h
 
 -- a part that is told once alone
-pub once_alone : (Once : Session → Outcome → Type 0) (session next : Session) (y : List ℕ) (r : Result (Unit {0}) Cause) → WritesOnce (Once session) y r next → Writes (Repeats 1 Once session) (Begins 1 Once session) y r next
+once_alone : (Once : Session → Outcome → Type 0) (session next : Session) (y : List ℕ) (r : Result (Unit {0}) Cause) → WritesOnce (Once session) y r next → Writes (Repeats 1 Once session) (Begins 1 Once session) y r next
 once_alone Once session next y (Ok u) told = one_more 0 Once session session next [] y (no_times Once session) told
 once_alone Once session next y (Err cause) told = last_time 0 1 Once session session next next [] y cause (Err cause) (omega arith) (no_times Once session) told refl
+
+pub told_once : (old new : Option (List ℕ)) (Once : Session → Outcome → Type 0) (session next : Session) (r : Result (Unit {0}) Cause) → AppendsOnce old new (Once session) r next
+    → AppendsTold old new (Repeats 1 Once session) (Begins 1 Once session) r next
+told_once old new Once session next r told = (told.0, told.1, once_alone Once session next told.0 r told.2)

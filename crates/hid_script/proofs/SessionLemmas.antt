@@ -82,9 +82,12 @@ unfolding LineTells LineBegins
 line_written old new session bytes line r next means h = subst (λ m. AppendsTold old new (Means session m) (BeginsMeant session m) r next) (sym means) h
 
 -- a line that says nothing
-pub nothing_written : (old : Option (List ℕ)) (session : Session) (bytes : List ℕ) → meaning_of bytes ≡ Ok lines.Nothing → AppendsTold old old (LineTells session bytes) (LineBegins session bytes) (Ok tt) session
+pub nothing_told : (old : Option (List ℕ)) (session : Session) → AppendsTold old old (CarriesOut session lines.Nothing) (BeginsMeant session (Ok lines.Nothing)) (Ok tt) session
 unfolding Once times
-nothing_written old session bytes means = line_written old old session bytes lines.Nothing (Ok tt) session means ([], Appends-nil old, one_more 0 (Once lines.Nothing) session session session [] [] (no_times (Once lines.Nothing) session) refl)
+nothing_told old session = ([], Appends-nil old, one_more 0 (Once lines.Nothing) session session session [] [] (no_times (Once lines.Nothing) session) refl)
+
+pub nothing_written : (old : Option (List ℕ)) (session : Session) (bytes : List ℕ) → meaning_of bytes ≡ Ok lines.Nothing → AppendsTold old old (LineTells session bytes) (LineBegins session bytes) (Ok tt) session
+nothing_written old session bytes means = line_written old old session bytes lines.Nothing (Ok tt) session means (nothing_told old session)
 
 refusal_left : (ending : Ending) (Tells : Outcome → Type 0) (Begun : List ℕ → Type 0) (cause : Cause) → Begun [] → Tells (refused cause) → EndsAs ending Tells Begun [] cause
 refusal_left Refusal Tells Begun cause begun h = h

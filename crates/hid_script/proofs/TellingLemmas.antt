@@ -21,12 +21,13 @@ use Rattle.hid_script.specs.declared.wanted.Wanted.TheVariants as wanted
 use Rattle.hid_text.specs.declared.fault.LineFault.{LineFault}
 use Rattle.hid_text.specs.declared.line.Line.{Line}
 use Rattle.hid_text.specs.declared.line.Line.TheVariants as line
+use Rattle.hid_text.specs.declared.short.ShortLine.{ShortLine}
+use Rattle.hid_text.specs.declared.short.ShortLine.TheVariants as short
 use Rattle.hid_text.specs.Line.{meaning_of}
-use Rattle.hid_text.specs.Short.{is_long}
 use Rattle.hid_script.specs.Output.{IsFront}
 use Rattle.hid_script.specs.Session.{Session, Outcome, accepted, after_text, Joins, Repeats}
 use Rattle.hid_script.specs.Steps.{TellsLayout, TellsDevice, TellsStep, TellsFound, TellsChange, lays_out, refuses_layout, attaches, stepped, refuses_step, config_of, change_of}
-use Rattle.hid_script.specs.Telling.{Once, times, Means, LineTells, LineBegins, BeginsMeant}
+use Rattle.hid_script.specs.Telling.{TellsShort, Once, times, Means, LineTells, LineBegins, BeginsMeant}
 use Rattle.hid_script.specs.Runs.{AllTell}
 use Rattle.hid_stack.specs.Laws.{TellsOneThing, FindsOneControl, AttachesOneDevice}
 use Rattle.hid_stack.specs.declared.rig.TheConstants.{MAX_DEVICES}
@@ -99,23 +100,27 @@ one_device one start boot bytes session o other (inr h) (inr k) =
 
 -- ---- lines
 
+one_short : HasOneAnswer → (said : ShortLine) → IsOne (TellsShort said)
+unfolding TellsShort
+one_short one (short.Press dev usage) session o other h k = one_change one dev usage wanted.Press session o other h k
+one_short one (short.Release dev usage) session o other h k = one_change one dev usage wanted.Release session o other h k
+one_short one (short.Null dev usage) session o other h k = one_change one dev usage wanted.Null session o other h k
+one_short one (short.Set dev usage value) session o other h k = one_change one dev usage (wanted.Set value) session o other h k
+one_short one (short.Move dev usage by) session o other h k = one_change one dev usage (wanted.Move by) session o other h k
+one_short one (short.Frame count) session o other h k = one_step one step.Frame session o other h k
+one_short one (short.Poll dev fate count) session o other h k = one_step one (step.Poll dev fate) session o other h k
+one_short one (short.Control dev fate count) session o other h k = one_step one (step.Control dev fate) session o other h k
+one_short one (short.Reset dev) session o other h k = one_step one (step.Reset dev) session o other h k
+one_short one (short.Halt dev) session o other h k = one_step one (step.Halt dev) session o other h k
+
 one_once : HasOneReading → AcceptsNoRefused → HasOneCause → HasOnePlace → HasOneAnswer → (said : Line) → IsOne (Once said)
 unfolding Once
 one_once reading apart cause place one line.Nothing session o other h k = h ∙ sym k
 one_once reading apart cause place one (line.Layout bytes) session o other h k = one_layout reading apart cause place bytes.items session o other h k
 one_once reading apart cause place one (line.Values bytes) session o other h k = h ∙ sym k
 one_once reading apart cause place one (line.Device start boot bytes) session o other h k = one_device one start boot bytes.items session o other h k
-one_once reading apart cause place one (line.Press dev usage) session o other h k = one_change one dev usage wanted.Press session o other h k
-one_once reading apart cause place one (line.Release dev usage) session o other h k = one_change one dev usage wanted.Release session o other h k
-one_once reading apart cause place one (line.Null dev usage) session o other h k = one_change one dev usage wanted.Null session o other h k
-one_once reading apart cause place one (line.Set dev usage value) session o other h k = one_change one dev usage (wanted.Set value) session o other h k
-one_once reading apart cause place one (line.Move dev usage by) session o other h k = one_change one dev usage (wanted.Move by) session o other h k
-one_once reading apart cause place one (line.Frame count) session o other h k = one_step one step.Frame session o other h k
-one_once reading apart cause place one (line.Poll dev fate count) session o other h k = one_step one (step.Poll dev fate) session o other h k
-one_once reading apart cause place one (line.Control dev fate count) session o other h k = one_step one (step.Control dev fate) session o other h k
 one_once reading apart cause place one (line.Begin dev request) session o other h k = one_step one (step.Begin dev request) session o other h k
-one_once reading apart cause place one (line.Reset dev) session o other h k = one_step one (step.Reset dev) session o other h k
-one_once reading apart cause place one (line.Halt dev) session o other h k = one_step one (step.Halt dev) session o other h k
+one_once reading apart cause place one (line.Step said) session o other h k = one_short one said session o other h k
 
 session_in : Session → Result Session Cause → Session
 session_in d (Ok session) = session
@@ -186,24 +191,3 @@ front_meant reading apart cause place one session (Err why) text o h k = rw h (o
 pub fronts : HasOneReading → AcceptsNoRefused → HasOneCause → HasOnePlace → HasOneAnswer → BeginsWithFronts
 unfolding LineTells LineBegins
 fronts reading apart cause place one session bytes text o h k = front_meant reading apart cause place one session (meaning_of bytes) text o h k
-
--- ---- long lines
-
--- a line that isn't short is told once
-pub long_once : (said : Line) → is_long said ≡ true → times said ≡ 1
-unfolding times
-long_once line.Nothing long = refl
-long_once (line.Layout bytes) long = refl
-long_once (line.Values bytes) long = refl
-long_once (line.Device start kind bytes) long = refl
-long_once (line.Begin dev request) long = refl
-long_once (line.Press dev usage) long = refl
-long_once (line.Release dev usage) long = refl
-long_once (line.Null dev usage) long = refl
-long_once (line.Set dev usage value) long = refl
-long_once (line.Move dev usage by) long = refl
-long_once (line.Frame count) long = absurd (cc)
-long_once (line.Poll dev fate count) long = absurd (cc)
-long_once (line.Control dev fate count) long = absurd (cc)
-long_once (line.Reset dev) long = refl
-long_once (line.Halt dev) long = refl

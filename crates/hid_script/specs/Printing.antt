@@ -15,6 +15,8 @@ use Rattle.hid_stack.specs.Rig.{member_at}
 use Rattle.hid_stack.specs.Stories.{Act, Attached, Taken, bus_behind, deeds_by, next_number, own_story}
 use Rattle.hid_text.specs.declared.line.Line.{Line}
 use Rattle.hid_text.specs.declared.line.Line.TheVariants as line
+use Rattle.hid_text.specs.declared.short.ShortLine.{ShortLine}
+use Rattle.hid_text.specs.declared.short.ShortLine.TheVariants as short
 use Rattle.hid_text.specs.Line.{meaning_of}
 use Rattle.hid_text.specs.EventLines.{event_lines}
 use Rattle.hid_text.specs.EventText.{event_text}
@@ -39,23 +41,27 @@ ChangesOne dev usage wanted members acts =
     (control : ControlId) × Finds members dev usage (Ok control)
     × (acts ≡ Taken (step.Change dev (change_of wanted control)) ∷ [])
 
+-- what a short line does, by its form
+unfoldable pub DoesShort : ShortLine → List Member → List Act → Type 0
+DoesShort (short.Press dev usage) members acts = ChangesOne dev usage wanted.Press members acts
+DoesShort (short.Release dev usage) members acts = ChangesOne dev usage wanted.Release members acts
+DoesShort (short.Null dev usage) members acts = ChangesOne dev usage wanted.Null members acts
+DoesShort (short.Set dev usage value) members acts = ChangesOne dev usage (wanted.Set value) members acts
+DoesShort (short.Move dev usage by) members acts = ChangesOne dev usage (wanted.Move by) members acts
+DoesShort (short.Frame count) members acts = acts ≡ replicate count (Taken step.Frame)
+DoesShort (short.Poll dev fate count) members acts = acts ≡ replicate count (Taken (step.Poll dev fate))
+DoesShort (short.Control dev fate count) members acts = acts ≡ replicate count (Taken (step.Control dev fate))
+DoesShort (short.Reset dev) members acts = acts ≡ Taken (step.Reset dev) ∷ []
+DoesShort (short.Halt dev) members acts = acts ≡ Taken (step.Halt dev) ∷ []
+
 -- What a line does, by its form.
 unfoldable pub Does : Line → List Member → List Act → Type 0
 Does line.Nothing members acts = acts ≡ []
 Does (line.Layout bytes) members acts = acts ≡ []
 Does (line.Values bytes) members acts = acts ≡ []
 Does (line.Device start boot bytes) members acts = AttachesOne start boot bytes.items members acts
-Does (line.Press dev usage) members acts = ChangesOne dev usage wanted.Press members acts
-Does (line.Release dev usage) members acts = ChangesOne dev usage wanted.Release members acts
-Does (line.Null dev usage) members acts = ChangesOne dev usage wanted.Null members acts
-Does (line.Set dev usage value) members acts = ChangesOne dev usage (wanted.Set value) members acts
-Does (line.Move dev usage by) members acts = ChangesOne dev usage (wanted.Move by) members acts
-Does (line.Frame count) members acts = acts ≡ replicate count (Taken step.Frame)
-Does (line.Poll dev fate count) members acts = acts ≡ replicate count (Taken (step.Poll dev fate))
-Does (line.Control dev fate count) members acts = acts ≡ replicate count (Taken (step.Control dev fate))
 Does (line.Begin dev request) members acts = acts ≡ Taken (step.Begin dev request) ∷ []
-Does (line.Reset dev) members acts = acts ≡ Taken (step.Reset dev) ∷ []
-Does (line.Halt dev) members acts = acts ≡ Taken (step.Halt dev) ∷ []
+Does (line.Step said) members acts = DoesShort said members acts
 
 -- what lines do to the bus, one after the other
 abbrev pub AllDo : List Member → List (List ℕ) → List Act → Type 0

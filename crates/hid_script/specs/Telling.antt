@@ -14,34 +14,45 @@ use Rattle.hid_text.specs.declared.fault.LineFault.{LineFault}
 use Rattle.hid_text.specs.declared.fault.LineFault.TheVariants as lines
 use Rattle.hid_text.specs.declared.line.Line.{Line}
 use Rattle.hid_text.specs.declared.line.Line.TheVariants as line
+use Rattle.hid_text.specs.declared.short.ShortLine.{ShortLine}
+use Rattle.hid_text.specs.declared.short.ShortLine.TheVariants as short
 use Rattle.hid_text.specs.Line.{meaning_of}
 use Rattle.hid_script.specs.Session.{Session, Outcome, accepted, refused, Repeats}
 use Rattle.hid_script.specs.Steps.{TellsLayout, TellsValues, TellsDevice, TellsChange, TellsStep}
 
--- What a line tells each time that it is carried out: what it prints and the session that it leaves, or why it is
+-- What a short line tells each time that it is carried out: what it prints and the session that it leaves, or why it is
 -- refused. Example: press 1 07:01 is X4 S3 U1
+unfoldable pub TellsShort : ShortLine → Session → Outcome → Type 0
+TellsShort (short.Press dev usage) session o = TellsChange dev usage wanted.Press session o
+TellsShort (short.Release dev usage) session o = TellsChange dev usage wanted.Release session o
+TellsShort (short.Null dev usage) session o = TellsChange dev usage wanted.Null session o
+TellsShort (short.Set dev usage value) session o = TellsChange dev usage (wanted.Set value) session o
+TellsShort (short.Move dev usage by) session o = TellsChange dev usage (wanted.Move by) session o
+TellsShort (short.Frame count) session o = TellsStep step.Frame session o
+TellsShort (short.Poll dev fate count) session o = TellsStep (step.Poll dev fate) session o
+TellsShort (short.Control dev fate count) session o = TellsStep (step.Control dev fate) session o
+TellsShort (short.Reset dev) session o = TellsStep (step.Reset dev) session o
+TellsShort (short.Halt dev) session o = TellsStep (step.Halt dev) session o
+
+-- what any line tells each time that it is carried out
 unfoldable pub Once : Line → Session → Outcome → Type 0
 Once line.Nothing session o = o ≡ accepted [] session
 Once (line.Layout bytes) session o = TellsLayout bytes.items session o
 Once (line.Values bytes) session o = TellsValues bytes.items session o
 Once (line.Device start kind bytes) session o = TellsDevice start kind bytes.items session o
-Once (line.Press dev usage) session o = TellsChange dev usage wanted.Press session o
-Once (line.Release dev usage) session o = TellsChange dev usage wanted.Release session o
-Once (line.Null dev usage) session o = TellsChange dev usage wanted.Null session o
-Once (line.Set dev usage value) session o = TellsChange dev usage (wanted.Set value) session o
-Once (line.Move dev usage by) session o = TellsChange dev usage (wanted.Move by) session o
-Once (line.Frame count) session o = TellsStep step.Frame session o
-Once (line.Poll dev fate count) session o = TellsStep (step.Poll dev fate) session o
-Once (line.Control dev fate count) session o = TellsStep (step.Control dev fate) session o
 Once (line.Begin dev request) session o = TellsStep (step.Begin dev request) session o
-Once (line.Reset dev) session o = TellsStep (step.Reset dev) session o
-Once (line.Halt dev) session o = TellsStep (step.Halt dev) session o
+Once (line.Step said) session o = TellsShort said session o
 
--- how many times a line is carried out
+-- how many times a short line is carried out
+unfoldable pub short_times : ShortLine → ℕ
+short_times (short.Frame count) = count
+short_times (short.Poll dev fate count) = count
+short_times (short.Control dev fate count) = count
+short_times _ = 1
+
+-- how many times any line is carried out
 unfoldable pub times : Line → ℕ
-times (line.Frame count) = count
-times (line.Poll dev fate count) = count
-times (line.Control dev fate count) = count
+times (line.Step said) = short_times said
 times _ = 1
 
 -- what a line that was understood tells

@@ -1,10 +1,9 @@
 //! A session: what stands between two lines, and how a line is carried out.
 
-ghost use Rattle.std.specs.Prelude.{◌≡◌, true};
-ghost use Rattle.hid_text.specs.Short.{is_long, line_of};
-ghost use Rattle.hid_script.specs.Session.{at_first};
+ghost use Rattle.std.specs.Prelude.{◌≡◌};
+ghost use Rattle.hid_script.specs.Session.{at_first, Repeats};
 ghost use Rattle.hid_script.specs.Steps.{TellsLayout, TellsValues, TellsDevice, TellsStep, TellsChange, got_by};
-ghost use Rattle.hid_script.specs.Telling.{Once, times, CarriesOut, Begins, LineTells, LineBegins};
+ghost use Rattle.hid_script.specs.Telling.{TellsShort, Once, short_times, times, CarriesOut, Begins, LineTells, LineBegins};
 ghost use Rattle.hid_script.specs.Place.{AppendsTold, AppendsOnce};
 ghost use Rattle.hid_script.specs.Streams.{EndsText};
 ghost use Rattle.hid_bus.specs.declared.step.Step.TheVariants as Taking;
@@ -46,10 +45,10 @@ pub struct Interpreter {
     text: String,
 }
 
-/// How many times a line is carried out.
-#[tactic(auto, unfolding(crate::specs::Telling::times))]
-fn times(line: &ShortLine) -> u16
-    ensures { result ≡ times (line_of line.now) }
+/// How many times a short line is carried out.
+#[tactic(auto, unfolding(crate::specs::Telling::short_times))]
+fn short_times(line: &ShortLine) -> u16
+    ensures { result ≡ short_times line.now }
 {
     match line {
         ShortLine::Frame { count } => *count,
@@ -159,31 +158,40 @@ impl Interpreter {
             (session_of self.new) }
         ensures outside { EndsText W.calls writer.new result }
     {
-        match line.short() {
-            Some(line) => self.repeat(&line, writer),
-            None => self.carry_out_long(line, writer),
+        match line {
+            Line::Nothing => Ok(()),
+            Line::Layout { bytes } => self.lay_out(bytes.as_slice(), writer),
+            Line::Values { bytes } => self.tell_values(bytes.as_slice(), writer),
+            Line::Device { start, boot, bytes } => self.attach(
+                *start,
+                *boot,
+                bytes.as_slice(),
+                writer,
+            ),
+            Line::Begin { dev, request } => self.begin(*dev, request, writer),
+            Line::Step(line) => self.repeat(line, writer),
         }
     }
 
     /// The same of a short line.
     fn repeat<W: Sink>(&mut self, line: &ShortLine, writer: &mut W) -> Result<(), Cause>
         ensures told { AppendsTold (W.contents writer.old) (W.contents writer.new)
-            (CarriesOut (session_of self.old) (line_of line.now))
-            (Begins (times (line_of line.now)) (Once (line_of line.now)) (session_of self.old)) result
+            (Repeats (short_times line.now) (TellsShort line.now) (session_of self.old))
+            (Begins (short_times line.now) (TellsShort line.now) (session_of self.old)) result
             (session_of self.new) }
         ensures outside { EndsText W.calls writer.new result }
     {
-        for _ in 0..times(line) {
+        for _ in 0..short_times(line) {
             self.carry_out_once(line, writer)?;
         }
         Ok(())
     }
 
     /// What a short line tells each time.
-    #[tactic(auto, unfolding(crate::specs::Telling::Once))]
+    #[tactic(auto, unfolding(crate::specs::Telling::TellsShort))]
     fn carry_out_once<W: Sink>(&mut self, line: &ShortLine, writer: &mut W) -> Result<(), Cause>
         ensures told { AppendsOnce (W.contents writer.old) (W.contents writer.new)
-            (Once (line_of line.now) (session_of self.old)) result (session_of self.new) }
+            (TellsShort line.now (session_of self.old)) result (session_of self.new) }
         ensures outside { EndsText W.calls writer.new result }
     {
         match line {
@@ -207,29 +215,6 @@ impl Interpreter {
             ShortLine::Control { dev, fate, .. } => self.control(*dev, *fate, writer),
             ShortLine::Reset { dev } => self.reset(*dev, writer),
             ShortLine::Halt { dev } => self.halt(*dev, writer),
-        }
-    }
-
-    /// What another line tells.
-    #[tactic(auto, unfolding(crate::specs::Telling::Once))]
-    fn carry_out_long<W: Sink>(&mut self, line: &Line, writer: &mut W) -> Result<(), Cause>
-        requires { is_long line.now ≡ true }
-        ensures told { AppendsOnce (W.contents writer.old) (W.contents writer.new)
-            (Once line.now (session_of self.old)) result (session_of self.new) }
-        ensures outside { EndsText W.calls writer.new result }
-    {
-        match line {
-            Line::Nothing => Ok(()),
-            Line::Layout { bytes } => self.lay_out(bytes.as_slice(), writer),
-            Line::Values { bytes } => self.tell_values(bytes.as_slice(), writer),
-            Line::Device { start, boot, bytes } => self.attach(
-                *start,
-                *boot,
-                bytes.as_slice(),
-                writer,
-            ),
-            Line::Begin { dev, request } => self.begin(*dev, request, writer),
-            _ => unreachable!(),
         }
     }
 

@@ -3,7 +3,6 @@ pub mod PartLemmas
 pub mod TableLemmas
 pub mod NumberLemmas
 mod LineVectors
-pub mod ShortLemmas
 pub mod ValueLemmas
 pub mod LayoutLemmas
 pub mod PollLemmas

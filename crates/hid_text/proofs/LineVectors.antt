@@ -5,11 +5,13 @@ use Rattle.hid_descriptor.specs.declared.report.ReportKind.TheVariants.{Output}
 use Rattle.hex.specs.Hex.{decode_pairs}
 use Rattle.hid_requests.specs.declared.request.Request.TheVariants.{Clear, Configure, EndpointStatus, Idle, SetReport}
 use Rattle.hid_text.specs.declared.fault.LineFault.TheVariants.{Syntax}
-use Rattle.hid_text.specs.declared.line.Line.TheVariants.{Begin, Halt, Reset}
+use Rattle.hid_text.specs.declared.line.Line.TheVariants.{Begin, Step}
+use Rattle.hid_text.specs.declared.short.ShortLine.TheVariants.{Halt, Reset}
 use Rattle.hid_text.specs.Words.{words_of, hex_of}
 use Rattle.hid_text.specs.Numbers.{number_of, byte_of}
 use Rattle.hid_text.specs.Arguments.{one_device_said}
 use Rattle.hid_text.specs.Requests.{alone, idle_said, set_report_said, asked_by, request_said, begin_said}
+use Rattle.hid_text.specs.Short.{short_said}
 use Rattle.hid_text.specs.Line.{said_by, words_said}
 
 -- two words, with a space, a tab and two spaces round them
@@ -37,27 +39,27 @@ unfolding request_said asked_by set_report_said byte_of number_of
 a_longer_report = refl
 
 -- the seventh device of a bus is reset
-a_reset : words_said (codes "reset" ∷ codes "7" ∷ []) ≡ Ok (Reset 7)
-unfolding words_said said_by one_device_said
+a_reset : words_said (codes "reset" ∷ codes "7" ∷ []) ≡ Ok (Step (Reset 7))
+unfolding words_said said_by short_said one_device_said
 a_reset = refl
 
 -- a reset takes nothing but its device: there is no eighth, and it is done once
 another_reset : words_said (codes "reset" ∷ codes "8" ∷ []) ≡ Err Syntax
-unfolding words_said said_by one_device_said
+unfolding words_said said_by short_said one_device_said
 another_reset = refl
 
 two_resets : words_said (codes "reset" ∷ codes "1" ∷ codes "2" ∷ []) ≡ Err Syntax
-unfolding words_said said_by one_device_said
+unfolding words_said said_by short_said one_device_said
 two_resets = refl
 
 -- the third device of a bus halts its endpoint
-a_halt : words_said (codes "halt" ∷ codes "3" ∷ []) ≡ Ok (Halt 3)
-unfolding words_said said_by one_device_said
+a_halt : words_said (codes "halt" ∷ codes "3" ∷ []) ≡ Ok (Step (Halt 3))
+unfolding words_said said_by short_said one_device_said
 a_halt = refl
 
 -- a halt is of one device: it isn't a line alone
 no_halt : words_said (codes "halt" ∷ []) ≡ Err Syntax
-unfolding words_said said_by one_device_said
+unfolding words_said said_by short_said one_device_said
 no_halt = refl
 
 -- a host ends a halt, and asks whether there is one

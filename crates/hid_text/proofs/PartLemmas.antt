@@ -1,5 +1,5 @@
 -- The first word of a text, and the words behind it.
-use Rattle.std.proofs.Common.{◌≡◌, ℕ, ◌-◌, ◌<◌, ◌≤◌, Bool, true, false, List, [], ◌∷◌, length, take, drop, nat_lt, refl, sym, ap, subst, ◌∙◌, arith, not, nat_eq, cond, None, Some, Ok, Err, get_or, ⊎_elim}
+use Rattle.std.proofs.Common.{◌≡◌, ℕ, ◌-◌, ◌<◌, ◌≤◌, Bool, true, false, List, [], ◌∷◌, length, take, drop, nat_lt, refl, sym, ap, subst, ◌∙◌, arith, not, nat_eq, cond, Option, None, Some, Ok, Err, IfSome, get_or, ⊎_elim}
 use Rattle.std.proofs.lemmas.Bool.{cases_Bool, cases_lt, cond-true, cond-false, lt-ltb, le-ltb, ltb-true, ne_eqb, eq-eqb, true≢false}
 use Rattle.std.proofs.lemmas.Option.{cond_some}
 use Rattle.std.proofs.lemmas.List.{length-take-le, length-drop, get_or-drop, get_or-take, take_all}
@@ -10,9 +10,14 @@ use Rattle.std.proofs.Math.Nat.{add-zero}
 use Rattle.std.specs.Prelude.{filter, position}
 use Rattle.std.specs.Option.{unwrap_or}
 use Rattle.std.specs.List.{slice_split, onto_first, position_or_len, slice_index}
-use Rattle.hid_text.specs.declared.line.Line.TheVariants.{Nothing}
+use Rattle.hid_text.specs.declared.line.Keyword.{Keyword}
+use Rattle.hid_text.specs.declared.line.Keyword.TheVariants as keywords
+use Rattle.hid_text.specs.declared.line.Line.TheVariants.{Nothing, Step}
+use Rattle.hid_text.specs.declared.short.ShortLine.{ShortLine}
 use Rattle.hid_text.specs.declared.fault.LineFault.TheVariants.{LineTooLong}
-use Rattle.hid_text.specs.Line.{meaning_of, words_said, keyword_said, keyword_of}
+use Rattle.hid_text.specs.Arguments.{or_syntax}
+use Rattle.hid_text.specs.Short.{short_said}
+use Rattle.hid_text.specs.Line.{meaning_of, words_said, said_by, keyword_said, keyword_of}
 use Rattle.hid_text.specs.Words.{Word, is_blank, is_no_blank, words_of}
 
 -- blanks before the first word are none of it
@@ -117,3 +122,25 @@ comment_line line start short found mark =
     let first : slice_index (take end rest) 0 ≡ 35 = get_or-take end rest 0 0 word.1 ∙ get_or-drop start line 0 0 ∙ rw (add-zero start) mark in
     short_line line short ∙ ap words_said word.0
     ∙ cond-true (nat_eq (slice_index (take end rest) 0) 35) (Ok Nothing) (keyword_said (keyword_of (take end rest)) (words_of (drop end rest))) (eq-eqb _ 35 first)
+
+-- ---- lines that begin with a keyword
+
+-- a line says what stands behind its keyword
+pub keyword_first : (words : List Word) (first : Word) (rest : List Word) (keyword : Keyword) → words ≡ first ∷ rest → (slice_index first 0 ≡ 35 → ⊥) → keyword_of first ≡ Some keyword → words_said words ≡ said_by keyword rest
+unfolding words_said
+keyword_first words first rest keyword is other key = ap words_said is ∙ cond-false (nat_eq (slice_index first 0) 35) (Ok Nothing) _ (ne_eqb (slice_index first 0) 35 other) ∙ ap (λ k. keyword_said k rest) key
+
+-- what stands behind the keyword of a short line is a step
+short_keyword : (keyword : Keyword) (words : List Word) (short : ShortLine) → short_said keyword words ≡ Some short → said_by keyword words ≡ Ok (Step short)
+unfolding said_by short_said
+short_keyword keywords.Layout words short is = absurd (cc)
+short_keyword keywords.Values words short is = absurd (cc)
+short_keyword keywords.Device words short is = absurd (cc)
+short_keyword keywords.Begin words short is = absurd (cc)
+short_keyword keyword words short is = ap (or_syntax Step) is
+
+-- and so is the line
+pub short_first : (words : List Word) (first : Word) (rest : List Word) (keyword : Keyword) (short : Option ShortLine) → words ≡ first ∷ rest → (slice_index first 0 ≡ 35 → ⊥) → keyword_of first ≡ Some keyword
+    → short ≡ short_said keyword rest → IfSome short (λ line. words_said words ≡ Ok (Step line))
+short_first words first rest keyword None is other key said = tt
+short_first words first rest keyword (Some line) is other key said = keyword_first words first rest keyword is other key ∙ short_keyword keyword rest line (sym said)

@@ -2,8 +2,8 @@ pub mod Words
 pub mod Numbers
 pub mod Arguments
 pub mod Requests
-pub mod Line
 pub mod Short
+pub mod Line
 pub mod LayoutText
 pub mod ValuesText
 pub mod EventText

@@ -5,12 +5,13 @@ use Rattle.hid_bus.specs.declared.start.Start.{Start}
 use Rattle.hid_text.specs.declared.line.Keyword.{Keyword}
 use Rattle.hid_text.specs.declared.line.Keyword.TheVariants as keywords
 use Rattle.hid_text.specs.declared.line.Line.{Line}
-use Rattle.hid_text.specs.declared.line.Line.TheVariants.{Nothing, Layout, Values, Device, Press, Release, Null, Set, Move, Frame, Poll, Control, Reset, Halt}
+use Rattle.hid_text.specs.declared.line.Line.TheVariants.{Nothing, Layout, Values, Device, Step}
 use Rattle.hid_text.specs.declared.fault.LineFault.{LineFault}
 use Rattle.hid_text.specs.declared.fault.LineFault.TheVariants.{Syntax, LineTooLong}
 use Rattle.hid_text.specs.Words.{Word, words_of, look_up, hex_of}
-use Rattle.hid_text.specs.Arguments.{or_syntax, with_bytes, two, start_of, boot_of, control_said, set_said, move_said, frame_said, poll_said, one_device_said}
+use Rattle.hid_text.specs.Arguments.{or_syntax, with_bytes, two, start_of, boot_of}
 use Rattle.hid_text.specs.Requests.{begin_said}
+use Rattle.hid_text.specs.Short.{short_said}
 
 -- the first word of a line
 abbrev pub keyword_of : Word → Option Keyword
@@ -36,17 +37,8 @@ unfoldable pub said_by : Keyword → List Word → Result Line LineFault
 said_by keywords.Layout words = with_bytes Layout (hex_of words)
 said_by keywords.Values words = with_bytes Values (hex_of words)
 said_by keywords.Device words = device_said words
-said_by keywords.Press words = or_syntax (λ said. Press said.0 said.1) (control_said words)
-said_by keywords.Release words = or_syntax (λ said. Release said.0 said.1) (control_said words)
-said_by keywords.Null words = or_syntax (λ said. Null said.0 said.1) (control_said words)
-said_by keywords.Set words = or_syntax (λ said. Set said.0 said.1 said.2) (set_said words)
-said_by keywords.Move words = or_syntax (λ said. Move said.0 said.1 said.2) (move_said words)
-said_by keywords.Frame words = or_syntax Frame (frame_said words)
-said_by keywords.Poll words = or_syntax (λ said. Poll said.0 said.1 said.2) (poll_said words)
-said_by keywords.Control words = or_syntax (λ said. Control said.0 said.1 said.2) (poll_said words)
 said_by keywords.Begin words = begin_said words
-said_by keywords.Reset words = or_syntax Reset (one_device_said words)
-said_by keywords.Halt words = or_syntax Halt (one_device_said words)
+said_by keyword words = or_syntax Step (short_said keyword words)
 
 -- a line that begins with another word is none of the script's
 abbrev pub keyword_said : Option Keyword → List Word → Result Line LineFault

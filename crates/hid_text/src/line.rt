@@ -1,21 +1,18 @@
 //! The lines of a script.
 
-ghost use Rattle.std.specs.Prelude.{◌≡◌, ◌≤◌, true, IsTrue, length};
+ghost use Rattle.std.specs.Prelude.{◌≡◌, ◌≤◌, IsTrue, length};
 ghost use Rattle.hid_text.specs.Arguments.{with_bytes};
-ghost use Rattle.hid_text.specs.Short.{may_be_long};
 ghost use Rattle.hid_text.specs.Words.{hex_of, words_of};
 ghost use Rattle.hid_text.specs.Line.{keyword_of, meaning_of, words_said, said_by, device_said};
 
 use super::arguments::{read_boot, read_start};
 use super::fault::LineFault;
 use super::requests::read_begin;
-use super::short::read_short_words;
+use super::short::{ShortLine, read_short_words};
 use super::words::{first_two_words, first_word, look_up, no_blank, read_hex};
 use arrayvec::ArrayVec;
 use hid_bus::Start;
-use hid_descriptor::Usage;
 use hid_requests::{Boot, Request};
-use usb_transact::Fate;
 
 /// The most bytes of a line, without its end.
 pub(crate) const LINE_LIMIT: usize = 1024;
@@ -23,7 +20,7 @@ pub(crate) const LINE_LIMIT: usize = 1024;
 /// The most bytes that the hex words of a line spell.
 pub(crate) const HEX_LIMIT: usize = 512;
 
-/// What a line says, with its words as values. A device is numbered from 1, and a usage names the least control that has it.
+/// What a line says, with its words as values.
 #[derive(Drop)]
 pub enum Line {
     /// An empty line, or a comment.
@@ -47,68 +44,6 @@ pub enum Line {
         /// The report descriptor.
         bytes: ArrayVec<u8, HEX_LIMIT>,
     },
-    /// `press D U`
-    Press {
-        /// The device, from 1.
-        dev: u8,
-        /// The usage of the control that is pressed.
-        usage: Usage,
-    },
-    /// `release D U`
-    Release {
-        /// The device, from 1.
-        dev: u8,
-        /// The usage of the control that is released.
-        usage: Usage,
-    },
-    /// `null D U`
-    Null {
-        /// The device, from 1.
-        dev: u8,
-        /// The usage of the control that is set to null.
-        usage: Usage,
-    },
-    /// `set D U N`
-    Set {
-        /// The device, from 1.
-        dev: u8,
-        /// The usage of the control that is set.
-        usage: Usage,
-        /// The value that it is set to.
-        value: i64,
-    },
-    /// `move D U N`
-    Move {
-        /// The device, from 1.
-        dev: u8,
-        /// The usage of the control that moves.
-        usage: Usage,
-        /// How far it moves.
-        by: i32,
-    },
-    /// `frame [COUNT]`: so many frames, 1 to 10,000.
-    Frame {
-        /// How many frames pass, 1 to 10,000.
-        count: u16,
-    },
-    /// `poll D [FATE [COUNT]]`: so many polls, 1 to 10,000.
-    Poll {
-        /// The device, from 1.
-        dev: u8,
-        /// What is lost of each poll.
-        fate: Fate,
-        /// How many polls, 1 to 10,000.
-        count: u16,
-    },
-    /// `control D [FATE [COUNT]]`: so many tries of the transfer that runs, 1 to 10,000 (USB 2.0, 8.5.3).
-    Control {
-        /// The device, from 1.
-        dev: u8,
-        /// What is lost of each try.
-        fate: Fate,
-        /// How many tries, 1 to 10,000.
-        count: u16,
-    },
     /// `begin D REQUEST`: a request that the host begins (USB 2.0, 9.4; HID 1.11, 7.2).
     Begin {
         /// The device, from 1.
@@ -116,16 +51,8 @@ pub enum Line {
         /// What the host asks, with the data that go with it.
         request: Request,
     },
-    /// `reset D`: the bus resets a device (USB 2.0, 7.1.7.5), and its host forgets it.
-    Reset {
-        /// The device, from 1.
-        dev: u8,
-    },
-    /// `halt D`: a device halts the endpoint that is polled (USB 2.0, 8.4.5 and 9.4.5).
-    Halt {
-        /// The device, from 1.
-        dev: u8,
-    },
+    /// Any other line, as `press D U` and `poll D`.
+    Step(ShortLine),
 }
 
 #[derive(Clone, Copy)]
@@ -234,28 +161,9 @@ fn read_words(text: &[u8]) -> Result<Line, LineFault>
     }
 }
 
-#[tactic(auto, using(crate::proofs::ShortLemmas::short_lines))]
+#[tactic(auto, unfolding(crate::specs::Line::said_by))]
 fn read_arguments(keyword: Keyword, text: &[u8]) -> Result<Line, LineFault>
     requires { length text.now ≤ 1024 }
-    ensures { result ≡ said_by keyword (words_of text.now) }
-{
-    match keyword {
-        Keyword::Layout | Keyword::Values | Keyword::Device | Keyword::Begin => {
-            read_long(keyword, text)
-        }
-        _ => match read_short_words(keyword, text) {
-            Some(short) => Ok(Line::of(short)),
-            None => Err(LineFault::Syntax),
-        },
-    }
-}
-
-/// What stands behind a keyword whose line may have many bytes.
-#[inline(never)] // no other line makes room for them
-#[tactic(auto, unfolding(crate::specs::Line::said_by))]
-fn read_long(keyword: Keyword, text: &[u8]) -> Result<Line, LineFault>
-    requires short { length text.now ≤ 1024 }
-    requires long { may_be_long keyword ≡ true }
     ensures { result ≡ said_by keyword (words_of text.now) }
 {
     match keyword {
@@ -263,12 +171,15 @@ fn read_long(keyword: Keyword, text: &[u8]) -> Result<Line, LineFault>
         Keyword::Values => read_values(text),
         Keyword::Device => read_attachment(text),
         Keyword::Begin => read_begin(text),
-        _ => unreachable!(),
+        _ => match read_short_words(keyword, text) {
+            Some(short) => Ok(Line::Step(short)),
+            None => Err(LineFault::Syntax),
+        },
     }
 }
 
 /// `HEX`: a report descriptor.
-#[inline(never)]
+#[inline(never)] // no other line makes room for its bytes
 fn read_layout(text: &[u8]) -> Result<Line, LineFault>
     requires { length text.now ≤ 1024 }
     ensures { result ≡ with_bytes Line.Layout (hex_of (words_of text.now)) }

@@ -5,7 +5,7 @@ use crate::verdict::{holds, none_is_wrong};
 use hid_bus::Start;
 use hid_descriptor::Usage;
 use hid_requests::Boot;
-use hid_script::{Cause, Line, parse_line};
+use hid_script::{Cause, Line, ShortLine, parse_line};
 use std::test::Fail;
 use usb_transact::Fate;
 
@@ -16,7 +16,9 @@ fn sets(line: &[u8], to: i64) -> bool {
         id: 1,
     };
     match parse_line(line) {
-        Ok(Line::Set { dev, usage, value }) => dev == 7 && usage == named && value == to,
+        Ok(Line::Step(ShortLine::Set { dev, usage, value })) => dev == 7
+            && usage == named
+            && value == to,
         _ => false,
     }
 }
@@ -72,7 +74,7 @@ fn attaches(line: &[u8], descriptor: &[u8]) -> bool {
 /// Whether a line presses a key of the first device.
 fn presses(line: &[u8], key: Usage) -> bool {
     match parse_line(line) {
-        Ok(Line::Press { dev, usage }) => dev == 1 && usage == key,
+        Ok(Line::Step(ShortLine::Press { dev, usage })) => dev == 1 && usage == key,
         _ => false,
     }
 }
@@ -80,7 +82,9 @@ fn presses(line: &[u8], key: Usage) -> bool {
 /// Whether a line polls the first device once, and nothing is lost.
 fn polls_once(line: &[u8]) -> bool {
     match parse_line(line) {
-        Ok(Line::Poll { dev, fate, count }) => dev == 1 && fate == Fate::Clean && count == 1,
+        Ok(Line::Step(ShortLine::Poll { dev, fate, count })) => {
+            dev == 1 && fate == Fate::Clean && count == 1
+        }
         _ => false,
     }
 }

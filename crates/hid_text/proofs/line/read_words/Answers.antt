@@ -1,6 +1,6 @@
 use Rattle.std.proofs.Common.{sym, ◌∙◌}
 use Rattle.hid_text.specs.Words.{words_of}
-use Rattle.hid_text.proofs.ShortLemmas.{keyword_first}
+use Rattle.hid_text.proofs.PartLemmas.{keyword_first}
 use Rattle.hid_text.proofs.line.read_words.Goals as goal
 
 pub returns-in-Some-read_keyword : goal.returns-in-Some-read_keyword

@@ -1,6 +1,6 @@
 use Rattle.std.proofs.Common.{sym, ◌∙◌}
 use Rattle.hid_text.specs.Words.{words_of}
-use Rattle.hid_text.proofs.ShortLemmas.{short_first}
+use Rattle.hid_text.proofs.PartLemmas.{short_first}
 use Rattle.hid_text.proofs.short.read_words.Goals as goal
 
 pub returns : goal.returns

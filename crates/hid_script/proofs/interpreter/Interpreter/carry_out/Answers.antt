@@ -1,17 +1,29 @@
-use Rattle.std.proofs.Common.{ℕ, subst, sym}
-use Rattle.hid_script.specs.Session.{Repeats}
-use Rattle.hid_script.specs.Place.{Writes}
-use Rattle.hid_script.specs.Telling.{Once, Begins}
+use Rattle.hid_text.specs.declared.line.Line.TheVariants.{Layout, Values, Device, Begin}
+use Rattle.hid_script.specs.Telling.{Once, times}
 use Rattle.hid_script.specs.Interpreter.{session_of}
-use Rattle.hid_script.proofs.RepeatLemmas.{once_alone}
-use Rattle.hid_script.proofs.TellingLemmas.{long_once}
+use Rattle.hid_script.proofs.RepeatLemmas.{told_once}
+use Rattle.hid_script.proofs.SessionLemmas.{nothing_told}
 use Rattle.hid_script.proofs.interpreter.Interpreter.carry_out.Goals as goal
 
-pub returns-in-Some-clause-told : goal.returns-in-Some-clause-told
-returns-in-Some-clause-told g c = rw c.in-Some.ensures.some c.repeat.ensures.told
+pub returns-in-Nothing-clause-told : goal.returns-in-Nothing-clause-told
+returns-in-Nothing-clause-told g c = rw c.in-Nothing.is (nothing_told _ (session_of c.args.self.now))
 
-pub returns-in-None-clause-told : goal.returns-in-None-clause-told
-returns-in-None-clause-told g c =
-    let told = c.carry_out_long.ensures.told in
-    let Told : ℕ → Type 0 = λ n. Writes (Repeats n (Once c.args.line.now) (session_of c.args.self.now)) (Begins n (Once c.args.line.now) (session_of c.args.self.now)) told.0 c.carry_out_long.result (session_of c.carry_out_long.new.self) in
-    (told.0, told.1, subst Told (sym (long_once c.args.line.now c.in-None.ensures.none)) (once_alone (Once c.args.line.now) (session_of c.args.self.now) (session_of c.carry_out_long.new.self) told.0 c.carry_out_long.result told.2))
+pub returns-in-Layout-clause-told : goal.returns-in-Layout-clause-told
+unfolding Once times
+returns-in-Layout-clause-told g c = rw c.in-Layout.is (told_once _ _ (Once (Layout c.in-Layout.bytes)) (session_of c.args.self.now) _ _ (rw c.as_slice.ensures.value at c.lay_out.ensures.told))
+
+pub returns-in-Values-clause-told : goal.returns-in-Values-clause-told
+unfolding Once times
+returns-in-Values-clause-told g c = rw c.in-Values.is (told_once _ _ (Once (Values c.in-Values.bytes)) (session_of c.args.self.now) _ _ (rw c.as_slice-in-Values.ensures.value at c.tell_values.ensures.told))
+
+pub returns-in-Device-clause-told : goal.returns-in-Device-clause-told
+unfolding Once times
+returns-in-Device-clause-told g c = rw c.in-Device.is (told_once _ _ (Once (Device c.in-Device.start c.in-Device.boot c.in-Device.bytes)) (session_of c.args.self.now) _ _ (rw c.as_slice-in-Device.ensures.value at c.attach.ensures.told))
+
+pub returns-in-Begin-clause-told : goal.returns-in-Begin-clause-told
+unfolding Once times
+returns-in-Begin-clause-told g c = rw c.in-Begin.is (told_once _ _ (Once (Begin c.in-Begin.dev c.in-Begin.request)) (session_of c.args.self.now) _ _ c.begin.ensures.told)
+
+pub returns-in-Step-clause-told : goal.returns-in-Step-clause-told
+unfolding Once times
+returns-in-Step-clause-told g c = rw c.in-Step.is c.repeat.ensures.told

@@ -1,12 +1,11 @@
 use Rattle.std.proofs.Common.{List, ℕ}
 use Rattle.std.specs.Io.KnownBytes.{Appends}
 use Rattle.hid_script.specs.Session.{Repeats, accepted}
-use Rattle.hid_script.specs.Telling.{Once}
-use Rattle.hid_text.specs.Short.{line_of}
+use Rattle.hid_script.specs.Telling.{TellsShort}
 use Rattle.hid_script.specs.Interpreter.{session_of}
 use Rattle.hid_script.proofs.interpreter.Interpreter.repeat.Given as goal
 
 -- what is written was told by the times so far
 abbrev pub invariant-loop : goal.invariant-loop
 invariant-loop g l = (written : List ℕ) × Appends (g.W.Sink.contents l.fn.writer) (g.W.Sink.contents l.writer) written
-    × Repeats l.counter (Once (line_of l.line)) (session_of l.fn.self) (accepted written (session_of l.self))
+    × Repeats l.counter (TellsShort l.line) (session_of l.fn.self) (accepted written (session_of l.self))
