@@ -1,142 +1,135 @@
-"""Rows of scripts: lines that hidrun reads, and what it is to print. tools/check-rows says how they are written."""
+"""Rows: tests as text, in the language of docs/TESTING.md, "Rows". What is given and told of a row is its reader's business."""
 import os
 import re
-import shlex
 import sys
 
 ROOT = os.path.dirname(os.path.dirname(os.path.abspath(__file__)))
-ESCAPES = {"t": "\t", "r": "\r", "s": " ", "\\": "\\"}
+ESCAPES = {b"n": b"\n", b"r": b"\r", b"t": b"\t", b"s": b" ", b"\\": b"\\"}
+INDENT = "  "
 
 
-class Row:
-    """A run of a program: its words, the lines that it reads, each with what it prints for it, and how it ends."""
+def bytes_of(text):
+    """The bytes that a text with escapes stands for."""
+    def escaped(found):
+        return bytes([int(found[1], 16)]) if found[1] else ESCAPES[found[2]]
 
-    def __init__(self, place, name):
-        self.place, self.name = place, name
-        self.words, self.lines, self.err, self.status = [], [], "", 0
-        self.each = False  # each line is a run of its own
-        self.example = None  # an example that is this row, word for word
+    return re.sub(rb"\\(?:x([0-9A-Fa-f]{2})|([nrts\\]))", escaped, text.encode())
 
-    def script(self, count=None):
-        """The lines that it reads, or the first of them."""
-        return "".join(line for line, _ in self.lines[:count]).encode("latin-1")
 
-    def text(self, count=None):
-        """What is printed for them on standard output."""
-        return "".join(text for _, text in self.lines[:count]).encode("latin-1")
+def is_remark(text):
+    """Whether a line says nothing."""
+    return not text.strip() or f"{text.strip()} ".startswith("-- ")
 
-    def fault(self):
-        """Why it is no row, or None."""
-        has_own = self.words or self.lines or self.err or self.status or self.each
-        if self.example and has_own:
-            return "an example stands in place of all else"
-        return None if self.example or self.words and self.lines else "a row has a program and lines"
 
-    def runs(self):
-        """The rows that it stands for: itself, or one for each of its lines."""
-        if not self.each:
-            return [self]
-        runs = []
-        for line, text in self.lines:
-            run = Row(self.place, f"{self.name}: {line.strip()[:60]}")
-            run.words, run.lines, run.err, run.status = self.words, [(line, text)], self.err, self.status
-            runs.append(run)
-        return runs
+def parted(text):
+    """What stands in front of the first mark, the mark (`>`, `=` or none), and what stands behind it."""
+    found = re.search(r" ([>=])(?: |$)", " " + text)
+    return (f" {text}"[:found.start()].strip(), found[1], f" {text}"[found.end():]) if found else (text.strip(), "", "")
+
+
+def named(text):
+    """The name in front of what is given, and that."""
+    name, colon, given = text.partition(": ")
+    if colon:
+        return name.strip(), given.strip()
+    return (text[:-1].strip(), "") if text.endswith(":") else ("", text)
+
+
+def blocks_of(lines):
+    """Each line that isn't indented, by its number and text, with the lines that are indented below it."""
+    at = 0
+    while at < len(lines):
+        (number, text), below = lines[at], []
+        at += 1
+        while at < len(lines) and lines[at][1].startswith(INDENT):
+            below.append((lines[at][0], lines[at][1][len(INDENT):]))
+            at += 1
+        yield number, text, below
+
+
+class Step:
+    """A row or a step: its name, what is given, the lines that are told, or the text that is put in place."""
+
+    def __init__(self, file, number, text, below):
+        self.file, self.place = file, f"{os.path.relpath(file.path, ROOT)}:{number}"
+        left, mark, right = parted(text)
+        self.name, self.given = named(left)
+        lines = [right] if right else [line for _, line in below]
+        self.told = lines if mark == ">" else []
+        self.text = None if mark != "=" else right if right or not below else "".join(f"{line}\n" for line in lines)
+        if below and (right or not mark) and not self.has_steps():
+            file.fail(below[0][0], "a line below one that has no room for it")
+
+    def has_steps(self):
+        """Whether steps may stand below it."""
+        return False
+
+
+class Row(Step):
+    """A row, with the title of its table and what is asked there; and its steps."""
+
+    def __init__(self, file, title, question, block):
+        number, text, below = block
+        self.title, self.question, self.steps = title, question, []
+        self.is_open = not parted(text)[1]
+        super().__init__(file, number, text, below)
+        if self.is_open:
+            self.steps = list(file.steps(below))
+
+    def has_steps(self):
+        return self.is_open
 
 
 class File:
-    """The rows of a file, with the texts and the parts that they name."""
+    """The rows of a file, and the texts that they name: a text, or the lines of one."""
 
     def __init__(self, path):
-        self.path, self.rows, self.names, self.parts = path, [], {}, {}
-        self.group, self.part = "", None
+        self.path, self.rows, self.texts, self.lines = path, [], {}, {}
+        title = question = None
         with open(path, encoding="utf-8") as file:
-            for number, line in enumerate(file.read().split("\n"), 1):
-                self.place = f"{os.path.relpath(path, ROOT)}:{number}"
-                if line and not line.startswith("#"):
-                    self.take(line)
-        if self.part is not None:
-            self.fail(f"nothing ends the part {self.part}")
-        for row in self.rows:
-            if row.fault():
-                self.place = row.place
-                self.fail(row.fault())
+            lines = list(enumerate(file.read().split("\n"), 1))
+        for number, text, below in blocks_of(lines):
+            if below and (is_remark(text) or text.startswith("# ")):
+                self.fail(below[0][0], "a step of no row")
+            if text.startswith("# "):
+                title, _, question = (it.strip() for it in text[2:].partition(":"))
+            elif not is_remark(text) and title is None:
+                self.take_name(number, text, below)
+            elif not is_remark(text):
+                self.rows.append(Row(self, title, question, (number, text, below)))
 
-    def take(self, line):
-        """A line of the file."""
-        if self.part is not None and line != "end":
-            self.parts[self.part].append(line)
-        elif line.startswith("with "):
-            other = File(os.path.join(os.path.dirname(self.path), line[5:]))
-            self.names.update(other.names)
-            self.parts.update(other.parts)
-        elif line.startswith("let ") and " = " in line:
-            name, text = line[4:].split(" = ", 1)
-            self.names[name] = self.filled(text)
-        elif line.startswith("part "):
-            self.part = line[5:]
-            self.parts[self.part] = []
-        elif line == "end":
-            self.part = None
-        elif re.fullmatch(r"\[.+\]", line):
-            self.group = line[1:-1]
-        elif line.startswith("== "):
-            self.rows.append(Row(self.place, f"{self.group}: {line[3:]}"))
-        elif not self.rows or not self.take_in(self.rows[-1], line):
-            self.fail("no line of a row")
-
-    def take_in(self, row, line):
-        """A line of a row; whether it is one."""
-        if line.startswith("+ "):
-            for each in self.parts.get(line[2:]) or self.fail("no such part"):
-                if not self.take_in(row, each):
-                    self.fail(f"no line of a row: {each}")
-        elif line.startswith("$ "):
-            row.words = shlex.split(line[2:])
-        elif line == ">" or line.startswith("> "):
-            row.lines.append((self.given(line[2:]), ""))
-        elif line.startswith("  ") and row.lines:
-            given, text = row.lines[-1]
-            row.lines[-1] = given, text + self.printed(line[2:])
-        elif line.startswith("! "):
-            row.err += self.filled(line[2:]) + "\n"
-        elif re.fullmatch(r"exit \d+", line):
-            row.status = int(line[5:])
-        elif line.startswith("as "):
-            row.example = line[3:]
-        elif line == "each":
-            row.each = True
+    def take_name(self, number, text, below):
+        """A line in front of the first table."""
+        name, mark, right = parted(text)
+        if text.startswith("with "):
+            other = File(os.path.join(os.path.dirname(self.path), text[5:]))
+            self.texts.update(other.texts)
+            self.lines.update(other.lines)
+        elif mark != "=":
+            self.fail(number, "no name of a text")
+        elif below:
+            self.lines[name] = below
         else:
-            return False
-        return True
+            self.texts[name] = self.filled(right)
 
-    def given(self, text):
-        """A line that is read: with its line feed, unless it ends with a backslash alone."""
-        is_cut = re.search(r"(?<!\\)(\\\\)*\\$", text)
-        text = self.filled(text[:-1] if is_cut else text)
-        escape = r"\\(x[0-9A-F]{2}|.)"
-        text = re.sub(escape, lambda it: chr(int(it[1][1:], 16)) if it[1][1:] else ESCAPES[it[1]], text)
-        return text + ("" if is_cut else "\n")
-
-    def printed(self, text):
-        """A line that is printed, or one that is printed several times."""
-        times = re.fullmatch(r"\{(.+); (\d+) times\}", text)
-        return (self.filled(times[1]) + "\n") * int(times[2]) if times else self.filled(text) + "\n"
+    def steps(self, lines):
+        """The steps in these lines, and those that they name."""
+        for number, text, below in blocks_of(lines):
+            if text.startswith("{") and text[1:-1] in self.lines and not below:
+                yield from self.steps(self.lines[text[1:-1]])
+            elif not is_remark(text):
+                yield Step(self, number, text, below)
 
     def filled(self, text):
-        """A text with what its words in braces mean."""
-        return re.sub(r"\{([^{}]+)\}", lambda it: self.meant(it[1]), text)
+        """A text with what its words in braces mean: a name, or so many of a word."""
+        def meant(found):
+            words = found[1]
+            times = re.fullmatch(r"(.+?)( x |\*)(\d+)", words)
+            if times:
+                return (" " if times[2] == " x " else "").join([times[1]] * int(times[3]))
+            return self.texts[words] if words in self.texts else sys.exit(f"{self.path}: nothing is named {words}")
 
-    def meant(self, words):
-        repeated = re.fullmatch(r"(.+?)( x |\*)(\d+)", words)
-        if repeated:
-            return (" " if repeated[2] == " x " else "").join([repeated[1]] * int(repeated[3]))
-        return self.names[words] if words in self.names else self.fail(f"nothing is named {words}")
+        return re.sub(r"\{([^{}]+)\}", meant, text)
 
-    def fail(self, why):
-        sys.exit(f"{self.place}: {why}")
-
-
-def rows_in(paths):
-    """The rows of these files, those that are examples among them."""
-    return [run for path in paths for row in File(path).rows for run in row.runs()]
+    def fail(self, number, why):
+        sys.exit(f"{os.path.relpath(self.path, ROOT)}:{number}: {why}")

@@ -1,8 +1,17 @@
-//! Both ends of the bus, made anew for each schedule, and what a foreign device answers.
+//! Both ends of the bus, made anew for each row of steps as the row gives them, and what a foreign device answers:
+//! ```text
+//!   KEYBOARD                a boot keyboard that isn't configured, and a host that knows nothing of it; so MOUSE
+//!   plain MOUSE             the same descriptor without the boot protocol
+//!   TWO_REPORTS             a plain device of the descriptor that has this name
+//!   MOUSE at 127            a device at another address
+//!   ready KEYBOARD          a host that is ready for the descriptor; the device isn't configured
+//!   KEYBOARD, 100 times     the steps are played so often
+//! ```
 
 use hid_device::{Boot, Config, Device, DeviceFault};
 use hid_host::{HostDevice, StackFault};
 use std::alloc::Global;
+use test_rows::{RowFault, Sheet, bytes_of, number_of};
 
 /// What a foreign device has in place of descriptors: any bytes.
 #[derive(Drop)]
@@ -60,7 +69,7 @@ fn host_of(alloc: Global, is_ready: bool, descriptor: &[u8]) -> Option<HostDevic
 }
 
 /// Both ends, of this device, which is polled each 10 frames; nothing where there is no such device or host.
-pub fn ends_of(
+fn ends_of(
     alloc: Global,
     addr: u8,
     boot: Boot,
@@ -81,4 +90,46 @@ pub fn ends_of(
             report: Vec::new(alloc),
         },
     })
+}
+
+/// What is given without how often its steps are played, and how often.
+pub fn times_in(given: &str) -> Result<(&str, usize), RowFault> {
+    let Some((given, often)) = given.split_once(", ") else {
+        return Ok((given, 1));
+    };
+    match often.split_once(' ') {
+        Some((count, "times")) => Ok((given, number_of(count)?)),
+        _ => Err(RowFault::Unread),
+    }
+}
+
+/// The boot device of this descriptor, by its name.
+fn boot_of(name: &str) -> Boot {
+    match name {
+        "KEYBOARD" => Boot::Keyboard,
+        "MOUSE" => Boot::Mouse,
+        _ => Boot::No,
+    }
+}
+
+/// A name without this word before it, and whether the word stands there.
+fn without<'a>(name: &'a str, word: &str) -> (&'a str, bool) {
+    match name.strip_prefix(word) {
+        Some(rest) => (rest, true),
+        None => (name, false),
+    }
+}
+
+/// The ends that are given; `Unread` where there is no such device or host.
+pub fn begun(sheet: &Sheet<'_>, given: &str) -> Result<Ends, RowFault> {
+    let (kind, is_ready) = without(given, "ready ");
+    let (kind, is_plain) = without(kind, "plain ");
+    let (name, addr) = kind.split_once(" at ").unwrap_or((kind, "1"));
+    let boot = if is_plain { Boot::No } else { boot_of(name) };
+    let addr = addr.parse()?;
+    let descriptor = bytes_of(sheet, name)?;
+    match ends_of(sheet.alloc, addr, boot, is_ready, descriptor) {
+        Some(ends) => Ok(ends),
+        None => Err(RowFault::Unread),
+    }
 }

@@ -9,7 +9,7 @@
 //!   reply 4B 00 05                what comes to a poll, a packet or `none`: what it is taken as, the toggle that is expected
 //!                                 then, and each event, as `down 4.4 07:04`: the control by item and index, and its usage
 //!   held 4 4                      `yes` where the control is held in the view
-//!   reset behind C3 05*64         a new host, ready for the descriptor of the schedule, takes this packet and is reset, while no
+//!   reset behind C3 05*64         a new host, ready for the descriptor of the row, takes this packet and is reset, while no
 //!                                 round is open: what it is taken as, and the events of both
 //! ```
 //! Fates and refusals are those of docs/SCRIPT.md.

@@ -1,20 +1,21 @@
 //! Which devices there are, why others aren't, and what refusals are printed as:
 //! ```text
-//!   makes 1 10 plain 05 01 09 02  what is made of an address, an interval, a kind and a descriptor: the number of its reports;
-//!                                 or the refusal, and its place. `own` is the descriptor of the schedule
-//!   prints device Memory          the cause of that name, and the refusal for it at 7
-//!   prints host NotReady          the refusal of that name
+//!   makes: 05 01 09 02 | 1 10 plain   what is made of a descriptor, an address, an interval and a kind: the number of its
+//!                                     reports; or the refusal, and its place
+//!   prints: device Memory             the cause of that name, and the refusal for it at 7
+//!   prints: host NotReady             the refusal of that name
 //! ```
 
 use crate::device::tell_round;
 use crate::ends::{config_of, device_at};
 use crate::told::Told;
-use crate::words::{small, spell};
+use crate::words::{small, words_in};
 use hid_device::{Boot, Config, Device, DeviceCause, DeviceFault};
 use hid_host::{DescriptorFault, StackFault};
 use hid_layout::{Cause, LayoutFault};
 use hid_usages::ReportFault;
 use std::alloc::Global;
+use test_rows::{RowFault, Sheet};
 use usb_control::{ControlFault, InfoFault};
 
 /// Tells how many reports a device has, and its open round, if it has one; or the refusal and its place.
@@ -112,24 +113,34 @@ fn tell_fault(fault: Option<StackFault>, told: &mut Told) {
     }
 }
 
-/// Tells what these words mean of what is made and printed; false where they mean nothing of that.
-pub fn is_made(
-    alloc: Global,
-    own: &[u8],
-    words: &[&str],
-    bytes: &mut Vec<u8>,
-    told: &mut Told,
-) -> bool {
+/// Tells what is made of an address, an interval and a kind in words.
+fn tell_made_by(alloc: Global, words: &[&str], descriptor: &[u8], told: &mut Told) {
     match *words {
-        ["makes", addr, interval, kind, "own"] => tell_made_of(
-            alloc, addr, interval, kind, own, told,
-        ),
-        ["makes", addr, interval, kind, ref rest @ ..] if spell(bytes, rest) => tell_made_of(
-            alloc, addr, interval, kind, bytes, told,
-        ),
-        ["prints", "device", name] => tell_cause(cause_of(name), told),
-        ["prints", "host", name] => tell_fault(fault_of(name), told),
-        _ => return false,
+        [addr, interval, kind] => tell_made_of(alloc, addr, interval, kind, descriptor, told),
+        _ => told.unread(),
     }
-    true
+}
+
+/// What is made of a descriptor and, in words, an address, an interval and a kind.
+pub fn tell_makes(
+    told: &mut String,
+    sheet: &Sheet<'_>,
+    descriptor: &[u8],
+    given: &str,
+) -> Result<(), RowFault> {
+    let words = words_in(sheet.alloc, given)?;
+    let mut row = Told::new(sheet.alloc);
+    tell_made_by(sheet.alloc, &words, descriptor, &mut row);
+    row.give(told)
+}
+
+/// What the cause or the refusal of a name is printed as.
+pub fn tell_prints(told: &mut String, sheet: &Sheet<'_>, given: &str) -> Result<(), RowFault> {
+    let mut row = Told::new(sheet.alloc);
+    match given.split_once(' ') {
+        Some(("device", name)) => tell_cause(cause_of(name), &mut row),
+        Some(("host", name)) => tell_fault(fault_of(name), &mut row),
+        _ => row.unread(),
+    }
+    row.give(told)
 }

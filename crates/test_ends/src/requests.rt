@@ -1,22 +1,23 @@
 //! Requests and descriptors, of no device:
 //! ```text
-//!   asks 80 00 00 00 00 00 02 00  what setup data ask: a variant of `Asked` and what it holds, or `nothing`
-//!   spells get-idle 255           what a host sends for a request, where the report descriptor has 306 bytes and the endpoint
-//!                                 is 1: the setup data, the data behind them, and what they ask
-//!   describes 63 1 1 1 10         the configuration of these: length of the report descriptor, endpoint, subclass, protocol,
-//!                                 interval; and what is read of it again, but for the interval
-//!   describes hid 4660            the HID descriptor of a report descriptor of this length
-//!   describes device 65279 513    the device descriptor of this vendor and product, and what is read of it again
+//!   asks: 80 00 00 00 00 00 02 00    what setup data ask: a variant of `Asked` and what it holds, or `nothing`
+//!   spells: get-idle 255             what a host sends for a request, where the report descriptor has 306 bytes and the
+//!                                    endpoint is 1: the setup data, the data behind them, and what they ask
+//!   describes: 63 1 1 1 10           the configuration of these: length of the report descriptor, endpoint, subclass,
+//!                                    protocol, interval; and what is read of it again, but for the interval
+//!   describes: hid 4660              the HID descriptor of a report descriptor of this length
+//!   describes: device 65279 513      the device descriptor of this vendor and product, and what is read of it again
 //! ```
 //! Requests are spelled as in docs/SCRIPT.md.
 
 use crate::told::Told;
-use crate::words::{request_of, small, spell};
+use crate::words::{request_of, small, words_in};
 use arrayvec::ArrayVec;
 use hid_descriptor::ReportKind;
 use hid_requests::{
     Asked, Asking, Request, configuration, device_descriptor, hid_descriptor, what_is_asked,
 };
+use test_rows::{RowFault, Sheet};
 use usb_control::{ConfigInfo, DeviceInfo, Setup};
 
 /// The name of a row.
@@ -165,31 +166,39 @@ fn tell_device(vendor: Option<u16>, product: Option<u16>, told: &mut Told) {
     }
 }
 
-/// Tells what is described; false where these words mean nothing of the kind.
-fn is_described(words: &[&str], told: &mut Told) -> bool {
+fn tell_described_by(words: &[&str], told: &mut Told) {
     match *words {
-        ["describes", "hid", length] => tell_hid(length.parse().ok(), told),
-        ["describes", "device", vendor, product] => tell_device(
-            vendor.parse().ok(),
-            product.parse().ok(),
-            told,
-        ),
-        ["describes", length, endpoint, subclass, protocol, interval] => tell_described(
+        ["hid", length] => tell_hid(length.parse().ok(), told),
+        ["device", vendor, product] => tell_device(vendor.parse().ok(), product.parse().ok(), told),
+        [length, endpoint, subclass, protocol, interval] => tell_described(
             info_of(length, endpoint, subclass, protocol),
             small(interval),
             told,
         ),
-        _ => return false,
+        _ => told.unread(),
     }
-    true
 }
 
-/// Tells what these words mean of requests and descriptors; false where they mean nothing of them.
-pub fn is_told(words: &[&str], bytes: &mut Vec<u8>, told: &mut Told) -> bool {
-    match *words {
-        ["asks", ref rest @ ..] if spell(bytes, rest) => tell_asked_by(bytes, told),
-        ["spells", ref rest @ ..] => tell_spelled(request_of(rest, bytes), told),
-        _ => return is_described(words, told),
-    }
-    true
+/// What setup data ask.
+pub fn tell_asks(told: &mut String, sheet: &Sheet<'_>, bytes: &[u8]) -> Result<(), RowFault> {
+    let mut row = Told::new(sheet.alloc);
+    tell_asked_by(bytes, &mut row);
+    row.give(told)
+}
+
+/// What a host sends for a request.
+pub fn tell_spells(told: &mut String, sheet: &Sheet<'_>, given: &str) -> Result<(), RowFault> {
+    let words = words_in(sheet.alloc, given)?;
+    let mut bytes = Vec::new(sheet.alloc);
+    let mut row = Told::new(sheet.alloc);
+    tell_spelled(request_of(&words, &mut bytes), &mut row);
+    row.give(told)
+}
+
+/// A descriptor, and what is read of it again.
+pub fn tell_describes(told: &mut String, sheet: &Sheet<'_>, given: &str) -> Result<(), RowFault> {
+    let words = words_in(sheet.alloc, given)?;
+    let mut row = Told::new(sheet.alloc);
+    tell_described_by(&words, &mut row);
+    row.give(told)
 }

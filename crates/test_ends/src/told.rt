@@ -1,7 +1,8 @@
-//! What is told of a row.
+//! What is told of a row or a step.
 
 use std::alloc::Global;
 use std::fmt::{Display, Write};
+use test_rows::{RowFault, add};
 
 /// The text that is told of a row, and whether the row could be read. No call of it fails: what finds no memory is told as
 /// what can't be read.
@@ -17,12 +18,6 @@ impl Told {
             text: String::new(alloc),
             is_read: true,
         }
-    }
-
-    /// Nothing is told yet of the next row.
-    pub fn clear(&mut self) {
-        self.text.clear();
-        self.is_read = true;
     }
 
     /// The row, or a word of it, means nothing.
@@ -82,17 +77,12 @@ impl Told {
         }
     }
 
-    /// Whether that is told which is wanted.
-    pub fn is(&self, wanted: &str) -> bool {
-        self.is_read && self.text.as_str().trim() == wanted.trim()
-    }
-
-    /// What is told, or that the row can't be read.
-    pub fn text(&self) -> &str {
+    /// Appends what is told to a text, if the row could be read.
+    pub fn give(&self, text: &mut String) -> Result<(), RowFault> {
+        add(text, self.text.as_str().trim())?;
         if self.is_read {
-            self.text.as_str().trim()
-        } else {
-            "it can't be read"
+            return Ok(());
         }
+        Err(RowFault::Unread)
     }
 }

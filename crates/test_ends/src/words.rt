@@ -4,7 +4,18 @@ use arrayvec::ArrayVec;
 use hid_descriptor::ReportKind;
 use hid_layout::ControlId;
 use hid_requests::Request;
+use std::alloc::Global;
+use test_rows::{RowFault, push_word};
 use usb_transact::Fate;
+
+/// The words of a text.
+pub fn words_in(alloc: Global, text: &str) -> Result<Vec<&str>, RowFault> {
+    let words: Result<Vec<&str>, _> = text.split_whitespace().collect(alloc);
+    match words {
+        Ok(words) => Ok(words),
+        Err(_) => Err(RowFault::Memory),
+    }
+}
 
 /// The number that is spelled by a word in decimal.
 pub fn number(word: &str) -> Option<usize> {
@@ -16,30 +27,11 @@ pub fn small(word: &str) -> Option<u8> {
     word.parse().ok()
 }
 
-/// Appends so many of the byte that is spelled by two digits in hex; false where that can't be done.
-fn spell_run(bytes: &mut Vec<u8>, byte: &str, times: usize) -> bool {
-    match u8::from_str_radix(byte, 16) {
-        Ok(byte) if times <= 65_535 => bytes
-            .resize(bytes.len().saturating_add(times), byte)
-            .is_ok(),
-        _ => false,
-    }
-}
-
-/// Appends the bytes of a word: `0A`, or `0A*300` for so many of it.
-fn spell_word(bytes: &mut Vec<u8>, word: &str) -> bool {
-    let (byte, times) = word.split_once('*').unwrap_or((word, "1"));
-    match number(times) {
-        Some(times) if byte.len() == 2 => spell_run(bytes, byte, times),
-        _ => false,
-    }
-}
-
 /// Makes these the bytes that are spelled by words; false where one of them spells none.
 pub fn spell(bytes: &mut Vec<u8>, words: &[&str]) -> bool {
     bytes.clear();
     for word in words {
-        if !spell_word(bytes, word) {
+        if push_word(bytes, "", word).is_err() {
             return false;
         }
     }

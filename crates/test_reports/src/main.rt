@@ -2,7 +2,7 @@
 //! and sessions, through the exports of `hid_items`, `hid_fields`, `hid_names`, `hid_layout`, `hid_snapshots`, `hid_usages` and
 //! `hidstack_session`.
 //! ```text
-//!   stdin --> test_rows::judge --> each row that is wrong, and how many tables and rows there were
+//!   stdin --> test_rows::run --> each row that is wrong, and how many tables and rows there were
 //!                     |
 //!                     +-- question, given --> Answers: a file of src/ for each sort of question
 //! ```
@@ -22,18 +22,9 @@ mod views;
 mod words;
 
 use asked::Questions;
-use std::io;
 use std::process::ExitCode;
-use test_rows::judge;
+use test_rows::run;
 
 fn main(rt: HostRuntime) -> ExitCode {
-    let Ok(text) = io::read_to_string(rt.alloc(), rt.stdin()) else {
-        return ExitCode::FAILURE;
-    };
-    let mut report = String::new(rt.alloc());
-    let judged = judge(&Questions, &mut report, rt.alloc(), &text);
-    if judged.is_err() || print!(rt; "{report}").is_err() {
-        return ExitCode::FAILURE;
-    }
-    ExitCode::SUCCESS
+    run(&rt, rt.alloc(), rt.stdin(), &Questions)
 }

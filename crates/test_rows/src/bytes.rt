@@ -23,17 +23,14 @@ fn push_digits(bytes: &mut Vec<u8>, digits: &str, turn: u8) -> Result<(), RowFau
     Ok(())
 }
 
-/// The digits that a line gives to this name.
+/// The digits that a line gives to this name. Most lines fail at their first character, so that a word is looked up in little time.
 fn digits_in<'a>(line: &'a str, name: &str) -> Option<&'a str> {
-    match line.split_once('=') {
-        Some((named, digits)) if named.trim() == name => Some(digits),
-        _ => None,
-    }
+    line.strip_prefix(name)?.trim().strip_prefix("=")
 }
 
-/// The digits that the sheet gives to this name.
-fn named<'a>(sheet: &Sheet<'a>, name: &str) -> Option<&'a str> {
-    for line in sheet.names.lines() {
+/// The digits that these lines give to this name.
+fn named<'a>(names: &'a str, name: &str) -> Option<&'a str> {
+    for line in names.lines() {
         if let Some(digits) = digits_in(line, name) {
             return Some(digits);
         }
@@ -57,11 +54,16 @@ fn push_times(bytes: &mut Vec<u8>, digits: &str, times: usize) -> Result<(), Row
     Ok(())
 }
 
+/// Appends the bytes of a word, which may be a name of these.
+pub fn push_word(bytes: &mut Vec<u8>, names: &str, word: &str) -> Result<(), RowFault> {
+    let (word, times) = word.split_once('*').unwrap_or((word, "1"));
+    let digits = named(names, word).unwrap_or(word);
+    push_times(bytes, digits, times.parse()?)
+}
+
 fn push_words(bytes: &mut Vec<u8>, sheet: &Sheet<'_>, words: &str) -> Result<(), RowFault> {
     for word in words.split_whitespace() {
-        let (word, times) = word.split_once('*').unwrap_or((word, "1"));
-        let digits = named(sheet, word).unwrap_or(word);
-        push_times(bytes, digits, times.parse()?)?;
+        push_word(bytes, sheet.names, word)?;
     }
     Ok(())
 }

@@ -1,28 +1,35 @@
-//! Tests as tables in text, which a program reads from standard input: each row has its input and its expected result.
+//! The player of rows: tests as text, which a program reads from standard input. Each row has its input and its expected
+//! result. docs/TESTING.md, "Rows", has the whole language; a program of a crate reads this much of it:
 //! ```text
 //!   -- a remark
 //!   MOUSE = 05 01 09 02 ..                     bytes that rows name, before the first table
 //!   # a_report_tells_what_changes: view        a table: its title, and the question that its rows ask
 //!   two keys: KEYBOARD | take 00*2 05 04 00*4 > down 4.4 07:04, down 4.5 07:05
 //!                                              a row: a name, if it has one; the input; the expected result
+//!   a key: plain KEYBOARD                      a row of steps: the input of all of them,
+//!     a poll: 69 81 00 > 5A                    and the steps, which are played in turn
 //! ```
-//! [`judge`] plays the rows by the answers of a program ([`Answers`]) and prints each row with another result, then the number
-//! of tables, of rows and of wrong rows, so a row that is lost is seen too.
+//! A program ([`run`]) has a question for each sort of table ([`Answers`]). It prints each row with another result, then the
+//! number of tables, of rows, of steps and of wrong ones, so a row that is lost is seen too.
 //!
 //! The rule to know: such rows cost no proof; the texts in a test function are each part of one.
 #![tactic(auto)]
 
 mod bytes;
 mod fault;
+mod program;
 mod sheet;
 mod told;
+mod verdict;
 mod words;
 
-pub use bytes::bytes_of;
+pub use bytes::{bytes_of, push_word};
 pub use fault::RowFault;
-pub use sheet::{Answers, Sheet, judge};
+pub use program::{run, with_bytes};
+pub use sheet::Sheet;
 pub use told::{
     add, add_debug, add_hex, add_shown, tell, tell_bytes, tell_debug, tell_hex, tell_number,
     tell_numbers, tell_pattern, tell_shown, tell_whether,
 };
+pub use verdict::{Answers, Row, Subject, Verdict, judge, judge_steps};
 pub use words::{number_of, pattern_of, signed_of, split, width_of};

@@ -1,5 +1,5 @@
 //! What a line says that nothing prints, worked out by hand from docs/SCRIPT.md. What a script shows of the other lines
-//! stands in examples/rows/lines.rows, and so do lines that are none.
+//! stands in tests/scripts/lines.rows, and so do lines that are none.
 
 use crate::verdict::{holds, none_is_wrong};
 use hid_bus::Start;

@@ -310,7 +310,7 @@ fn a_script_without_end_is_given_up(rt: HostRuntime) -> Result<(), Fail> {
     holds("a million reads", is_given_up(rt.alloc()))
 }
 
-/// Causes that no row of examples/rows shows, and the lines that name them.
+/// Causes that no row of tests/scripts shows, and the lines that name them.
 const CAUSES: [Cause; 4] = [
     Cause::Read,
     Cause::Write,

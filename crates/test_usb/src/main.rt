@@ -1,7 +1,7 @@
 //! Plays the tables of standard input (`stdin`): the tests of packets, transactions and control transfers, through the
 //! exports of `usb_packet`, `usb_transact` and `usb_control`.
 //! ```text
-//!   stdin --> test_rows::judge --> each row that is wrong, and how many tables and rows there were
+//!   stdin --> test_rows::run --> each row that is wrong, and how many tables and rows there were
 //!                     |
 //!                     +-- question, given --> Answers: a file of src/ for each sort of question
 //! ```
@@ -20,18 +20,9 @@ mod transactions;
 mod transfers;
 
 use asked::Questions;
-use std::io;
 use std::process::ExitCode;
-use test_rows::judge;
+use test_rows::run;
 
 fn main(rt: HostRuntime) -> ExitCode {
-    let Ok(text) = io::read_to_string(rt.alloc(), rt.stdin()) else {
-        return ExitCode::FAILURE;
-    };
-    let mut report = String::new(rt.alloc());
-    let judged = judge(&Questions, &mut report, rt.alloc(), &text);
-    if judged.is_err() || print!(rt; "{report}").is_err() {
-        return ExitCode::FAILURE;
-    }
-    ExitCode::SUCCESS
+    run(&rt, rt.alloc(), rt.stdin(), &Questions)
 }

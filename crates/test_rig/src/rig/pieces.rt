@@ -1,5 +1,5 @@
 //! Which piece of a report of more than a packet goes out behind each step (USB 2.0, 5.7.3, 8.5.4, 8.6 and 9.4.5), worked out
-//! by hand from the definitions. What these steps tell and deliver stands in examples/rows/pieces.rows.
+//! by hand from the definitions. What these steps tell and deliver stands in tests/scripts/pieces.rows.
 
 use super::{Act, Asked, Asks, CLEAN, CLEAR, TRY, ask_all, attach_to, step_of, take_step};
 use crate::verdict::none_is_wrong;

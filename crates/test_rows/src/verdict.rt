@@ -1,0 +1,267 @@
+//! Which rows and steps are wrong, and how many there are.
+
+use crate::fault::RowFault;
+use crate::sheet::{Heading, Line, Sheet, heading_in, is_remark, is_step, line_in, steps_in};
+use crate::told::{add, add_shown};
+use std::alloc::Global;
+
+/// What a program answers to its rows.
+pub trait Answers {
+    /// Writes what is told where this is asked of what is given.
+    fn answer(
+        &self,
+        told: &mut String,
+        sheet: &Sheet<'_>,
+        question: &str,
+        given: &str,
+    ) -> Result<(), RowFault>;
+
+    /// Writes what is told where this is asked of bytes, and of the words behind them: [`crate::with_bytes`].
+    fn answer_bytes(
+        &self,
+        told: &mut String,
+        sheet: &Sheet<'_>,
+        question: &str,
+        bytes: &[u8],
+        words: &str,
+    ) -> Result<(), RowFault>;
+
+    /// Plays the steps of a row, by [`judge_steps`], with what its given words mean. Without it a program has no rows of steps.
+    fn play(
+        &self,
+        _verdict: &mut Verdict,
+        _sheet: &Sheet<'_>,
+        _row: &Row<'_>,
+    ) -> Result<(), RowFault> {
+        Err(RowFault::Unread)
+    }
+}
+
+/// What the steps of a row are played with.
+pub trait Subject {
+    /// Does what a step says, and writes what is told.
+    fn step(&mut self, told: &mut String, sheet: &Sheet<'_>, given: &str) -> Result<(), RowFault>;
+}
+
+/// A row of steps: its table, what is given for all of them, and their lines.
+#[derive(Clone, Copy)]
+pub struct Row<'a> {
+    pub title: &'a str,
+    pub question: &'a str,
+    pub given: &'a str,
+    steps: &'a str,
+}
+
+/// How many tables, rows and steps were played, and a line for each row or step that is wrong.
+#[derive(Drop)]
+pub struct Verdict {
+    report: String,
+    tables: usize,
+    rows: usize,
+    steps: usize,
+    wrong: usize,
+}
+
+impl Verdict {
+    pub fn new(alloc: Global) -> Verdict {
+        Verdict {
+            report: String::new(alloc),
+            tables: 0,
+            rows: 0,
+            steps: 0,
+            wrong: 0,
+        }
+    }
+
+    /// Whether a row is wrong, or none was played.
+    pub fn is_wrong(&self) -> bool {
+        self.wrong != 0 || self.rows == 0
+    }
+
+    /// The lines that are told.
+    pub fn report(&self) -> &str {
+        self.report.as_str()
+    }
+
+    fn add_table(&mut self) {
+        self.tables = self.tables.saturating_add(1);
+    }
+
+    fn add_row(&mut self) {
+        self.rows = self.rows.saturating_add(1);
+    }
+
+    fn add_step(&mut self) {
+        self.steps = self.steps.saturating_add(1);
+    }
+
+    /// Tells a line that is wrong.
+    fn add_wrong(&mut self, title: &str, line: &str, told: &str) -> Result<(), RowFault> {
+        self.wrong = self.wrong.saturating_add(1);
+        let report = &mut self.report;
+        add(report, title)?;
+        add(report, ": ")?;
+        add(report, line)?;
+        add(report, ", but ")?;
+        add(report, told)?;
+        add(report, "\n")
+    }
+
+    /// Compares what is told with what is wanted.
+    fn compare(&mut self, title: &str, line: Line<'_>, told: &str) -> Result<(), RowFault> {
+        if told == line.wanted {
+            return Ok(());
+        }
+        self.add_wrong(title, line.text, told)
+    }
+
+    /// Tells how many there were.
+    fn add_count(&mut self) -> Result<(), RowFault> {
+        let report = &mut self.report;
+        add_shown(report, &self.tables)?;
+        add(report, " tables, ")?;
+        add_shown(report, &self.rows)?;
+        add(report, " rows, ")?;
+        add_shown(report, &self.steps)?;
+        add(report, " steps, ")?;
+        add_shown(report, &self.wrong)?;
+        add(report, " wrong\n")
+    }
+}
+
+/// Marks what is told as unread, where a row or a step means nothing.
+fn unread_in(told: &mut String, end: Result<(), RowFault>) -> Result<(), RowFault> {
+    match end {
+        Err(RowFault::Unread) => Ok(told.push_str(" unread")?),
+        end => end,
+    }
+}
+
+/// Plays a row of one line.
+fn judge_row<A: Answers>(
+    answers: &A,
+    verdict: &mut Verdict,
+    sheet: &Sheet<'_>,
+    heading: Heading<'_>,
+    line: Line<'_>,
+) -> Result<(), RowFault> {
+    let mut told = String::new(sheet.alloc);
+    let end = answers.answer(&mut told, sheet, heading.question, line.given);
+    unread_in(&mut told, end)?;
+    verdict.compare(heading.title, line, &told)
+}
+
+fn judge_step<S: Subject>(
+    subject: &mut S,
+    verdict: &mut Verdict,
+    sheet: &Sheet<'_>,
+    title: &str,
+    line: Line<'_>,
+) -> Result<(), RowFault> {
+    let mut told = String::new(sheet.alloc);
+    let end = subject.step(&mut told, sheet, line.given);
+    unread_in(&mut told, end)?;
+    verdict.compare(title, line, &told)
+}
+
+/// Plays the steps of a row once, in turn.
+pub fn judge_steps<S: Subject>(
+    subject: &mut S,
+    verdict: &mut Verdict,
+    sheet: &Sheet<'_>,
+    row: &Row<'_>,
+) -> Result<(), RowFault> {
+    for line in row.steps.split('\n') {
+        if !is_remark(line) {
+            verdict.add_step();
+            judge_step(subject, verdict, sheet, row.title, line_in(line))?;
+        }
+    }
+    Ok(())
+}
+
+/// Plays a row of steps.
+fn judge_played<A: Answers>(
+    answers: &A,
+    verdict: &mut Verdict,
+    sheet: &Sheet<'_>,
+    row: &Row<'_>,
+    text: &str,
+) -> Result<(), RowFault> {
+    match answers.play(verdict, sheet, row) {
+        Err(RowFault::Unread) => verdict.add_wrong(row.title, text, "unread"),
+        end => end,
+    }
+}
+
+/// Plays a row: with the steps that stand in these lines below it, if there are any.
+fn judge_line<A: Answers>(
+    answers: &A,
+    verdict: &mut Verdict,
+    sheet: &Sheet<'_>,
+    heading: Heading<'_>,
+    line: &str,
+    steps: &str,
+) -> Result<(), RowFault> {
+    let line = line_in(line);
+    verdict.add_row();
+    if steps.is_empty() {
+        return judge_row(answers, verdict, sheet, heading, line);
+    }
+    let row = Row {
+        title: heading.title,
+        question: heading.question,
+        given: line.given,
+        steps,
+    };
+    judge_played(answers, verdict, sheet, &row, line.text)
+}
+
+/// Plays the rows of all tables.
+fn judge_tables<A: Answers>(
+    answers: &A,
+    verdict: &mut Verdict,
+    sheet: &Sheet<'_>,
+    tables: &str,
+) -> Result<(), RowFault> {
+    let mut heading = Heading {
+        title: "",
+        question: "",
+    };
+    let mut at: usize = 0;
+    let mut below_row = false;
+    for line in tables.split('\n') {
+        at = at.saturating_add(line.len()).saturating_add(1);
+        if is_step(line) {
+            // The steps of a row were played with it; others mean nothing.
+            if !below_row && !is_remark(line) {
+                verdict.add_wrong(heading.title, line, "a step of no row")?;
+            }
+            continue;
+        }
+        below_row = false;
+        if let Some(found) = heading_in(line) {
+            heading = found;
+            verdict.add_table();
+        } else if !is_remark(line) {
+            let steps = steps_in(tables.get(at..).unwrap_or(""));
+            judge_line(answers, verdict, sheet, heading, line, steps)?;
+            below_row = true;
+        }
+    }
+    Ok(())
+}
+
+/// Plays a text: its names, up to the first heading, and then its tables. The last line tells how many there were.
+pub fn judge<A: Answers>(
+    answers: &A,
+    verdict: &mut Verdict,
+    alloc: Global,
+    text: &str,
+) -> Result<(), RowFault> {
+    let first = text.find("\n# ").unwrap_or(0);
+    let names = text.get(..first).unwrap_or("");
+    let tables = text.get(first..).unwrap_or("");
+    judge_tables(answers, verdict, &Sheet { alloc, names }, tables)?;
+    verdict.add_count()
+}
