@@ -13,114 +13,110 @@ DESTDIR ?=
 VERSION := 0.2.0
 MAJOR := $(firstword $(subst ., ,$(VERSION)))
 
-.PHONY: run test try hidrun hidplay hidmap bench examples library library-test library-check library-cost scale play-cost names install deb deb-test documents tour layout memory refusals mutants descriptors compare-linux clean
+.PHONY: run test try hidrun hidplay hidmap bench examples library library-test library-check library-cost scale play-cost install deb deb-test documents tour layout memory refusals mutants descriptors compare-linux help clean
 
 # Runs the mouse example on the proved program.
-run: $(HIDRUN)
+run: $(HIDRUN)  ## proves and builds hidrun, and runs the mouse example
 	$(HIDRUN) < examples/layouts/mouse.script
 
 # Looks whether all that documents cite is there, each wrong body finds its text and each file is in the layout; proves,
 # tests and builds everything from nothing, fails where a wrong body couldn't be tried, and runs each example on the program
 # that it built, and those of the C library where there is a C compiler.
-test:
+test:  ## proves and tests everything from nothing, and runs all examples
 	$(MAKE) --no-print-directory documents layout
-	tools/gate
+	tools/proof/gate
 	$(MAKE) --no-print-directory hidrun hidplay hidmap examples memory
-	if tools/archive hidstack; then $(MAKE) --no-print-directory library-test; fi
+	if tools/proof/archive hidstack; then $(MAKE) --no-print-directory library-test; fi
 
 # Runs a script without a proof: make try SCRIPT=FILE ARGS=--trace
-try:
+try:  ## runs a script without a proof: SCRIPT=FILE ARGS=--trace
 	cd crates/hidrun && rt try $(if $(ARGS),-- $(ARGS)) < $(abspath $(SCRIPT))
 
 # The proved program. `rt ci` leaves it in its out folder; where a source is newer, it is proved and built again, the
 # crates that don't stand on each other side by side.
-hidrun: $(HIDRUN)
+hidrun: $(HIDRUN)  ## bin/hidrun, which runs scripts
 
 BUILT := crates/hidrun/out/hidrun
 # (folders too, so that a file that was removed is seen)
 SOURCES := $(shell find crates/*/src crates/*/specs crates/*/proofs 2> /dev/null)
 
 $(BUILT): crates.txt $(SOURCES)
-	tools/build hidrun
+	tools/proof/build hidrun
 
 $(HIDRUN): $(BUILT)
 	mkdir -p bin
 	cp $(BUILT) $@
 
 # The proved program that plays recordings.
-hidplay: $(HIDPLAY)
+hidplay: $(HIDPLAY)  ## bin/hidplay, which plays recordings
 
 PLAYS := crates/hidplay/out/hidplay
 
 $(PLAYS): crates.txt $(SOURCES)
-	tools/build hidplay
+	tools/proof/build hidplay
 
 $(HIDPLAY): $(PLAYS)
 	mkdir -p bin
 	cp $(PLAYS) $@
 
 # The proved program that draws reports.
-hidmap: $(HIDMAP)
+hidmap: $(HIDMAP)  ## bin/hidmap, which draws reports
 
 MAPS := crates/hidmap/out/hidmap
 
 $(MAPS): crates.txt $(SOURCES)
-	tools/build hidmap
+	tools/proof/build hidmap
 
 $(HIDMAP): $(MAPS)
 	mkdir -p bin
 	cp $(MAPS) $@
 
 # Plays a folder of recordings by GNU parallel, stops it in the middle and resumes it: docs/SCALE.md.
-scale: $(HIDPLAY)
-	tools/check-scale $(HIDPLAY)
+scale: $(HIDPLAY)  ## plays a folder of recordings side by side
+	tools/check/scale $(HIDPLAY)
 
 # How many instructions a report takes in hidplay, by callgrind, and how much memory a recording of 1 GB.
-play-cost: $(HIDPLAY)
-	tools/play-cost $(HIDPLAY)
+play-cost: $(HIDPLAY)  ## counts what a report takes in hidplay
+	tools/measure/play-cost $(HIDPLAY)
 
 # How many instructions the stack's work takes, by callgrind: the table of docs/SPEED.md.
-bench: $(BENCH)
-	tools/bench $(BENCH)
+bench: $(BENCH)  ## counts what the stack's work takes
+	tools/measure/bench $(BENCH)
 
 BENCHES := crates/hid_bench/out/hid_bench
 
 $(BENCHES): crates.txt $(SOURCES)
-	tools/build hid_bench
+	tools/proof/build hid_bench
 
 $(BENCH): $(BENCHES)
 	mkdir -p bin
 	cp $(BENCHES) $@
 
-# Holds the names of usages against Debian's list (package usb.ids), where it is installed.
-names:
-	tools/check-names
-
 # The C library: bin/lib/libhidstack.a and the shared libhidstack.so.$(VERSION), of the proved crate.
-library: bin/lib/libhidstack.a
+library: bin/lib/libhidstack.a  ## bin/lib/libhidstack.a and .so, the C library
 
 ARCHIVE := crates/hidstack/out/libhidstack.a
 
 $(ARCHIVE): crates.txt $(SOURCES)
-	tools/build hidstack
+	tools/proof/build hidstack
 
-bin/lib/libhidstack.a: $(ARCHIVE) tools/library
-	tools/library $(ARCHIVE) bin/lib $(VERSION)
+bin/lib/libhidstack.a: $(ARCHIVE) tools/package/library
+	tools/package/library $(ARCHIVE) bin/lib $(VERSION)
 
 # Holds the header against the exports, and runs the quick start, the examples in C, C++ and Python and the wrong calls.
-library-test: library
-	tools/check-library
+library-test: library  ## runs the examples of the C library
+	tools/check/library
 
 # The same under valgrind and the sanitizers, and with each allocation of an opening, a table, a run and a text refused.
-library-check: library
-	tools/check-library --memory
+library-check: library  ## runs them under valgrind and the sanitizers, and without memory
+	tools/check/library --memory
 
 # How many instructions an opening and a report take, by callgrind.
-library-cost: library
-	tools/library-cost
+library-cost: library  ## counts what calls of the C library take
+	tools/measure/library-cost
 
 # Programs, library, header, pkg-config file, manual pages, completion and documents: make install PREFIX=/usr/local DESTDIR=
-install: $(HIDRUN) $(HIDPLAY) $(HIDMAP) library
+install: $(HIDRUN) $(HIDPLAY) $(HIDMAP) library  ## installs programs, library and documents: PREFIX=/usr/local DESTDIR=
 	install -Dm755 $(HIDRUN) $(DESTDIR)$(PREFIX)/bin/hidrun
 	install -Dm755 $(HIDPLAY) $(DESTDIR)$(PREFIX)/bin/hidplay
 	install -Dm755 $(HIDMAP) $(DESTDIR)$(PREFIX)/bin/hidmap
@@ -141,12 +137,12 @@ install: $(HIDRUN) $(HIDPLAY) $(HIDMAP) library
 	sed 's|@PREFIX@|$(PREFIX)|; s|@VERSION@|$(VERSION)|' packaging/hidstack.pc.in > $(DESTDIR)$(PREFIX)/lib/pkgconfig/hidstack.pc
 
 # A Debian package of all that `install` puts in place: bin/rulohevian_$(VERSION)-1_ARCHITECTURE.deb.
-deb: $(HIDRUN) $(HIDPLAY) $(HIDMAP) library
-	tools/debian-package $(VERSION) bin
+deb: $(HIDRUN) $(HIDPLAY) $(HIDMAP) library  ## makes Debian packages of it
+	tools/package/debian $(VERSION) bin
 
 # Installs the package in a root of its own, and runs the programs and a C example there. It wants to be root.
-deb-test: deb
-	tools/check-package bin/rulohevian_$(VERSION)-1_*.deb
+deb-test: deb  ## installs and tries the packages in a root of their own, as root
+	tools/package/check bin/rulohevian_$(VERSION)-1_*.deb
 
 # The seventeen real devices, and the examples of pictures.
 PICTURED := $(shell grep -l '^N:' examples/recordings/*.hid) $(wildcard examples/pictures/*.hid)
@@ -155,64 +151,67 @@ PICTURED := $(shell grep -l '^N:' examples/recordings/*.hid) $(wildcard examples
 # reader and a browser, manual pages and completion against what the programs say, runs each example and each row of scripts
 # on its proved program, the command lines of the tables, some scripts on a full device, and hidmap where what is around it
 # fails.
-examples: $(HIDRUN) $(HIDPLAY) $(HIDMAP) $(BENCH)
-	tools/second-reader examples/*/*.script
-	tools/check-recordings examples/*/*.hid
-	tools/check-pictures $(HIDMAP) $(PICTURED)
-	tools/check-hidplay $(HIDPLAY)
-	tools/check-commands $(HIDRUN) $(HIDPLAY) $(HIDMAP) $(BENCH)
-	tools/check-manual $(HIDRUN) $(HIDPLAY) $(HIDMAP)
-	tools/check-full-device $(HIDRUN)
-	tools/check-failures $(HIDMAP)
-	tools/check-examples $(HIDRUN) $(HIDPLAY) $(HIDMAP)
-	tools/check-rows $(HIDRUN)
+examples: $(HIDRUN) $(HIDPLAY) $(HIDMAP) $(BENCH)  ## runs all examples on the proved programs
+	tools/check/second-reader examples/*/*.script
+	tools/check/recordings examples/*/*.hid
+	tools/check/pictures $(HIDMAP) $(PICTURED)
+	tools/check/hidplay $(HIDPLAY)
+	tools/check/commands $(HIDRUN) $(HIDPLAY) $(HIDMAP) $(BENCH)
+	tools/check/manual $(HIDRUN) $(HIDPLAY) $(HIDMAP)
+	tools/check/full-device $(HIDRUN)
+	tools/check/failures $(HIDMAP)
+	tools/check/examples $(HIDRUN) $(HIDPLAY) $(HIDMAP)
+	tools/check/rows $(HIDRUN)
 
 # Looks whether each file, function, clause, definition and wrong body that documents cite is there, and then whether it
 # tells a wrong name; whether docs/DEFINITIONS.md is made of the comments in specs/, and the table of docs/THEOREM.md has the
-# definitions that the headline rests on; and whether tools/compare-statements tells a statement that was weakened.
-documents:
-	tools/check-documents
-	tools/check-documents --self-test
-	tools/definitions --check
-	tools/definitions --self-test
-	tools/theorem-closure --check docs/THEOREM.md
-	tools/theorem-closure --self-test
-	tools/compare-statements --self-test
+# definitions that the headline rests on; and whether tools/proof/compare-statements tells a statement that was weakened.
+documents:  ## looks whether all that documents cite is there
+	tools/check/documents
+	tools/check/documents --self-test
+	tools/check/definitions --check
+	tools/check/definitions --self-test
+	tools/proof/theorem-closure --check docs/THEOREM.md
+	tools/proof/theorem-closure --self-test
+	tools/proof/compare-statements --self-test
 
 # Runs the program of docs/LIBRARY.md without a proof, in a repository of its own: some minutes.
-tour:
-	tools/check-tour
+tour:  ## runs the program of docs/LIBRARY.md without a proof
+	tools/check/tour
 
 # Looks whether each file of code, definitions and proofs is as `rt fmt` writes it, which the gate says only when it comes to
 # the crate.
-layout:
+layout:  ## looks whether each file is as rt fmt writes it
 	@find crates -name out -prune -o \( -name '*.rt' -o -name '*.antt' \) -print | xargs $(dir $(realpath $(shell command -v rt)))rattle fmt --check
 
 # Compares the proved program with the second reader, on descriptors of the examples with some of their bytes changed.
-descriptors: $(HIDRUN)
-	tools/second-reader --random $(COUNT) $(HIDRUN)
+descriptors: $(HIDRUN)  ## compares hidrun with the second reader: COUNT=20000
+	tools/check/second-reader --random $(COUNT) $(HIDRUN)
 
 # Compares hidplay, on the recordings of the examples and on some made from a seed, with Debian's Linux kernel in QEMU and
 # with tshark, and on what QEMU's own keyboard, mouse and tablet send: docs/COMPARISON.md. Outside of the gate; it wants
 # qemu-system-x86, tshark, gcc and Debian's apt, fetches kernel and busybox into bin/linux, and says what it leaves out.
-compare-linux: $(HIDPLAY)
-	tools/compare-tshark $(HIDPLAY) --seed $(SEED) --self-test
-	tools/compare-linux $(HIDPLAY) --seed $(SEED) --self-test
-	tools/compare-qemu $(HIDPLAY)
+compare-linux: $(HIDPLAY)  ## compares hidplay with Linux, tshark and QEMU: SEED=1
+	tools/compare/tshark $(HIDPLAY) --seed $(SEED) --self-test
+	tools/compare/linux $(HIDPLAY) --seed $(SEED) --self-test
+	tools/compare/qemu $(HIDPLAY)
 
 # Runs each example script on the proved program, and each test of calls that take memory, with each of its allocations
 # refused in turn: half a minute. It wants a C compiler, and the test programs that `rt ci` or `rt test` made of the
 # sources as they are; it says what it leaves out where these aren't there.
-memory: $(HIDRUN)
-	tools/refuse-memory $(HIDRUN) --tests crates
+memory: $(HIDRUN)  ## runs examples and tests with each allocation refused
+	tools/check/memory $(HIDRUN) --tests crates
 
 # Lists at which goal and clause each wrong body is refused: make refusals CRATES="usb_packet hid_items" (none: all)
-refusals:
-	tools/refusals $(CRATES)
+refusals:  ## lists how wrong bodies are refused: CRATES="usb_packet hid_items" (none: all)
+	tools/proof/refusals $(CRATES)
 
 # Lists the wrong bodies that no test of their crate notices, without a proof: make mutants CRATES=usb_packet
-mutants:
-	tools/mutants $(CRATES)
+mutants:  ## lists wrong bodies that no test notices: CRATES=usb_packet
+	tools/proof/mutants $(CRATES)
 
-clean:
+help:  ## lists what there is to make
+	@sed -n 's/^\([a-z-]*\):.*  ## \(.*\)/\1|\2/p' Makefile | awk -F'|' '{ printf "make %-14s %s\n", $$1, $$2 }'
+
+clean:  ## removes all that was built
 	rm -rf bin crates/*/out
