@@ -1,4 +1,5 @@
 # Rulohevian: `make run` and `make test` need nothing but the toolchain (`rt`). The C library wants a C compiler too.
+# `make help` lists what there is to make: it prints the words behind ##.
 
 HIDRUN := bin/hidrun
 HIDPLAY := bin/hidplay
@@ -15,6 +16,9 @@ MAJOR := $(firstword $(subst ., ,$(VERSION)))
 
 .PHONY: run test try hidrun hidplay hidmap bench examples library library-test library-check library-cost scale play-cost install deb deb-test documents tour layout memory refusals mutants descriptors compare-linux help clean
 
+# The first line of each recipe that starts the toolchain: where there is no `rt`, make ends with one line.
+NEEDS_RT = $(if $(shell command -v rt),,$(error rt is missing: it is in the bin folder of the Rattle kit (rattle-kit-13f), which belongs on the PATH))
+
 # Runs the mouse example on the proved program.
 run: $(HIDRUN)  ## proves and builds hidrun, and runs the mouse example
 	$(HIDRUN) < examples/layouts/mouse.script
@@ -23,6 +27,7 @@ run: $(HIDRUN)  ## proves and builds hidrun, and runs the mouse example
 # tests and builds everything from nothing, fails where a wrong body couldn't be tried, and runs each example on the program
 # that it built, and those of the C library where there is a C compiler.
 test:  ## proves and tests everything from nothing, and runs all examples
+	$(NEEDS_RT)
 	$(MAKE) --no-print-directory documents layout
 	tools/proof/gate
 	$(MAKE) --no-print-directory hidrun hidplay hidmap examples memory
@@ -30,46 +35,27 @@ test:  ## proves and tests everything from nothing, and runs all examples
 
 # Runs a script without a proof: make try SCRIPT=FILE ARGS=--trace
 try:  ## runs a script without a proof: SCRIPT=FILE ARGS=--trace
+	$(NEEDS_RT)
 	cd crates/hidrun && rt try $(if $(ARGS),-- $(ARGS)) < $(abspath $(SCRIPT))
 
-# The proved program. `rt ci` leaves it in its out folder; where a source is newer, it is proved and built again, the
-# crates that don't stand on each other side by side.
 hidrun: $(HIDRUN)  ## bin/hidrun, which runs scripts
+hidplay: $(HIDPLAY)  ## bin/hidplay, which plays recordings
+hidmap: $(HIDMAP)  ## bin/hidmap, which draws reports
 
-BUILT := crates/hidrun/out/hidrun
+PROGRAMS := hidrun hidplay hidmap hid_bench
 # (folders too, so that a file that was removed is seen)
 SOURCES := $(shell find crates/*/src crates/*/specs crates/*/proofs 2> /dev/null)
 
-$(BUILT): crates.txt $(SOURCES)
-	tools/proof/build hidrun
+# The proved programs, and the archive of the C library. `rt ci` leaves each in its out folder; where a source is newer, it
+# is proved and built again, the crates that don't stand on each other side by side.
+$(foreach name,$(PROGRAMS),crates/$(name)/out/$(name)) crates/hidstack/out/libhidstack.a: crates.txt $(SOURCES)
+	$(NEEDS_RT)
+	tools/proof/build $(word 2,$(subst /, ,$@))
 
-$(HIDRUN): $(BUILT)
+.SECONDEXPANSION:
+$(PROGRAMS:%=bin/%): bin/%: crates/$$*/out/$$*
 	mkdir -p bin
-	cp $(BUILT) $@
-
-# The proved program that plays recordings.
-hidplay: $(HIDPLAY)  ## bin/hidplay, which plays recordings
-
-PLAYS := crates/hidplay/out/hidplay
-
-$(PLAYS): crates.txt $(SOURCES)
-	tools/proof/build hidplay
-
-$(HIDPLAY): $(PLAYS)
-	mkdir -p bin
-	cp $(PLAYS) $@
-
-# The proved program that draws reports.
-hidmap: $(HIDMAP)  ## bin/hidmap, which draws reports
-
-MAPS := crates/hidmap/out/hidmap
-
-$(MAPS): crates.txt $(SOURCES)
-	tools/proof/build hidmap
-
-$(HIDMAP): $(MAPS)
-	mkdir -p bin
-	cp $(MAPS) $@
+	cp $< $@
 
 # Plays a folder of recordings by GNU parallel, stops it in the middle and resumes it: docs/SCALE.md.
 scale: $(HIDPLAY)  ## plays a folder of recordings side by side
@@ -83,25 +69,12 @@ play-cost: $(HIDPLAY)  ## counts what a report takes in hidplay
 bench: $(BENCH)  ## counts what the stack's work takes
 	tools/measure/bench $(BENCH)
 
-BENCHES := crates/hid_bench/out/hid_bench
-
-$(BENCHES): crates.txt $(SOURCES)
-	tools/proof/build hid_bench
-
-$(BENCH): $(BENCHES)
-	mkdir -p bin
-	cp $(BENCHES) $@
-
 # The C library: bin/lib/libhidstack.a and the shared libhidstack.so.$(VERSION), of the proved crate.
 library: bin/lib/libhidstack.a  ## bin/lib/libhidstack.a and .so, the C library
 
-ARCHIVE := crates/hidstack/out/libhidstack.a
-
-$(ARCHIVE): crates.txt $(SOURCES)
-	tools/proof/build hidstack
-
-bin/lib/libhidstack.a: $(ARCHIVE) tools/package/library
-	tools/package/library $(ARCHIVE) bin/lib $(VERSION)
+bin/lib/libhidstack.a: crates/hidstack/out/libhidstack.a tools/package/library
+	$(NEEDS_RT)
+	tools/package/library $< bin/lib $(VERSION)
 
 # Holds the header against the exports, and runs the quick start, the examples in C, C++ and Python and the wrong calls.
 library-test: library  ## runs the examples of the C library
@@ -182,6 +155,7 @@ tour:  ## runs the program of docs/LIBRARY.md without a proof
 # Looks whether each file of code, definitions and proofs is as `rt fmt` writes it, which the gate says only when it comes to
 # the crate.
 layout:  ## looks whether each file is as rt fmt writes it
+	$(NEEDS_RT)
 	@find crates -name out -prune -o \( -name '*.rt' -o -name '*.antt' \) -print | xargs $(dir $(realpath $(shell command -v rt)))rattle fmt --check
 
 # Compares the proved program with the second reader, on descriptors of the examples with some of their bytes changed.
@@ -204,10 +178,12 @@ memory: $(HIDRUN)  ## runs examples and tests with each allocation refused
 
 # Lists at which goal and clause each wrong body is refused: make refusals CRATES="usb_packet hid_items" (none: all)
 refusals:  ## lists how wrong bodies are refused: CRATES="usb_packet hid_items" (none: all)
+	$(NEEDS_RT)
 	tools/proof/refusals $(CRATES)
 
 # Lists the wrong bodies that no test of their crate notices, without a proof: make mutants CRATES=usb_packet
 mutants:  ## lists wrong bodies that no test notices: CRATES=usb_packet
+	$(NEEDS_RT)
 	tools/proof/mutants $(CRATES)
 
 help:  ## lists what there is to make

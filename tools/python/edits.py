@@ -10,6 +10,8 @@ import signal
 import sys
 import tempfile
 
+from kit import look_for_rt
+
 ROOT = os.path.abspath(f"{__file__}/../../..")
 SOURCES = ("src", "specs", "proofs")
 GATED = ("must-fail",)
@@ -143,10 +145,11 @@ def function_at(path, text, line):
 
 
 class Copy:
-    """A copy of a crate and of those below it, in a folder that goes at the end."""
+    """A copy of a crate and of those below it, for `rt`, in a folder that goes at the end."""
 
     def __init__(self, crate, known, kept=(), of_below=()):
         """kept: what goes with the crate besides its sources; of_below: what goes with those below it."""
+        look_for_rt()
         self.crate, self.names = crate, [*below(crate, known), crate]
         self.room = tempfile.mkdtemp(prefix="rulohevian-")
         try:

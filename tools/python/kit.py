@@ -2,14 +2,22 @@
 import importlib.machinery
 import importlib.util
 import os
+import shutil
 import subprocess
 import sys
 
 ROOT = os.path.abspath(f"{__file__}/../../..")
 
 
+def look_for_rt():
+    """Ends with one line where there is no `rt`."""
+    if not shutil.which("rt"):
+        sys.exit("rt is missing: it is in the bin folder of the Rattle kit (rattle-kit-13f), which belongs on the PATH")
+
+
 def kit():
     """The kit's folder and its rtlib.py."""
+    look_for_rt()
     told = subprocess.run(["rt", "doc"], stdout=subprocess.PIPE, text=True, check=True).stdout
     folder = os.path.dirname(told.strip())
     loader = importlib.machinery.SourceFileLoader("rtlib", os.path.join(folder, "bin", "rtlib.py"))
