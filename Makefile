@@ -10,6 +10,7 @@ ARGS ?=
 COUNT ?= 20000
 SEED ?= 1
 PREFIX ?= /usr/local
+LIBDIR ?= $(PREFIX)/lib
 DESTDIR ?=
 VERSION := 0.2.0
 MAJOR := $(firstword $(subst ., ,$(VERSION)))
@@ -88,34 +89,37 @@ library-check: library  ## runs them under valgrind and the sanitizers, and with
 library-cost: library  ## counts what calls of the C library take
 	tools/measure/library-cost
 
-# Programs, library, header, pkg-config file, manual pages, completion and documents: make install PREFIX=/usr/local DESTDIR=
-install: $(HIDRUN) $(HIDPLAY) $(HIDMAP) library  ## installs programs, library and documents: PREFIX=/usr/local DESTDIR=
-	install -Dm755 $(HIDRUN) $(DESTDIR)$(PREFIX)/bin/hidrun
-	install -Dm755 $(HIDPLAY) $(DESTDIR)$(PREFIX)/bin/hidplay
-	install -Dm755 $(HIDMAP) $(DESTDIR)$(PREFIX)/bin/hidmap
-	install -Dm644 bin/lib/libhidstack.a $(DESTDIR)$(PREFIX)/lib/libhidstack.a
-	install -Dm755 bin/lib/libhidstack.so.$(VERSION) $(DESTDIR)$(PREFIX)/lib/libhidstack.so.$(VERSION)
-	cp -P bin/lib/libhidstack.so bin/lib/libhidstack.so.$(MAJOR) $(DESTDIR)$(PREFIX)/lib
-	install -Dm644 include/hidstack.h $(DESTDIR)$(PREFIX)/include/hidstack.h
-	install -Dm644 packaging/hidrun.1 $(DESTDIR)$(PREFIX)/share/man/man1/hidrun.1
-	install -Dm644 packaging/hidplay.1 $(DESTDIR)$(PREFIX)/share/man/man1/hidplay.1
-	install -Dm644 packaging/hidmap.1 $(DESTDIR)$(PREFIX)/share/man/man1/hidmap.1
-	install -Dm644 packaging/hidstack.3 $(DESTDIR)$(PREFIX)/share/man/man3/hidstack.3
-	install -Dm644 -t $(DESTDIR)$(PREFIX)/share/bash-completion/completions packaging/completion/*
-	install -Dm644 -t $(DESTDIR)$(PREFIX)/share/doc/rulohevian README.md
-	install -Dm644 -t $(DESTDIR)$(PREFIX)/share/doc/rulohevian/docs docs/*.md
-	install -Dm644 -t $(DESTDIR)$(PREFIX)/share/doc/rulohevian/docs/pictures docs/pictures/*.svg
-	install -Dm644 -t $(DESTDIR)$(PREFIX)/share/doc/rulohevian/examples examples/README.md
-	mkdir -p $(DESTDIR)$(PREFIX)/lib/pkgconfig
-	sed 's|@PREFIX@|$(PREFIX)|; s|@VERSION@|$(VERSION)|' packaging/hidstack.pc.in > $(DESTDIR)$(PREFIX)/lib/pkgconfig/hidstack.pc
+# Programs, the two tools for many recordings, library, header, pkg-config file, manual pages, completion, documents and
+# examples. LIBDIR is the folder of the libraries. Each call of the library has a page that leads to that of all calls.
+SHARED := $(DESTDIR)$(PREFIX)/share
+DOCUMENTS := $(SHARED)/doc/rulohevian
+CALLS := $(shell sed -n 's/^\.Nm \(hidstack_[a-z_]*\).*/\1/p' packaging/hidstack.3)
 
-# A Debian package of all that `install` puts in place: bin/rulohevian_$(VERSION)-1_ARCHITECTURE.deb.
+install: $(HIDRUN) $(HIDPLAY) $(HIDMAP) library  ## installs programs, library and documents: PREFIX=/usr/local DESTDIR=
+	install -Dm755 -t $(DESTDIR)$(PREFIX)/bin $(HIDRUN) $(HIDPLAY) $(HIDMAP) tools/user/play-into tools/user/join-results
+	install -Dm644 -t $(DESTDIR)$(LIBDIR) bin/lib/libhidstack.a
+	install -Dm755 -t $(DESTDIR)$(LIBDIR) bin/lib/libhidstack.so.$(VERSION)
+	cp -P bin/lib/libhidstack.so bin/lib/libhidstack.so.$(MAJOR) $(DESTDIR)$(LIBDIR)
+	install -Dm644 -t $(DESTDIR)$(PREFIX)/include include/hidstack.h
+	mkdir -p $(DESTDIR)$(LIBDIR)/pkgconfig
+	sed 's|@PREFIX@|$(PREFIX)|; s|@LIBDIR@|$(LIBDIR)|; s|@VERSION@|$(VERSION)|' packaging/hidstack.pc.in > $(DESTDIR)$(LIBDIR)/pkgconfig/hidstack.pc
+	install -Dm644 -t $(SHARED)/man/man1 packaging/*.1
+	install -Dm644 -t $(SHARED)/man/man3 packaging/hidstack.3
+	for call in $(CALLS); do echo '.so man3/hidstack.3' > $(SHARED)/man/man3/$$call.3 || exit 1; done
+	install -Dm644 -t $(SHARED)/bash-completion/completions packaging/completion/*
+	install -Dm644 -t $(DOCUMENTS) README.md CHANGELOG.md LICENSE
+	install -Dm644 -t $(DOCUMENTS)/docs docs/*.md
+	install -Dm644 -t $(DOCUMENTS)/docs/pictures docs/pictures/*.svg
+	find examples -type f -exec sh -c 'for it; do install -Dm644 "$$it" "$(DOCUMENTS)/$$it" || exit 1; done' - {} +
+
+# Debian packages of all that `install` puts in place: bin/rulohevian_$(VERSION)-1_ARCHITECTURE.deb, with libhidstack$(MAJOR) and
+# libhidstack-dev beside it.
 deb: $(HIDRUN) $(HIDPLAY) $(HIDMAP) library  ## makes Debian packages of it
 	tools/package/debian $(VERSION) bin
 
-# Installs the package in a root of its own, and runs the programs and a C example there. It wants to be root.
+# Installs the packages in a root of their own, and runs the programs and a C example there. It wants to be root.
 deb-test: deb  ## installs and tries the packages in a root of their own, as root
-	tools/package/check bin/rulohevian_$(VERSION)-1_*.deb
+	tools/package/check bin/rulohevian_$(VERSION)-1_*.deb bin/libhidstack*_$(VERSION)-1_*.deb
 
 # The seventeen real devices, and the examples of pictures.
 PICTURED := $(shell grep -l '^N:' examples/recordings/*.hid) $(wildcard examples/pictures/*.hid)
