@@ -1,27 +1,13 @@
 """What the standard makes of a report, and which code Linux gives to each of its elements.
 
-Here reads the layout of tools/check/second-reader and keeps a view, as the definitions of this repository say it; it shares
+Here reads the layout of the second reader and keeps a view, as the definitions of this repository say it; it shares
 nothing with the programs. Said goes the other way: from events to the numbers that a report must have had. Map is the
 kernel's own map of usages to codes, as tools/c/uhidplay.c printed it.
 """
 import functools
-import importlib.machinery
-import importlib.util
-import pathlib
-import sys
 
-sys.dont_write_bytecode = True
+import second_reader
 
-
-def second_reader():
-    path = str(pathlib.Path(__file__).parents[1] / "check" / "second-reader")
-    spec = importlib.util.spec_from_loader("second_reader", importlib.machinery.SourceFileLoader("second_reader", path))
-    module = importlib.util.module_from_spec(spec)
-    spec.loader.exec_module(module)
-    return module
-
-
-READER = second_reader()
 VARIABLE, RELATIVE, NULL = 2, 4, 0x40
 KEY, REL, ABS, POWER = 1, 2, 3, "power"
 AXES = ["X", "Y", "Z", "Rx", "Ry", "Rz", "Throttle", "Rudder", "Wheel", "Gas", "Brake", None, None, None, None, None,
@@ -33,7 +19,7 @@ WHEELS = {0x10038: 11, 0xC0238: 12}
 SYSTEM_CONTROL, KEYBOARD, CONSUMER_CONTROL = 0x10080, 0x10006, 0xC0001
 
 
-class Layout(READER.Layout):
+class Layout(second_reader.Layout):
     """The second reader's layout with every main item that has a usage, and without limits of size (L15, L16)."""
 
     def __init__(self, descriptor):
@@ -53,7 +39,7 @@ class Layout(READER.Layout):
 
     def numbers(self, item, report):
         """The numbers of an item's elements in the bytes of its report."""
-        value, mask = READER.number(report[1:] if self.has_ids else report) >> item.at, (1 << item.size) - 1
+        value, mask = second_reader.number(report[1:] if self.has_ids else report) >> item.at, (1 << item.size) - 1
         signed = 1 << item.size if item.least < 0 else 0
         elements = [value >> j * item.size & mask for j in range(item.count)]
         return [v - signed * (v >> item.size - 1) for v in elements] if item.size else elements
@@ -198,7 +184,7 @@ class Said:
 def texts(events):
     """The events as hidplay tells them."""
     for _, _, word, usage, number in events:
-        yield "%s %s" % (word, READER.shown(usage)) + (" %d" % number if word in ("value", "motion") else "")
+        yield "%s %s" % (word, second_reader.shown(usage)) + (" %d" % number if word in ("value", "motion") else "")
 
 
 class Map:
