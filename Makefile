@@ -135,8 +135,7 @@ examples: $(HIDRUN) $(HIDPLAY) $(HIDMAP) $(BENCH)  ## runs all examples on the p
 	tools/check/hidplay $(HIDPLAY)
 	tools/check/commands $(HIDRUN) $(HIDPLAY) $(HIDMAP) $(BENCH)
 	tools/check/manual $(HIDRUN) $(HIDPLAY) $(HIDMAP)
-	tools/check/full-device $(HIDRUN)
-	tools/check/failures $(HIDMAP)
+	tools/check/failures $(HIDRUN) $(HIDMAP)
 	tools/check/examples $(HIDRUN) $(HIDPLAY) $(HIDMAP)
 	tools/check/rows $(HIDRUN)
 
