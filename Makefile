@@ -64,11 +64,11 @@ scale: $(HIDPLAY)  ## plays a folder of recordings side by side
 
 # How many instructions a report takes in hidplay, by callgrind, and how much memory a recording of 1 GB.
 play-cost: $(HIDPLAY)  ## counts what a report takes in hidplay
-	tools/measure/play-cost $(HIDPLAY)
+	tools/measure/cost hidplay $(HIDPLAY)
 
 # How many instructions the stack's work takes, by callgrind: the table of docs/SPEED.md.
 bench: $(BENCH)  ## counts what the stack's work takes
-	tools/measure/bench $(BENCH)
+	tools/measure/cost stack $(BENCH)
 
 # The C library: bin/lib/libhidstack.a and the shared libhidstack.so.$(VERSION), of the proved crate.
 library: bin/lib/libhidstack.a  ## bin/lib/libhidstack.a and .so, the C library
@@ -87,7 +87,7 @@ library-check: library  ## runs them under valgrind and the sanitizers, and with
 
 # How many instructions an opening and a report take, by callgrind.
 library-cost: library  ## counts what calls of the C library take
-	tools/measure/library-cost
+	tools/measure/cost library
 
 # Programs, the two tools for many recordings, library, header, pkg-config file, manual pages, completion, documents and
 # examples. LIBDIR is the folder of the libraries. Each call of the library has a page that leads to that of all calls.
