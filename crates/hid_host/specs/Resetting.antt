@@ -21,6 +21,11 @@ awaited items expects None piece = None
 awaited items expects (Some round) piece =
     if beq round.1 expects || not (is_last_piece items round.0 (unwrap_or piece 0)) then Some round.0 else None
 
+-- by a host: one that isn't ready has polled nothing
+abbrev pub awaited_at : HostPhase → Option (ℕ × Bool) → Option ℕ → Option ℕ
+awaited_at (Ready known) round piece = awaited (items_of known.layout) known.pipe.expects round piece
+awaited_at _ round piece = None
+
 -- What is told until a view is the initial one again: what changes, and the motions of these parts that a report shows
 -- which is awaited; they are dropped.
 abbrev pub told_back : List Item → List Cell → List Cell → Option ℕ → List Event
@@ -56,6 +61,13 @@ known_cut known round piece parts =
 abbrev pub cut_told : HostPhase → Option (ℕ × Bool) → Option ℕ → List Cell → List Event
 cut_told (Ready known) round piece parts = known_cut known round piece parts
 cut_told _ round piece parts = []
+
+-- What a host tells where a round of this report was cut that it awaited, and these parts were fixed last: their motions,
+-- which are dropped. One that isn't ready tells nothing.
+abbrev pub drops_told : HostPhase → ℕ → List Cell → List Event
+drops_told (Ready known) report parts =
+    drops_between (items_of known.layout) report known.view known.view parts
+drops_told _ report parts = []
 
 -- the round is of an Input report of this layout, and the parts are of its controls
 pub record SuitsRound (layout : Contents) (round : Option (ℕ × Bool)) (parts : List Cell) : Type 0 where

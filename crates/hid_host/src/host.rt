@@ -3,6 +3,8 @@ ghost use Rattle.std.specs.Prelude.{◌≡◌, ◌⊎◌, false, ◌≤◌, ◌<
 ghost use Rattle.std.specs.Option.{option_copied, option_map};
 ghost use Rattle.hid_layout.specs.Controls.{items_of, max_events};
 ghost use Rattle.hid_layout.specs.Layout.{Contents};
+ghost use Rattle.hid_snapshots.specs.Cells.{FitsShown};
+ghost use Rattle.hid_snapshots.specs.Parts.{IsInput};
 ghost use Rattle.usb_packet.specs.Lent.{owned, IsShort};
 ghost use Rattle.usb_packet.specs.Spelling.{Fits};
 ghost use Rattle.usb_transact.specs.Taken.{taken};
@@ -11,7 +13,7 @@ ghost use Rattle.hid_host.specs.Conclusions.{IsNoLayout};
 ghost use Rattle.hid_host.specs.Host.{ConcludesAt, bytes_got, clearing_behind, cold_host, is_clear, may_cut, polls_with, ready_after, ready_host};
 ghost use Rattle.hid_host.specs.Phase.{HasEndpoint, IsReady, IfReady, may_poll, state_of};
 ghost use Rattle.hid_host.specs.Ready.{told_of, events_behind};
-ghost use Rattle.hid_host.specs.Resetting.{SuitsRound, cut_told, reset_told};
+ghost use Rattle.hid_host.specs.Resetting.{SuitsRound, awaited_at, cut_told, drops_told, reset_told};
 
 use crate::conclusions::{conclude, layout_of};
 use crate::fault::StackFault;
@@ -283,6 +285,37 @@ impl HostDevice {
     {
         if let HostPhase::Ready(host) = &self.phase {
             host.tell_cut(round, piece, fixed, out);
+        }
+    }
+
+    /// The report of the round that is open at the device, where the host is ready and hasn't got all of its data. It is given
+    /// that round, with whether its data go out as DATA1, and which piece of it goes out.
+    pub fn awaited(&self, round: Option<(usize, bool)>, piece: Option<usize>) -> Option<usize>
+        requires input { IfReady self.now.phase
+            (λ host. IfSome round (λ it. IsInput host.layout it.0)) }
+        ensures awaited { result ≡ awaited_at self.now.phase round piece }
+    {
+        match &self.phase {
+            HostPhase::Ready(host) => host.awaited(round, piece),
+            HostPhase::Cold | HostPhase::Described(_) | HostPhase::Parsed(..) => None,
+        }
+    }
+
+    /// A round of this report was cut that the host had [awaited](HostDevice::awaited): its motion is told as dropped. The host is
+    /// given the parts that were fixed last; one that isn't ready tells nothing. There is reserved room for `max_events` more
+    /// where it is ready; no memory is taken.
+    pub fn tell_drops(&self, report: usize, fixed: &Shown, out: &mut Vec<Event>)
+        requires input { IfReady self.now.phase (λ host. IsInput host.layout report) }
+        requires fits { IfReady self.now.phase (λ host. FitsShown (items_of host.layout) fixed.now) }
+        requires room { IfReady self.now.phase (λ host. vec_len out.old
+            + max_events (items_of host.layout) ≤ vec_capacity out.old) }
+        ensures events { out.new.items ≡ out.old.items ++ drops_told self.now.phase report fixed.now }
+        ensures few { IfReady self.now.phase (λ host. length out.new.items
+            ≤ length out.old.items + max_events (items_of host.layout)) }
+        ensures room { vec_capacity out.new ≡ vec_capacity out.old }
+    {
+        if let HostPhase::Ready(host) = &self.phase {
+            host.tell_drops(report, fixed, out);
         }
     }
 

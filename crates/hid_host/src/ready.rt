@@ -5,8 +5,9 @@ ghost use Rattle.std.specs.Option.{option_map};
 ghost use Rattle.hid_descriptor.specs.declared.limits.TheConstants.{MAX_REPORT_BYTES};
 ghost use Rattle.hid_layout.specs.Controls.{items_of, max_events};
 ghost use Rattle.hid_layout.specs.Reports.{IsLayout};
-ghost use Rattle.hid_snapshots.specs.Cells.{FitsView, blank};
+ghost use Rattle.hid_snapshots.specs.Cells.{FitsShown, FitsView, blank};
 ghost use Rattle.hid_snapshots.specs.Parts.{IsInput};
+ghost use Rattle.hid_snapshots.specs.Views.{drops_between};
 ghost use Rattle.hid_usages.specs.Reading.{report_named};
 ghost use Rattle.usb_packet.specs.Lent.{owned, IsShort};
 ghost use Rattle.usb_packet.specs.Spelling.{Fits};
@@ -205,7 +206,11 @@ impl ReadyHost {
 
     /// The report of the round that is open at the device, where its data haven't all come: those of this piece go out under
     /// the toggle that is expected, or others are behind them.
-    fn awaited(&self, round: Option<(usize, bool)>, piece: Option<usize>) -> Option<usize>
+    pub(crate) fn awaited(
+        &self,
+        round: Option<(usize, bool)>,
+        piece: Option<usize>,
+    ) -> Option<usize>
         requires { IfSome round (λ it. IsInput self.now.layout it.0) }
         ensures { result ≡ awaited (items_of self.now.layout) self.now.pipe.expects round piece }
     {
@@ -264,8 +269,23 @@ impl ReadyHost {
         ensures room { vec_capacity out.new ≡ vec_capacity out.old }
     {
         if let Some(report) = self.awaited(round, piece) {
-            let view = self.reader.view();
-            changes_and_drops(self.reader.layout(), view, view, report, fixed, out);
+            self.tell_drops(report, fixed, out);
         }
+    }
+
+    /// Drops the motion of a report's part: the view stays. There is reserved room for `max_events` more.
+    pub(crate) fn tell_drops(&self, report: usize, fixed: &Shown, out: &mut Vec<Event>)
+        requires input { IsInput self.now.layout report }
+        requires fits { FitsShown (items_of self.now.layout) fixed.now }
+        requires room { vec_len out.old + max_events (items_of self.now.layout)
+            ≤ vec_capacity out.old }
+        ensures events { out.new.items ≡ out.old.items
+            ++ drops_between (items_of self.now.layout) report self.now.view self.now.view fixed.now }
+        ensures few { length out.new.items
+            ≤ length out.old.items + max_events (items_of self.now.layout) }
+        ensures room { vec_capacity out.new ≡ vec_capacity out.old }
+    {
+        let view = self.reader.view();
+        changes_and_drops(self.reader.layout(), view, view, report, fixed, out);
     }
 }

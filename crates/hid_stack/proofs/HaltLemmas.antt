@@ -1,44 +1,31 @@
--- What a halt of a device, or the end of one, tells: as the station of the device and its host says.
-use Rattle.std.proofs.Common.{◌≡◌, ◌∙◌, ℕ, Bool, true, false, List, [], Option, Some, None, refl, ap, sym, subst, not, ◌≤◌, length, arith}
-use Rattle.std.specs.Prelude.{if◌then◌else◌, is_some, Result, ◌&&◌, ◌||◌}
+-- What a halt of a device tells: as the station of the device and its host says.
+use Rattle.std.proofs.Common.{◌≡◌, ◌∙◌, ℕ, Bool, true, false, List, [], Option, Some, None, refl, ap, sym, subst, not}
+use Rattle.std.specs.Prelude.{if◌then◌else◌, ◌&&◌, ◌||◌}
 use Rattle.std.specs.Bool.{beq}
 use Rattle.hid_layout.specs.Controls.{Item, items_of}
 use Rattle.hid_layout.specs.Layout.{Contents}
-use Rattle.hid_snapshots.specs.declared.cell.Cell.{Cell}
 use Rattle.hid_snapshots.specs.declared.event.Event.{Event}
 use Rattle.hid_snapshots.specs.Views.{drops_between}
-use Rattle.hid_bus.specs.Lives.{Deed, Own, Idles, Configures, cut_events}
-use Rattle.hid_bus.specs.Lives as lives
-use Rattle.hid_bus.specs.Stations.{Station, is_whole}
+use Rattle.hid_bus.specs.Lives.{cut_events}
+use Rattle.hid_bus.specs.Stations.{Open, Station, is_whole}
 use Rattle.hid_snapshots.specs.Pieces.{is_last_piece}
 use Rattle.hid_device.specs.Core.{CoreState, IsSound, halted_core, piece_at, round_of}
 use Rattle.hid_device.specs.Device.{DeviceState, core_of, halted_device}
-use Rattle.usb_transact.specs.declared.transaction.Fate.{Fate}
-use Rattle.usb_control.specs.declared.host.Progress.{Progress}
 use Rattle.usb_control.specs.Device.{DevControlState}
-use Rattle.hid_host.specs.declared.fault.StackFault.{StackFault}
 use Rattle.hid_host.specs.declared.phase.HostPhase.{HostPhase}
 use Rattle.hid_host.specs.declared.phase.HostPhase.TheVariants.{Cold, Described, Parsed, Ready}
 use Rattle.hid_host.specs.declared.host.Transfer.{Transfer}
-use Rattle.hid_host.specs.Host.{HostEnd, may_cut}
+use Rattle.hid_host.specs.Host.{HostEnd}
 use Rattle.hid_host.specs.Phase.{state_of}
 use Rattle.hid_stack.specs.Knowing.{Knows, LeavesTransfers, with_core}
-use Rattle.hid_host.specs.Resetting.{awaited, cut_told, told_cut}
-use Rattle.hid_stack.specs.Members.{Halts, Member, control_at, events_by, expects_of, halted_deed, halted_if, held_at, held_if, member_after, tried_deed}
-use Rattle.hid_stack.specs.Slot.{IsUntouched, StandTogether, held_of, joint, round_between, station_of}
-use Rattle.hid_stack.specs.Sums.{CutsByRequest, CutsNone, IsBetween}
-use Rattle.hid_stack.proofs.MemberLemmas.{IsEffect, brings_effect, quiet_effect}
-use Rattle.hid_stack.specs.Tells.{kept_if}
+use Rattle.hid_host.specs.Resetting.{awaited, awaited_at, cut_told, told_cut}
+use Rattle.hid_stack.specs.Members.{Halts, events_by, expects_of, halted_deed, halted_if, held_at, held_if, member_after}
+use Rattle.hid_stack.specs.Slot.{StandTogether, held_of, joint, round_between, station_of}
+use Rattle.hid_stack.specs.Tells.{awaited_of}
 use Rattle.hid_stack.proofs.TransferLemmas.{halted_with}
-use Rattle.hid_stack.proofs.TryLemmas.{IsOpenBehind, Steps, expects_so, host_by}
+use Rattle.hid_stack.proofs.TryLemmas.{expects_so, host_by}
 
 -- ---- what is told
-
-abbrev round_cut_told : List Item → List Cell → List Cell → Bool → Bool → Option ℕ → ℕ → List Event
-round_cut_told items view parts toggle expects current piece = elim (round_between items toggle expects current piece) as (λ _. List Event) [
-  | None ↦ []
-  | Some round ↦ (if is_whole round then [] else drops_between items round.report view view parts)
-]
 
 -- what a device shows of its open round
 abbrev round_shown : Bool → Option ℕ → Option (ℕ × Bool)
@@ -48,35 +35,39 @@ abbrev piece_shown_of : Option ℕ → ℕ → Option ℕ
 piece_shown_of current piece = elim current [ None ↦ None | Some r ↦ Some piece ]
 
 -- a ready host awaits the round that hasn't crossed
-by_round : (items : List Item) (view parts : List Cell) (toggle expects : Bool) (current : Option ℕ) (piece : ℕ)
-    → told_cut items view parts (awaited items expects (round_shown toggle current) (piece_shown_of current piece))
-    ≡ round_cut_told items view parts toggle expects current piece
-by_round items view parts toggle expects None piece = refl
-by_round items view parts toggle expects (Some r) piece = by_toggles (beq toggle expects) (is_last_piece items r piece)
+by_round : (items : List Item) (toggle expects : Bool) (current : Option ℕ) (piece : ℕ)
+    → awaited items expects (round_shown toggle current) (piece_shown_of current piece)
+    ≡ (elim (round_between items toggle expects current piece) as (λ _. Option ℕ) [ None ↦ None | Some round ↦ (if is_whole round then None else Some round.report) ])
+by_round items toggle expects None piece = refl
+by_round items toggle expects (Some r) piece = by_toggles (beq toggle expects) (is_last_piece items r piece)
   where
-    by_toggles : (b last : Bool) → told_cut items view parts (if b || not last then Some r else None) ≡ (if not b && last then [] else drops_between items r view view parts)
+    by_toggles : (b last : Bool) → (if b || not last then Some r else None) ≡ (if not b && last then None else Some r)
     by_toggles true last = refl
     by_toggles false true = refl
     by_toggles false false = refl
 
-unready_tells : (core : CoreState) → IsUntouched core → [] ≡ round_cut_told (items_of core.layout) (station_of core Cold).view core.standing.fixed core.toggle core.toggle core.current core.piece
-unready_tells core untouched =
-    sym (ap (λ (o : Option ℕ). round_cut_told (items_of core.layout) (station_of core Cold).view core.standing.fixed core.toggle core.toggle o core.piece) untouched.no_round)
+pub awaits_none : (s : Station) → s.current ≡ None → awaited_of s ≡ None
+awaits_none s none =
+    ap (λ o. elim o as (λ _. Option ℕ) [ None ↦ None | Some round ↦ (if is_whole round then None else Some round.report) ]) none
 
-pub told_at_cut : (device : DeviceState) (clearing : Bool) (phase : HostPhase) → StandTogether device clearing phase
-    → cut_told phase (round_of (core_of device)) (piece_at (core_of device)) (core_of device).standing.fixed ≡ cut_events (items_of (core_of device).layout) (station_of (core_of device) phase)
-told_at_cut device clearing Cold together = unready_tells (core_of device) together
-told_at_cut device clearing (Described info) together = unready_tells (core_of device) together
-told_at_cut device clearing (Parsed info layout) together = unready_tells (core_of device) together
-told_at_cut device clearing (Ready known) together =
-    let core = core_of device in
-    ap (λ (l : Contents). told_cut (items_of l) known.view core.standing.fixed (awaited (items_of l) known.pipe.expects (round_of core) (piece_at core))) together.layout
-    ∙ by_round (items_of core.layout) known.view core.standing.fixed core.toggle known.pipe.expects core.current core.piece
+-- what a halt tells is the motion of the round that is awaited
+pub cut_awaited : (items : List Item) (s : Station) → cut_events items s ≡ told_cut items s.view s.standing.fixed (awaited_of s)
+cut_awaited items s = by_current s.current
+  where
+    by_open : (round : Open) (b : Bool)
+        → (if b then [] else drops_between items round.report s.view s.view s.standing.fixed) ≡ told_cut items s.view s.standing.fixed (if b then None else Some round.report)
+    by_open round true = refl
+    by_open round false = refl
+
+    by_current : (o : Option Open)
+        → (elim o as (λ _. List Event) [ None ↦ [] | Some round ↦ (if is_whole round then [] else drops_between items round.report s.view s.view s.standing.fixed) ])
+        ≡ told_cut items s.view s.standing.fixed (elim o as (λ _. Option ℕ) [ None ↦ None | Some round ↦ (if is_whole round then None else Some round.report) ])
+    by_current None = refl
+    by_current (Some round) = by_open round (is_whole round)
 
 -- where no round is open nothing is
 pub cut_nothing : (items : List Item) (s : Station) → s.current ≡ None → cut_events items s ≡ []
-cut_nothing items s none =
-    ap (λ o. elim o as (λ _. List Event) [ None ↦ [] | Some round ↦ (if is_whole round then [] else drops_between items round.report s.view s.view s.standing.fixed) ]) none
+cut_nothing items s none = cut_awaited items s ∙ ap (told_cut items s.view s.standing.fixed) (awaits_none s none)
 
 none_between : (core : CoreState) (expects : Bool) → core.current ≡ None → round_between (items_of core.layout) core.toggle expects core.current core.piece ≡ None
 none_between core expects none = ap (λ (o : Option ℕ). round_between (items_of core.layout) core.toggle expects o core.piece) none
@@ -86,6 +77,28 @@ unready_open device clearing Cold together none = none_between (core_of device) 
 unready_open device clearing (Described info) together none = none_between (core_of device) (core_of device).toggle none
 unready_open device clearing (Parsed info layout) together none = none_between (core_of device) (core_of device).toggle none
 unready_open device clearing (Ready known) together none = none_between (core_of device) known.pipe.expects none
+
+-- a device and its host stand so that the host awaits what their station says
+pub awaited_so : (device : DeviceState) (clearing : Bool) (phase : HostPhase) → StandTogether device clearing phase
+    → awaited_at phase (round_of (core_of device)) (piece_at (core_of device)) ≡ awaited_of (station_of (core_of device) phase)
+awaited_so device clearing Cold together = sym (awaits_none (station_of (core_of device) Cold) (unready_open device clearing Cold together together.no_round))
+awaited_so device clearing (Described info) together = sym (awaits_none (station_of (core_of device) Cold) (unready_open device clearing Cold together together.no_round))
+awaited_so device clearing (Parsed info layout) together = sym (awaits_none (station_of (core_of device) Cold) (unready_open device clearing Cold together together.no_round))
+awaited_so device clearing (Ready known) together =
+    let core = core_of device in
+    ap (λ (l : Contents). awaited (items_of l) known.pipe.expects (round_of core) (piece_at core)) together.layout
+    ∙ by_round (items_of core.layout) core.toggle known.pipe.expects core.current core.piece
+
+pub told_at_cut : (device : DeviceState) (clearing : Bool) (phase : HostPhase) → StandTogether device clearing phase
+    → cut_told phase (round_of (core_of device)) (piece_at (core_of device)) (core_of device).standing.fixed ≡ cut_events (items_of (core_of device).layout) (station_of (core_of device) phase)
+told_at_cut device clearing Cold together = sym (cut_nothing (items_of (core_of device).layout) (station_of (core_of device) Cold) (unready_open device clearing Cold together together.no_round))
+told_at_cut device clearing (Described info) together = sym (cut_nothing (items_of (core_of device).layout) (station_of (core_of device) Cold) (unready_open device clearing Cold together together.no_round))
+told_at_cut device clearing (Parsed info layout) together = sym (cut_nothing (items_of (core_of device).layout) (station_of (core_of device) Cold) (unready_open device clearing Cold together together.no_round))
+told_at_cut device clearing (Ready known) together =
+    let core = core_of device in
+    ap (λ (l : Contents). told_cut (items_of l) known.view core.standing.fixed (awaited (items_of l) known.pipe.expects (round_of core) (piece_at core))) together.layout
+    ∙ ap (told_cut (items_of core.layout) known.view core.standing.fixed) (by_round (items_of core.layout) core.toggle known.pipe.expects core.current core.piece)
+    ∙ sym (cut_awaited (items_of core.layout) (station_of core (Ready known)))
 
 -- ---- a halt by the device itself
 
@@ -184,65 +197,3 @@ halts_so device device_then host others leave is sound together knows =
     let same : device_then ≡ (if b then halted_now device else device) = is ∙ halted_of device b refl in
     subst (λ (d : DeviceState). HaltsPair device d host) (sym same)
     (halts_if device host b refl others leave (subst (λ (d : DeviceState). IsSound (core_of d)) same sound) together knows)
-
--- ---- a try
-
--- what was told before it stands where the round that was open is gone
-pub tried_tells : (items : List Item) (s : Station) (deed : Option Deed) (before now : Option ℕ) → IsEffect deed → IsOpenBehind before deed now → (before ≡ None → s.current ≡ None) → now ≡ None
-    → (deed ≡ Some Configures → s.current ≡ None) → cut_events items s ≡ events_by items s deed
-tried_tells items s None before now is behind none gone apart = cut_nothing items s (none (sym behind ∙ gone))
-tried_tells items s (Some (Own x)) before now is behind none gone apart = absurd is
-tried_tells items s (Some (Idles idle)) before now is behind none gone apart = cut_nothing items s (none (sym behind ∙ gone))
-tried_tells items s (Some Configures) before now is behind none gone apart = cut_nothing items s (apart refl)
-tried_tells items s (Some lives.Halts) before now is behind none gone apart = refl
-tried_tells items s (Some lives.Clears) before now is behind none gone apart = refl
-tried_tells items s (Some lives.Resets) before now is behind none gone apart = absurd is
-
--- where it is open still nothing is told
-pub still_open : (deed : Option Deed) (before : Option ℕ) (r : ℕ) → IsOpenBehind before deed (Some r) → CutsNone deed
-still_open None before r behind = tt
-still_open (Some (Own x)) before r behind = tt
-still_open (Some (Idles idle)) before r behind = tt
-still_open (Some Configures) before r behind = absurd (cc)
-still_open (Some lives.Halts) before r behind = absurd (cc)
-still_open (Some lives.Clears) before r behind = absurd (cc)
-still_open (Some lives.Resets) before r behind = tt
-
--- so what was told before it is kept where it is so
-kept_so : (items : List Item) (s : Station) (deed : Option Deed) (before now : Option ℕ) (may : Bool) → IsEffect deed → IsOpenBehind before deed now → (before ≡ None → s.current ≡ None)
-    → (deed ≡ Some Configures → s.current ≡ None) → (may ≡ false → CutsNone deed) → kept_if may (is_some now) (cut_events items s) ≡ events_by items s deed
-kept_so items s deed before now false is behind none apart cuts = sym (quiet_effect items s deed is (cuts refl))
-kept_so items s deed before None true is behind none apart cuts = tried_tells items s deed before None is behind none refl apart
-kept_so items s deed before (Some r) true is behind none apart cuts = sym (quiet_effect items s deed is (still_open deed before r behind))
-
-tried_effect : (fate : Fate) (m : Member) (o : Option Transfer) → IsEffect (tried_deed fate m o)
-tried_effect fate m None = tt
-tried_effect fate m (Some t) = brings_effect fate t.ends (control_at m)
-
-uncut_by : (fate : Fate) (m : Member) (o : Option Transfer) → CutsByRequest fate m o → may_cut o ≡ false → CutsNone (tried_deed fate m o)
-uncut_by fate m None cuts none = tt
-uncut_by fate m (Some t) cuts none = cuts none
-
-pub kept_at_try : (fate : Fate) (device : DeviceState) (control : DevControlState CoreState) (host host_then : HostEnd) (o : Option Transfer) (result : Result Progress StackFault) → Steps fate device control host host_then o result
-    → StandTogether device host.clearing host.phase
-    → kept_if (may_cut o) (is_some control.requests.current) (cut_events (items_of (core_of device).layout) (station_of (core_of device) host.phase))
-    ≡ events_by (items_of (core_of device).layout) (station_of (core_of device) host.phase) (tried_deed fate (joint device host) o)
-kept_at_try fate device control host host_then o result step together =
-    let m = joint device host in
-    kept_so (items_of (core_of device).layout) m.station (tried_deed fate m o) (core_of device).current control.requests.current (may_cut o)
-    (tried_effect fate m o) step.open_then (unready_open device host.clearing host.phase together)
-    (λ is. subst (IsBetween m.station) is step.between) (uncut_by fate m o step.cuts)
-
--- a round is shown where one is open
-pub shown_open : (core : CoreState) → is_some (round_of core) ≡ is_some core.current
-shown_open core = by_current core.current
-  where
-    by_current : (current : Option ℕ) → is_some (round_of (record core { current = current })) ≡ is_some current
-    by_current None = refl
-    by_current (Some r) = refl
-
--- what is kept of what was told is no more than that
-pub kept_few : (may is_open : Bool) (events : List Event) (most : ℕ) → length events ≤ most → length (kept_if may is_open events) ≤ most
-kept_few true false events most few = few
-kept_few true true events most few = omega arith
-kept_few false is_open events most few = omega arith

@@ -18,6 +18,7 @@ pub mod RigLemmas
 pub mod ResetLemmas
 pub mod UnreadyLemmas
 pub mod HaltLemmas
+pub mod DropLemmas
 pub mod BeginLemmas
 pub mod AttachLemmas
 pub mod ShowLemmas

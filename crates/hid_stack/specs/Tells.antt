@@ -1,7 +1,8 @@
 -- What a step tells, by its fate (USB 2.0, 5.7.3, 8.4.5, 8.5.3, 8.5.4 and 8.6).
-use Rattle.std.specs.Prelude.{◌≡◌, ℕ, Bool, true, false, if◌then◌else◌, List, [], Option, Some, None}
+use Rattle.std.specs.Prelude.{◌≡◌, ℕ, Bool, if◌then◌else◌, List, [], Option, Some, None}
 use Rattle.hid_layout.specs.Controls.{items_of}
 use Rattle.hid_layout.specs.Layout.{Contents}
+use Rattle.hid_snapshots.specs.declared.cell.Cell.{Cell}
 use Rattle.hid_snapshots.specs.declared.event.Event.{Event}
 use Rattle.usb_packet.specs.declared.packet.Packet.{Packet}
 use Rattle.usb_packet.specs.declared.packet.Packet.TheVariants as packets
@@ -17,10 +18,12 @@ use Rattle.hid_bus.specs.declared.step.Step.TheVariants.{Change, Frame, Poll, Be
 use Rattle.hid_bus.specs.declared.step.Told.{Told}
 use Rattle.hid_bus.specs.declared.step.Told.TheVariants.{Quiet, Polled}
 use Rattle.hid_bus.specs.declared.step.Told.TheVariants as tellings
-use Rattle.hid_bus.specs.Stations.{Station, opened}
+use Rattle.hid_bus.specs.Stations.{Station, is_whole, opened}
 use Rattle.usb_control.specs.Host.{progress_of}
 use Rattle.hid_host.specs.declared.host.Transfer.{Transfer}
+use Rattle.hid_host.specs.declared.phase.HostPhase.{HostPhase}
 use Rattle.hid_host.specs.Host.{running}
+use Rattle.hid_host.specs.Resetting.{drops_told}
 use Rattle.hid_stack.specs.Members.{Member, ends_tried_at}
 use Rattle.hid_stack.specs.Rig.{member_at}
 
@@ -92,8 +95,16 @@ Tells members (Control dev fate) told = elim (member_at members dev) [
   | Some m ↦ TellsTry fate m (running m.transfer) told
 ]
 
--- what was told of the open round before a try that may end it stands where none is open behind it
-abbrev pub kept_if : Bool → Bool → List Event → List Event
-kept_if true false events = events
-kept_if true true events = []
-kept_if false is_open events = []
+-- the report of an open round that hasn't crossed whole
+abbrev pub awaited_of : Station → Option ℕ
+awaited_of s = elim s.current [
+  | None ↦ None
+  | Some round ↦ (if is_whole round then None else Some round.report)
+]
+
+-- What is told behind a try, by the report that was awaited before it and the round that is open behind it: where none
+-- is, the motion of that report's part is dropped.
+abbrev pub told_behind : Option ℕ → Option (ℕ × Bool) → HostPhase → List Cell → List Event
+told_behind None round phase parts = []
+told_behind (Some report) None phase parts = drops_told phase report parts
+told_behind (Some report) (Some round) phase parts = []

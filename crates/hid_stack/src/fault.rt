@@ -1,4 +1,4 @@
-//! Where a run of a rig stops.
+//! Where a run of a rig stops. Why a step is refused, [`StackFault`], stands in `hid_host`: the calls of a host answer it too.
 ghost use Rattle.std.specs.Prelude.{Some};
 ghost use Rattle.hid_stack.specs.Faults.{run_text};
 

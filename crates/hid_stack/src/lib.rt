@@ -40,6 +40,7 @@ mod polls;
 mod resets;
 mod rig;
 mod slot;
+mod transfers;
 
 pub use fault::RunFault;
 pub use hid_bus::{Delivered, Start, Step, Told};

@@ -26,10 +26,11 @@ ghost use Rattle.hid_stack.specs.Sums.{CutsByRequest, IsBetween};
 ghost use Rattle.hid_stack.specs.Showing.{ShowsDevice, ShowsHost};
 ghost use Rattle.hid_stack.specs.Tells.{TellsPoll};
 
-use crate::halts::{control_pair, halt_pair};
+use crate::halts::halt_pair;
 use crate::laws::{devices_leave_transfers, hosts_know_their_devices};
 use crate::polls::poll_pair;
 use crate::resets::reset_pair;
+use crate::transfers::control_pair;
 use hid_bus::{Delivered, Start, Step, Told};
 use hid_device::{Config, Device, DeviceCause, DeviceFault};
 use hid_host::{DescriptorFault, HostDevice, StackFault};

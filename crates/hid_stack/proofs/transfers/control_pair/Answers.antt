@@ -1,16 +1,37 @@
-use Rattle.std.proofs.Common.{◌≡◌, ◌∙◌, ◌≤◌, Bool, List, length, ap, refl, subst, sym}
-use Rattle.std.specs.Prelude.{is_some}
+use Rattle.std.proofs.Common.{◌∙◌, ◌≤◌, ℕ, false, List, Option, length, ap, refl, subst, sym, arith}
+use Rattle.std.specs.Prelude.{IfSome}
 use Rattle.hid_snapshots.specs.declared.event.Event.{Event}
 use Rattle.hid_layout.specs.Controls.{items_of, max_events}
-use Rattle.hid_host.specs.Host.{may_cut, running}
-use Rattle.hid_bus.specs.Lives.{cut_events}
-use Rattle.hid_device.specs.Device.{core_of}
-use Rattle.hid_stack.specs.Slot.{station_of}
-use Rattle.hid_stack.specs.Tells.{kept_if}
+use Rattle.hid_layout.specs.Layout.{Contents}
+use Rattle.hid_snapshots.specs.Parts.{IsInput}
+use Rattle.hid_host.specs.Host.{running}
+use Rattle.hid_device.specs.Core.{round_of}
+use Rattle.hid_device.specs.Device.{DeviceState, core_of}
+use Rattle.hid_stack.specs.Slot.{joint}
+use Rattle.hid_stack.specs.Tells.{told_behind}
 use Rattle.hid_stack.proofs.TrailLemmas.{some_steps}
-use Rattle.hid_stack.proofs.HaltLemmas.{kept_at_try, kept_few, shown_open}
+use Rattle.hid_stack.proofs.DropLemmas.{told_at_try, untold_at_try}
 use Rattle.hid_stack.proofs.TryLemmas.{knows_so, steps_so}
-use Rattle.hid_stack.proofs.halts.control_pair.Goals as goal
+use Rattle.hid_stack.proofs.transfers.control_pair.Goals as goal
+
+pub tell_dropped-requires-clause-together : goal.tell_dropped-requires-clause-together
+tell_dropped-requires-clause-together c =
+    let step = steps_so c.args.fate c.args.device.now c.control.result.now c.control_step-result.new.control c.args.host.now c.control_step-result.new.self c.control_step-result.result
+    (some_steps c.hosts_know_their_devices.ensures.steps) c.control_steps_are_computed.ensures c.control.ensures.now c.control_step-result.ensures c.requires.together c.requires.knows c.requires.home c.is_sound.ensures in
+    step.together
+
+pub tell_dropped-requires-clause-input : goal.tell_dropped-requires-clause-input
+tell_dropped-requires-clause-input c =
+    let step = steps_so c.args.fate c.args.device.now c.control.result.now c.control_step-result.new.control c.args.host.now c.control_step-result.new.self c.control_step-result.result
+    (some_steps c.hosts_know_their_devices.ensures.steps) c.control_steps_are_computed.ensures c.control.ensures.now c.control_step-result.ensures c.requires.together c.requires.knows c.requires.home c.is_sound.ensures in
+    subst (λ (l : Contents). IfSome c.awaited_round-awaited.result (λ r. IsInput l r)) (sym step.layout) c.awaited_round-awaited.ensures.input
+
+pub tell_dropped-requires-clause-room : goal.tell_dropped-requires-clause-room
+tell_dropped-requires-clause-room c =
+    let step = steps_so c.args.fate c.args.device.now c.control.result.now c.control_step-result.new.control c.args.host.now c.control_step-result.new.self c.control_step-result.result
+    (some_steps c.hosts_know_their_devices.ensures.steps) c.control_steps_are_computed.ensures c.control.ensures.now c.control_step-result.ensures c.requires.together c.requires.knows c.requires.home c.is_sound.ensures in
+    let room = ap (λ (l : Contents). max_events (items_of l)) step.layout in
+    omega (arith, room, c.requires.room)
 
 pub returns-clause-tries : goal.returns-clause-tries
 returns-clause-tries c =
@@ -51,13 +72,12 @@ pub returns-clause-events : goal.returns-clause-events
 returns-clause-events c =
     let step = steps_so c.args.fate c.args.device.now c.control.result.now c.control_step-result.new.control c.args.host.now c.control_step-result.new.self c.control_step-result.result
     (some_steps c.hosts_know_their_devices.ensures.steps) c.control_steps_are_computed.ensures c.control.ensures.now c.control_step-result.ensures c.requires.together c.requires.knows c.requires.home c.is_sound.ensures in
-    let told = cut_events (items_of (core_of c.args.device.now).layout) (station_of (core_of c.args.device.now) c.args.host.now.phase) in
-    let is_open : c.is_some-is_open.result ≡ is_some c.control_step-result.new.control.requests.current = c.is_some-is_open.ensures ∙ ap is_some c.open_round.ensures ∙ shown_open c.control_step-result.new.control.requests in
-    c.keep_if_cut.ensures.events
-    ∙ c.tell_cut_if.ensures.events c.is_some-is_open.result
-    ∙ ap (λ (b : Bool). kept_if b c.is_some-is_open.result told) c.may_cut-may_cut.ensures
-    ∙ ap (λ (b : Bool). kept_if (may_cut (running c.args.host.now.transfer)) b told) is_open
-    ∙ kept_at_try c.args.fate c.args.device.now c.control_step-result.new.control c.args.host.now c.control_step-result.new.self (running c.args.host.now.transfer) c.control_step-result.result step c.requires.together
+    let device_then : DeviceState = record { addr = c.args.device.now.addr; control = c.control_step-result.new.control; waits = false } in
+    let host_then = c.control_step-result.new.self in
+    c.tell_dropped.ensures.events
+    ∙ ap (λ (a : Option ℕ). told_behind a (round_of (core_of device_then)) host_then.phase (core_of device_then).standing.fixed) c.awaited_round-awaited.ensures.awaited
+    ∙ told_at_try c.args.fate c.args.device.now device_then c.args.host.now host_then (running c.args.host.now.transfer) c.control_step-result.result
+    step.tries step.cuts step.between step.open_then c.requires.together step.together step.layout
 
 pub returns-clause-home : goal.returns-clause-home
 returns-clause-home c =
@@ -67,9 +87,13 @@ returns-clause-home c =
 
 pub returns-clause-none : goal.returns-clause-none
 returns-clause-none c uncut =
-    ap (λ (es : List Event). length es) (c.keep_if_cut.ensures.events ∙ ap (λ (b : Bool). kept_if b c.is_some-is_open.result c.tell_cut_if.new.events.items) (c.may_cut-may_cut.ensures ∙ uncut))
+    let step = steps_so c.args.fate c.args.device.now c.control.result.now c.control_step-result.new.control c.args.host.now c.control_step-result.new.self c.control_step-result.result
+    (some_steps c.hosts_know_their_devices.ensures.steps) c.control_steps_are_computed.ensures c.control.ensures.now c.control_step-result.ensures c.requires.together c.requires.knows c.requires.home c.is_sound.ensures in
+    ap (λ (es : List Event). length es)
+    (returns-clause-events c ∙ untold_at_try c.args.fate (joint c.args.device.now c.args.host.now) (running c.args.host.now.transfer) step.cuts uncut)
 
 pub returns-clause-few : goal.returns-clause-few
 returns-clause-few c =
-    subst (λ (es : List Event). length es ≤ max_events (items_of (core_of c.args.device.now).layout)) (sym c.keep_if_cut.ensures.events)
-    (kept_few c.may_cut-may_cut.result c.is_some-is_open.result c.tell_cut_if.new.events.items _ c.tell_cut_if.ensures.few)
+    let step = steps_so c.args.fate c.args.device.now c.control.result.now c.control_step-result.new.control c.args.host.now c.control_step-result.new.self c.control_step-result.result
+    (some_steps c.hosts_know_their_devices.ensures.steps) c.control_steps_are_computed.ensures c.control.ensures.now c.control_step-result.ensures c.requires.together c.requires.knows c.requires.home c.is_sound.ensures in
+    subst (λ (l : Contents). length c.tell_dropped.new.events.items ≤ max_events (items_of l)) step.layout c.tell_dropped.ensures.few

@@ -1,0 +1,89 @@
+//! The tries of a host's transfer with its device, and what goes with a round that one of them ends (USB 2.0, 8.5.3, 9.4.5 and
+//! 9.4.9).
+//!
+//! A transfer is given the device's endpoint 0 itself: its tokens carry the address of the host, which is the device's (`home`).
+ghost use Rattle.std.specs.Prelude.{◌≡◌, ◌≤◌, false, length, vec_capacity, IfSome};
+ghost use Rattle.hid_layout.specs.Controls.{items_of, max_events};
+ghost use Rattle.hid_snapshots.specs.Parts.{IsInput};
+ghost use Rattle.hid_device.specs.Core.{round_of};
+ghost use Rattle.hid_device.specs.Device.{core_of};
+ghost use Rattle.hid_host.specs.Host.{may_cut, running};
+ghost use Rattle.hid_stack.specs.Knowing.{Knows};
+ghost use Rattle.hid_stack.specs.Members.{events_by, tried_deed};
+ghost use Rattle.hid_stack.specs.Slot.{StandTogether, TriesOnPair, joint, station_of};
+ghost use Rattle.hid_stack.specs.Tells.{awaited_of, told_behind};
+ghost use Rattle.hid_stack.specs.Sums.{CutsByRequest, IsBetween};
+
+use crate::laws::{control_steps_are_computed, hosts_know_their_devices, rounds_suit_their_hosts};
+use crate::slot::is_sound;
+use hid_device::Device;
+use hid_host::{HostDevice, StackFault};
+use hid_snapshots::Event;
+use usb_control::Progress;
+use usb_transact::Fate;
+
+/// A try of the transfer of a host. Where it ends the open round of the device, the motion of it that the host hasn't got is
+/// told as dropped.
+pub(crate) fn control_pair(
+    fate: Fate,
+    device: &mut Device,
+    host: &mut HostDevice,
+    events: &mut Vec<Event>,
+) -> Result<Progress, StackFault>
+    requires together { StandTogether device.old host.old.clearing host.old.phase }
+    requires knows { Knows host.old device.old.control }
+    requires home { host.old.addr ≡ device.old.addr }
+    requires room { max_events (items_of (core_of device.old).layout) ≤ vec_capacity events.old }
+    ensures tries { TriesOnPair fate (joint device.old host.old) (running host.old.transfer) result
+        (joint device.new host.new) }
+    ensures between { IsBetween (station_of (core_of device.old) host.old.phase)
+        (tried_deed fate (joint device.old host.old) (running host.old.transfer)) }
+    ensures cuts { CutsByRequest fate (joint device.old host.old) (running host.old.transfer) }
+    ensures together { StandTogether device.new host.new.clearing host.new.phase }
+    ensures knows { Knows host.new device.new.control }
+    ensures home { (host.new.addr ≡ host.old.addr) × (device.new.addr ≡ device.old.addr) }
+    ensures layout { (core_of device.new).layout ≡ (core_of device.old).layout }
+    ensures events { events.new.items ≡ events_by (items_of (core_of device.old).layout)
+        (station_of (core_of device.old) host.old.phase)
+        (tried_deed fate (joint device.old host.old) (running host.old.transfer)) }
+    ensures none { may_cut (running host.old.transfer) ≡ false → length events.new.items ≡ 0 }
+    ensures few { length events.new.items ≤ max_events (items_of (core_of device.old).layout) }
+    ensures capacity { vec_capacity events.new ≡ vec_capacity events.old }
+{
+    hosts_know_their_devices();
+    control_steps_are_computed();
+    let awaited = awaited_round(device, host);
+    let result = host.control_step(device.control(), fate);
+    is_sound(device);
+    tell_dropped(awaited, device, host, events);
+    result
+}
+
+/// The report of the open round of a device, where its host hasn't got all of its data.
+fn awaited_round(device: &Device, host: &HostDevice) -> Option<usize>
+    requires together { StandTogether device.now host.now.clearing host.now.phase }
+    requires knows { Knows host.now device.now.control }
+    ensures awaited { result ≡ awaited_of (station_of (core_of device.now) host.now.phase) }
+    ensures input { IfSome result (λ report. IsInput (core_of device.now).layout report) }
+{
+    rounds_suit_their_hosts();
+    is_sound(device);
+    host.awaited(device.open_round(), device.piece())
+}
+
+/// Tells what a try dropped: the motion of the round that was awaited before it, where none is open any more.
+fn tell_dropped(awaited: Option<usize>, device: &Device, host: &HostDevice, events: &mut Vec<Event>)
+    requires together { StandTogether device.now host.now.clearing host.now.phase }
+    requires input { IfSome awaited (λ report. IsInput (core_of device.now).layout report) }
+    requires room { max_events (items_of (core_of device.now).layout) ≤ vec_capacity events.old }
+    ensures events { events.new.items ≡ told_behind awaited (round_of (core_of device.now))
+        host.now.phase (core_of device.now).standing.fixed }
+    ensures few { length events.new.items ≤ max_events (items_of (core_of device.now).layout) }
+    ensures capacity { vec_capacity events.new ≡ vec_capacity events.old }
+{
+    events.clear();
+    match (awaited, device.open_round()) {
+        (Some(report), None) => host.tell_drops(report, device.fixed(), events),
+        (Some(_), Some(_)) | (None, _) => {}
+    }
+}
