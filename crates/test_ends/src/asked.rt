@@ -8,7 +8,7 @@ use crate::requests::{tell_asks, tell_describes, tell_spells};
 use crate::told::Told;
 use crate::words::words_in;
 use std::alloc::Global;
-use test_rows::{Answers, Row, RowFault, Sheet, Subject, Verdict, judge_steps, with_bytes};
+use test_rows::{Answers, Row, RowFault, Sheet, Subject, Verdict, bytes_of, judge_steps, split};
 
 /// The questions of the tables.
 pub struct Questions;
@@ -25,22 +25,7 @@ impl Answers for Questions {
             "spells" => tell_spells(told, sheet, given),
             "describes" => tell_describes(told, sheet, given),
             "prints" => tell_prints(told, sheet, given),
-            _ => with_bytes(self, told, sheet, question, given),
-        }
-    }
-
-    fn answer_bytes(
-        &self,
-        told: &mut String,
-        sheet: &Sheet<'_>,
-        question: &str,
-        bytes: &[u8],
-        words: &str,
-    ) -> Result<(), RowFault> {
-        match question {
-            "asks" => tell_asks(told, sheet, bytes),
-            "makes" => tell_makes(told, sheet, bytes, words),
-            _ => Err(RowFault::Unread),
+            _ => tell_of_bytes(told, sheet, question, given),
         }
     }
 
@@ -58,6 +43,32 @@ impl Answers for Questions {
         let end = play_times(&mut ends, verdict, sheet, row, times);
         drop(ends);
         end
+    }
+}
+
+/// What is asked of bytes, and of the words behind a `|`.
+fn tell_of_bytes(
+    told: &mut String,
+    sheet: &Sheet<'_>,
+    question: &str,
+    given: &str,
+) -> Result<(), RowFault> {
+    let (bytes, words) = split(given, '|');
+    let bytes = bytes_of(sheet, bytes)?;
+    of_bytes(told, sheet, question, &bytes, words)
+}
+
+fn of_bytes(
+    told: &mut String,
+    sheet: &Sheet<'_>,
+    question: &str,
+    bytes: &[u8],
+    words: &str,
+) -> Result<(), RowFault> {
+    match question {
+        "asks" => tell_asks(told, sheet, bytes),
+        "makes" => tell_makes(told, sheet, bytes, words),
+        _ => Err(RowFault::Unread),
     }
 }
 

@@ -12,7 +12,7 @@ use crate::session::{tell_session, tell_table};
 use crate::snapshots::tell_snapshot;
 use crate::views::{tell_awaited, tell_between, tell_forgotten, tell_named, tell_view};
 use hid_layout::Layout;
-use test_rows::{Answers, RowFault, Sheet, tell_shown, with_bytes};
+use test_rows::{Answers, RowFault, Sheet, bytes_of, split, tell_shown};
 
 /// The questions of the tables.
 pub struct Questions;
@@ -32,31 +32,42 @@ impl Answers for Questions {
             "pattern" => tell_pattern_of(told, given),
             "null" => tell_null(told, given),
             "mouse" => tell_mouse(told, given),
-            _ => with_bytes(self, told, sheet, question, given),
+            _ => tell_of_bytes(told, sheet, question, given),
         }
     }
+}
 
-    fn answer_bytes(
-        &self,
-        told: &mut String,
-        sheet: &Sheet<'_>,
-        question: &str,
-        bytes: &[u8],
-        words: &str,
-    ) -> Result<(), RowFault> {
-        match question {
-            "items" => tell_items(told, bytes),
-            "field" => tell_field(told, bytes, words),
-            "write" => tell_written(told, bytes, words),
-            "codecs" => tell_agreement(told, bytes, words),
-            "keyboard" => tell_keyboard(told, bytes),
-            "key" => tell_key(told, bytes, words),
-            "reports" => tell_boot_reports(told, bytes),
-            "parts" => tell_parts(told, sheet.alloc, bytes, words),
-            "session" => tell_session(told, sheet, bytes, words),
-            "table" => tell_table(told, sheet, bytes, words),
-            _ => with_layout(told, sheet, question, bytes, words),
-        }
+/// What is asked of bytes, and of the words behind a `|`.
+fn tell_of_bytes(
+    told: &mut String,
+    sheet: &Sheet<'_>,
+    question: &str,
+    given: &str,
+) -> Result<(), RowFault> {
+    let (bytes, words) = split(given, '|');
+    let bytes = bytes_of(sheet, bytes)?;
+    of_bytes(told, sheet, question, &bytes, words)
+}
+
+fn of_bytes(
+    told: &mut String,
+    sheet: &Sheet<'_>,
+    question: &str,
+    bytes: &[u8],
+    words: &str,
+) -> Result<(), RowFault> {
+    match question {
+        "items" => tell_items(told, bytes),
+        "field" => tell_field(told, bytes, words),
+        "write" => tell_written(told, bytes, words),
+        "codecs" => tell_agreement(told, bytes, words),
+        "keyboard" => tell_keyboard(told, bytes),
+        "key" => tell_key(told, bytes, words),
+        "reports" => tell_boot_reports(told, bytes),
+        "parts" => tell_parts(told, sheet.alloc, bytes, words),
+        "session" => tell_session(told, sheet, bytes, words),
+        "table" => tell_table(told, sheet, bytes, words),
+        _ => with_layout(told, sheet, question, bytes, words),
     }
 }
 

@@ -25,7 +25,7 @@ mod words;
 
 pub use bytes::{bytes_of, push_word};
 pub use fault::RowFault;
-pub use program::{run, with_bytes};
+pub use program::run;
 pub use sheet::Sheet;
 pub use told::{
     add, add_debug, add_hex, add_shown, tell, tell_bytes, tell_debug, tell_hex, tell_number,

@@ -1,26 +1,9 @@
 //! What a program of rows does but for its answers.
 
-use crate::bytes::bytes_of;
-use crate::fault::RowFault;
-use crate::sheet::Sheet;
 use crate::verdict::{Answers, Verdict, judge};
-use crate::words::split;
 use std::alloc::Global;
 use std::io::{self, Print, Read};
 use std::process::ExitCode;
-
-/// Answers what is asked of bytes and, behind `|`, words.
-pub fn with_bytes<A: Answers>(
-    answers: &A,
-    told: &mut String,
-    sheet: &Sheet<'_>,
-    question: &str,
-    given: &str,
-) -> Result<(), RowFault> {
-    let (bytes, words) = split(given, '|');
-    let bytes = bytes_of(sheet, bytes)?;
-    answers.answer_bytes(told, sheet, question, &bytes, words)
-}
 
 /// Plays the rows of an input, and prints those that are wrong and how many there were. It fails where one is wrong, or none
 /// was played.

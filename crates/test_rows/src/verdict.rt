@@ -16,16 +16,6 @@ pub trait Answers {
         given: &str,
     ) -> Result<(), RowFault>;
 
-    /// Writes what is told where this is asked of bytes, and of the words behind them: [`crate::with_bytes`].
-    fn answer_bytes(
-        &self,
-        told: &mut String,
-        sheet: &Sheet<'_>,
-        question: &str,
-        bytes: &[u8],
-        words: &str,
-    ) -> Result<(), RowFault>;
-
     /// Plays the steps of a row, by [`judge_steps`], with what its given words mean. Without it a program has no rows of steps.
     fn play(
         &self,
