@@ -15,7 +15,7 @@ DESTDIR ?=
 VERSION := 0.2.0
 MAJOR := $(firstword $(subst ., ,$(VERSION)))
 
-.PHONY: run test try hidrun hidplay hidmap bench examples library library-test library-check library-cost scale play-cost install deb deb-test documents tour layout memory refusals mutants descriptors compare-linux help clean
+.PHONY: run test try hidrun hidplay hidmap bench examples library library-test library-check library-cost scale play-cost install deb deb-test documents tour format memory refusals mutants descriptors compare-linux help clean
 
 # The first line of each recipe that starts the toolchain: where there is no `rt`, make ends with one line.
 NEEDS_RT = $(if $(shell command -v rt),,$(error rt is missing: it is in the bin folder of the Rattle kit (rattle-kit-13f), which belongs on the PATH))
@@ -24,12 +24,12 @@ NEEDS_RT = $(if $(shell command -v rt),,$(error rt is missing: it is in the bin 
 run: $(HIDRUN)  ## proves and builds hidrun, and runs the mouse example
 	$(HIDRUN) < examples/layouts/mouse.script
 
-# Looks whether all that documents cite is there, each wrong body finds its text and each file is in the layout; proves,
+# Looks whether all that documents cite is there, each wrong body finds its text and each file is formatted; proves,
 # tests and builds everything from nothing, fails where a wrong body couldn't be tried, and runs each example on the program
 # that it built, and those of the C library where there is a C compiler.
 test:  ## proves and tests everything from nothing, and runs all examples
 	$(NEEDS_RT)
-	$(MAKE) --no-print-directory documents layout
+	$(MAKE) --no-print-directory documents format
 	tools/proof/gate
 	$(MAKE) --no-print-directory hidrun hidplay hidmap examples memory
 	if tools/proof/archive hidstack; then $(MAKE) --no-print-directory library-test; fi
@@ -59,15 +59,15 @@ $(PROGRAMS:%=bin/%): bin/%: crates/$$*/out/$$*
 	cp $< $@
 
 # Plays a folder of recordings by GNU parallel, stops it in the middle and resumes it: docs/SCALE.md.
-scale: $(HIDPLAY)  ## plays a folder of recordings side by side
+scale: $(HIDPLAY)  ## plays a folder of recordings in parallel
 	tools/check/scale $(HIDPLAY)
 
 # How many instructions a report takes in hidplay, by callgrind, and how much memory a recording of 1 GB.
-play-cost: $(HIDPLAY)  ## counts what a report takes in hidplay
+play-cost: $(HIDPLAY)  ## counts the instructions of a report in hidplay
 	tools/measure/cost hidplay $(HIDPLAY)
 
 # How many instructions the stack's work takes, by callgrind: the table of docs/SPEED.md.
-bench: $(BENCH)  ## counts what the stack's work takes
+bench: $(BENCH)  ## counts the instructions of the stack's work
 	tools/measure/cost stack $(BENCH)
 
 # The C library: bin/lib/libhidstack.a and the shared libhidstack.so.$(VERSION), of the proved crate.
@@ -86,7 +86,7 @@ library-check: library  ## runs them under valgrind and the sanitizers, and with
 	tools/check/library --memory
 
 # How many instructions an opening and a report take, by callgrind.
-library-cost: library  ## counts what calls of the C library take
+library-cost: library  ## counts the instructions of calls of the C library
 	tools/measure/cost library
 
 # Programs, the two tools for many recordings, library, header, pkg-config file, manual pages, completion, documents and
@@ -121,7 +121,7 @@ deb: $(HIDRUN) $(HIDPLAY) $(HIDMAP) library  ## makes Debian packages of it
 deb-test: deb  ## installs and tries the packages in a root of their own, as root
 	tools/package/check bin/rulohevian_$(VERSION)-1_*.deb bin/libhidstack*_$(VERSION)-1_*.deb
 
-# The seventeen real devices, and the examples of pictures.
+# The recordings that name a device, and the examples of pictures.
 PICTURED := $(shell grep -l '^N:' examples/recordings/*.hid) $(wildcard examples/pictures/*.hid)
 
 # Holds what examples are to print of layouts and reports against a second reader, and each page against the same
@@ -141,8 +141,10 @@ examples: $(HIDRUN) $(HIDPLAY) $(HIDMAP) $(BENCH)  ## runs all examples on the p
 
 # Looks whether each file, function, clause, definition and wrong body that documents cite is there, and then whether it
 # tells a wrong name; whether docs/DEFINITIONS.md is made of the comments in specs/, and the table of docs/THEOREM.md has the
-# definitions that the headline rests on; and whether tools/proof/compare-statements tells a statement that was weakened.
-documents:  ## looks whether all that documents cite is there
+# definitions that the headline rests on; whether tools/proof/compare-statements tells a statement that was weakened, and
+# tools/proof/refusals a wrong body that is refused no longer; and whether names and comments can be read by themselves, and
+# each public function that can fail says when.
+documents:  ## checks that what the documents cite exists
 	tools/check/documents
 	tools/check/documents --self-test
 	tools/check/definitions --check
@@ -150,6 +152,9 @@ documents:  ## looks whether all that documents cite is there
 	tools/proof/theorem-closure --check docs/THEOREM.md
 	tools/proof/theorem-closure --self-test
 	tools/proof/compare-statements --self-test
+	tools/proof/refusals --self-test
+	tools/check/words
+	tools/check/words --self-test
 
 # Runs the program of docs/LIBRARY.md without a proof, in a repository of its own: some minutes.
 tour:  ## runs the program of docs/LIBRARY.md without a proof
@@ -157,7 +162,7 @@ tour:  ## runs the program of docs/LIBRARY.md without a proof
 
 # Looks whether each file of code, definitions and proofs is as `rt fmt` writes it, which the gate says only when it comes to
 # the crate.
-layout:  ## looks whether each file is as rt fmt writes it
+format:  ## checks that each file is as rt fmt writes it
 	$(NEEDS_RT)
 	@find crates -name out -prune -o \( -name '*.rt' -o -name '*.antt' \) -print | xargs $(dir $(realpath $(shell command -v rt)))rattle fmt --check
 

@@ -1,4 +1,4 @@
-/* descriptors COUNT [FIRST]: opens so many made descriptors of up to 4,200 bytes, the FIRSTth and those behind it, and feeds
+/* descriptors COUNT [FIRST]: opens so many made descriptors of up to 4,200 bytes, the FIRSTth and those after it, and feeds
  * reports of 0 to 257 bytes to those that are accepted. It tells how many are, and which took longest; a wrong answer ends it with 1. The same
  * number makes the same descriptor, so that one alone can be run under valgrind. */
 #include "hidstack.h"
@@ -118,7 +118,7 @@ static const char *wrong_with(const uint8_t *bytes, size_t length, long *accepte
     } else if ((length > MOST) != (opened.cause == 2)) {
         told = "L2 exactly where it is too long";
     } else if (opened.at > length || (length > MOST && opened.at != MOST)) {
-        told = "the place is behind the end";
+        told = "the place is after the end";
     }
     hidstack_close(&device);
     return told;

@@ -152,7 +152,7 @@ static void reports_with_ids(void)
     want("the last report", hidstack_report(&device, 2, &report), HIDSTACK_OK);
     want("is Feature 3", report.kind == HIDSTACK_FEATURE && report.id == 3 && report.bytes == 2, 1);
     want("its element", hidstack_element(&device, 2, 0, &element), HIDSTACK_OK);
-    want("lies behind the ID", element.bit == 8 && element.report == 3 && element.kind == HIDSTACK_FEATURE, 1);
+    want("lies after the ID", element.bit == 8 && element.report == 3 && element.kind == HIDSTACK_FEATURE, 1);
     want("its number", hidstack_number(&element, (const uint8_t[]){3, 7}, 2, &value), HIDSTACK_OK);
     want("is 7", (uint64_t)value, 7);
     want("another ID", hidstack_number(&element, (const uint8_t[]){2, 7}, 2, &value), HIDSTACK_UNKNOWN);
@@ -183,7 +183,7 @@ static void long_ones(struct hidstack *device, uint8_t id, struct hidstack_event
 
 static void longest_reports(void)
 {
-    /* 2,048 buttons; 255 values behind an ID; both with a byte more */
+    /* 2,048 buttons; 255 values after an ID; both with a byte more */
     static const uint8_t bits[] = {0x05, 0x09, 0x19, 0x01, 0x2A, 0x00, 0x08, 0x15, 0x00, 0x25, 0x01, 0x75, 0x01, 0x96, 0x00, 0x08, 0x81, 0x02};
     static const uint8_t named[] = {0x05, 0x01, 0x09, 0x30, 0x85, 0x09, 0x15, 0x81, 0x25, 0x7F, 0x75, 0x08, 0x95, 0xFF, 0x81, 0x02};
     static const uint8_t over[] = {0x05, 0x01, 0x09, 0x30, 0x15, 0x81, 0x25, 0x7F, 0x75, 0x08, 0x96, 0x01, 0x01, 0x81, 0x02};
@@ -376,7 +376,7 @@ static void words(void)
         }
 }
 
-/* A script of 1,500 empty lines, and one that is refused behind them. */
+/* A script of 1,500 empty lines, and one that is refused after them. */
 static void late_line(void)
 {
     static const char fault[] = "line 1501: X1\n";

@@ -1,4 +1,4 @@
-/* Each allocation of an opening, a table, a run and a text fails in turn, alone and with all behind it. What only reads
+/* Each allocation of an opening, a table, a run and a text fails in turn, alone and with all after it. What only reads
    takes none, and a handle goes to another thread.
    cc -Wl,--wrap=malloc -Wl,--wrap=realloc -pthread */
 #include "hidstack.h"
@@ -13,7 +13,7 @@ static const uint8_t mouse[] = {
     0x09, 0x30, 0x09, 0x31, 0x15, 0x81, 0x25, 0x7F, 0x75, 0x08, 0x95, 0x02, 0x81, 0x06, 0xC0, 0xC0};
 static struct hidstack_event events[8];
 static long calls, fails = -1;
-static int all; /* the allocations behind it fail too */
+static int all; /* the allocations after it fail too */
 
 void *__real_malloc(size_t n);
 void *__real_realloc(void *p, size_t n);

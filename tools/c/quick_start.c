@@ -37,7 +37,7 @@ static const struct {
     {"none", NULL, 0, 0xFF},
 };
 
-/* Bytes in a block of their exact length, so that a read behind their end is seen. */
+/* Bytes in a block of their exact length, so that a read after their end is seen. */
 static uint8_t *copy_of(const uint8_t *bytes, size_t length)
 {
     uint8_t *made = malloc(length ? length : 1);

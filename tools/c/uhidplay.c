@@ -31,7 +31,7 @@ struct device { int uhid, nodes[NODES], count; };
 static struct device devices[DEVICES];
 static int uevents;
 
-/* How many bytes stand behind their number, or -1 where a word isn't two hex digits or the number isn't theirs: such a line
+/* How many bytes stand after their number, or -1 where a word isn't two hex digits or the number isn't theirs: such a line
  * says nothing. */
 static int bytes(char *text, unsigned char *into, int room)
 {
@@ -216,7 +216,7 @@ static void send_report(int number, int line, char *text)
     answer(device->uhid);
 }
 
-/* Where the bytes of a line begin, behind its first `words` words. */
+/* Where the bytes of a line begin, after its first `words` words. */
 static char *behind(char *line, int words)
 {
     for (char *at = line; at && words--;)
