@@ -7,8 +7,8 @@ use Rattle.usb_transact.specs.declared.transaction.Fate.{Fate}
 use Rattle.usb_transact.specs.declared.transaction.Fate.TheVariants.{Clean, TokenLost, ReplyLost, AckLost}
 use Rattle.usb_control.specs.declared.setup.Setup.{Setup as Request}
 use Rattle.usb_control.specs.declared.device.Stage.{Stage}
-use Rattle.usb_control.specs.declared.device.Heard.{Heard}
-use Rattle.usb_control.specs.declared.device.Heard.TheVariants as hears
+use Rattle.usb_control.specs.declared.device.LastPacket.{LastPacket}
+use Rattle.usb_control.specs.declared.device.LastPacket.TheVariants as last_packets
 use Rattle.usb_control.specs.declared.host.HostStage.{HostStage}
 use Rattle.usb_control.specs.declared.host.HostStage.TheVariants as tries
 use Rattle.usb_transact.specs.declared.bus.Phase.{Phase}
@@ -17,10 +17,10 @@ use Rattle.usb_transact.specs.Bus.{Arrivals, Carries, Replies}
 use Rattle.usb_transact.specs.Fate.{arrives_under}
 use Rattle.usb_transact.proofs.TableLemmas.{read_whole, read_lost}
 use Rattle.usb_control.specs.Requests.{PrepareGives, ApplyGives, AnswerOf}
-use Rattle.usb_control.specs.Device.{DevControlState, Does, effect, ack_heard}
-use Rattle.usb_control.specs.Host.{HostTransferState, IsRunning, asks_at, kind_of, payload_at, took_at, acknowledges_at}
-use Rattle.usb_control.specs.Transaction.{AckComes, Transacts, reached, heard_of}
-use Rattle.usb_control.specs.Crossing.{Hears, HearsData, Reaches, Acknowledges, Crosses, phase_of}
+use Rattle.usb_control.specs.Device.{DevControlState, Does, effect, effect_of_ack}
+use Rattle.usb_control.specs.Host.{HostTransferState, IsRunning, asks_at, kind_of, payload_at, transfer_after_reply_at, acknowledges_at}
+use Rattle.usb_control.specs.Transaction.{AckComes, Transacts, effect_of_stage, reply_after_fate}
+use Rattle.usb_control.specs.Crossing.{Receives, HearsData, Reaches, Acknowledges, Crosses, phase_of}
 
 -- a phase in which packets arrive as they were sent, and one in which they are lost
 abbrev IsWhole : Arrivals → Phase → Type 0
@@ -29,31 +29,62 @@ IsWhole arrivals phase = (bytes : List ℕ) → arrivals phase bytes ≡ Some by
 abbrev IsLost : Arrivals → Phase → Type 0
 IsLost arrivals phase = (bytes : List ℕ) → arrivals phase bytes ≡ None
 
-hears_whole : {R : Type 0} (prepare_gives : PrepareGives R) (apply_gives : ApplyGives R) (answer_of : AnswerOf R) (arrivals : Arrivals) (phase : Phase) (sent : Packet) (came : Option Packet) (old new : DevControlState R) (answer : Option Packet) → IsWhole arrivals phase → Carries arrivals phase sent came → Hears prepare_gives apply_gives answer_of came old new answer → Does prepare_gives apply_gives (effect (answer_of old.requests) old.stage old.heard sent) old.requests new answer
+hears_whole : {R : Type 0} (prepare_gives : PrepareGives R) (apply_gives : ApplyGives R) (answer_of : AnswerOf R)
+    (arrivals : Arrivals) (phase : Phase) (sent : Packet) (came : Option Packet) (old new : DevControlState R)
+    (answer : Option Packet) → IsWhole arrivals phase → Carries arrivals phase sent came
+    → Receives prepare_gives apply_gives answer_of came old new answer
+    → Does prepare_gives apply_gives
+    (effect (answer_of old.requests) old.stage old.last_packet sent) old.requests new answer
 hears_whole prepare_gives apply_gives answer_of arrivals phase sent came old new answer whole c h =
-    subst (λ (x : Option Packet). Hears prepare_gives apply_gives answer_of x old new answer) (read_whole arrivals phase sent came (whole (spelling sent)) c) h
+    subst (λ (x : Option Packet). Receives prepare_gives apply_gives answer_of x old new answer)
+    (read_whole arrivals phase sent came (whole (spelling sent)) c) h
 
-hears_lost : {R : Type 0} (prepare_gives : PrepareGives R) (apply_gives : ApplyGives R) (answer_of : AnswerOf R) (arrivals : Arrivals) (phase : Phase) (sent : Packet) (came : Option Packet) (old new : DevControlState R) (answer : Option Packet) → IsLost arrivals phase → Carries arrivals phase sent came → Hears prepare_gives apply_gives answer_of came old new answer → (new ≡ old) × (answer ≡ None)
+hears_lost : {R : Type 0} (prepare_gives : PrepareGives R) (apply_gives : ApplyGives R) (answer_of : AnswerOf R)
+    (arrivals : Arrivals) (phase : Phase) (sent : Packet) (came : Option Packet) (old new : DevControlState R)
+    (answer : Option Packet) → IsLost arrivals phase → Carries arrivals phase sent came
+    → Receives prepare_gives apply_gives answer_of came old new answer → (new ≡ old) × (answer ≡ None)
 hears_lost prepare_gives apply_gives answer_of arrivals phase sent came old new answer lost c h =
-    subst (λ (x : Option Packet). Hears prepare_gives apply_gives answer_of x old new answer) (read_lost arrivals phase sent came (lost (spelling sent)) c) h
+    subst (λ (x : Option Packet). Receives prepare_gives apply_gives answer_of x old new answer)
+    (read_lost arrivals phase sent came (lost (spelling sent)) c) h
 
--- the data packet behind a token that was heard
-data_heard_whole : {R : Type 0} (prepare_gives : PrepareGives R) (apply_gives : ApplyGives R) (answer_of : AnswerOf R) (arrivals : Arrivals) (sent : Packet) (requests : R) (stage : Stage) (heard : Heard) (mid : DevControlState R) (before : Option Packet) (new : DevControlState R) (answer : Option Packet) → IsWhole arrivals HostData → mid ≡ record { requests = requests; stage = stage; heard = heard } → HearsData prepare_gives apply_gives answer_of arrivals (Some sent) mid before new answer → Does prepare_gives apply_gives (effect (answer_of requests) stage heard sent) requests new answer
-data_heard_whole prepare_gives apply_gives answer_of arrivals sent requests stage heard mid before new answer whole is (came, c, h) =
-    subst (λ (m : DevControlState _). Does prepare_gives apply_gives (effect (answer_of m.requests) m.stage m.heard sent) m.requests new answer) is
+-- the data packet after a token that was heard
+data_heard_whole : {R : Type 0} (prepare_gives : PrepareGives R) (apply_gives : ApplyGives R) (answer_of : AnswerOf R)
+    (arrivals : Arrivals) (sent : Packet) (requests : R) (stage : Stage) (last_packet : LastPacket)
+    (mid : DevControlState R) (before : Option Packet) (new : DevControlState R) (answer : Option Packet)
+    → IsWhole arrivals HostData → mid ≡ record { requests = requests; stage = stage; last_packet = last_packet }
+    → HearsData prepare_gives apply_gives answer_of arrivals (Some sent) mid before new answer
+    → Does prepare_gives apply_gives (effect (answer_of requests) stage last_packet sent) requests new answer
+data_heard_whole prepare_gives apply_gives answer_of arrivals sent requests stage last_packet mid before new answer whole is (came, c, h) =
+    subst (λ (m : DevControlState _). Does prepare_gives apply_gives (effect (answer_of m.requests) m.stage m.last_packet sent) m.requests new answer) is
     (hears_whole prepare_gives apply_gives answer_of arrivals HostData sent came mid new answer whole c h)
 
 -- what the host sends first reaches the device
-reach_at : {R : Type 0} (prepare_gives : PrepareGives R) (apply_gives : ApplyGives R) (answer_of : AnswerOf R) (arrivals : Arrivals) (stage : HostStage) (addr : ℕ) (request : Request) (bytes : List ℕ) (old mid : DevControlState R) (before : Option Packet) (new : DevControlState R) (answer : Option Packet) → IsRunning stage → IsWhole arrivals HostData → Does prepare_gives apply_gives (effect (answer_of old.requests) old.stage old.heard (packets.Token (kind_of stage) addr 0)) old.requests mid before → HearsData prepare_gives apply_gives answer_of arrivals (payload_at stage request bytes) mid before new answer → Does prepare_gives apply_gives (reached stage request bytes old.stage (answer_of old.requests)) old.requests new answer
-reach_at prepare_gives apply_gives answer_of arrivals tries.Setup addr request bytes old mid before new answer going whole token h = data_heard_whole prepare_gives apply_gives answer_of arrivals _ old.requests old.stage hears.Setup mid before new answer whole token.0 h
-reach_at prepare_gives apply_gives answer_of arrivals (tries.DataOut sent one) addr request bytes old mid before new answer going whole token h = data_heard_whole prepare_gives apply_gives answer_of arrivals _ old.requests old.stage hears.Out mid before new answer whole token.0 h
-reach_at prepare_gives apply_gives answer_of arrivals tries.StatusOut addr request bytes old mid before new answer going whole token h = data_heard_whole prepare_gives apply_gives answer_of arrivals _ old.requests old.stage hears.Out mid before new answer whole token.0 h
+reach_at : {R : Type 0} (prepare_gives : PrepareGives R) (apply_gives : ApplyGives R) (answer_of : AnswerOf R)
+    (arrivals : Arrivals) (stage : HostStage) (addr : ℕ) (request : Request) (bytes : List ℕ)
+    (old mid : DevControlState R) (before : Option Packet) (new : DevControlState R) (answer : Option Packet)
+    → IsRunning stage → IsWhole arrivals HostData
+    → Does prepare_gives apply_gives
+    (effect (answer_of old.requests) old.stage old.last_packet
+    (packets.Token (kind_of stage) addr 0)) old.requests mid before
+    → HearsData prepare_gives apply_gives answer_of arrivals (payload_at stage request bytes) mid before new answer
+    → Does prepare_gives apply_gives
+    (effect_of_stage stage request bytes old.stage (answer_of old.requests)) old.requests new answer
+reach_at prepare_gives apply_gives answer_of arrivals tries.Setup addr request bytes old mid before new answer going whole token h = data_heard_whole prepare_gives apply_gives answer_of arrivals _ old.requests old.stage last_packets.Setup mid before new answer whole token.0 h
+reach_at prepare_gives apply_gives answer_of arrivals (tries.DataOut sent one) addr request bytes old mid before new answer going whole token h = data_heard_whole prepare_gives apply_gives answer_of arrivals _ old.requests old.stage last_packets.Out mid before new answer whole token.0 h
+reach_at prepare_gives apply_gives answer_of arrivals tries.StatusOut addr request bytes old mid before new answer going whole token h = data_heard_whole prepare_gives apply_gives answer_of arrivals _ old.requests old.stage last_packets.Out mid before new answer whole token.0 h
 reach_at prepare_gives apply_gives answer_of arrivals (tries.DataIn one) addr request bytes old mid before new answer going whole token h = rw (h.0, h.1) token
 reach_at prepare_gives apply_gives answer_of arrivals tries.StatusIn addr request bytes old mid before new answer going whole token h = rw (h.0, h.1) token
 reach_at prepare_gives apply_gives answer_of arrivals tries.Done addr request bytes old mid before new answer going whole token h = cc
 reach_at prepare_gives apply_gives answer_of arrivals (tries.Failed fault) addr request bytes old mid before new answer going whole token h = cc
 
-reach_whole : {R : Type 0} (prepare_gives : PrepareGives R) (apply_gives : ApplyGives R) (answer_of : AnswerOf R) (arrivals : Arrivals) (stage : HostStage) (addr : ℕ) (request : Request) (bytes : List ℕ) (old new : DevControlState R) (answer : Option Packet) → IsRunning stage → IsWhole arrivals Token → IsWhole arrivals HostData → Reaches prepare_gives apply_gives answer_of arrivals (packets.Token (kind_of stage) addr 0) (payload_at stage request bytes) old new answer → Does prepare_gives apply_gives (reached stage request bytes old.stage (answer_of old.requests)) old.requests new answer
+reach_whole : {R : Type 0} (prepare_gives : PrepareGives R) (apply_gives : ApplyGives R) (answer_of : AnswerOf R)
+    (arrivals : Arrivals) (stage : HostStage) (addr : ℕ) (request : Request) (bytes : List ℕ)
+    (old new : DevControlState R) (answer : Option Packet) → IsRunning stage → IsWhole arrivals Token
+    → IsWhole arrivals HostData
+    → Reaches prepare_gives apply_gives answer_of arrivals (packets.Token (kind_of stage) addr 0)
+    (payload_at stage request bytes) old new answer
+    → Does prepare_gives apply_gives
+    (effect_of_stage stage request bytes old.stage (answer_of old.requests)) old.requests new answer
 reach_whole prepare_gives apply_gives answer_of arrivals stage addr request bytes old new answer going whole whole_data (came, mid, before, c, token, h) =
     reach_at prepare_gives apply_gives answer_of arrivals stage addr request bytes old mid before new answer going whole_data
     (hears_whole prepare_gives apply_gives answer_of arrivals Token (packets.Token (kind_of stage) addr 0) came old mid before whole c token) h
@@ -77,7 +108,8 @@ reply_lost : (arrivals : Arrivals) (phase : Phase) (answer reply : Option Packet
 reply_lost arrivals phase None reply lost h = h
 reply_lost arrivals phase (Some sent) reply lost h = read_lost arrivals phase sent reply (lost (spelling sent)) h
 
-reply_late : (asks : Bool) (answer reply : Option Packet) → Replies (arrives_under AckLost) (phase_of asks) answer reply → reply ≡ heard_of AckLost asks answer
+reply_late : (asks : Bool) (answer reply : Option Packet)
+    → Replies (arrives_under AckLost) (phase_of asks) answer reply → reply ≡ reply_after_fate AckLost asks answer
 reply_late true answer reply h = reply_whole (arrives_under AckLost) (phase_of true) answer reply (λ bytes. refl) h
 reply_late false answer reply h = reply_lost (arrives_under AckLost) (phase_of false) answer reply (λ bytes. refl) h
 
@@ -100,16 +132,19 @@ nothing_acknowledged tries.Done after = refl
 nothing_acknowledged (tries.Failed fault) after = refl
 
 -- an ACK has no answer
-ack_is_silent : {R : Type 0} (prepare_gives : PrepareGives R) (apply_gives : ApplyGives R) (heard : Heard) (answer : Option (List ℕ)) (stage : Stage) (old : R) (new : DevControlState R) (said : Option Packet) → Does prepare_gives apply_gives (ack_heard answer stage heard) old new said → Does prepare_gives apply_gives (ack_heard answer stage heard) old new None
-ack_is_silent prepare_gives apply_gives hears.Nothing answer stage old new said h = (h.0, refl)
-ack_is_silent prepare_gives apply_gives hears.Setup answer stage old new said h = (h.0, refl)
-ack_is_silent prepare_gives apply_gives hears.Out answer stage old new said h = (h.0, refl)
-ack_is_silent prepare_gives apply_gives hears.Answered answer stage old new said h = (h.0, refl)
+ack_is_silent : {R : Type 0} (prepare_gives : PrepareGives R) (apply_gives : ApplyGives R) (last_packet : LastPacket)
+    (answer : Option (List ℕ)) (stage : Stage) (old : R) (new : DevControlState R) (said : Option Packet)
+    → Does prepare_gives apply_gives (effect_of_ack answer stage last_packet) old new said
+    → Does prepare_gives apply_gives (effect_of_ack answer stage last_packet) old new None
+ack_is_silent prepare_gives apply_gives last_packets.Nothing answer stage old new said h = (h.0, refl)
+ack_is_silent prepare_gives apply_gives last_packets.Setup answer stage old new said h = (h.0, refl)
+ack_is_silent prepare_gives apply_gives last_packets.Out answer stage old new said h = (h.0, refl)
+ack_is_silent prepare_gives apply_gives last_packets.Answered answer stage old new said h = (h.0, refl)
 
 ack_clean : {R : Type 0} (prepare_gives : PrepareGives R) (apply_gives : ApplyGives R) (answer_of : AnswerOf R) (says : Bool) (old new : DevControlState R) → Acknowledges prepare_gives apply_gives answer_of (arrives_under Clean) says old new → AckComes prepare_gives apply_gives answer_of says old new
 ack_clean prepare_gives apply_gives answer_of false old new h = h
 ack_clean prepare_gives apply_gives answer_of true old new (came, answer, c, h) =
-    ack_is_silent prepare_gives apply_gives old.heard (answer_of old.requests) old.stage old.requests new answer
+    ack_is_silent prepare_gives apply_gives old.last_packet (answer_of old.requests) old.stage old.requests new answer
     (hears_whole prepare_gives apply_gives answer_of (arrives_under Clean) Acknowledgement packets.Ack came old new answer (λ bytes. refl) c h)
 
 ack_lost : {R : Type 0} (prepare_gives : PrepareGives R) (apply_gives : ApplyGives R) (answer_of : AnswerOf R) (says : Bool) (old new : DevControlState R) → Acknowledges prepare_gives apply_gives answer_of (arrives_under AckLost) says old new → new ≡ old
@@ -125,28 +160,34 @@ ack_unsent prepare_gives apply_gives answer_of arrivals stage reply after old ne
 pub crosses_transacts : {R : Type 0} (prepare_gives : PrepareGives R) (apply_gives : ApplyGives R) (answer_of : AnswerOf R) (fate : Fate) (host : HostTransferState) (old : DevControlState R) (after : HostTransferState) (new : DevControlState R) → IsRunning host.stage → Crosses prepare_gives apply_gives answer_of (arrives_under fate) host old after new → Transacts prepare_gives apply_gives answer_of fate host old after new
 crosses_transacts prepare_gives apply_gives answer_of TokenLost host old after new going x =
     let lost = reach_lost prepare_gives apply_gives answer_of (arrives_under TokenLost) _ _ old x.mid x.answer (λ bytes. refl) (λ bytes. refl) x.reached in
-    let none = subst (λ (a : Option Packet). Replies (arrives_under TokenLost) (phase_of (asks_at host.stage)) a x.reply) lost.1 x.replied in
-    (x.took_reply ∙ ap (λ (r : Option Packet). took_at host.stage r host) none, ack_unsent prepare_gives apply_gives answer_of (arrives_under TokenLost) host.stage x.reply _ x.mid new none x.acknowledged ∙ lost.0)
+    let none = subst (λ (a : Option Packet). Replies (arrives_under TokenLost) (phase_of (asks_at host.stage)) a x.reply) lost.1 x.replied in (
+      x.took_reply ∙ ap (λ (r : Option Packet). transfer_after_reply_at host.stage r host) none,
+      ack_unsent prepare_gives apply_gives answer_of
+          (arrives_under TokenLost) host.stage x.reply _ x.mid new none x.acknowledged ∙ lost.0,
+    )
 crosses_transacts prepare_gives apply_gives answer_of ReplyLost host old after new going x =
     let none = reply_gone (asks_at host.stage) x.answer x.reply x.replied in (
       x.mid,
       x.answer,
       reach_whole prepare_gives apply_gives answer_of (arrives_under ReplyLost) host.stage host.addr host.setup host.bytes old x.mid x.answer going (λ bytes. refl) (λ bytes. refl) x.reached,
-      x.took_reply ∙ ap (λ (r : Option Packet). took_at host.stage r host) none,
+      x.took_reply ∙ ap (λ (r : Option Packet). transfer_after_reply_at host.stage r host) none,
       ack_unsent prepare_gives apply_gives answer_of (arrives_under ReplyLost) host.stage x.reply _ x.mid new none x.acknowledged,
     )
 crosses_transacts prepare_gives apply_gives answer_of AckLost host old after new going x =
-    let heard = reply_late (asks_at host.stage) x.answer x.reply x.replied in (
+    let last_packet = reply_late (asks_at host.stage) x.answer x.reply x.replied in (
       x.mid,
       x.answer,
       reach_whole prepare_gives apply_gives answer_of (arrives_under AckLost) host.stage host.addr host.setup host.bytes old x.mid x.answer going (λ bytes. refl) (λ bytes. refl) x.reached,
-      x.took_reply ∙ ap (λ (r : Option Packet). took_at host.stage r host) heard,
+      x.took_reply ∙ ap (λ (r : Option Packet). transfer_after_reply_at host.stage r host) last_packet,
       ack_lost prepare_gives apply_gives answer_of _ x.mid new x.acknowledged,
     )
 crosses_transacts prepare_gives apply_gives answer_of Clean host old after new going x =
-    let heard = reply_clean (asks_at host.stage) x.answer x.reply x.replied in
-    let says = subst (λ (r : Option Packet). Acknowledges prepare_gives apply_gives answer_of (arrives_under Clean) (acknowledges_at host.stage r (took_at host.stage r host).stage) x.mid new) heard x.acknowledged in
-    let took_it = x.took_reply ∙ ap (λ (r : Option Packet). took_at host.stage r host) heard in (
+    let last_packet = reply_clean (asks_at host.stage) x.answer x.reply x.replied in
+    let says =
+    subst (λ (r : Option Packet). Acknowledges prepare_gives apply_gives answer_of (arrives_under Clean)
+    (acknowledges_at host.stage r
+    (transfer_after_reply_at host.stage r host).stage) x.mid new) last_packet x.acknowledged in
+    let took_it = x.took_reply ∙ ap (λ (r : Option Packet). transfer_after_reply_at host.stage r host) last_packet in (
       x.mid,
       x.answer,
       reach_whole prepare_gives apply_gives answer_of (arrives_under Clean) host.stage host.addr host.setup host.bytes old x.mid x.answer going (λ bytes. refl) (λ bytes. refl) x.reached,

@@ -9,8 +9,8 @@ use Rattle.usb_control.specs.SetupBytes.{reads}
 use Rattle.usb_control.specs.Requests.{AnswerOf}
 use Rattle.usb_control.specs.Device.{DevControlState}
 use Rattle.usb_control.specs.Host.{HostTransferState}
-use Rattle.usb_control.specs.Transfer.{Shape, shape_of, Decision, Refused, Accepted, Position, Setup, Piece, Status, Past, Place, answered_bytes, comes, start}
-use Rattle.usb_control.specs.Standing.{host_stage, host_bytes, DeviceHas, DeviceStands, StandsWith, Stands}
+use Rattle.usb_control.specs.Transfer.{Shape, shape_of, Decision, Refused, Accepted, Position, Setup, Piece, Status, Past, Place, answered_bytes, comes_from_device, start}
+use Rattle.usb_control.specs.Positions.{host_stage, host_bytes, DeviceHas, DeviceStands, StandsWith, Stands}
 use Rattle.usb_control.specs.Runs.{IsDone}
 use Rattle.usb_control.proofs.StepLemmas.{shaped}
 
@@ -38,7 +38,7 @@ way_stage false s t f g = g
 done_stage : (shape : Shape) (p : Position) → host_stage shape p ≡ tries.Done → p ≡ Past
 done_stage shape Setup e = cc
 done_stage shape (Piece k) e = absurd (way_stage shape.reads _ _ (λ h. cc) (λ h. cc) e)
-done_stage shape Status e = absurd (way_stage (comes shape Status) _ _ (λ h. cc) (λ h. cc) e)
+done_stage shape Status e = absurd (way_stage (comes_from_device shape Status) _ _ (λ h. cc) (λ h. cc) e)
 done_stage shape Past e = refl
 
 done_with : {R : Type 0} (answer_of : AnswerOf R) (shape : Shape) (sends : List ℕ) (p d : Position) (q : Decision) (a : Bool) (t : ℕ) (fault : Option ControlFault) (host : HostTransferState) (control : DevControlState R) → let place : Place = record { host = p; device = d; decision = q; applied = a; tries = t; fault = fault } in Stands answer_of shape sends place host control → (host.stage ≡ tries.Done) ↔ IsDone place

@@ -13,9 +13,9 @@ pub mod RunLemmas
 pub mod StepsLemmas
 pub mod LawLemmas
 pub mod CrossingLemmas
-pub mod ComputedLemmas
+pub mod TryFunctionLemmas
 pub mod KeepsLemmas
-pub mod MeanwhileLemmas
+pub mod InterleavingLemmas
 pub mod WalkLemmas
 pub mod SearchLemmas
 mod Vectors

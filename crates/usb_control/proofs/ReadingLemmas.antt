@@ -14,7 +14,7 @@ use Rattle.usb_control.specs.declared.host.HostStage.{HostStage}
 use Rattle.usb_control.specs.declared.host.HostStage.TheVariants as tries
 use Rattle.usb_control.specs.SetupBytes.{reads}
 use Rattle.usb_control.specs.Host.{HostTransferState, after_setup, status_in}
-use Rattle.usb_control.specs.Reading.{took_all, accepted, IsDataStage, IsReadOf}
+use Rattle.usb_control.specs.Reading.{took_all, accepted_payloads, IsDataStage, IsReadOf}
 
 abbrev at : ℕ → Request → List ℕ → HostStage → ℕ → HostTransferState
 at addr request bytes stage tried = record { addr = addr; setup = request; bytes = bytes; stage = stage; tries = tried }
@@ -37,7 +37,7 @@ silent_if : (b : Bool) (came : List (Option Packet)) (addr : ℕ) (request : Req
 silent_if true came addr request bytes stage tried done = record { tried = tried + 1; same = refl }
 silent_if false came addr request bytes stage tried done = absurd (is_done_failed came addr request bytes faults.BusFault tried done)
 
--- behind the data stage the bytes stay
+-- after the data stage the bytes stay
 done_stays : (came : List (Option Packet)) (addr : ℕ) (request : Request) (bytes : List ℕ) (tried : ℕ) → (took_all came (at addr request bytes tries.Done tried)).bytes ≡ bytes
 done_stays [] addr request bytes tried = refl
 done_stays (x ∷ came) addr request bytes tried = done_stays came addr request bytes tried
@@ -74,16 +74,18 @@ status_in_stays (Some (packets.Token k a e) ∷ came) addr request bytes tried d
 status_in_stays (Some (packets.Data false p) ∷ came) addr request bytes tried done = status_in_stays came addr request bytes 0 done
 status_in_stays (Some (packets.Data true p) ∷ came) addr request bytes tried done = status_payload_stays p.items came addr request bytes tried done
 
--- what a data stage gets, behind the bytes that the host has
+-- what a data stage gets, after the bytes that the host has
 record Gets (asked : ℕ) (bytes : List ℕ) (one : Bool) (came : List (Option Packet)) (final : List ℕ) : Type 0 where
   stage : List (Option Packet)
   behind : List (Option Packet)
   order : came ≡ stage ++ behind
-  data_stage : IsDataStage (asked - length bytes) (accepted one stage)
-  bytes_are : final ≡ bytes ++ concat (accepted one stage)
+  data_stage : IsDataStage (asked - length bytes) (accepted_payloads one stage)
+  bytes_are : final ≡ bytes ++ concat (accepted_payloads one stage)
 
 -- one packet more that is thrown away
-thrown : (asked : ℕ) (bytes : List ℕ) (one : Bool) (x : Option Packet) (came : List (Option Packet)) (final : List ℕ) → ((stage : List (Option Packet)) → accepted one (x ∷ stage) ≡ accepted one stage) → Gets asked bytes one came final → Gets asked bytes one (x ∷ came) final
+thrown : (asked : ℕ) (bytes : List ℕ) (one : Bool) (x : Option Packet) (came : List (Option Packet)) (final : List ℕ)
+    → ((stage : List (Option Packet)) → accepted_payloads one (x ∷ stage) ≡ accepted_payloads one stage)
+    → Gets asked bytes one came final → Gets asked bytes one (x ∷ came) final
 thrown asked bytes one x came final skips g = record {
   stage = x ∷ g.stage;
   behind = g.behind;
@@ -101,8 +103,8 @@ record GetsNext (asked : ℕ) (bytes : List ℕ) (one : Bool) (payload : List �
   stage : List (Option Packet)
   behind : List (Option Packet)
   order : came ≡ stage ++ behind
-  data_stage : IsDataStage (asked - length bytes) (payload ∷ accepted (not one) stage)
-  bytes_are : final ≡ bytes ++ (payload ++ concat (accepted (not one) stage))
+  data_stage : IsDataStage (asked - length bytes) (payload ∷ accepted_payloads (not one) stage)
+  bytes_are : final ≡ bytes ++ (payload ++ concat (accepted_payloads (not one) stage))
 
 -- at the data stage under a toggle, whatever the tries so far
 abbrev StageGets : List (Option Packet) → ℕ → Request → List ℕ → Bool → Type 0
@@ -127,7 +129,10 @@ next_gets true true one payload came addr request bytes tried fits full more don
       stage = g.stage;
       behind = g.behind;
       order = g.order;
-      data_stage = more_stage (request.length - length bytes) payload (accepted (not one) g.stage) f.0 (omega (arith, f.0, f.1)) (subst (λ (n : ℕ). IsDataStage n (accepted (not one) g.stage)) left g.data_stage);
+      data_stage =
+          more_stage (request.length - length bytes) payload (accepted_payloads (not one) g.stage) f.0
+          (omega (arith, f.0, f.1))
+          (subst (λ (n : ℕ). IsDataStage n (accepted_payloads (not one) g.stage)) left g.data_stage);
       bytes_are = g.bytes_are ∙ append_assoc bytes payload _;
     }
 next_gets true false one payload came addr request bytes tried fits full more done =
@@ -140,7 +145,10 @@ next_gets true false one payload came addr request bytes tried fits full more do
       bytes_are = status_out_stays came addr request (bytes ++ payload) 0 done ∙ ap (λ (l : List ℕ). bytes ++ l) (sym (append-nil payload));
     }
 
-taken : (asked : ℕ) (bytes : List ℕ) (one : Bool) (p : _) (came : List (Option Packet)) (final : List ℕ) → ((stage : List (Option Packet)) → accepted one (Some (packets.Data one p) ∷ stage) ≡ p.items ∷ accepted (not one) stage) → GetsNext asked bytes one p.items came final → Gets asked bytes one (Some (packets.Data one p) ∷ came) final
+taken : (asked : ℕ) (bytes : List ℕ) (one : Bool) (p : _) (came : List (Option Packet)) (final : List ℕ)
+    → ((stage : List (Option Packet))
+    → accepted_payloads one (Some (packets.Data one p) ∷ stage) ≡ p.items ∷ accepted_payloads (not one) stage)
+    → GetsNext asked bytes one p.items came final → Gets asked bytes one (Some (packets.Data one p) ∷ came) final
 taken asked bytes one p came final takes g = record {
   stage = Some (packets.Data one p) ∷ g.stage;
   behind = g.behind;
@@ -149,7 +157,13 @@ taken asked bytes one p came final takes g = record {
   bytes_are = rw (takes g.stage) g.bytes_are;
 }
 
-silent_gets : (one : Bool) (x : Option Packet) (came : List (Option Packet)) (addr : ℕ) (request : Request) (bytes : List ℕ) (tried : ℕ) → let after = if nat_lt tried 2 then at addr request bytes (tries.DataIn one) (tried + 1) else at addr request bytes (tries.Failed faults.BusFault) tried in ((stage : List (Option Packet)) → accepted one (x ∷ stage) ≡ accepted one stage) → StageGets came addr request bytes one → (took_all came after).stage ≡ tries.Done → Gets request.length bytes one (x ∷ came) (took_all came after).bytes
+silent_gets : (one : Bool) (x : Option Packet) (came : List (Option Packet)) (addr : ℕ) (request : Request)
+    (bytes : List ℕ) (tried : ℕ) → let after =
+    if nat_lt tried 2 then at addr request bytes (tries.DataIn one) (tried + 1) else at addr request bytes
+    (tries.Failed faults.BusFault) tried in
+    ((stage : List (Option Packet)) → accepted_payloads one (x ∷ stage) ≡ accepted_payloads one stage)
+    → StageGets came addr request bytes one → (took_all came after).stage ≡ tries.Done
+    → Gets request.length bytes one (x ∷ came) (took_all came after).bytes
 silent_gets one x came addr request bytes tried skips more done =
     let s = silent_if (nat_lt tried 2) came addr request bytes (tries.DataIn one) tried done in
     let g = more s.tried (sym (ap (λ (t : HostTransferState). t.stage) s.same) ∙ done) in
@@ -167,7 +181,7 @@ data_gets (Some (packets.Data false p) ∷ came) false addr request bytes tried 
 data_gets (Some (packets.Data false p) ∷ came) true addr request bytes tried done = thrown request.length bytes true (Some (packets.Data false p)) came _ (λ s. refl) (data_gets came true addr request bytes 0 done)
 data_gets (Some (packets.Data true p) ∷ came) false addr request bytes tried done = thrown request.length bytes false (Some (packets.Data true p)) came _ (λ s. refl) (data_gets came false addr request bytes 0 done)
 
--- behind the ACK to SETUP
+-- after the ACK to SETUP
 read_begins : (b : Bool) (came : List (Option Packet)) (addr : ℕ) (request : Request) → let after = at addr request [] (if b then tries.StatusIn else tries.DataIn true) 0 in (request.length == 0) ≡ b → (took_all came after).stage ≡ tries.Done → Gets request.length [] true came (took_all came after).bytes
 read_begins true came addr request none done = record {
   stage = [];
@@ -218,7 +232,7 @@ setup_reads (Some packets.Ack ∷ came) addr request is tried done =
       behind = g.behind;
       order = ap (λ (l : List (Option Packet)). Some packets.Ack ∷ l) g.order;
       first = none_before (Some packets.Ack);
-      data_stage = subst (λ (n : ℕ). IsDataStage n (accepted true g.stage)) from_start g.data_stage;
+      data_stage = subst (λ (n : ℕ). IsDataStage n (accepted_payloads true g.stage)) from_start g.data_stage;
       bytes_are = g.bytes_are;
     }
 setup_reads (Some packets.Nak ∷ came) addr request is tried done = silent_reads (Some packets.Nak) came addr request tried (λ e. cc) (setup_reads came addr request is) done

@@ -10,11 +10,11 @@ use Rattle.usb_control.specs.declared.fault.ControlFault.TheVariants as faults
 use Rattle.usb_control.specs.declared.host.HostStage.{HostStage}
 use Rattle.usb_control.specs.declared.host.HostStage.TheVariants as tries
 use Rattle.usb_control.specs.Requests.{PrepareGives, ApplyGives, AnswerOf}
-use Rattle.usb_control.specs.Device.{DevControlState, Effect, stalled, Does}
-use Rattle.usb_control.specs.Host.{HostTransferState, asks_at, took_at, acknowledges_at, unanswered, failed}
-use Rattle.usb_control.specs.Transaction.{TransactsAt, AckComes, reached, heard_of}
-use Rattle.usb_control.specs.Transfer.{Shape, Refused, Position, refused_tried}
-use Rattle.usb_control.specs.Standing.{BothStand, Stands}
+use Rattle.usb_control.specs.Device.{DevControlState, Effect, stall_effect, Does}
+use Rattle.usb_control.specs.Host.{HostTransferState, asks_at, transfer_after_reply_at, acknowledges_at, after_no_answer, with_failure}
+use Rattle.usb_control.specs.Transaction.{TransactsAt, AckComes, effect_of_stage, reply_after_fate}
+use Rattle.usb_control.specs.Transfer.{Shape, Refused, Position, place_after_refusal}
+use Rattle.usb_control.specs.Positions.{BothStand, Stands}
 use Rattle.usb_control.proofs.StepLemmas.{at, silent_stands, moved, has_stands}
 
 -- a data piece or a status is tried
@@ -25,7 +25,8 @@ IsPiece tries.StatusIn = Unit {0}
 IsPiece tries.StatusOut = Unit {0}
 IsPiece _ = ⊥
 
-pub none_taken : (stage : HostStage) (host : HostTransferState) → IsPiece stage → took_at stage None host ≡ unanswered host
+pub none_taken : (stage : HostStage) (host : HostTransferState) → IsPiece stage
+    → transfer_after_reply_at stage None host ≡ after_no_answer host
 none_taken (tries.DataIn one) host h = refl
 none_taken (tries.DataOut sent one) host h = refl
 none_taken tries.StatusIn host h = refl
@@ -43,7 +44,8 @@ none_unacknowledged tries.Setup after = refl
 none_unacknowledged tries.Done after = refl
 none_unacknowledged (tries.Failed fault) after = refl
 
-stall_taken : (stage : HostStage) (host : HostTransferState) → IsPiece stage → took_at stage (Some packets.Stall) host ≡ failed faults.Stalled host
+stall_taken : (stage : HostStage) (host : HostTransferState) → IsPiece stage
+    → transfer_after_reply_at stage (Some packets.Stall) host ≡ with_failure faults.Stalled host
 stall_taken (tries.DataIn one) host h = refl
 stall_taken (tries.DataOut sent one) host h = refl
 stall_taken tries.StatusIn host h = refl
@@ -61,7 +63,8 @@ stall_unacknowledged tries.Setup after = refl
 stall_unacknowledged tries.Done after = refl
 stall_unacknowledged (tries.Failed fault) after = refl
 
-stall_reached : (stage : HostStage) (request : Request) (bytes : List ℕ) (answer : Option (List ℕ)) → IsPiece stage → reached stage request bytes stages.Idle answer ≡ stalled
+stall_reached : (stage : HostStage) (request : Request) (bytes : List ℕ) (answer : Option (List ℕ)) → IsPiece stage
+    → effect_of_stage stage request bytes stages.Idle answer ≡ stall_effect
 stall_reached (tries.DataIn one) request bytes answer h = refl
 stall_reached (tries.DataOut sent one) request bytes answer h = refl
 stall_reached tries.StatusIn request bytes answer h = refl
@@ -84,17 +87,38 @@ refused_device answer_of shape sends p d a t host old new u h = record {
 }
 
 -- a try of a piece of a refused request
-refused_heard : {R : Type 0} (prepare_gives : PrepareGives R) (apply_gives : ApplyGives R) (answer_of : AnswerOf R) (shape : Shape) (sends : List ℕ) (clean : Bool) (p d : Position) (a : Bool) (t : ℕ) (host : HostTransferState) (stage : HostStage) (piece : IsPiece stage) (old after : DevControlState R) (host_after : HostTransferState) (mid : DevControlState R) (answer : Option Packet) → Does prepare_gives apply_gives stalled old.requests mid answer → host_after ≡ took_at stage answer host → AckComes prepare_gives apply_gives answer_of (clean && acknowledges_at stage answer host_after.stage) mid after → (after.requests ≡ old.requests) × (host_after.stage ≡ tries.Failed faults.Stalled)
+refused_heard : {R : Type 0} (prepare_gives : PrepareGives R) (apply_gives : ApplyGives R) (answer_of : AnswerOf R)
+    (shape : Shape) (sends : List ℕ) (clean : Bool) (p d : Position) (a : Bool) (t : ℕ) (host : HostTransferState)
+    (stage : HostStage) (piece : IsPiece stage) (old after : DevControlState R) (host_after : HostTransferState)
+    (mid : DevControlState R) (answer : Option Packet)
+    → Does prepare_gives apply_gives stall_effect old.requests mid answer
+    → host_after ≡ transfer_after_reply_at stage answer host
+    → AckComes prepare_gives apply_gives answer_of (clean && acknowledges_at stage answer host_after.stage) mid after
+    → (after.requests ≡ old.requests) × (host_after.stage ≡ tries.Failed faults.Stalled)
 refused_heard prepare_gives apply_gives answer_of shape sends clean p d a t host stage piece old after host_after mid answer (m, s) e f =
     let e' = rw s at e in
     let f' = rw s at f in
     (ap (λ c. c.requests) (unacknowledged prepare_gives apply_gives answer_of clean _ mid after (stall_unacknowledged stage host_after.stage) f') ∙ ap (λ c. c.requests) m, ap (λ h. h.stage) (e' ∙ stall_taken stage host piece))
 
-refused_lost : {R : Type 0} (prepare_gives : PrepareGives R) (apply_gives : ApplyGives R) (answer_of : AnswerOf R) (shape : Shape) (sends : List ℕ) (p d : Position) (a : Bool) (t : ℕ) (host : HostTransferState) (stage : HostStage) (piece : IsPiece stage) (old after : DevControlState R) (host_after : HostTransferState) (mid : DevControlState R) (answer : Option Packet) → BothStand answer_of shape sends (at p d Refused a t) host old → Does prepare_gives apply_gives stalled old.requests mid answer → host_after ≡ took_at stage None host → after ≡ mid → (after.requests ≡ old.requests) × Stands answer_of shape sends (refused_tried TokenLost false (at p d Refused a t)) host_after after
+refused_lost : {R : Type 0} (prepare_gives : PrepareGives R) (apply_gives : ApplyGives R) (answer_of : AnswerOf R)
+    (shape : Shape) (sends : List ℕ) (p d : Position) (a : Bool) (t : ℕ) (host : HostTransferState)
+    (stage : HostStage) (piece : IsPiece stage) (old after : DevControlState R) (host_after : HostTransferState)
+    (mid : DevControlState R) (answer : Option Packet) → BothStand answer_of shape sends (at p d Refused a t) host old
+    → Does prepare_gives apply_gives stall_effect old.requests mid answer
+    → host_after ≡ transfer_after_reply_at stage None host → after ≡ mid
+    → (after.requests ≡ old.requests)
+    × Stands answer_of shape sends (place_after_refusal TokenLost false (at p d Refused a t)) host_after after
 refused_lost prepare_gives apply_gives answer_of shape sends p d a t host stage piece old after host_after mid answer u (m, s) e f =
     (ap (λ c. c.requests) (f ∙ m), moved answer_of shape sends _ _ host_after _ after (e ∙ none_taken stage host piece) f (silent_stands answer_of shape sends p d Refused a t host mid (refused_device answer_of shape sends p d a t host old mid u (ap (λ c. c.stage) m))))
 
-pub refused_place : {R : Type 0} (prepare_gives : PrepareGives R) (apply_gives : ApplyGives R) (answer_of : AnswerOf R) (shape : Shape) (sends : List ℕ) (fate : Fate) (c : Bool) (p d : Position) (a : Bool) (t : ℕ) (host : HostTransferState) (stage : HostStage) (old : DevControlState R) (after : HostTransferState) (new : DevControlState R) → IsPiece stage → asks_at stage ≡ c → BothStand answer_of shape sends (at p d Refused a t) host old → TransactsAt prepare_gives apply_gives answer_of fate stage stages.Idle host.bytes host old after new → (new.requests ≡ old.requests) × Stands answer_of shape sends (refused_tried fate c (at p d Refused a t)) after new
+pub refused_place : {R : Type 0} (prepare_gives : PrepareGives R) (apply_gives : ApplyGives R)
+    (answer_of : AnswerOf R) (shape : Shape) (sends : List ℕ) (fate : Fate) (c : Bool) (p d : Position) (a : Bool)
+    (t : ℕ) (host : HostTransferState) (stage : HostStage) (old : DevControlState R) (after : HostTransferState)
+    (new : DevControlState R) → IsPiece stage → asks_at stage ≡ c
+    → BothStand answer_of shape sends (at p d Refused a t) host old
+    → TransactsAt prepare_gives apply_gives answer_of fate stage stages.Idle host.bytes host old after new
+    → (new.requests ≡ old.requests)
+    × Stands answer_of shape sends (place_after_refusal fate c (at p d Refused a t)) after new
 refused_place prepare_gives apply_gives answer_of shape sends TokenLost c p d a t host stage old after new piece asks u (e, f) =
     (ap (λ c. c.requests) f, moved answer_of shape sends _ _ after _ new (e ∙ none_taken stage host piece) f (silent_stands answer_of shape sends p d Refused a t host old u))
 refused_place prepare_gives apply_gives answer_of shape sends ReplyLost c p d a t host stage old after new piece asks u (mid, answer, does, e, f) =
@@ -105,9 +129,11 @@ refused_place prepare_gives apply_gives answer_of shape sends Clean c p d a t ho
     refused_heard prepare_gives apply_gives answer_of shape sends true p d a t host stage piece old new after mid answer does' e f
 refused_place prepare_gives apply_gives answer_of shape sends AckLost true p d a t host stage old after new piece asks u (mid, answer, does, e, f) =
     let does' = subst (λ (x : Effect). Does prepare_gives apply_gives x old.requests mid answer) (stall_reached stage _ _ _ piece) does in
-    let e' = subst (λ (x : Bool). after ≡ took_at stage (heard_of AckLost x answer) host) asks e in
+    let e' = subst
+    (λ (x : Bool). after ≡ transfer_after_reply_at stage (reply_after_fate AckLost x answer) host) asks e in
     refused_heard prepare_gives apply_gives answer_of shape sends false p d a t host stage piece old new after mid answer does' e' f
 refused_place prepare_gives apply_gives answer_of shape sends AckLost false p d a t host stage old after new piece asks u (mid, answer, does, e, f) =
     let does' = subst (λ (x : Effect). Does prepare_gives apply_gives x old.requests mid answer) (stall_reached stage _ _ _ piece) does in
-    let e' = subst (λ (x : Bool). after ≡ took_at stage (heard_of AckLost x answer) host) asks e in
+    let e' = subst
+    (λ (x : Bool). after ≡ transfer_after_reply_at stage (reply_after_fate AckLost x answer) host) asks e in
     refused_lost prepare_gives apply_gives answer_of shape sends p d a t host stage piece old new after mid answer u does' e' f

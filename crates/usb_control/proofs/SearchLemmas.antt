@@ -26,7 +26,7 @@ place_behind test (d ∷ ds) es h = rw h.0 (omega (arith, place_behind test ds e
 place_here : (test : List ℕ → Bool) (d : List ℕ) (es : List (List ℕ)) → test d ≡ true → position_or_len test (d ∷ es) ≡ 0
 place_here test d es h = rw h refl
 
--- what a search has passed: the bytes before it and those behind it, by descriptors of which none before it is wanted
+-- what a search has passed: the bytes before it and those after it, by descriptors of which none before it is wanted
 pub record Passed (test : List ℕ → Bool) (ds : List (List ℕ)) (front back : List ℕ) : Type 0 where
   pub before : List (List ℕ)
   pub behind : List (List ℕ)
@@ -86,7 +86,7 @@ none_found test ds front back stops p =
     let e = (ended back p.behind stops p.back_walk).0 in
     ap (find test) (p.split ∙ ap (λ (xs : List (List ℕ)). p.before ++ xs) e) ∙ find_behind test p.before [] p.none
 
--- without any interface behind it, all descriptors belong to the interface
+-- without any interface after it, all descriptors belong to the interface
 pub all_before : (test : List ℕ → Bool) (ds : List (List ℕ)) → find test ds ≡ None → before_first test ds ≡ ds
 all_before test [] h = refl
 all_before test (d ∷ ds) h = by (test d) refl h (all_before test ds)
@@ -98,7 +98,7 @@ all_before test (d ∷ ds) h = by (test d) refl h (all_before test ds)
         let rest : find test ds ≡ None = rw e at h in
         ap (λ (n : ℕ). take n (d ∷ ds)) place ∙ ap (λ (xs : List (List ℕ)). d ∷ xs) (more rest)
 
--- the cut moves behind the next descriptor
+-- the cut moves after the next descriptor
 pub record CutBehind (bytes d behind : List ℕ) (at : ℕ) : Type 0 where
   pub within : at + length d ≤ length bytes
   pub front : take (at + length d) bytes ≡ take at bytes ++ d

@@ -12,8 +12,8 @@ use Rattle.usb_control.specs.SetupBytes.{setup_bytes, setup_of, reads}
 use Rattle.usb_control.specs.Requests.{PrepareGives, ApplyGives, AnswerOf}
 use Rattle.usb_control.specs.Device.{DevControlState}
 use Rattle.usb_control.specs.Host.{HostTransferState, IsRunning, at_start, progress_of}
-use Rattle.usb_control.specs.Transfer.{Shape, shape_of, Decision, Refused, Accepted, decision_of, Position, Setup, Piece, Status, Past, Place, start, answered_bytes, comes, Act, Nothing, Decides, TakesEffect, Acts, act_at, act_of, tried}
-use Rattle.usb_control.specs.Standing.{host_stage, Stands}
+use Rattle.usb_control.specs.Transfer.{Shape, shape_of, Decision, Refused, Accepted, decision_of, Position, Setup, Piece, Status, Past, Place, start, answered_bytes, comes_from_device, Act, Nothing, Decides, TakesEffect, Acts, act_at, act_of, place_after_try}
+use Rattle.usb_control.specs.Positions.{host_stage, Stands}
 use Rattle.usb_control.specs.Runs.{is_open, IsAccepted}
 use Rattle.usb_control.specs.Steps.{IsStep, Steps, IsAppliedOnce, IsOnceAtMost}
 use Rattle.usb_control.proofs.ActLemmas.{NeedsEffect, effect_needs, decision_needs}
@@ -35,15 +35,22 @@ silent_untouched : (d : Position) (q : Decision) (a : Bool) (t : ℕ) (b : Bool)
 silent_untouched d q a t true = record { waits = refl; going = tt }
 silent_untouched d q a t false = record { waits = refl; going = tt }
 
-setup_untouched : (shape : Shape) (fate : Fate) (decision : Decision) (d : Position) (q : Decision) (a : Bool) (t : ℕ) → act_at Setup shape fate decision q a ≡ Nothing → let after = tried shape fate decision (at Setup d q a t) in Untouched after.host after.fault
+setup_untouched : (shape : Shape) (fate : Fate) (decision : Decision) (d : Position) (q : Decision) (a : Bool) (t : ℕ)
+    → act_at Setup shape fate decision q a ≡ Nothing → let after =
+    place_after_try shape fate decision (at Setup d q a t) in Untouched after.host after.fault
 setup_untouched shape TokenLost decision d q a t e = silent_untouched d q a t (nat_lt t 2)
 setup_untouched shape Clean decision d q a t e = cc
 setup_untouched shape ReplyLost decision d q a t e = cc
 setup_untouched shape AckLost decision d q a t e = cc
 
-still_untouched : (shape : Shape) (fate : Fate) (decision : Decision) (p d : Position) (q : Decision) (a : Bool) (t : ℕ) → p ≡ Setup → act_at p shape fate decision q a ≡ Nothing → let after = tried shape fate decision (at p d q a t) in Untouched after.host after.fault
+still_untouched : (shape : Shape) (fate : Fate) (decision : Decision) (p d : Position) (q : Decision) (a : Bool)
+    (t : ℕ) → p ≡ Setup → act_at p shape fate decision q a ≡ Nothing → let after =
+    place_after_try shape fate decision (at p d q a t) in Untouched after.host after.fault
 still_untouched shape fate decision p d q a t e =
-    let Stays : Position → Type 0 = λ x. act_at x shape fate decision q a ≡ Nothing → Untouched (tried shape fate decision (at x d q a t)).host (tried shape fate decision (at x d q a t)).fault in
+    let Stays : Position → Type 0 =
+    λ x. act_at x shape fate decision q a ≡ Nothing
+    → Untouched (place_after_try shape fate decision (at x d q a t)).host
+    (place_after_try shape fate decision (at x d q a t)).fault in
     subst Stays (sym e) (λ h. setup_untouched shape fate decision d q a t h)
 
 -- what happened since the transfer began
@@ -151,7 +158,7 @@ told_step prepare_gives apply_gives answer_of request sends begun fate p d q a t
     let shown = try_shown prepare_gives apply_gives answer_of shape sends fate (at p d q a t) host old after new spelled step.running stands step.transacts in
     let moves = moves_at (reads request) request.length fate p d shown.0 q a t None (open_at shape p host.stage stands.sender.stage step.running d q a t) told.sound in
     record {
-      place = tried shape fate shown.0 (at p d q a t);
+      place = place_after_try shape fate shown.0 (at p d q a t);
       stands = shown.2;
       told = told_by prepare_gives apply_gives answer_of request sends begun p d q a t (act_of shape fate shown.0 (at p d q a t)) old.requests new.requests _ moves
           (λ f g. still_untouched shape fate shown.0 p d q a t g f) (λ f. effect_needs p shape fate shown.0 q a f) (λ x f. decision_needs p shape fate shown.0 q a x f) again
@@ -207,7 +214,7 @@ way_no_fault false s t f g h = h
 no_fault : (shape : Shape) (p : Position) (f : ControlFault) → ¬ (host_stage shape p ≡ tries.Failed f)
 no_fault shape Setup f e = cc
 no_fault shape (Piece k) f e = way_no_fault shape.reads _ _ f (λ h. cc) (λ h. cc) e
-no_fault shape Status f e = way_no_fault (comes shape Status) _ _ f (λ h. cc) (λ h. cc) e
+no_fault shape Status f e = way_no_fault (comes_from_device shape Status) _ _ f (λ h. cc) (λ h. cc) e
 no_fault shape Past f e = cc
 
 fault_is : {R : Type 0} (answer_of : AnswerOf R) (shape : Shape) (sends : List ℕ) (p d : Position) (q : Decision) (a : Bool) (t : ℕ) (fault : Option ControlFault) (f : ControlFault) (host : HostTransferState) (control : DevControlState R) → let place : Place = record { host = p; device = d; decision = q; applied = a; tries = t; fault = fault } in Stands answer_of shape sends place host control → host.stage ≡ tries.Failed f → fault ≡ Some f

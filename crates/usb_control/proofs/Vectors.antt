@@ -10,11 +10,11 @@ use Rattle.usb_control.specs.declared.fault.ControlFault.TheVariants.{Stalled, B
 use Rattle.usb_control.specs.declared.fault.InfoFault.TheVariants as infos
 use Rattle.usb_control.specs.SetupBytes.{setup_bytes, setup_of}
 use Rattle.usb_control.specs.Transfer.{Shape, Decision, Refused, Accepted, Piece, Status, Past, start, eights, read_pieces, Nothing, Decides, TakesEffect}
-use Rattle.usb_control.specs.Runs.{run, acts}
+use Rattle.usb_control.specs.Runs.{place_after_tries, acts}
 use Rattle.usb_packet.specs.declared.packet.TokenKind.TheVariants.{Out, In}
 use Rattle.usb_packet.specs.declared.packet.Packet.TheVariants.{Token}
 use Rattle.usb_control.specs.Packets.{data_packet}
-use Rattle.usb_control.specs.Reading.{accepted}
+use Rattle.usb_control.specs.Reading.{accepted_payloads}
 use Rattle.usb_control.specs.Writing.{given_data}
 use Rattle.usb_control.specs.Descriptors.{config_of, report_length}
 
@@ -56,38 +56,56 @@ abbrev accepts : Decision
 accepts = Accepted None
 
 -- the replies to its data and its status are lost once each: five tries, one effect, and it is done
-write_place : run write_one ((Clean, accepts) ∷ (ReplyLost, accepts) ∷ (Clean, accepts) ∷ (ReplyLost, accepts) ∷ (Clean, accepts) ∷ []) start ≡ record { host = Past; device = Past; decision = accepts; applied = true; tries = 0; fault = None }
+write_place : place_after_tries write_one
+    ((Clean, accepts) ∷ (ReplyLost, accepts) ∷ (Clean, accepts) ∷ (ReplyLost, accepts) ∷ (Clean, accepts) ∷ []) start
+    ≡ record { host = Past; device = Past; decision = accepts; applied = true; tries = 0; fault = None }
 write_place = refl
 
 write_acts : acts write_one ((Clean, accepts) ∷ (ReplyLost, accepts) ∷ (Clean, accepts) ∷ (ReplyLost, accepts) ∷ (Clean, accepts) ∷ []) start ≡ Decides accepts ∷ Nothing ∷ Nothing ∷ TakesEffect ∷ Nothing ∷ []
 write_acts = refl
 
 -- its status is answered three times and lost three times: it took effect, and the host has C2
-write_lost : run write_one ((Clean, accepts) ∷ (Clean, accepts) ∷ (ReplyLost, accepts) ∷ (ReplyLost, accepts) ∷ (ReplyLost, accepts) ∷ []) start ≡ record { host = Status; device = Status; decision = accepts; applied = true; tries = 2; fault = Some BusFault }
+write_lost : place_after_tries write_one
+    ((Clean, accepts) ∷ (Clean, accepts) ∷ (ReplyLost, accepts) ∷ (ReplyLost, accepts) ∷ (ReplyLost, accepts)
+    ∷ []) start
+    ≡ record { host = Status; device = Status; decision = accepts; applied = true; tries = 2; fault = Some BusFault }
 write_lost = refl
 
--- a read of two bytes whose ACK is lost: the device is behind, and the status ends the data stage
+-- a read of two bytes whose ACK is lost: the device is after, and the status ends the data stage
 abbrev read_two : Shape
 read_two = record { reads = true; length = 2 }
 
 abbrev answers : Decision
 answers = Accepted (Some (7 ∷ 9 ∷ []))
 
-read_behind : run read_two ((Clean, answers) ∷ (AckLost, answers) ∷ []) start ≡ record { host = Status; device = Piece 0; decision = answers; applied = false; tries = 0; fault = None }
+read_behind : place_after_tries read_two ((Clean, answers) ∷ (AckLost, answers) ∷ []) start
+    ≡ record { host = Status; device = Piece 0; decision = answers; applied = false; tries = 0; fault = None }
 read_behind = refl
 
-read_done : run read_two ((Clean, answers) ∷ (AckLost, answers) ∷ (Clean, answers) ∷ []) start ≡ record { host = Past; device = Past; decision = answers; applied = false; tries = 0; fault = None }
+read_done : place_after_tries read_two ((Clean, answers) ∷ (AckLost, answers) ∷ (Clean, answers) ∷ []) start
+    ≡ record { host = Past; device = Past; decision = answers; applied = false; tries = 0; fault = None }
 read_done = refl
 
 -- a refused read: the STALL is lost once, and heard under AckLost, which an IN has no acknowledgement for
-read_refused : run read_two ((Clean, Refused) ∷ (ReplyLost, Refused) ∷ (AckLost, Refused) ∷ []) start ≡ record { host = Piece 0; device = Piece 0; decision = Refused; applied = false; tries = 1; fault = Some Stalled }
+read_refused : place_after_tries read_two ((Clean, Refused) ∷ (ReplyLost, Refused) ∷ (AckLost, Refused) ∷ []) start
+    ≡ record {
+      host = Piece 0;
+      device = Piece 0;
+      decision = Refused;
+      applied = false;
+      tries = 1;
+      fault =
+          Some Stalled;
+    }
 read_refused = refl
 
 -- DATA1 with 7, twice, nothing, DATA0 with 9: a read accepts 7 and 9
-accepted_twice : accepted true (Some (data_packet true (7 ∷ [])) ∷ Some (data_packet true (7 ∷ [])) ∷ None ∷ Some (data_packet false (9 ∷ [])) ∷ []) ≡ (7 ∷ []) ∷ (9 ∷ []) ∷ []
+accepted_twice : accepted_payloads true
+    (Some (data_packet true (7 ∷ [])) ∷ Some (data_packet true (7 ∷ [])) ∷ None ∷ Some (data_packet false (9 ∷ []))
+    ∷ []) ≡ (7 ∷ []) ∷ (9 ∷ []) ∷ []
 accepted_twice = refl
 
--- a write is given data directly behind OUT alone: of DATA1 with 5 behind IN and behind OUT, the second
+-- a write is given data directly after OUT alone: of DATA1 with 5 after IN and after OUT, the second
 given_once : given_data false true (Token In 1 0 ∷ data_packet true (5 ∷ []) ∷ Token Out 1 0 ∷ data_packet true (5 ∷ []) ∷ []) ≡ (5 ∷ []) ∷ []
 given_once = refl
 
@@ -110,7 +128,7 @@ hid_length = refl
 keyboard : config_of (configuration ∷ interface ∷ hid ∷ endpoint ∷ []) ≡ Ok (record { report_length = 63; endpoint = 1; subclass = 1; protocol = 1 })
 keyboard = refl
 
--- the endpoint may stand before the HID descriptor, but not behind the next interface
+-- the endpoint may stand before the HID descriptor, but not after the next interface
 keyboard_turned : config_of (configuration ∷ interface ∷ endpoint ∷ hid ∷ []) ≡ Ok (record { report_length = 63; endpoint = 1; subclass = 1; protocol = 1 })
 keyboard_turned = refl
 

@@ -29,7 +29,7 @@ one_start d e xs ys is_d is_e h =
     let same = same_start d e xs ys (same_length d e xs ys is_d is_e h) h in
     record { first = same; rest = append_cancel_left d xs ys (h ∙ ap (λ (l : List ℕ). l ++ ys) (sym same)) }
 
--- the walk over what is behind the first descriptor
+-- the walk over what is after the first descriptor
 pub record GoesOn (d behind : List ℕ) (ds : List (List ℕ)) : Type 0 where
   pub rest : List (List ℕ)
   pub split : ds ≡ d ∷ rest
@@ -52,7 +52,7 @@ goes_on d behind (e ∷ es) is walk =
 pub goes_back : (d behind : List ℕ) (ds : List (List ℕ)) → IsDescriptor d → IsWalk behind ds → IsWalk (d ++ behind) (d ∷ ds)
 goes_back d behind ds is walk = record { each = (is, walk.each); whole = ap (λ (xs : List ℕ). d ++ xs) walk.whole }
 
--- bytes are descriptors exactly where those behind the first one are
+-- bytes are descriptors exactly where those after the first one are
 pub over : (rest d behind : List ℕ) → IsDescriptor d → rest ≡ d ++ behind → HasWalk rest ↔ HasWalk behind
 over rest d behind is e =
     subst (λ (xs : List ℕ). HasWalk xs ↔ HasWalk behind) (sym e) (

@@ -8,18 +8,18 @@ use Rattle.usb_transact.specs.declared.bus.Phase.TheVariants.{Token, HostData, R
 use Rattle.usb_transact.specs.Bus.{Arrivals, Carries, Replies}
 use Rattle.usb_control.specs.Requests.{PrepareGives, ApplyGives, AnswerOf}
 use Rattle.usb_control.specs.Device.{DevControlState, Does, effect}
-use Rattle.usb_control.specs.Host.{HostTransferState, asks_at, token_of, payload_of, took, acknowledges}
+use Rattle.usb_control.specs.Host.{HostTransferState, asks_at, token_of, payload_of, transfer_after_reply, acknowledges}
 
--- the device hears a packet, where one came
-abbrev pub Hears :
+-- the device receives a packet, if one came, and answers it
+abbrev pub Receives :
     {R : Type 0} → PrepareGives R → ApplyGives R → AnswerOf R → Option Packet → DevControlState R
     → DevControlState R → Option Packet → Type 0
-Hears prepare_gives apply_gives answer_of None old new answer = (new ≡ old) × (answer ≡ None)
-Hears prepare_gives apply_gives answer_of (Some packet) old new answer =
-    Does prepare_gives apply_gives (effect (answer_of old.requests) old.stage old.heard packet)
+Receives prepare_gives apply_gives answer_of None old new answer = (new ≡ old) × (answer ≡ None)
+Receives prepare_gives apply_gives answer_of (Some packet) old new answer =
+    Does prepare_gives apply_gives (effect (answer_of old.requests) old.stage old.last_packet packet)
     old.requests new answer
 
--- then it hears the data packet that goes with a token, where one does, and answers that
+-- the device receives the data packet that goes with a token, if one does, and answers it instead of the token
 abbrev pub HearsData :
     {R : Type 0} → PrepareGives R → ApplyGives R → AnswerOf R → Arrivals → Option Packet
     → DevControlState R → Option Packet → DevControlState R → Option Packet → Type 0
@@ -27,31 +27,31 @@ HearsData prepare_gives apply_gives answer_of arrivals None old before new answe
     (new ≡ old) × (answer ≡ before)
 HearsData prepare_gives apply_gives answer_of arrivals (Some sent) old before new answer =
     (came : Option Packet) × Carries arrivals HostData sent came
-    × Hears prepare_gives apply_gives answer_of came old new answer
+    × Receives prepare_gives apply_gives answer_of came old new answer
 
--- what the host sends first, and the device's answer to what comes of it
+-- the device receives what the host sends first, a token with its data, and answers
 abbrev pub Reaches :
     {R : Type 0} → PrepareGives R → ApplyGives R → AnswerOf R → Arrivals → Packet → Option Packet
     → DevControlState R → DevControlState R → Option Packet → Type 0
 Reaches {R} prepare_gives apply_gives answer_of arrivals token payload old new answer =
     (came : Option Packet) × (mid : DevControlState R) × (before : Option Packet)
     × Carries arrivals Token token came
-    × Hears prepare_gives apply_gives answer_of came old mid before
+    × Receives prepare_gives apply_gives answer_of came old mid before
     × HearsData prepare_gives apply_gives answer_of arrivals payload mid before new answer
 
--- what the device sends answers an IN token, or is its handshake for data
+-- the phase of what the device sends: a reply to an IN token, or its handshake for data
 abbrev pub phase_of : Bool → Phase
 phase_of true = Reply
 phase_of false = Handshake
 
--- the host's ACK, where it sends one
+-- the host sends its ACK, if it sends one, and the device receives it
 abbrev pub Acknowledges :
     {R : Type 0} → PrepareGives R → ApplyGives R → AnswerOf R → Arrivals → Bool → DevControlState R
     → DevControlState R → Type 0
 Acknowledges prepare_gives apply_gives answer_of arrivals false old new = new ≡ old
 Acknowledges prepare_gives apply_gives answer_of arrivals true old new =
     (came : Option Packet) × (answer : Option Packet) × Carries arrivals Acknowledgement Ack came
-    × Hears prepare_gives apply_gives answer_of came old new answer
+    × Receives prepare_gives apply_gives answer_of came old new answer
 
 -- one transaction of endpoint 0 by its packets, as each end reads them
 pub record Crosses {R : Type 0} (prepare_gives : PrepareGives R) (apply_gives : ApplyGives R)
@@ -65,6 +65,6 @@ pub record Crosses {R : Type 0} (prepare_gives : PrepareGives R) (apply_gives : 
       Reaches prepare_gives apply_gives answer_of arrivals (token_of host) (payload_of host) old mid
       answer
   pub replied : Replies arrivals (phase_of (asks_at host.stage)) answer reply
-  pub took_reply : host_then ≡ took reply host
+  pub took_reply : host_then ≡ transfer_after_reply reply host
   pub acknowledged :
       Acknowledges prepare_gives apply_gives answer_of arrivals (acknowledges reply host) mid new

@@ -20,7 +20,7 @@ abbrev pub IsDescriptor : List ℕ → Type 0
 IsDescriptor [] = ⊥
 IsDescriptor (first ∷ body) = (2 ≤ first) × (length (first ∷ body) ≡ first)
 
--- each of these is a descriptor
+-- each list of bytes is a descriptor
 abbrev pub AreDescriptors : List (List ℕ) → Type 0
 AreDescriptors [] = Unit {0}
 AreDescriptors (descriptor ∷ rest) = IsDescriptor descriptor × AreDescriptors rest

@@ -63,7 +63,7 @@ asks_at _ = false
 abbrev pub token_of : HostTransferState → Packet
 token_of host = Token (kind_of host.stage) host.addr 0
 
--- the data that go with the token, of this request with these bytes
+-- the data that go with the token of a stage, of this request with these bytes
 abbrev pub payload_at : HostStage → Request → List ℕ → Option Packet
 payload_at Setup setup bytes = Some (data_packet false (setup_bytes setup))
 payload_at (DataOut sent one) setup bytes = Some (data_packet one (piece_from bytes sent))
@@ -74,95 +74,96 @@ payload_at _ setup bytes = None
 abbrev pub payload_of : HostTransferState → Option Packet
 payload_of host = payload_at host.stage host.setup host.bytes
 
--- the transfer goes on
-abbrev pub answered : HostStage → HostTransferState → HostTransferState
-answered stage host = record host { stage = stage; tries = 0 }
+-- the transfer once it went on to a stage
+abbrev pub with_stage : HostStage → HostTransferState → HostTransferState
+with_stage stage host = record host { stage = stage; tries = 0 }
 
--- the transfer fails
-abbrev pub failed : ControlFault → HostTransferState → HostTransferState
-failed fault host = record host { stage = Failed fault }
+-- the transfer once it failed
+abbrev pub with_failure : ControlFault → HostTransferState → HostTransferState
+with_failure fault host = record host { stage = Failed fault }
 
--- the third try in a row without an answer is the last
-abbrev pub unanswered : HostTransferState → HostTransferState
-unanswered host =
-    if nat_lt host.tries 2 then record host { tries = host.tries + 1 } else failed BusFault host
+-- the transfer after a try without an answer: it fails at the third one in a row
+abbrev pub after_no_answer : HostTransferState → HostTransferState
+after_no_answer host =
+    if nat_lt host.tries 2 then record host { tries = host.tries + 1 } else with_failure BusFault host
 
 -- what follows SETUP, in a read or a write of this length
 abbrev pub after_setup : Bool → ℕ → HostStage
 after_setup is_read len =
     if len == 0 then StatusIn else if is_read then DataIn true else DataOut 0 true
 
--- what follows a piece of a write, where so many bytes were sent of so many
+-- what follows a piece of a write, where n bytes were sent of m
 abbrev pub after_write_piece : ℕ → ℕ → Bool → HostStage
 after_write_piece sent len one = if sent == len then StatusIn else DataOut sent (not one)
 
--- what follows a piece of a read of so many bytes, where so many came before it
+-- what follows a piece of a read of n bytes, by how many bytes came before, and how many in the piece
 abbrev pub after_read_piece : ℕ → ℕ → ℕ → Bool → HostStage
 after_read_piece got count len one =
     if (count == 8) && nat_lt (got + count) len then DataIn (not one) else StatusOut
 
--- data under the toggle that is expected: too much, or the next bytes
-abbrev pub joined : Bool → List ℕ → HostTransferState → HostTransferState
-joined one payload host =
+-- the transfer after data under the expected toggle: it takes the next bytes, or fails where they are too many
+abbrev pub with_payload : Bool → List ℕ → HostTransferState → HostTransferState
+with_payload one payload host =
     if nat_le (length payload) 8 && nat_le (length host.bytes + length payload) host.setup.length
     then record host {
       bytes = host.bytes ++ payload;
       stage = after_read_piece (length host.bytes) (length payload) host.setup.length one;
       tries = 0;
     }
-    else failed Overrun host
+    else with_failure Overrun host
 
--- data in the status stage: DATA0 is a repeat, DATA1 without a byte the status, and DATA1 with a byte too much
+-- the transfer after data in the status stage: DATA0 is a repeat, DATA1 without a byte the status, and DATA1 with a
+-- byte too much
 abbrev pub status_in : Bool → List ℕ → HostTransferState → HostTransferState
-status_in false payload host = answered StatusIn host
-status_in true [] host = answered Done host
-status_in true payload host = failed Overrun host
+status_in false payload host = with_stage StatusIn host
+status_in true [] host = with_stage Done host
+status_in true payload host = with_failure Overrun host
 
--- an answer to SETUP: only ACK is one
-abbrev pub setup_answered : Option Packet → HostTransferState → HostTransferState
-setup_answered (Some Ack) host = answered (after_setup (reads host.setup) host.setup.length) host
-setup_answered _ host = unanswered host
+-- the transfer after an answer to SETUP: only ACK is one
+abbrev pub after_setup_answer : Option Packet → HostTransferState → HostTransferState
+after_setup_answer (Some Ack) host = with_stage (after_setup (reads host.setup) host.setup.length) host
+after_setup_answer _ host = after_no_answer host
 
--- what takes the transfer no further
-abbrev pub not_taken : Option Packet → HostTransferState → HostTransferState
-not_taken (Some Nak) host = answered host.stage host
-not_taken (Some Stall) host = failed Stalled host
-not_taken _ host = unanswered host
+-- the transfer after an answer that takes it no further: NAK, STALL, or none that counts
+abbrev pub after_other_answer : Option Packet → HostTransferState → HostTransferState
+after_other_answer (Some Nak) host = with_stage host.stage host
+after_other_answer (Some Stall) host = with_failure Stalled host
+after_other_answer _ host = after_no_answer host
 
--- a handshake on data that were sent, where this follows an ACK
+-- the transfer after a handshake on data that were sent, where this stage follows an ACK
 abbrev pub handshake : Option Packet → HostStage → HostTransferState → HostTransferState
-handshake (Some Ack) next host = answered next host
-handshake packet next host = not_taken packet host
+handshake (Some Ack) next host = with_stage next host
+handshake packet next host = after_other_answer packet host
 
--- an answer to IN, where data have this meaning
-abbrev pub in_answered :
+-- the transfer after an answer to IN, where data have this meaning
+abbrev pub after_in_answer :
     Option Packet → (Bool → List ℕ → HostTransferState → HostTransferState) → HostTransferState
     → HostTransferState
-in_answered (Some (Data one payload)) taken host = taken one payload.items host
-in_answered packet taken host = not_taken packet host
+after_in_answer (Some (Data one payload)) taken host = taken one payload.items host
+after_in_answer packet taken host = after_other_answer packet host
 
--- data in the data stage
+-- the transfer after data in the data stage: those under the other toggle are a repeat
 abbrev pub data_in : Bool → Bool → List ℕ → HostTransferState → HostTransferState
 data_in expected one payload host =
-    if beq one expected then joined one payload host else answered host.stage host
+    if beq one expected then with_payload one payload host else with_stage host.stage host
 
--- what the host makes of what came, at its stage
-abbrev pub took_at : HostStage → Option Packet → HostTransferState → HostTransferState
-took_at Setup packet host = setup_answered packet host
-took_at (DataIn one) packet host = in_answered packet (data_in one) host
-took_at (DataOut sent one) packet host =
+-- the transfer after what the host received, at its stage
+abbrev pub transfer_after_reply_at : HostStage → Option Packet → HostTransferState → HostTransferState
+transfer_after_reply_at Setup packet host = after_setup_answer packet host
+transfer_after_reply_at (DataIn one) packet host = after_in_answer packet (data_in one) host
+transfer_after_reply_at (DataOut sent one) packet host =
     handshake packet
     (after_write_piece (sent + length (piece_from host.bytes sent)) (length host.bytes) one)
     host
-took_at StatusIn packet host = in_answered packet status_in host
-took_at StatusOut packet host = handshake packet Done host
-took_at _ packet host = host
+transfer_after_reply_at StatusIn packet host = after_in_answer packet status_in host
+transfer_after_reply_at StatusOut packet host = handshake packet Done host
+transfer_after_reply_at _ packet host = host
 
--- What the host makes of what came. Example: DATA1 of 3 bytes to a read of 2 bytes is C3
-abbrev pub took : Option Packet → HostTransferState → HostTransferState
-took packet host = took_at host.stage packet host
+-- The transfer after what the host received. Example: DATA1 of 3 bytes to a read of 2 bytes is C3
+abbrev pub transfer_after_reply : Option Packet → HostTransferState → HostTransferState
+transfer_after_reply packet host = transfer_after_reply_at host.stage packet host
 
--- too much came
+-- the transfer failed since too much came
 abbrev pub is_overrun : HostStage → Bool
 is_overrun (Failed Overrun) = true
 is_overrun _ = false
@@ -175,7 +176,7 @@ acknowledges_at _ _ _ = false
 
 -- whether the host acknowledges what came
 abbrev pub acknowledges : Option Packet → HostTransferState → Bool
-acknowledges packet host = acknowledges_at host.stage packet (took packet host).stage
+acknowledges packet host = acknowledges_at host.stage packet (transfer_after_reply packet host).stage
 
 -- an outcome shows where the transfer stands, and the bytes of a read
 abbrev pub Shows : Outcome → HostStage → List ℕ → Type 0

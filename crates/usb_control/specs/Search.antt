@@ -13,7 +13,7 @@ is_wanted HidInterface descriptor = is_hid_interface descriptor
 is_wanted Hid descriptor = is_hid descriptor
 is_wanted InterruptIn descriptor = is_interrupt_in descriptor
 
--- the descriptors are cut at the first that passes the test
+-- the descriptors are split at the first that passes the test
 abbrev pub Finds : (List ℕ → Bool) → List (List ℕ) → Option Split → Type 0
 Finds test descriptors None = find test descriptors ≡ None
 Finds test descriptors (Some split) =

@@ -23,7 +23,7 @@ pub data Decision : Type 0 where
   Refused : Decision
   Accepted : (answer : Option (List ℕ)) → Decision
 
--- the decision, by what was said
+-- the decision of a device, by whether it accepted, and by its answer
 abbrev pub decision_of : Bool → Option (List ℕ) → Decision
 decision_of false answer = Refused
 decision_of true answer = Accepted answer
@@ -36,12 +36,12 @@ pub data Position : Type 0 where
   Status : Position
   Past : Position
 
--- the answer of a read, cut to what was asked for
+-- the answer of a read, no longer than what was asked for
 abbrev pub answered_bytes : Shape → Decision → List ℕ
 answered_bytes shape Refused = []
 answered_bytes shape (Accepted answer) = take shape.length (unwrap_or answer [])
 
--- how many pieces so many bytes are, cut in eights
+-- how many pieces of eight bytes n bytes are
 abbrev pub eights : ℕ → ℕ
 eights n = (n + 7) / 8
 
@@ -50,31 +50,31 @@ eights n = (n + 7) / 8
 abbrev pub read_pieces : ℕ → ℕ → ℕ
 read_pieces asked n = if nat_lt n asked then n / 8 + 1 else eights n
 
--- how many data pieces there are
+-- how many data pieces a transfer has
 abbrev pub data_pieces : Shape → Decision → ℕ
 data_pieces shape decision =
     if shape.reads
     then read_pieces shape.length (length (answered_bytes shape decision))
     else eights shape.length
 
--- the first position after SETUP, and that after a data piece, where there are so many
-abbrev pub first : ℕ → Position
-first count = if count == 0 then Status else Piece 0
+-- the first position after SETUP, and that after a data piece, where there are n
+abbrev pub first_position : ℕ → Position
+first_position count = if count == 0 then Status else Piece 0
 
--- the position after a position, where there are so many data pieces
-abbrev pub next : ℕ → Position → Position
-next count Setup = first count
-next count (Piece k) = if nat_lt (suc k) count then Piece (suc k) else Status
-next count Status = Past
-next count Past = Past
+-- the position after a position, where there are n data pieces
+abbrev pub next_position : ℕ → Position → Position
+next_position count Setup = first_position count
+next_position count (Piece k) = if nat_lt (suc k) count then Piece (suc k) else Status
+next_position count Status = Past
+next_position count Past = Past
 
 -- whether the piece at a position comes from the device: the status goes the other way than the data, and
 -- comes where there are none
-abbrev pub comes : Shape → Position → Bool
-comes shape Setup = false
-comes shape (Piece k) = shape.reads
-comes shape Status = not shape.reads || (shape.length == 0)
-comes shape Past = false
+abbrev pub comes_from_device : Shape → Position → Bool
+comes_from_device shape Setup = false
+comes_from_device shape (Piece k) = shape.reads
+comes_from_device shape Status = not shape.reads || (shape.length == 0)
+comes_from_device shape Past = false
 
 -- whether two positions are the same
 abbrev pub is_same : Position → Position → Bool
@@ -105,58 +105,68 @@ start = record {
   fault = None;
 }
 
--- a try without an answer, of which the third in a row is the last
-abbrev pub silent : Place → Place
-silent place =
+-- the place after a try without an answer, of which the third in a row is the last
+abbrev pub place_after_silence : Place → Place
+place_after_silence place =
     if nat_lt place.tries 2
     then record place { tries = place.tries + 1 }
     else record place { fault = Some BusFault }
 
--- the place of a transfer once a STALL was heard
-abbrev pub stalled : Place → Place
-stalled place = record place { fault = Some Stalled }
+-- the place of a transfer once the host received STALL
+abbrev pub place_after_stall : Place → Place
+place_after_stall place = record place { fault = Some Stalled }
 
--- SETUP: the device has it, and decides, when it arrives
-abbrev pub decided : ℕ → Decision → Place → Place
-decided count decision place =
-    record place { device = first count; decision = decision; applied = false }
+-- the place of a transfer once a SETUP arrived: the device has it, and decides
+abbrev pub place_after_decision : ℕ → Decision → Place → Place
+place_after_decision count decision place =
+    record place { device = first_position count; decision = decision; applied = false }
 
--- a try of SETUP, for each fate
-abbrev pub setup_tried : Fate → ℕ → Decision → Place → Place
-setup_tried TokenLost count decision place = silent place
-setup_tried ReplyLost count decision place = silent (decided count decision place)
-setup_tried AckLost count decision place = silent (decided count decision place)
-setup_tried Clean count decision place =
-    record (decided count decision place) { host = first count; tries = 0 }
+-- the place after a try of SETUP, for each fate
+abbrev pub place_after_setup : Fate → ℕ → Decision → Place → Place
+place_after_setup TokenLost count decision place = place_after_silence place
+place_after_setup ReplyLost count decision place =
+    place_after_silence (place_after_decision count decision place)
+place_after_setup AckLost count decision place =
+    place_after_silence (place_after_decision count decision place)
+place_after_setup Clean count decision place =
+    record (place_after_decision count decision place) { host = first_position count; tries = 0 }
 
--- a piece that goes out: the device has it from the first try that arrives; the host goes on after the first
--- clean one
-abbrev pub out_tried : Fate → ℕ → Place → Place
-out_tried TokenLost count place = silent place
-out_tried ReplyLost count place = silent (record place { device = next count place.host })
-out_tried AckLost count place = silent (record place { device = next count place.host })
-out_tried Clean count place =
-    record place { host = next count place.host; device = next count place.host; tries = 0 }
+-- the place after a try of a piece that goes out: the device has it from the first try that arrives; the host goes on
+-- after the first clean one
+abbrev pub place_after_out : Fate → ℕ → Place → Place
+place_after_out TokenLost count place = place_after_silence place
+place_after_out ReplyLost count place =
+    place_after_silence (record place { device = next_position count place.host })
+place_after_out AckLost count place =
+    place_after_silence (record place { device = next_position count place.host })
+place_after_out Clean count place =
+    record place { host = next_position count place.host; device = next_position count place.host; tries = 0 }
 
 -- the host's position after a piece that came: it throws away the piece that it has already
-abbrev pub got : ℕ → Position → Position → Position
-got count host device = if is_same host device then next count host else host
+abbrev pub host_position_after : ℕ → Position → Position → Position
+host_position_after count host device = if is_same host device then next_position count host else host
 
--- a piece that comes: the host has it from the first try whose answer isn't lost; the device goes on after
--- the first clean one
-abbrev pub in_tried : Fate → ℕ → Place → Place
-in_tried TokenLost count place = silent place
-in_tried ReplyLost count place = silent place
-in_tried AckLost count place = record place { host = got count place.host place.device; tries = 0 }
-in_tried Clean count place =
-    record place
-    { host = got count place.host place.device; device = next count place.device; tries = 0 }
+-- the place after a try of a piece that comes: the host has it from the first try whose answer isn't lost; the device
+-- goes on after the first clean one
+abbrev pub place_after_in : Fate → ℕ → Place → Place
+place_after_in TokenLost count place = place_after_silence place
+place_after_in ReplyLost count place = place_after_silence place
+place_after_in AckLost count place =
+    record place { host = host_position_after count place.host place.device; tries = 0 }
+place_after_in Clean count place =
+    record place {
+      host = host_position_after count place.host place.device;
+      device =
+          next_position count place.device;
+      tries = 0;
+    }
 
--- a piece of a refused request gets STALL, whose loss is that of an answer, or that of a handshake
-abbrev pub refused_tried : Fate → Bool → Place → Place
-refused_tried Clean comes_in place = stalled place
-refused_tried AckLost true place = stalled place
-refused_tried _ comes_in place = silent place
+-- the place after a try of a refused request: a piece gets STALL, whose loss is that of an answer, or that of a
+-- handshake
+abbrev pub place_after_refusal : Fate → Bool → Place → Place
+place_after_refusal Clean comes_in place = place_after_stall place
+place_after_refusal AckLost true place = place_after_stall place
+place_after_refusal _ comes_in place = place_after_silence place
 
 -- a write takes effect at the first try of its status that arrives
 abbrev pub applies : Shape → Fate → Position → Bool
@@ -164,24 +174,25 @@ applies shape TokenLost host = false
 applies shape fate Status = not shape.reads
 applies shape fate host = false
 
--- a try of a piece behind SETUP: of a refused request, or of an accepted one
-abbrev pub piece_tried : Shape → Fate → Decision → Place → Place
-piece_tried shape fate Refused place = refused_tried fate (comes shape place.host) place
-piece_tried shape fate (Accepted answer) place =
+-- the place after a try of a piece after SETUP: of a refused request, or of an accepted one
+abbrev pub place_after_piece : Shape → Fate → Decision → Place → Place
+place_after_piece shape fate Refused place =
+    place_after_refusal fate (comes_from_device shape place.host) place
+place_after_piece shape fate (Accepted answer) place =
     let count = data_pieces shape (Accepted answer) in
     let reached : Place = record place { applied = applies shape fate place.host || place.applied } in
-    if comes shape place.host then in_tried fate count reached else out_tried fate count reached
+    if comes_from_device shape place.host then place_after_in fate count reached else place_after_out fate count reached
 
--- one try, by the place of the host
-abbrev pub tried_at : Position → Shape → Fate → Decision → Place → Place
-tried_at Setup shape fate decision place =
-    setup_tried fate (data_pieces shape decision) decision place
-tried_at _ shape fate decision place = piece_tried shape fate place.decision place
+-- the place after one try, by the place of the host
+abbrev pub place_after_try_at : Position → Shape → Fate → Decision → Place → Place
+place_after_try_at Setup shape fate decision place =
+    place_after_setup fate (data_pieces shape decision) decision place
+place_after_try_at _ shape fate decision place = place_after_piece shape fate place.decision place
 
 -- The place after one try with this fate, if a SETUP that arrives in it is decided like this. Example: after a read's
 -- last ACK was lost the host is at the status and the device at the piece before it
-abbrev pub tried : Shape → Fate → Decision → Place → Place
-tried shape fate decision place = tried_at place.host shape fate decision place
+abbrev pub place_after_try : Shape → Fate → Decision → Place → Place
+place_after_try shape fate decision place = place_after_try_at place.host shape fate decision place
 
 -- what a try does at the device
 pub data Act : Type 0 where
@@ -221,4 +232,4 @@ Tries prepare_gives apply_gives answer_of request sends fate place old after new
     (decision : Decision)
     × Acts prepare_gives apply_gives answer_of request sends
     (act_of (shape_of request) fate decision place) old new
-    × (after ≡ tried (shape_of request) fate decision place)
+    × (after ≡ place_after_try (shape_of request) fate decision place)

@@ -110,7 +110,7 @@ impl ConfigInfo {
     }
 }
 
-// What stands before the next interface, of the bytes behind one.
+// What stands before the next interface, of the bytes after one.
 fn stretch(behind: &[u8]) -> &[u8]
     ensures { (descriptors : List (List ℕ)) → IsWalk behind.now descriptors
         → IsWalk result.now (before_first is_interface descriptors) }

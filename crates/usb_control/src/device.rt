@@ -2,9 +2,9 @@
 ghost use Rattle.std.specs.Prelude.{◌≡◌, ◌≤◌, ◌+◌, None, Some, Option, ℕ, Bool, true, false, length, IfSome};
 ghost use Rattle.usb_packet.specs.Spelling.{Fits};
 ghost use Rattle.usb_control.specs.SetupBytes.{reads};
-ghost use Rattle.usb_control.specs.Device.{Answers, Does, acknowledged, asked, begun, data_heard, effect, given, read_piece, write_length};
+ghost use Rattle.usb_control.specs.Device.{Answers, Does, effect, effect_of_data_packet, effect_of_in, effect_of_out, read_piece, stage_after_ack, stage_after_decision, write_length};
 
-use crate::pieces::{MAX_PACKET, cut, piece_from};
+use crate::pieces::{MAX_PACKET, cut_to_length, piece_from};
 use crate::requests::Requests;
 use crate::setup::Setup;
 use arrayvec::ArrayVec;
@@ -59,7 +59,8 @@ impl Stage {
     // Takes data after an OUT token, and answers them.
     fn give(&mut self, one: bool, payload: &[u8]) -> Packet
         requires { write_length self.old ≤ MAX_WRITE }
-        ensures given { given self.old one payload.now ≡ Answers (Some result) self.new Heard.Nothing }
+        ensures given { effect_of_out self.old one payload.now
+            ≡ Answers (Some result) self.new LastPacket.Nothing }
         ensures short { write_length self.new ≤ MAX_WRITE }
     {
         match self {
@@ -87,9 +88,9 @@ impl Stage {
     }
 }
 
-/// What was heard or said last, as far as the next packet depends on it.
+/// The last packet received or sent, as far as the next one depends on it.
 #[derive(Clone, Copy, PartialEq, Eq)]
-pub enum Heard {
+pub enum LastPacket {
     /// Nothing that counts.
     Nothing,
     /// A SETUP token.
@@ -100,14 +101,14 @@ pub enum Heard {
     Answered,
 }
 
-/// Endpoint 0 of a device, over what answers its requests. A contract sees it as `requests`, `stage` and `heard`.
+/// Endpoint 0 of a device, over what answers its requests. A contract sees it as `requests`, `stage` and `last_packet`.
 ///
 /// It looks at no address and no endpoint: the device above hands it the packets that are for it.
 #[derive(Drop)]
 pub struct DevControl<R> {
     requests: R,
     stage: Stage,
-    heard: Heard,
+    last_packet: LastPacket,
 }
 
 impl<R> Model for DevControl<R> {
@@ -117,33 +118,33 @@ impl<R> Model for DevControl<R> {
 
     ghost Value = { DevControlState R };
 
-    ghost view = { λ c. record { requests = c.requests; stage = c.stage; heard = c.heard } };
+    ghost view = { λ c. record { requests = c.requests; stage = c.stage; last_packet = c.last_packet } };
 
     ghost invariant = { λ c. write_length c.stage ≤ MAX_WRITE };
 }
 
 impl<R: Requests> DevControl<R> {
     ghost use Rattle.std.specs.Borrow.{sem};
-    ghost use Rattle.usb_control.specs.Device.{idle};
-    ghost use Rattle.usb_control.specs.Lending.{lends_requests};
+    ghost use Rattle.usb_control.specs.Device.{idle_control};
+    ghost use Rattle.usb_control.specs.RequestsBorrow.{lends_requests};
 
     /// Endpoint 0 with no request open.
     pub fn new(requests: R) -> DevControl<R>
-        ensures { result ≡ idle requests }
+        ensures { result ≡ idle_control requests }
     {
         DevControl {
             requests,
             stage: Stage::Idle,
-            heard: Heard::Nothing,
+            last_packet: LastPacket::Nothing,
         }
     }
 
     /// Ends the request that is open, as a reset of the bus does (USB 2.0, 7.1.7.5). What answers requests stays.
     pub fn reset(&mut self)
-        ensures { self.new ≡ idle self.old.requests }
+        ensures { self.new ≡ idle_control self.old.requests }
     {
         self.stage = Stage::Idle; // whatever was open
-        self.heard = Heard::Nothing;
+        self.last_packet = LastPacket::Nothing;
     }
 
     /// What answers the requests.
@@ -166,8 +167,8 @@ impl<R: Requests> DevControl<R> {
     #[inline(never)] // no other packet makes room for what a write will bring
     fn decide(&mut self, setup: &Setup)
         ensures decided { (said : Bool) × R.prepare_gives self.old.requests setup.now said self.new.requests
-            × (self.new.stage ≡ begun said (reads setup.now) setup.now.length) }
-        ensures heard { self.new.heard ≡ self.old.heard }
+            × (self.new.stage ≡ stage_after_decision said (reads setup.now) setup.now.length) }
+        ensures last_packet { self.new.last_packet ≡ self.old.last_packet }
     {
         let length = usize::from(setup.length);
         if !self.requests.prepare(setup) {
@@ -215,7 +216,7 @@ impl<R: Requests> DevControl<R> {
     #[inline(never)]
     fn begin_write(&mut self, length: usize)
         requires { length ≤ MAX_WRITE }
-        ensures { self.new ≡ record self.old { stage = begun true false length } }
+        ensures { self.new ≡ record self.old { stage = stage_after_decision true false length } }
     {
         self.stage = Stage::WriteData {
             length,
@@ -232,33 +233,34 @@ impl<R: Requests> DevControl<R> {
         ensures within { sent ≤ limit → sent + length result.now ≤ limit }
     {
         let answer = self.requests.answer().unwrap_or(&[]);
-        piece_from(cut(answer, limit), sent)
+        piece_from(cut_to_length(answer, limit), sent)
     }
 
     // Answers an IN token. The first for the status of a write carries the write out.
     fn answer_in(&mut self) -> Packet
-        ensures { Does R.prepare_gives R.apply_gives (asked (R.answer_of self.old.requests) self.old.stage)
+        ensures { Does R.prepare_gives R.apply_gives
+            (effect_of_in (R.answer_of self.old.requests) self.old.stage)
             self.old.requests self.new (Some result) }
     {
-        self.heard = Heard::Nothing;
+        self.last_packet = LastPacket::Nothing;
         match &self.stage {
             Stage::ReadData { length, sent, one } => {
                 let (length, sent, one) = (*length, *sent, *one);
                 let payload = ArrayVec::try_from(self.read_piece(length, sent)).unwrap();
-                self.heard = Heard::Answered;
+                self.last_packet = LastPacket::Answered;
                 Packet::Data { one, payload }
             }
             Stage::WriteData { length, bytes, .. } if bytes.len() == *length => {
                 self.requests.apply(bytes.as_slice());
                 self.stage = Stage::StatusIn;
-                self.heard = Heard::Answered;
+                self.last_packet = LastPacket::Answered;
                 Packet::Data {
                     one: true,
                     payload: ArrayVec::new(),
                 }
             }
             Stage::StatusIn => {
-                self.heard = Heard::Answered;
+                self.last_packet = LastPacket::Answered;
                 Packet::Data {
                     one: true,
                     payload: ArrayVec::new(),
@@ -273,17 +275,17 @@ impl<R: Requests> DevControl<R> {
 
     // Answers data after an OUT token.
     fn answer_out(&mut self, one: bool, payload: &[u8]) -> Packet
-        ensures { Does R.prepare_gives R.apply_gives (given self.old.stage one payload.now)
+        ensures { Does R.prepare_gives R.apply_gives (effect_of_out self.old.stage one payload.now)
             self.old.requests self.new (Some result) }
     {
-        self.heard = Heard::Nothing;
+        self.last_packet = LastPacket::Nothing;
         self.stage.give(one, payload)
     }
 
     // Goes on after an ACK to data.
     fn acknowledged(&mut self)
         ensures { self.new ≡ record self.old {
-          stage = acknowledged (R.answer_of self.old.requests) self.old.stage;
+          stage = stage_after_ack (R.answer_of self.old.requests) self.old.stage;
         } }
     {
         match &self.stage {
@@ -305,34 +307,35 @@ impl<R: Requests> DevControl<R> {
     }
 
     // Hears a token, and answers IN.
-    fn hear_token(&mut self, kind: TokenKind) -> Option<Packet>
+    fn receive_token(&mut self, kind: TokenKind) -> Option<Packet>
         ensures does { (addr endp : ℕ) → Does R.prepare_gives R.apply_gives
-            (effect (R.answer_of self.old.requests) self.old.stage self.old.heard (Packet.Token kind addr endp))
+            (effect (R.answer_of self.old.requests) self.old.stage self.old.last_packet (Packet.Token kind addr endp))
             self.old.requests self.new result }
         ensures fits { IfSome result Fits }
     {
         match kind {
             TokenKind::Setup => {
-                self.heard = Heard::Setup;
+                self.last_packet = LastPacket::Setup;
                 None
             }
             TokenKind::Out => {
-                self.heard = Heard::Out;
+                self.last_packet = LastPacket::Out;
                 None
             }
             TokenKind::In => Some(self.answer_in()),
         }
     }
 
-    // Hears data, by what was heard before them.
-    fn hear_data(&mut self, heard: Heard, one: bool, payload: &[u8]) -> Option<Packet>
-        requires { self.old.heard ≡ Heard.Nothing }
-        ensures does { Does R.prepare_gives R.apply_gives (data_heard self.old.stage heard one payload.now)
+    // Receives data, by the packet before them.
+    fn receive_data(&mut self, last_packet: LastPacket, one: bool, payload: &[u8]) -> Option<Packet>
+        requires { self.old.last_packet ≡ LastPacket.Nothing }
+        ensures does { Does R.prepare_gives R.apply_gives
+            (effect_of_data_packet self.old.stage last_packet one payload.now)
             self.old.requests self.new result }
         ensures fits { IfSome result Fits }
     {
-        match heard {
-            Heard::Setup => {
+        match last_packet {
+            LastPacket::Setup => {
                 if one {
                     return None;
                 }
@@ -342,16 +345,16 @@ impl<R: Requests> DevControl<R> {
                 self.decide(&Setup::from_bytes(bytes));
                 Some(Packet::Ack)
             }
-            Heard::Out => Some(self.answer_out(one, payload)),
-            Heard::Nothing | Heard::Answered => None,
+            LastPacket::Out => Some(self.answer_out(one, payload)),
+            LastPacket::Nothing | LastPacket::Answered => None,
         }
     }
 
-    /// A packet passes that isn't for this endpoint: what was heard before it counts no more.
-    pub fn pass(&mut self)
-        ensures { self.new ≡ record self.old { heard = Heard.Nothing } }
+    /// Ignores a packet that isn't for this endpoint, and forgets the one before it.
+    pub fn ignore_packet(&mut self)
+        ensures { self.new ≡ record self.old { last_packet = LastPacket.Nothing } }
     {
-        self.heard = Heard::Nothing;
+        self.last_packet = LastPacket::Nothing;
     }
 
     /// Hears any packet, and gives the answer to it, if it has one (USB 2.0, 8.5.3).
@@ -373,17 +376,21 @@ impl<R: Requests> DevControl<R> {
     /// write. An ACK counts only directly after the data that it answers.
     pub fn on_packet(&mut self, packet: &Packet) -> Option<Packet>
         ensures does { Does R.prepare_gives R.apply_gives
-            (effect (R.answer_of self.old.requests) self.old.stage self.old.heard packet.now)
+            (effect (R.answer_of self.old.requests) self.old.stage self.old.last_packet packet.now)
             self.old.requests self.new result }
         ensures fits { IfSome result Fits }
     {
-        let heard = self.heard;
-        self.heard = Heard::Nothing;
+        let last_packet = self.last_packet;
+        self.last_packet = LastPacket::Nothing;
         match packet {
-            Packet::Token { kind, .. } => self.hear_token(*kind),
-            Packet::Data { one, payload } => self.hear_data(heard, *one, payload.as_slice()),
+            Packet::Token { kind, .. } => self.receive_token(*kind),
+            Packet::Data { one, payload } => self.receive_data(
+                last_packet,
+                *one,
+                payload.as_slice(),
+            ),
             Packet::Ack => {
-                if heard == Heard::Answered {
+                if last_packet == LastPacket::Answered {
                     self.acknowledged();
                 }
                 None

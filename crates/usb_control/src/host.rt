@@ -4,7 +4,7 @@ ghost use Rattle.std.specs.Option.{option_copied};
 ghost use Rattle.usb_packet.specs.Spelling.{Fits};
 ghost use Rattle.usb_control.specs.SetupBytes.{IsSpelled, reads};
 ghost use Rattle.usb_control.specs.Pieces.{piece_from};
-ghost use Rattle.usb_control.specs.Host.{IsRunning, Shows, acknowledges, acknowledges_at, after_write_piece, answered, at_start, asks_at, data_in, handshake, in_answered, is_overrun, joined, not_taken, payload_of, progress_of, sent_length, setup_answered, status_in, token_of, took, unanswered};
+ghost use Rattle.usb_control.specs.Host.{IsRunning, Shows, acknowledges, acknowledges_at, after_write_piece, with_stage, at_start, asks_at, data_in, handshake, after_in_answer, is_overrun, with_payload, after_other_answer, payload_of, progress_of, sent_length, after_setup_answer, status_in, token_of, transfer_after_reply, after_no_answer};
 
 use crate::fault::ControlFault;
 use crate::pieces::{MAX_PACKET, piece_from};
@@ -160,7 +160,7 @@ impl HostTransfer {
         }
     }
 
-    /// The data packet that goes with the token, behind SETUP and OUT: the request under DATA0, the next bytes of a
+    /// The data packet that goes with the token, after SETUP and OUT: the request under DATA0, the next bytes of a
     /// write, DATA1 first, or the status of a read.
     pub fn payload(&self) -> Option<Packet>
         requires { IsRunning self.now.stage }
@@ -195,16 +195,16 @@ impl HostTransfer {
     }
 
     // Goes on after an answer.
-    fn answered(&mut self, stage: HostStage)
-        ensures { self.new ≡ answered stage self.old }
+    fn advance_to(&mut self, stage: HostStage)
+        ensures { self.new ≡ with_stage stage self.old }
     {
         self.stage = stage;
         self.tries = 0;
     }
 
     // One try more without an answer: the third in a row is the last.
-    fn unanswered(&mut self)
-        ensures { self.new ≡ unanswered self.old }
+    fn count_silence(&mut self)
+        ensures { self.new ≡ after_no_answer self.old }
     {
         if self.tries < MAX_TRIES - 1 {
             self.tries += 1;
@@ -214,13 +214,13 @@ impl HostTransfer {
     }
 
     // Takes what takes the transfer no further.
-    fn not_taken(&mut self, packet: Option<&Packet>)
-        ensures { self.new ≡ not_taken (option_copied packet.entry) self.old }
+    fn take_other_answer(&mut self, packet: Option<&Packet>)
+        ensures { self.new ≡ after_other_answer (option_copied packet.entry) self.old }
     {
         match packet {
             Some(Packet::Nak) => self.tries = 0,
             Some(Packet::Stall) => self.stage = HostStage::Failed(ControlFault::Stalled),
-            _ => self.unanswered(),
+            _ => self.count_silence(),
         }
     }
 
@@ -229,14 +229,14 @@ impl HostTransfer {
         ensures { self.new ≡ handshake (option_copied packet.entry) next self.old }
     {
         match packet {
-            Some(Packet::Ack) => self.answered(next),
-            _ => self.not_taken(packet),
+            Some(Packet::Ack) => self.advance_to(next),
+            _ => self.take_other_answer(packet),
         }
     }
 
     // Takes data of a read under the toggle that is expected: whether they aren't too much.
     fn join(&mut self, one: bool, payload: &[u8]) -> bool
-        ensures joined { self.new ≡ joined one payload.now self.old }
+        ensures joined { self.new ≡ with_payload one payload.now self.old }
         ensures taken { result ≡ not (is_overrun self.new.stage) }
     {
         let length = usize::from(self.setup.length);
@@ -247,7 +247,7 @@ impl HostTransfer {
             return false;
         }
         self.bytes.extend_from_slice(payload).unwrap();
-        self.answered(if count == MAX_PACKET && got + count < length {
+        self.advance_to(if count == MAX_PACKET && got + count < length {
             HostStage::DataIn { one: !one }
         } else {
             HostStage::StatusOut
@@ -257,14 +257,14 @@ impl HostTransfer {
 
     // Takes an answer to SETUP: only ACK is one.
     fn take_setup(&mut self, packet: Option<&Packet>)
-        ensures { self.new ≡ setup_answered (option_copied packet.entry) self.old }
+        ensures { self.new ≡ after_setup_answer (option_copied packet.entry) self.old }
     {
         let Some(Packet::Ack) = packet else {
-            self.unanswered();
+            self.count_silence();
             return;
         };
         let setup = self.setup;
-        self.answered(if setup.length == 0 {
+        self.advance_to(if setup.length == 0 {
             HostStage::StatusIn
         } else if setup.is_read() {
             HostStage::DataIn { one: true }
@@ -291,7 +291,7 @@ impl HostTransfer {
     fn take_data(&mut self, packet: Option<&Packet>, expected: bool) -> bool
         requires { self.old.stage ≡ HostStage.DataIn expected }
         ensures taken { self.new
-            ≡ in_answered (option_copied packet.entry) (data_in expected) self.old }
+            ≡ after_in_answer (option_copied packet.entry) (data_in expected) self.old }
         ensures acknowledged { result
             ≡ acknowledges_at self.old.stage (option_copied packet.entry) self.new.stage }
     {
@@ -304,7 +304,7 @@ impl HostTransfer {
                 self.join(*one, payload.as_slice())
             }
             _ => {
-                self.not_taken(packet);
+                self.take_other_answer(packet);
                 false
             }
         }
@@ -313,7 +313,7 @@ impl HostTransfer {
     // Takes an answer to IN in the status stage: whether ACK is sent.
     fn take_status(&mut self, packet: Option<&Packet>) -> bool
         requires { self.old.stage ≡ HostStage.StatusIn }
-        ensures taken { self.new ≡ in_answered (option_copied packet.entry) status_in self.old }
+        ensures taken { self.new ≡ after_in_answer (option_copied packet.entry) status_in self.old }
         ensures acknowledged { result
             ≡ acknowledges_at self.old.stage (option_copied packet.entry) self.new.stage }
     {
@@ -327,11 +327,11 @@ impl HostTransfer {
                     self.stage = HostStage::Failed(ControlFault::Overrun);
                     return false;
                 }
-                self.answered(HostStage::Done);
+                self.advance_to(HostStage::Done);
                 true
             }
             _ => {
-                self.not_taken(packet);
+                self.take_other_answer(packet);
                 false
             }
         }
@@ -354,7 +354,7 @@ impl HostTransfer {
     /// | any | all else, and nothing | a try without an answer: the third in a row fails with C2 |
     pub fn take(&mut self, packet: Option<&Packet>) -> bool
         requires { IsRunning self.old.stage }
-        ensures took { self.new ≡ took (option_copied packet.entry) self.old }
+        ensures took { self.new ≡ transfer_after_reply (option_copied packet.entry) self.old }
         ensures same { (self.new.setup ≡ self.old.setup) × (self.new.addr ≡ self.old.addr) }
         ensures acknowledged { result ≡ acknowledges (option_copied packet.entry) self.old }
     {

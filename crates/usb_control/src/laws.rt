@@ -6,19 +6,19 @@ ghost use Rattle.usb_transact.specs.declared.transaction.Fate.{Fate};
 ghost use Rattle.usb_control.specs.declared.setup.Setup.{Setup as Request};
 ghost use Rattle.usb_control.specs.declared.fault.ControlFault.{ControlFault};
 ghost use Rattle.usb_control.specs.declared.device.Stage.{Stage};
-ghost use Rattle.usb_control.specs.declared.device.Heard.{Heard};
+ghost use Rattle.usb_control.specs.declared.device.LastPacket.{LastPacket};
 ghost use Rattle.usb_control.specs.declared.host.HostStage.{HostStage};
 ghost use Rattle.usb_control.specs.SetupBytes.{IsSpelled, reads};
-ghost use Rattle.usb_control.specs.Device.{DevControlState, begun, effect};
+ghost use Rattle.usb_control.specs.Device.{DevControlState, effect, stage_after_decision};
 ghost use Rattle.usb_control.specs.Host.{HostTransferState, IsRunning, at_start, sent_length};
 ghost use Rattle.usb_control.specs.Reading.{IsReadOf, took_all};
 ghost use Rattle.usb_control.specs.Writing.{AnswersAll, IsApplied, IsNoWrite, given_data};
 ghost use Rattle.usb_control.specs.Transfer.{Shape, Decision, Place, answered_bytes, shape_of, start};
-ghost use Rattle.usb_control.specs.Standing.{GoesOn, Stands};
+ghost use Rattle.usb_control.specs.Positions.{GoesOn, Stands};
 ghost use Rattle.usb_control.specs.Transaction.{Transacts};
-ghost use Rattle.usb_control.specs.Computed.{AppliesBy, PreparesBy, Table, control_tried, host_tried};
-ghost use Rattle.usb_control.specs.Meanwhile.{Ends, GoesBy, LeaveAnswers, StandAt, Turn, is_running, tries_in, turned_all};
-ghost use Rattle.usb_control.specs.Runs.{IsDone, IsOnce, is_open, run};
+ghost use Rattle.usb_control.specs.TryFunctions.{AppliesBy, PreparesBy, Table, control_tried, host_tried};
+ghost use Rattle.usb_control.specs.Interleaving.{Ends, GoesBy, LeaveAnswers, StandAt, Turn, ends_after_turns, is_running, tries_in};
+ghost use Rattle.usb_control.specs.Runs.{IsDone, IsOnce, is_open, place_after_tries};
 ghost use Rattle.usb_control.specs.Steps.{IsAppliedOnce, IsOnceAtMost, Steps};
 
 use crate::requests::Requests;
@@ -62,8 +62,8 @@ pub fn transfers_are_told<R: Requests>()
 {}
 
 /// Whatever packets come to the host in a read: the bytes of a read that is done are the payloads of its data stage
-/// joined. The stage is what came behind the first ACK, which answers SETUP. It accepts data under DATA1 first, then in turn, and all
-/// else is thrown away.
+/// joined. The stage is what came after the first ACK, which answers SETUP. It accepts data under DATA1 first, then
+/// in turn, and all else is thrown away.
 pub fn reads_are_joined()
     ensures { (came : List (Option Packet)) (addr : ℕ) (request : Request) → reads request ≡ true
         → (took_all came (at_start addr request [])).stage ≡ HostStage.Done
@@ -75,22 +75,23 @@ pub fn reads_are_joined()
 pub fn writes_are_joined()
     // From the SETUP of an accepted write on, over packets that are only answered, up to the one that
     // brings the effect.
-    ensures written { (answer : Option (List ℕ)) (len : ℕ) (heard : List Packet)
-        (stage : Stage) (last : Heard) (packet : Packet) (bytes : List ℕ)
-        → AnswersAll answer (begun true false len) Heard.Nothing heard stage last
+    ensures written { (answer : Option (List ℕ)) (len : ℕ) (packets : List Packet)
+        (stage : Stage) (last : LastPacket) (packet : Packet) (bytes : List ℕ)
+        → AnswersAll answer
+        (stage_after_decision true false len) LastPacket.Nothing packets stage last
         → IsApplied (effect answer stage last packet) bytes
-        → (bytes ≡ concat (given_data false true heard)) × (length bytes ≡ len) }
+        → (bytes ≡ concat (given_data false true packets)) × (length bytes ≡ len) }
 
     // After the effect, and from the SETUP of any other request on, nothing takes effect before the next.
-    ensures once { (answer : Option (List ℕ)) (begins stage : Stage) (first last : Heard)
-        (heard : List Packet) (packet : Packet) (bytes : List ℕ)
-        → IsNoWrite begins → AnswersAll answer begins first heard stage last
+    ensures once { (answer : Option (List ℕ)) (begins stage : Stage) (first last : LastPacket)
+        (packets : List Packet) (packet : Packet) (bytes : List ℕ)
+        → IsNoWrite begins → AnswersAll answer begins first packets stage last
         → ¬ IsApplied (effect answer stage last packet) bytes }
 {}
 
 /// Whatever is lost in a transfer: what counts is the decision at the last SETUP that arrived; over all its tries a write
 /// that is done took effect exactly once, one that failed or still runs once or not at all, and one that was refused
-/// never; and it did so behind that SETUP. This is said of lists of tries, each with what a SETUP that arrives in it is
+/// never; and it did so after that SETUP. This is said of lists of tries, each with what a SETUP that arrives in it is
 /// decided.
 pub fn effects_are_once()
     ensures { (shape : Shape) (tries : List (Fate × Decision)) → IsOnce shape tries }
@@ -148,10 +149,11 @@ pub fn tries_are_computed<R>()
 pub fn places_are_run<R>()
     ensures stands { (table : Table R) (sends : List ℕ) (place : Place) (ends : Ends R) (turns : List (Turn R))
         → IsSpelled ends.host.setup → LeaveAnswers table turns → StandAt table sends place ends
-        → StandAt table sends (run (shape_of ends.host.setup) (tries_in table ends turns) place)
-        (turned_all table ends turns) }
+        → StandAt table sends
+        (place_after_tries (shape_of ends.host.setup) (tries_in table ends turns) place)
+        (ends_after_turns table ends turns) }
     ensures same { (table : Table R) (ends : Ends R) (turns : List (Turn R))
-        → (turned_all table ends turns).host.setup ≡ ends.host.setup }
+        → (ends_after_turns table ends turns).host.setup ≡ ends.host.setup }
     // The transfer runs exactly where its place is open.
     ensures runs { (table : Table R) (sends : List ℕ) (place : Place) (ends : Ends R)
         → StandAt table sends place ends → is_running ends.host.stage ≡ is_open place }

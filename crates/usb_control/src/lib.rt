@@ -29,7 +29,7 @@
 //! request, ends it with C1; to SETUP it is no answer.
 //!
 //! The rule to know: what a device can do is a [`Requests`], which decides at SETUP, fixes the answer then, and carries a
-//! write out when it is told to. All else here is the same for every device.
+//! write out when its status is asked for. All else here is the same for every device.
 //!
 //! The promise, whatever is lost: a read that is done gave the answer as fixed at the last SETUP that arrived, cut to
 //! what was asked for; a write that is done took effect exactly once, one that failed once or not at all, and
@@ -53,7 +53,6 @@ mod walk;
 pub use descriptors::{ConfigInfo, DeviceInfo};
 pub use device::{DevControl, MAX_WRITE};
 pub use fault::{ControlFault, InfoFault};
-pub use host::{HostTransfer, MAX_TRIES, Outcome, Progress};
-pub use pieces::MAX_PACKET;
+pub use host::{HostTransfer, Outcome, Progress};
 pub use requests::Requests;
 pub use setup::Setup;

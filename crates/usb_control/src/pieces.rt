@@ -17,7 +17,7 @@ pub fn piece_from(bytes: &[u8], start: usize) -> &[u8]
 }
 
 /// The bytes, cut to that length.
-pub fn cut(bytes: &[u8], length: usize) -> &[u8]
+pub fn cut_to_length(bytes: &[u8], length: usize) -> &[u8]
     ensures { result.now ≡ take length bytes.now }
 {
     &bytes[..length.min(bytes.len())]

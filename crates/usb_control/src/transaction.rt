@@ -4,23 +4,24 @@ ghost use Rattle.std.specs.Option.{option_copied};
 ghost use Rattle.usb_packet.specs.Spelling.{Fits};
 ghost use Rattle.usb_control.specs.Host.{IsRunning, asks_at, payload_of, progress_of, token_of};
 ghost use Rattle.usb_transact.specs.Fate.{arrives_under};
-ghost use Rattle.usb_control.specs.Crossing.{Acknowledges, Crosses, Hears, Reaches, phase_of};
+ghost use Rattle.usb_control.specs.Crossing.{Acknowledges, Crosses, Reaches, Receives, phase_of};
 ghost use Rattle.usb_control.specs.Transaction.{Transacts};
 ghost use Rattle.usb_control.specs.Transfer.{Place, shape_of};
-ghost use Rattle.usb_control.specs.Standing.{GoesOn, Stands};
+ghost use Rattle.usb_control.specs.Positions.{GoesOn, Stands};
 ghost use Rattle.usb_control.specs.SetupBytes.{IsSpelled};
 
 use crate::device::DevControl;
 use crate::host::{HostTransfer, Progress};
 use crate::requests::Requests;
 use usb_packet::Packet;
-use usb_transact::{Bus, Fate, Phase, carried, replied};
+use usb_transact::{Bus, Fate, Phase, send_packet, send_reply};
 
 impl<R: Requests> DevControl<R> {
     // Hears the packet that came, if one did, and gives the answer to it.
     #[inline(never)] // it stands where its caller wants it
-    fn hear(&mut self, packet: Option<&Packet>) -> Option<Packet>
-        ensures hears { Hears R.prepare_gives R.apply_gives R.answer_of (option_copied packet.entry)
+    fn receive(&mut self, packet: Option<&Packet>) -> Option<Packet>
+        ensures hears { Receives R.prepare_gives R.apply_gives R.answer_of
+            (option_copied packet.entry)
             self.old self.new result }
         ensures fits { IfSome result Fits }
     {
@@ -37,8 +38,8 @@ fn acknowledge<B: Bus, R: Requests>(bus: &B, control: &mut DevControl<R>, says: 
         control.old control.new }
 {
     if says {
-        let ack = carried(bus, Phase::Acknowledgement, &Packet::Ack);
-        control.hear(ack.as_ref());
+        let ack = send_packet(bus, Phase::Acknowledgement, &Packet::Ack);
+        control.receive(ack.as_ref());
     }
 }
 
@@ -62,12 +63,12 @@ impl HostTransfer {
             (token_of self.now) (payload_of self.now) control.old control.new result }
         ensures fits { IfSome result Fits }
     {
-        let token = carried(bus, Phase::Token, &self.token());
-        let answer = control.hear(token.as_ref());
+        let token = send_packet(bus, Phase::Token, &self.token());
+        let answer = control.receive(token.as_ref());
         match self.payload() {
             Some(payload) => {
-                let data = carried(bus, Phase::HostData, &payload);
-                control.hear(data.as_ref())
+                let data = send_packet(bus, Phase::HostData, &payload);
+                control.receive(data.as_ref())
             }
             None => answer,
         }
@@ -83,7 +84,7 @@ impl HostTransfer {
     {
         let phase = self.phase();
         let answer = self.reach(bus, control);
-        let reply = replied(bus, phase, answer.as_ref());
+        let reply = send_reply(bus, phase, answer.as_ref());
         let says = self.take(reply.as_ref());
         acknowledge(bus, control, says);
     }

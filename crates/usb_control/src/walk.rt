@@ -49,7 +49,7 @@ impl Wanted {
     }
 }
 
-// The first descriptor of these bytes, and what is behind it.
+// The first descriptor of these bytes, and what is after it.
 fn next_descriptor(bytes: &[u8]) -> Option<(&[u8], &[u8])>
     ensures found { IfSome result (λ parts. IsDescriptor parts.0.now
         × (bytes.now ≡ parts.0.now ++ parts.1.now)) }
@@ -84,7 +84,7 @@ pub struct Split<'a> {
     pub before: &'a [u8],
     /// The descriptor.
     pub found: &'a [u8],
-    /// The descriptors behind it.
+    /// The descriptors after it.
     pub behind: &'a [u8],
 }
 

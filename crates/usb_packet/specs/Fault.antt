@@ -30,7 +30,7 @@ HasLength first len =
     (packet : Packet) × (length (body_of packet) ≤ MAX_PAYLOAD) × (pid_of packet ≡ first)
     × (length (body_of packet) ≡ len)
 
--- this PID is a token's
+-- a PID is a token's
 abbrev pub IsToken : ℕ → Type 0
 IsToken first = (kind : TokenKind) × (token_pid kind ≡ first)
 
@@ -51,6 +51,6 @@ IsFault fault [] = fault ≡ Empty
 IsFault fault (first ∷ body) = IsFaultAt fault first body
 
 -- the packet that the bytes spell, or their first fault
-abbrev pub Reads : Result Packet PacketFault → List ℕ → Type 0
-Reads result bytes =
+abbrev pub Decodes : Result Packet PacketFault → List ℕ → Type 0
+Decodes result bytes =
     MatchResult result (λ packet. Spells packet bytes) (λ fault. IsFault fault bytes)

@@ -1,16 +1,16 @@
 //! From bytes to the packet that they spell (USB 2.0, 8.3 and 8.4).
 ghost use Rattle.std.specs.Prelude.{◌≡◌, ◌∷◌, Ok, IfOk, IfErr};
 ghost use Rattle.usb_packet.specs.Spelling.{Spells, IsHandshake, token_pid, data_pid, pid_of};
-ghost use Rattle.usb_packet.specs.Fault.{IsFault, Reads};
-ghost use Rattle.usb_packet.specs.Lent.{owned, owned_or_fault};
+ghost use Rattle.usb_packet.specs.Fault.{Decodes, IsFault};
+ghost use Rattle.usb_packet.specs.PacketRef.{to_owned, to_owned_or_fault};
 
 use crate::fault::PacketFault;
-use crate::packet::{LentPacket, MAX_PAYLOAD, Packet, TokenKind};
+use crate::packet::{MAX_PAYLOAD, Packet, PacketRef, TokenKind};
 use crate::pid;
 
 // A token with this kind, from what follows its PID.
-fn token(kind: TokenKind, body: &[u8]) -> Result<LentPacket<'_>, PacketFault>
-    ensures { Reads (owned_or_fault result) (token_pid kind ∷ body.now) }
+fn token(kind: TokenKind, body: &[u8]) -> Result<PacketRef<'_>, PacketFault>
+    ensures { Decodes (to_owned_or_fault result) (token_pid kind ∷ body.now) }
 {
     let [low, high] = body else {
         return Err(PacketFault::BadLength);
@@ -19,7 +19,7 @@ fn token(kind: TokenKind, body: &[u8]) -> Result<LentPacket<'_>, PacketFault>
     if fields >> 11 != 0 {
         return Err(PacketFault::BadReserved);
     }
-    Ok(LentPacket::Token {
+    Ok(PacketRef::Token {
         kind,
         addr: (fields & 0x7f) as u8,
         endp: (fields >> 7) as u8,
@@ -27,20 +27,20 @@ fn token(kind: TokenKind, body: &[u8]) -> Result<LentPacket<'_>, PacketFault>
 }
 
 // A data packet with this toggle, from what follows its PID.
-fn data(one: bool, body: &[u8]) -> Result<LentPacket<'_>, PacketFault>
-    ensures { Reads (owned_or_fault result) (data_pid one ∷ body.now) }
+fn data(one: bool, body: &[u8]) -> Result<PacketRef<'_>, PacketFault>
+    ensures { Decodes (to_owned_or_fault result) (data_pid one ∷ body.now) }
 {
     if body.len() <= MAX_PAYLOAD {
-        Ok(LentPacket::Data { one, payload: body })
+        Ok(PacketRef::Data { one, payload: body })
     } else {
         Err(PacketFault::BadLength)
     }
 }
 
 // This handshake, from what follows its PID.
-fn handshake<'a>(packet: LentPacket<'a>, body: &[u8]) -> Result<LentPacket<'a>, PacketFault>
-    requires handshake { IsHandshake (owned packet) }
-    ensures { Reads (owned_or_fault result) (pid_of (owned packet.entry) ∷ body.now) }
+fn handshake<'a>(packet: PacketRef<'a>, body: &[u8]) -> Result<PacketRef<'a>, PacketFault>
+    requires handshake { IsHandshake (to_owned packet) }
+    ensures { Decodes (to_owned_or_fault result) (pid_of (to_owned packet.entry) ∷ body.now) }
 {
     if body.is_empty() {
         Ok(packet)
@@ -54,10 +54,11 @@ fn handshake<'a>(packet: LentPacket<'a>, body: &[u8]) -> Result<LentPacket<'a>, 
 /// # Errors
 /// Where they spell none, the first [`PacketFault`] that stands, in the order of its variants.
 #[inline(always)]
-pub fn read(bytes: &[u8]) -> Result<LentPacket<'_>, PacketFault>
-    ensures found { IfOk (owned_or_fault result) (λ packet. Spells packet bytes.now) }
-    ensures complete { (packet : Packet) → Spells packet bytes.now → owned_or_fault result ≡ Ok packet }
-    ensures fault { IfErr (owned_or_fault result) (λ fault. IsFault fault bytes.now) }
+pub fn decode_ref(bytes: &[u8]) -> Result<PacketRef<'_>, PacketFault>
+    ensures found { IfOk (to_owned_or_fault result) (λ packet. Spells packet bytes.now) }
+    ensures complete { (packet : Packet) → Spells packet bytes.now
+        → to_owned_or_fault result ≡ Ok packet }
+    ensures fault { IfErr (to_owned_or_fault result) (λ fault. IsFault fault bytes.now) }
 {
     let [first, body @ ..] = bytes else {
         return Err(PacketFault::Empty);
@@ -71,9 +72,9 @@ pub fn read(bytes: &[u8]) -> Result<LentPacket<'_>, PacketFault>
         pid::SETUP => token(TokenKind::Setup, body),
         pid::DATA0 => data(false, body),
         pid::DATA1 => data(true, body),
-        pid::ACK => handshake(LentPacket::Ack, body),
-        pid::NAK => handshake(LentPacket::Nak, body),
-        pid::STALL => handshake(LentPacket::Stall, body),
+        pid::ACK => handshake(PacketRef::Ack, body),
+        pid::NAK => handshake(PacketRef::Nak, body),
+        pid::STALL => handshake(PacketRef::Stall, body),
         _ => Err(PacketFault::UnknownPid),
     }
 }
@@ -90,8 +91,8 @@ pub fn decode(bytes: &[u8]) -> Result<Packet, PacketFault>
     // On all other bytes, the first fault.
     ensures fault { IfErr result (λ fault. IsFault fault bytes.now) }
 {
-    match read(bytes) {
-        Ok(packet) => Ok(packet.owned()),
+    match decode_ref(bytes) {
+        Ok(packet) => Ok(packet.to_owned()),
         Err(fault) => Err(fault),
     }
 }

@@ -1,9 +1,9 @@
 //! From a packet to its bytes (USB 2.0, 8.3 and 8.4).
 ghost use Rattle.std.specs.Prelude.{◌≡◌, []};
-ghost use Rattle.usb_packet.specs.Lent.{owned, IsShort};
+ghost use Rattle.usb_packet.specs.PacketRef.{to_owned, IsShort};
 ghost use Rattle.usb_packet.specs.Spelling.{Fits, Spells, token_pid, data_pid};
 
-use crate::packet::{LentPacket, Packet, TokenKind};
+use crate::packet::{Packet, PacketRef, TokenKind};
 use crate::pid;
 use arrayvec::ArrayVec;
 
@@ -31,40 +31,40 @@ pub fn encode(packet: &Packet) -> ArrayVec<u8, 65>
     ensures spelled { Spells packet.now result.items }
 {
     let mut bytes = ArrayVec::new();
-    spell(packet, &mut bytes);
+    encode_into(packet, &mut bytes);
     bytes
 }
 
 /// Writes the bytes that spell the packet where none are yet, as [`encode`] gives them.
-pub fn spell(packet: &Packet, bytes: &mut ArrayVec<u8, 65>)
+pub fn encode_into(packet: &Packet, bytes: &mut ArrayVec<u8, 65>)
     requires fits { Fits packet.now }
     requires empty { bytes.old.items ≡ [] }
     ensures spelled { Spells packet.now bytes.new.items }
 {
-    spell_lent(packet.lent(), bytes);
+    encode_ref_into(packet.as_ref(), bytes);
 }
 
-/// Spells a packet whose payload, of at most 64 bytes, stands elsewhere: as [`spell`] does.
-pub fn spell_lent(packet: LentPacket, bytes: &mut ArrayVec<u8, 65>)
-    requires fits { Fits (owned packet) }
+/// Spells a packet whose payload, of at most 64 bytes, stands elsewhere: as [`encode_into`] does.
+pub fn encode_ref_into(packet: PacketRef, bytes: &mut ArrayVec<u8, 65>)
+    requires fits { Fits (to_owned packet) }
     requires short { IsShort packet }
     requires empty { bytes.old.items ≡ [] }
-    ensures spelled { Spells (owned packet.entry) bytes.new.items }
+    ensures spelled { Spells (to_owned packet.entry) bytes.new.items }
 {
     match packet {
-        LentPacket::Token { kind, addr, endp } => {
+        PacketRef::Token { kind, addr, endp } => {
             let fields = u16::from(endp) << 7 | u16::from(addr);
             let [low, high] = fields.to_le_bytes();
             bytes.push(pid_of_token(kind));
             bytes.push(low);
             bytes.push(high);
         }
-        LentPacket::Data { one, payload } => {
+        PacketRef::Data { one, payload } => {
             bytes.push(pid_of_data(one));
             bytes.try_extend_from_slice(payload).unwrap();
         }
-        LentPacket::Ack => bytes.push(pid::ACK),
-        LentPacket::Nak => bytes.push(pid::NAK),
-        LentPacket::Stall => bytes.push(pid::STALL),
+        PacketRef::Ack => bytes.push(pid::ACK),
+        PacketRef::Nak => bytes.push(pid::NAK),
+        PacketRef::Stall => bytes.push(pid::STALL),
     }
 }

@@ -10,10 +10,10 @@
 //! A PID is one byte: the type of the packet in its low half, and the complement of that in its high half.
 //! No CRC is carried: a packet that a CRC would refuse is one that was lost.
 //!
-//! A [`LentPacket`] borrows its payload, as from the bytes that arrived: [`read`] decodes one, and [`spell_lent`] encodes one.
+//! A [`PacketRef`] borrows its payload, as from the bytes that arrived: [`decode_ref`] decodes one, and [`encode_ref_into`] encodes one.
 //!
-//! The rule to know: only a packet that [`fits`] has a spelling, and [`encode`] asks for one. Packets that aren't tokens
-//! fit: a payload has at most 64 bytes, of a [`Packet`] by its type, of a [`LentPacket`] where a call asks for that.
+//! The rule to know: only a packet that [`fits`] has an encoding, and [`encode`] asks for one. Packets that aren't tokens
+//! fit: a payload has at most 64 bytes, of a [`Packet`] by its type, of a [`PacketRef`] where a call asks for that.
 //!
 //! The promise: `decode` accepts exactly the spellings and gives their packets: `found`, `complete` and `fault` on [`decode`].
 //! No call takes memory.
@@ -25,7 +25,7 @@ mod fault;
 mod packet;
 mod pid;
 
-pub use decoding::{decode, read};
-pub use encoding::{encode, spell, spell_lent};
+pub use decoding::{decode, decode_ref};
+pub use encoding::{encode, encode_into, encode_ref_into};
 pub use fault::PacketFault;
-pub use packet::{LentPacket, MAX_ADDRESS, MAX_ENDPOINT, MAX_PAYLOAD, Packet, TokenKind, fits};
+pub use packet::{MAX_ADDRESS, MAX_ENDPOINT, MAX_PAYLOAD, Packet, PacketRef, TokenKind, fits};

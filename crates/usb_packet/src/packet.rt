@@ -1,6 +1,6 @@
 //! What a packet is (USB 2.0, 8.4).
 ghost use Rattle.std.specs.Prelude.{◌≡◌, ◌↔◌, IsTrue};
-ghost use Rattle.usb_packet.specs.Lent.{owned, IsShort};
+ghost use Rattle.usb_packet.specs.PacketRef.{to_owned, IsShort};
 ghost use Rattle.usb_packet.specs.Spelling.{Fits};
 
 use arrayvec::ArrayVec;
@@ -52,9 +52,9 @@ pub enum Packet {
     Stall,
 }
 
-/// A packet whose payload stands elsewhere, so that it is handed on in a few bytes: [`LentPacket::owned`] is the packet.
+/// A packet whose payload is borrowed, so that passing it copies a few bytes; [`PacketRef::to_owned`] is the packet.
 #[derive(Clone, Copy)]
-pub enum LentPacket<'a> {
+pub enum PacketRef<'a> {
     /// From the host: begins a transaction with one endpoint of one device (8.4.1).
     Token {
         /// What the token announces.
@@ -82,47 +82,47 @@ pub enum LentPacket<'a> {
 impl Packet {
     /// The packet, with its payload where it stands.
     #[inline(always)]
-    pub fn lent(&self) -> LentPacket<'_>
-        ensures packet { owned result ≡ self.now }
+    pub fn as_ref(&self) -> PacketRef<'_>
+        ensures packet { to_owned result ≡ self.now }
         ensures short { IsShort result }
     {
         match self {
-            Packet::Token { kind, addr, endp } => LentPacket::Token {
+            Packet::Token { kind, addr, endp } => PacketRef::Token {
                 kind: *kind,
                 addr: *addr,
                 endp: *endp,
             },
-            Packet::Data { one, payload } => LentPacket::Data {
+            Packet::Data { one, payload } => PacketRef::Data {
                 one: *one,
                 payload: payload.as_slice(),
             },
-            Packet::Ack => LentPacket::Ack,
-            Packet::Nak => LentPacket::Nak,
-            Packet::Stall => LentPacket::Stall,
+            Packet::Ack => PacketRef::Ack,
+            Packet::Nak => PacketRef::Nak,
+            Packet::Stall => PacketRef::Stall,
         }
     }
 }
 
-impl<'a> LentPacket<'a> {
+impl<'a> PacketRef<'a> {
     /// The packet, with a payload of its own.
-    pub fn owned(self) -> Packet
+    pub fn to_owned(self) -> Packet
         requires { IsShort self }
-        ensures { result ≡ owned self.entry }
+        ensures { result ≡ to_owned self.entry }
     {
         match self {
-            LentPacket::Token { kind, addr, endp } => Packet::Token { kind, addr, endp },
-            LentPacket::Data { one, payload } => Packet::Data {
+            PacketRef::Token { kind, addr, endp } => Packet::Token { kind, addr, endp },
+            PacketRef::Data { one, payload } => Packet::Data {
                 one,
                 payload: ArrayVec::try_from(payload).unwrap(),
             },
-            LentPacket::Ack => Packet::Ack,
-            LentPacket::Nak => Packet::Nak,
-            LentPacket::Stall => Packet::Stall,
+            PacketRef::Ack => Packet::Ack,
+            PacketRef::Nak => Packet::Nak,
+            PacketRef::Stall => Packet::Stall,
         }
     }
 }
 
-/// Whether the packet has a spelling: the address of a token is at most [`MAX_ADDRESS`] and its endpoint at most
+/// Whether the packet has an encoding: the address of a token is at most [`MAX_ADDRESS`] and its endpoint at most
 /// [`MAX_ENDPOINT`] (USB 2.0, 8.3.2).
 pub fn fits(packet: &Packet) -> bool
     ensures { IsTrue result ↔ Fits packet.now }

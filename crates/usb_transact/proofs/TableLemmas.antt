@@ -11,12 +11,12 @@ use Rattle.usb_transact.specs.declared.host.Took.TheVariants.{Fresh, Again}
 use Rattle.usb_transact.specs.declared.transaction.Fate.{Fate}
 use Rattle.usb_transact.specs.declared.transaction.Fate.TheVariants.{Clean, TokenLost, ReplyLost, AckLost}
 use Rattle.usb_transact.specs.Host.{HostPipeState, token_to}
-use Rattle.usb_transact.specs.Device.{DevPipeState, answer_of, answer_with, closed}
-use Rattle.usb_transact.specs.Taken.{taken}
+use Rattle.usb_transact.specs.Device.{DevPipeState, after_acknowledgement, answer_of, answer_with}
+use Rattle.usb_transact.specs.Taken.{reply_outcome}
 use Rattle.usb_transact.specs.Bus.{Arrivals, Carries, Replies}
 use Rattle.usb_transact.specs.Fate.{arrives_under}
-use Rattle.usb_transact.specs.Transaction.{answered, device_behind, HearsAck, Acknowledges, Transacts}
-use Rattle.usb_transact.specs.Exchange.{took_where, took_of, device_after}
+use Rattle.usb_transact.specs.Transaction.{answer_to_token, device_after_handshake, ReceivesAck, Acknowledges, Transacts}
+use Rattle.usb_transact.specs.Exchange.{outcome_when_received, took_of, device_after}
 
 -- a packet that arrives as it was sent is read
 pub read_whole :
@@ -34,14 +34,14 @@ read_lost arrivals phase sent came lost c = rw lost at c.read
 -- a token that did not come gets no answer
 pub no_reply :
     (arrivals : Arrivals) (token : Option Packet) (device : DevPipeState) (reply : Option Packet)
-    → token ≡ None → Replies arrivals Reply (answered token device) reply → reply ≡ None
+    → token ≡ None → Replies arrivals Reply (answer_to_token token device) reply → reply ≡ None
 no_reply arrivals token device reply none replied = rw none at replied
 
 -- the host's token gets the device's answer
 pub full_reply :
     (arrivals : Arrivals) (host : HostPipeState) (token : Option Packet) (device : DevPipeState)
     (reply : Option Packet)
-    → token ≡ Some (token_to host) → Replies arrivals Reply (answered token device) reply
+    → token ≡ Some (token_to host) → Replies arrivals Reply (answer_to_token token device) reply
     → Carries arrivals Reply (answer_of device) reply
 full_reply arrivals host token device reply came replied = rw came at replied
 
@@ -50,7 +50,7 @@ pub whole_reply :
     (arrivals : Arrivals) (host : HostPipeState) (device : DevPipeState) (token reply : Option Packet)
     → arrivals Token (spelling (token_to host)) ≡ Some (spelling (token_to host))
     → arrivals Reply (spelling (answer_of device)) ≡ Some (spelling (answer_of device))
-    → Carries arrivals Token (token_to host) token → Replies arrivals Reply (answered token device) reply
+    → Carries arrivals Token (token_to host) token → Replies arrivals Reply (answer_to_token token device) reply
     → reply ≡ Some (answer_of device)
 whole_reply arrivals host device token reply token_whole reply_whole polled replied =
     let came = read_whole arrivals Token (token_to host) token token_whole polled in
@@ -60,7 +60,8 @@ whole_reply arrivals host device token reply token_whole reply_whole polled repl
 -- the host takes the device's answer by its row
 pub took_answer :
     (expects halted toggle : Bool) (armed : Option (List ℕ))
-    → taken expects (Some (answer_with halted toggle armed)) ≡ took_where expects halted toggle armed
+    → reply_outcome expects (Some (answer_with halted toggle armed))
+    ≡ outcome_when_received expects halted toggle armed
 took_answer expects true toggle armed = refl
 took_answer expects false toggle None = refl
 took_answer expects false toggle (Some bytes) = refl
@@ -74,24 +75,26 @@ pub Transacts-took :
 Transacts-took TokenLost host device took host_then device_then t =
     let none = read_lost (arrives_under TokenLost) Token (token_to host) t.token refl t.polled in
     let reply = no_reply (arrives_under TokenLost) t.token device t.reply none t.replied in
-    t.took_reply ∙ ap (taken host.expects) reply
+    t.took_reply ∙ ap (reply_outcome host.expects) reply
 Transacts-took ReplyLost host device took host_then device_then t =
     let came = read_whole (arrives_under ReplyLost) Token (token_to host) t.token refl t.polled in
     let sent = full_reply (arrives_under ReplyLost) host t.token device t.reply came t.replied in
     let reply = read_lost (arrives_under ReplyLost) Reply (answer_of device) t.reply refl sent in
-    t.took_reply ∙ ap (taken host.expects) reply
+    t.took_reply ∙ ap (reply_outcome host.expects) reply
 Transacts-took Clean host device took host_then device_then t =
     let reply = whole_reply (arrives_under Clean) host device t.token t.reply refl refl t.polled t.replied in
-    t.took_reply ∙ ap (taken host.expects) reply ∙ took_answer host.expects device.halted device.toggle device.armed
+    t.took_reply ∙ ap (reply_outcome host.expects) reply
+    ∙ took_answer host.expects device.halted device.toggle device.armed
 Transacts-took AckLost host device took host_then device_then t =
     let reply = whole_reply (arrives_under AckLost) host device t.token t.reply refl refl t.polled t.replied in
-    t.took_reply ∙ ap (taken host.expects) reply ∙ took_answer host.expects device.halted device.toggle device.armed
+    t.took_reply ∙ ap (reply_outcome host.expects) reply
+    ∙ took_answer host.expects device.halted device.toggle device.armed
 
 -- data are acknowledged under either toggle
 pub hears_either :
     (arrivals : Arrivals) (fresh : Bool) (bytes : List ℕ) (device after : DevPipeState)
     → Acknowledges arrivals (if fresh then Fresh (record { items = bytes }) else Again) device after
-    → HearsAck arrivals device after
+    → ReceivesAck arrivals device after
 hears_either arrivals true bytes device after h = h
 hears_either arrivals false bytes device after h = h
 
@@ -99,17 +102,19 @@ hears_either arrivals false bytes device after h = h
 pub ack_closes :
     (arrivals : Arrivals) (device after : DevPipeState)
     → arrivals Acknowledgement (spelling packets.Ack) ≡ Some (spelling packets.Ack)
-    → HearsAck arrivals device after → after ≡ closed device
+    → ReceivesAck arrivals device after → after ≡ after_acknowledgement device
 ack_closes arrivals device after whole (came, carries, moved) =
-    moved ∙ ap (λ heard. device_behind heard device) (read_whole arrivals Acknowledgement packets.Ack came whole carries)
+    moved ∙ ap (λ heard. device_after_handshake heard device)
+    (read_whole arrivals Acknowledgement packets.Ack came whole carries)
 
 -- an ACK that is lost leaves the device as it was
 pub ack_lost :
     (arrivals : Arrivals) (device after : DevPipeState)
-    → arrivals Acknowledgement (spelling packets.Ack) ≡ None → HearsAck arrivals device after
+    → arrivals Acknowledgement (spelling packets.Ack) ≡ None → ReceivesAck arrivals device after
     → after ≡ device
 ack_lost arrivals device after lost (came, carries, moved) =
-    moved ∙ ap (λ heard. device_behind heard device) (read_lost arrivals Acknowledgement packets.Ack came lost carries)
+    moved ∙ ap (λ heard. device_after_handshake heard device)
+    (read_lost arrivals Acknowledgement packets.Ack came lost carries)
 
 abbrev pipe_with : Bool → Option (List ℕ) → Bool → DevPipeState
 pipe_with toggle armed halted = record { toggle = toggle; armed = armed; halted = halted }
@@ -118,7 +123,7 @@ pipe_with toggle armed halted = record { toggle = toggle; armed = armed; halted 
 pub closes :
     (arrivals : Arrivals) (expects halted toggle : Bool) (armed : Option (List ℕ)) (after : DevPipeState)
     → arrivals Acknowledgement (spelling packets.Ack) ≡ Some (spelling packets.Ack)
-    → Acknowledges arrivals (took_where expects halted toggle armed) (pipe_with toggle armed halted) after
+    → Acknowledges arrivals (outcome_when_received expects halted toggle armed) (pipe_with toggle armed halted) after
     → after ≡ device_after Clean (pipe_with toggle armed halted)
 closes arrivals expects true toggle armed after whole h = h
 closes arrivals expects false toggle None after whole h = h
@@ -126,11 +131,11 @@ closes arrivals expects false toggle (Some bytes) after whole h =
     let device : DevPipeState = pipe_with toggle (Some bytes) false in
     ack_closes arrivals device after whole (hears_either arrivals (beq toggle expects) bytes device after h)
 
--- and where it is lost
+-- the device after the host took its answer, where the ACK is lost
 pub stays :
     (arrivals : Arrivals) (expects halted toggle : Bool) (armed : Option (List ℕ)) (after : DevPipeState)
     → arrivals Acknowledgement (spelling packets.Ack) ≡ None
-    → Acknowledges arrivals (took_where expects halted toggle armed) (pipe_with toggle armed halted) after
+    → Acknowledges arrivals (outcome_when_received expects halted toggle armed) (pipe_with toggle armed halted) after
     → after ≡ pipe_with toggle armed halted
 stays arrivals expects true toggle armed after lost h = h
 stays arrivals expects false toggle None after lost h = h

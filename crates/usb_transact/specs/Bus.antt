@@ -9,22 +9,22 @@ abbrev pub Arrivals : Type 0
 Arrivals = Phase → List ℕ → Option (List ℕ)
 
 -- the bytes that arrive: these, or none if they are lost
-abbrev pub arrived : Bool → List ℕ → Option (List ℕ)
-arrived true bytes = Some bytes
-arrived false bytes = None
+abbrev pub received_bytes : Bool → List ℕ → Option (List ℕ)
+received_bytes true bytes = Some bytes
+received_bytes false bytes = None
 
 -- what an end reads: of nothing it reads nothing, and of bytes the one packet that they spell
-abbrev pub IsRead : Option (List ℕ) → Option Packet → Type 0
-IsRead None came = came ≡ None
-IsRead (Some bytes) came =
+abbrev pub IsDecoded : Option (List ℕ) → Option Packet → Type 0
+IsDecoded None came = came ≡ None
+IsDecoded (Some bytes) came =
     IfSome came (λ packet. Spells packet bytes)
     × ((packet : Packet) → Spells packet bytes → came ≡ Some packet)
 
--- the packet has a spelling, and this is what the other end reads of what arrives of that
+-- the packet has a spelling, and the other end reads this packet of the bytes that arrive
 pub record Carries (arrivals : Arrivals) (phase : Phase) (packet : Packet)
     (came : Option Packet) : Type 0 where
   pub sent : Spells packet (spelling packet)
-  pub read : IsRead (arrivals phase (spelling packet)) came
+  pub read : IsDecoded (arrivals phase (spelling packet)) came
 
 -- what the other end reads of an answer, where there is one
 abbrev pub Replies : Arrivals → Phase → Option Packet → Option Packet → Type 0

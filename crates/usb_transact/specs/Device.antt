@@ -26,14 +26,15 @@ abbrev pub answer_of : DevPipeState → Packet
 answer_of device = answer_with device.halted device.toggle device.armed
 
 -- the toggle after an acknowledgement: it changes where something was armed
-abbrev pub toggle_behind : Bool → Option (List ℕ) → Bool
-toggle_behind toggle (Some bytes) = not toggle
-toggle_behind toggle None = toggle
+abbrev pub toggle_after : Bool → Option (List ℕ) → Bool
+toggle_after toggle (Some bytes) = not toggle
+toggle_after toggle None = toggle
 
 -- The device's pipe after an acknowledgement: if data are armed, the toggle changes and nothing is armed any more
 -- (8.6.2).
-abbrev pub closed : DevPipeState → DevPipeState
-closed device = record device { toggle = toggle_behind device.toggle device.armed; armed = None }
+abbrev pub after_acknowledgement : DevPipeState → DevPipeState
+after_acknowledgement device =
+    record device { toggle = toggle_after device.toggle device.armed; armed = None }
 
 -- the device's pipe once it is halted: nothing is armed, and the toggle stays (9.4.5). Its answer is 1E
 abbrev pub halted_pipe : DevPipeState → DevPipeState

@@ -6,14 +6,14 @@ use Rattle.usb_transact.specs.declared.host.Took.TheVariants.{Fresh, Again, Nak,
 use Rattle.usb_transact.specs.declared.transaction.Fate.{Fate}
 use Rattle.usb_transact.specs.declared.transaction.Fate.TheVariants.{Clean, TokenLost, ReplyLost, AckLost}
 use Rattle.usb_transact.specs.Host.{HostPipeState}
-use Rattle.usb_transact.specs.Device.{DevPipeState, closed}
+use Rattle.usb_transact.specs.Device.{DevPipeState, after_acknowledgement}
 
 -- what the host takes where the reply reaches it: by what it expects, and by whether the device is halted, its toggle
 -- and what is armed
-abbrev pub took_where : Bool → Bool → Bool → Option (List ℕ) → Took
-took_where expects true toggle armed = Stall
-took_where expects false toggle None = Nak
-took_where expects false toggle (Some bytes) =
+abbrev pub outcome_when_received : Bool → Bool → Bool → Option (List ℕ) → Took
+outcome_when_received expects true toggle armed = Stall
+outcome_when_received expects false toggle None = Nak
+outcome_when_received expects false toggle (Some bytes) =
     if beq toggle expects then Fresh (record { items = bytes }) else Again
 
 -- what the host takes, by the fate: only a clean transaction, and one that loses the ACK alone, bring it the reply.
@@ -21,10 +21,10 @@ took_where expects false toggle (Some bytes) =
 abbrev pub took_of : Fate → HostPipeState → DevPipeState → Took
 took_of TokenLost host device = Silent
 took_of ReplyLost host device = Silent
-took_of Clean host device = took_where host.expects device.halted device.toggle device.armed
-took_of AckLost host device = took_where host.expects device.halted device.toggle device.armed
+took_of Clean host device = outcome_when_received host.expects device.halted device.toggle device.armed
+took_of AckLost host device = outcome_when_received host.expects device.halted device.toggle device.armed
 
 -- the device's pipe after a transaction: the acknowledgement arrives in a clean one alone, and STALL has none
 abbrev pub device_after : Fate → DevPipeState → DevPipeState
-device_after Clean device = if device.halted then device else closed device
+device_after Clean device = if device.halted then device else after_acknowledgement device
 device_after _ device = device

@@ -11,11 +11,11 @@ use Rattle.usb_transact.specs.Host.{HostPipeState}
 
 -- what a host that expects this toggle makes of what came: data under it are Fresh, other data Again, NAK and STALL are
 -- themselves, and all else is Silent. Example: after a lost ACK the same data are Again
-abbrev pub taken : Bool → Option Packet → Took
-taken expects (Some (Data one payload)) = if beq one expects then Fresh payload else Again
-taken expects (Some packets.Nak) = Nak
-taken expects (Some packets.Stall) = Stall
-taken expects _ = Silent
+abbrev pub reply_outcome : Bool → Option Packet → Took
+reply_outcome expects (Some (Data one payload)) = if beq one expects then Fresh payload else Again
+reply_outcome expects (Some packets.Nak) = Nak
+reply_outcome expects (Some packets.Stall) = Stall
+reply_outcome expects _ = Silent
 
 -- the host's pipe after what it took: Fresh data alone change the toggle that it expects
 abbrev pub host_after : Took → HostPipeState → HostPipeState

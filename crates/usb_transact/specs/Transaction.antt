@@ -8,30 +8,30 @@ use Rattle.usb_transact.specs.declared.bus.Phase.TheVariants.{Token, Reply, Ackn
 use Rattle.usb_transact.specs.declared.host.Took.{Took}
 use Rattle.usb_transact.specs.declared.host.Took.TheVariants.{Fresh, Again}
 use Rattle.usb_transact.specs.Host.{HostPipeState, token_to}
-use Rattle.usb_transact.specs.Device.{DevPipeState, answer_of, closed}
-use Rattle.usb_transact.specs.Taken.{taken, host_after}
+use Rattle.usb_transact.specs.Device.{DevPipeState, after_acknowledgement, answer_of}
+use Rattle.usb_transact.specs.Taken.{reply_outcome, host_after}
 use Rattle.usb_transact.specs.Bus.{Arrivals, Carries, Replies}
 
--- the device's answer, where this came of the token: only an IN token is answered
-abbrev pub answered : Option Packet → DevPipeState → Option Packet
-answered (Some (packets.Token In addr endp)) device = Some (answer_of device)
-answered _ device = None
+-- the device's answer to what arrived of a token: only an IN token is answered
+abbrev pub answer_to_token : Option Packet → DevPipeState → Option Packet
+answer_to_token (Some (packets.Token In addr endp)) device = Some (answer_of device)
+answer_to_token _ device = None
 
--- the device, where this came of an acknowledgement
-abbrev pub device_behind : Option Packet → DevPipeState → DevPipeState
-device_behind (Some packets.Ack) device = closed device
-device_behind _ device = device
+-- the device after what arrived of an acknowledgement
+abbrev pub device_after_handshake : Option Packet → DevPipeState → DevPipeState
+device_after_handshake (Some packets.Ack) device = after_acknowledgement device
+device_after_handshake _ device = device
 
--- the device after an ACK is sent to it
-abbrev pub HearsAck : Arrivals → DevPipeState → DevPipeState → Type 0
-HearsAck arrivals device after =
+-- the device after an ACK that is sent to it, by what arrives
+abbrev pub ReceivesAck : Arrivals → DevPipeState → DevPipeState → Type 0
+ReceivesAck arrivals device after =
     (came : Option Packet) × Carries arrivals Acknowledgement packets.Ack came
-    × (after ≡ device_behind came device)
+    × (after ≡ device_after_handshake came device)
 
 -- data are acknowledged, fresh or not, and nothing else is
 abbrev pub Acknowledges : Arrivals → Took → DevPipeState → DevPipeState → Type 0
-Acknowledges arrivals (Fresh payload) device after = HearsAck arrivals device after
-Acknowledges arrivals Again device after = HearsAck arrivals device after
+Acknowledges arrivals (Fresh payload) device after = ReceivesAck arrivals device after
+Acknowledges arrivals Again device after = ReceivesAck arrivals device after
 Acknowledges arrivals _ device after = after ≡ device
 
 -- the transaction by its packets, as each end reads them
@@ -40,7 +40,7 @@ pub record Transacts (arrivals : Arrivals) (host : HostPipeState) (device : DevP
   pub token : Option Packet
   pub reply : Option Packet
   pub polled : Carries arrivals Token (token_to host) token
-  pub replied : Replies arrivals Reply (answered token device) reply
-  pub took_reply : took ≡ taken host.expects reply
+  pub replied : Replies arrivals Reply (answer_to_token token device) reply
+  pub took_reply : took ≡ reply_outcome host.expects reply
   pub host_moved : host_then ≡ host_after took host
   pub acknowledged : Acknowledges arrivals took device device_then

@@ -1,12 +1,12 @@
 //! What carries packets between the two ends: a packet goes as its bytes, and is read from the bytes that arrive.
 ghost use Rattle.std.specs.Prelude.{IfSome};
 ghost use Rattle.std.specs.Option.{option_copied, option_map};
-ghost use Rattle.usb_packet.specs.Lent.{owned, IsShort};
+ghost use Rattle.usb_packet.specs.PacketRef.{to_owned, IsShort};
 ghost use Rattle.usb_packet.specs.Spelling.{Fits};
-ghost use Rattle.usb_transact.specs.Bus.{arrived, Carries, IsRead, Replies};
+ghost use Rattle.usb_transact.specs.Bus.{received_bytes, Carries, IsDecoded, Replies};
 
 use arrayvec::ArrayVec;
-use usb_packet::{LentPacket, Packet, decode, read, spell};
+use usb_packet::{Packet, PacketRef, decode, decode_ref, encode_into};
 
 /// The phases of a transaction, by the packet that is sent in each (USB 2.0, 8.5). An interrupt-IN transaction has the
 /// token, the reply and the acknowledgement (8.5.4), a SETUP or OUT transaction the token, the host's data and the
@@ -15,7 +15,7 @@ use usb_packet::{LentPacket, Packet, decode, read, spell};
 pub enum Phase {
     /// The host's token.
     Token,
-    /// The host's data, behind SETUP or OUT.
+    /// The host's data, after SETUP or OUT.
     HostData,
     /// The device's answer to IN: data, or a handshake in their place.
     Reply,
@@ -30,45 +30,49 @@ pub enum Phase {
 pub trait Bus {
     ghost use Rattle.std.specs.Prelude.{◌≡◌, ℕ, List, Option};
     ghost use Rattle.usb_transact.specs.declared.bus.Phase.{Phase};
-    ghost use Rattle.usb_transact.specs.Bus.{arrived};
+    ghost use Rattle.usb_transact.specs.Bus.{received_bytes};
 
     // What arrives of the bytes that are sent in a phase.
     ghost arrives: { Self → Phase → List ℕ → Option (List ℕ) };
 
     /// Whether something arrives of these bytes. What does stands in their place.
-    fn hand_on(&self, phase: Phase, bytes: &mut ArrayVec<u8, 65>) -> bool
-        ensures { arrived result bytes.new.items ≡ arrives self.now phase bytes.old.items };
+    fn transmit(&self, phase: Phase, bytes: &mut ArrayVec<u8, 65>) -> bool
+        ensures { received_bytes result bytes.new.items ≡ arrives self.now phase bytes.old.items };
 }
 
 /// What an end reads of bytes, where they arrived; none where they spell no packet.
-pub fn read_arrived(has_arrived: bool, bytes: &[u8]) -> Option<LentPacket<'_>>
-    ensures read { IsRead (arrived has_arrived bytes.now) (option_map owned result) }
+pub fn decode_received(has_arrived: bool, bytes: &[u8]) -> Option<PacketRef<'_>>
+    ensures read { IsDecoded (received_bytes has_arrived bytes.now) (option_map to_owned result) }
     ensures short { IfSome result IsShort }
 {
-    if has_arrived { read(bytes).ok() } else { None }
+    if has_arrived {
+        decode_ref(bytes).ok()
+    } else {
+        None
+    }
 }
 
 /// What the other end reads of a packet that is sent.
-pub fn carried<B: Bus>(bus: &B, phase: Phase, packet: &Packet) -> Option<Packet>
+pub fn send_packet<B: Bus>(bus: &B, phase: Phase, packet: &Packet) -> Option<Packet>
     requires fits { Fits packet.now }
     ensures { Carries (B.arrives bus.now) phase packet.now result }
 {
     let mut bytes = ArrayVec::new();
-    spell(packet, &mut bytes);
-    if !bus.hand_on(phase, &mut bytes) {
+    encode_into(packet, &mut bytes);
+    if !bus.transmit(phase, &mut bytes) {
         return None;
     }
     decode(&bytes).ok()
 }
 
 /// What the other end reads of an answer, where there is one.
-#[inline(never)] // it stands where its caller wants it
-pub fn replied<B: Bus>(bus: &B, phase: Phase, answer: Option<&Packet>) -> Option<Packet>
+#[inline(never)] // it saves a copy of the packet
+pub fn send_reply<B: Bus>(bus: &B, phase: Phase, answer: Option<&Packet>) -> Option<Packet>
     requires fits { IfSome (option_copied answer) Fits }
     ensures { Replies (B.arrives bus.now) phase (option_copied answer.entry) result }
 {
     match answer {
-        Some(answer) => carried(bus, phase, answer),
+        Some(answer) => send_packet(bus, phase, answer),
         None => None,
     }
 }

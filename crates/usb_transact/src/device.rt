@@ -1,13 +1,13 @@
 //! The device's end of the pipe (USB 2.0, 8.5.4, 8.6 and 9.4.5).
 ghost use Rattle.std.specs.Prelude.{◌≡◌, ◌≤◌, false, Some, IsNone, length};
 ghost use Rattle.std.specs.Option.{option_copied};
-ghost use Rattle.usb_packet.specs.Lent.{owned, IsShort};
+ghost use Rattle.usb_packet.specs.PacketRef.{to_owned, IsShort};
 ghost use Rattle.usb_packet.specs.Spelling.{Fits};
-ghost use Rattle.usb_transact.specs.Device.{device_at_start, answer_of, closed, halted_pipe};
+ghost use Rattle.usb_transact.specs.Device.{device_at_start, answer_of, after_acknowledgement, halted_pipe};
 
 use arrayvec::ArrayVec;
 use std::marker::Model;
-use usb_packet::{LentPacket, MAX_PAYLOAD, Packet};
+use usb_packet::{MAX_PAYLOAD, Packet, PacketRef};
 
 /// The device's end: its toggle, the data that it sends until they are acknowledged, and whether the endpoint is halted. A
 /// contract sees it as `toggle`, `armed` and `halted`.
@@ -107,31 +107,31 @@ impl DevPipe {
         ensures answer { result ≡ answer_of self.now }
         ensures fits { Fits result }
     {
-        self.lent_answer().owned()
+        self.answer_ref().to_owned()
     }
 
     /// The answer, as [`DevPipe::answer`] gives it, with its payload where it stands.
-    pub fn lent_answer(&self) -> LentPacket<'_>
-        ensures answer { owned result ≡ answer_of self.now }
-        ensures fits { Fits (owned result) }
+    pub fn answer_ref(&self) -> PacketRef<'_>
+        ensures answer { to_owned result ≡ answer_of self.now }
+        ensures fits { Fits (to_owned result) }
         ensures short { IsShort result }
     {
         if self.halted {
-            return LentPacket::Stall;
+            return PacketRef::Stall;
         }
         match &self.armed {
-            Some(bytes) => LentPacket::Data {
+            Some(bytes) => PacketRef::Data {
                 one: self.toggle,
                 payload: bytes.as_slice(),
             },
-            None => LentPacket::Nak,
+            None => PacketRef::Nak,
         }
     }
 
     /// An acknowledgement has arrived: what was armed is done with, and the toggle changes (USB 2.0, 8.6.2). With
     /// nothing armed it changes nothing.
     pub fn acknowledged(&mut self)
-        ensures closed { self.new ≡ closed self.old }
+        ensures closed { self.new ≡ after_acknowledgement self.old }
     {
         if self.armed.is_some() {
             self.toggle = !self.toggle;

@@ -1,14 +1,14 @@
 //! The host's end of the pipe (USB 2.0, 8.5.4 and 8.6).
 ghost use Rattle.std.specs.Prelude.{◌≡◌, ◌≤◌, false, IfSome};
 ghost use Rattle.std.specs.Option.{option_copied, option_map};
-ghost use Rattle.usb_packet.specs.Lent.{owned, IsShort};
+ghost use Rattle.usb_packet.specs.PacketRef.{to_owned, IsShort};
 ghost use Rattle.usb_packet.specs.Spelling.{Fits};
 ghost use Rattle.usb_transact.specs.Host.{host_at_start, token_to};
-ghost use Rattle.usb_transact.specs.Taken.{taken, host_after};
+ghost use Rattle.usb_transact.specs.Taken.{reply_outcome, host_after};
 
 use arrayvec::ArrayVec;
 use std::marker::Model;
-use usb_packet::{LentPacket, MAX_ADDRESS, MAX_ENDPOINT, Packet, TokenKind};
+use usb_packet::{MAX_ADDRESS, MAX_ENDPOINT, Packet, PacketRef, TokenKind};
 
 /// What the host made of a transaction. It acknowledges exactly `Fresh` and `Again`.
 #[derive(Debug, Drop, PartialEq, Eq)]
@@ -90,31 +90,31 @@ impl HostPipe {
     /// What the host makes of the packet that came after its token, if one did. Only `Fresh` changes the toggle that it
     /// expects (USB 2.0, 8.6).
     pub fn take(&mut self, packet: Option<&Packet>) -> Took
-        ensures took { result ≡ taken self.old.expects (option_copied packet.entry) }
+        ensures took { result ≡ reply_outcome self.old.expects (option_copied packet.entry) }
         ensures pipe { self.new ≡ host_after result self.old }
     {
         match packet {
-            Some(packet) => self.take_lent(Some(packet.lent())),
+            Some(packet) => self.take_ref(Some(packet.as_ref())),
             None => Took::Silent,
         }
     }
 
     /// Takes a packet whose payload, of at most 64 bytes, stands elsewhere: as [`HostPipe::take`] does.
-    pub fn take_lent(&mut self, packet: Option<LentPacket>) -> Took
+    pub fn take_ref(&mut self, packet: Option<PacketRef>) -> Took
         requires { IfSome packet IsShort }
-        ensures took { result ≡ taken self.old.expects (option_map owned packet.entry) }
+        ensures took { result ≡ reply_outcome self.old.expects (option_map to_owned packet.entry) }
         ensures pipe { self.new ≡ host_after result self.old }
     {
         match packet {
-            Some(LentPacket::Data { one, payload }) => {
+            Some(PacketRef::Data { one, payload }) => {
                 if one != self.expects {
                     return Took::Again;
                 }
                 self.expects = !self.expects;
                 Took::Fresh(ArrayVec::try_from(payload).unwrap())
             }
-            Some(LentPacket::Nak) => Took::Nak,
-            Some(LentPacket::Stall) => Took::Stall,
+            Some(PacketRef::Nak) => Took::Nak,
+            Some(PacketRef::Stall) => Took::Stall,
             _ => Took::Silent,
         }
     }

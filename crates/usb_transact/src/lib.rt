@@ -16,7 +16,7 @@
 //! The promise: one transaction is its row of the table on [`exchange`]: `took`, `host` and `device`, and packet by
 //! packet over the bytes `packets`. By single packets: `took` and `pipe` on [`HostPipe::take`], `answer` on
 //! [`DevPipe::answer`], `closed` on [`DevPipe::acknowledged`]; for packets that borrow their payloads,
-//! [`HostPipe::take_lent`] and [`DevPipe::lent_answer`]. No call takes memory.
+//! [`HostPipe::take_ref`] and [`DevPipe::answer_ref`]. No call takes memory.
 //!
 //! The polls of `hid_stack` are built from the single calls and not from [`exchange`], since a device takes the ACK there
 //! and decides what is armed next.
@@ -27,7 +27,7 @@ mod device;
 mod host;
 mod transaction;
 
-pub use bus::{Bus, Phase, carried, read_arrived, replied};
+pub use bus::{Bus, Phase, decode_received, send_packet, send_reply};
 pub use device::DevPipe;
 pub use host::{HostPipe, Took};
 pub use transaction::{Fate, exchange};

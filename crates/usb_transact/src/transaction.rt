@@ -5,9 +5,9 @@ ghost use Rattle.usb_packet.specs.Spelling.{Fits};
 ghost use Rattle.usb_transact.specs.Taken.{host_after};
 ghost use Rattle.usb_transact.specs.Fate.{arrives_under};
 ghost use Rattle.usb_transact.specs.Exchange.{took_of, device_after};
-ghost use Rattle.usb_transact.specs.Transaction.{Acknowledges, Transacts, answered};
+ghost use Rattle.usb_transact.specs.Transaction.{Acknowledges, Transacts, answer_to_token};
 
-use crate::bus::{Bus, Phase, carried, replied};
+use crate::bus::{Bus, Phase, send_packet, send_reply};
 use crate::device::DevPipe;
 use crate::host::{HostPipe, Took};
 use arrayvec::ArrayVec;
@@ -32,7 +32,7 @@ impl Bus for Fate {
 
     ghost arrives = { arrives_under };
 
-    fn hand_on(&self, phase: Phase, _bytes: &mut ArrayVec<u8, 65>) -> bool {
+    fn transmit(&self, phase: Phase, _bytes: &mut ArrayVec<u8, 65>) -> bool {
         match (self, phase) {
             (Fate::TokenLost, Phase::Token | Phase::HostData)
             | (Fate::ReplyLost, Phase::Reply | Phase::Handshake)
@@ -43,8 +43,8 @@ impl Bus for Fate {
 }
 
 // The device's answer, where it has read an IN token.
-fn answered(token: Option<&Packet>, device: &DevPipe) -> Option<Packet>
-    ensures answer { result ≡ answered (option_copied token.entry) device.now }
+fn answer_token(token: Option<&Packet>, device: &DevPipe) -> Option<Packet>
+    ensures answer { result ≡ answer_to_token (option_copied token.entry) device.now }
     ensures fits { IfSome result Fits }
 {
     match token? {
@@ -61,7 +61,7 @@ fn acknowledge<B: Bus>(bus: &B, took: &Took, device: &mut DevPipe)
     ensures { Acknowledges (B.arrives bus.now) took.now device.old device.new }
 {
     if matches!(took, Took::Fresh(_) | Took::Again) {
-        let arrived = carried(bus, Phase::Acknowledgement, &Packet::Ack);
+        let arrived = send_packet(bus, Phase::Acknowledgement, &Packet::Ack);
         if matches!(arrived, Some(Packet::Ack)) {
             device.acknowledged();
         }
@@ -72,9 +72,9 @@ fn acknowledge<B: Bus>(bus: &B, took: &Took, device: &mut DevPipe)
 fn transact<B: Bus>(bus: &B, host: &mut HostPipe, device: &mut DevPipe) -> Took
     ensures { Transacts (B.arrives bus.now) host.old device.old result host.new device.new }
 {
-    let token = carried(bus, Phase::Token, &host.token());
-    let answer = answered(token.as_ref(), device);
-    let reply = replied(bus, Phase::Reply, answer.as_ref());
+    let token = send_packet(bus, Phase::Token, &host.token());
+    let answer = answer_token(token.as_ref(), device);
+    let reply = send_reply(bus, Phase::Reply, answer.as_ref());
     let took = host.take(reply.as_ref());
     acknowledge(bus, &took, device);
     took

@@ -1,4 +1,4 @@
-use Rattle.usb_control.proofs.MeanwhileLemmas.{goes_by, places_are_run, runs_so, setup_stays}
+use Rattle.usb_control.proofs.InterleavingLemmas.{goes_by, places_are_run, runs_so, setup_stays}
 use Rattle.usb_control.proofs.laws.places_are_run.Goals as goal
 
 pub returns : goal.returns

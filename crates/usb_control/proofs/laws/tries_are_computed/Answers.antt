@@ -1,4 +1,4 @@
-use Rattle.usb_control.proofs.ComputedLemmas.{tries_are}
+use Rattle.usb_control.proofs.TryFunctionLemmas.{tries_are}
 use Rattle.usb_control.proofs.laws.tries_are_computed.Goals as goal
 
 pub returns : goal.returns

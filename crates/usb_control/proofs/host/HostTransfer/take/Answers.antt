@@ -2,21 +2,23 @@ use Rattle.std.proofs.Common.{◌≡◌, Bool, Option, false, refl, subst, ap, s
 use Rattle.usb_packet.specs.declared.packet.Packet.{Packet}
 use Rattle.usb_control.specs.declared.host.HostStage.{HostStage}
 use Rattle.usb_control.specs.declared.host.HostStage.TheVariants.{Setup, DataIn, DataOut, StatusIn, StatusOut}
-use Rattle.usb_control.specs.Host.{HostTransferState, took, took_at, acknowledges, acknowledges_at}
+use Rattle.usb_control.specs.Host.{HostTransferState, transfer_after_reply, transfer_after_reply_at, acknowledges, acknowledges_at}
 use Rattle.usb_control.proofs.KeepsLemmas.{Keeps, took_keeps}
 use Rattle.usb_control.proofs.host.HostTransfer.take.Goals as goal
 
 -- what is promised of what came
 record IsTaken (packet : Option Packet) (host new : HostTransferState) (says : Bool) : Type 0 where
-  took : new ≡ took packet host
+  took : new ≡ transfer_after_reply packet host
   same : Keeps new host
   acknowledged : says ≡ acknowledges packet host
 
 -- by what is made of it at its stage
 at : (packet : Option Packet) (host new : HostTransferState) (stage : HostStage) (says : Bool) → host.stage ≡ stage
-    → new ≡ took_at stage packet host → says ≡ acknowledges_at stage packet new.stage → IsTaken packet host new says
+    → new ≡ transfer_after_reply_at stage packet host → says ≡ acknowledges_at stage packet new.stage
+    → IsTaken packet host new says
 at packet host new stage says is made said =
-    let took_is : new ≡ took packet host = subst (λ (s : HostStage). new ≡ took_at s packet host) (sym is) made in
+    let took_is : new ≡ transfer_after_reply packet host =
+    subst (λ (s : HostStage). new ≡ transfer_after_reply_at s packet host) (sym is) made in
     record {
       took = took_is;
       same = subst (λ (h : HostTransferState). Keeps h host) (sym made) (took_keeps stage packet host);

@@ -8,21 +8,21 @@ use Rattle.usb_control.specs.declared.setup.Setup.{Setup as Request}
 use Rattle.usb_control.specs.declared.fault.ControlFault.{ControlFault}
 use Rattle.usb_control.specs.declared.host.HostStage.{HostStage}
 use Rattle.usb_control.specs.declared.host.HostStage.TheVariants as stages
-use Rattle.usb_control.specs.declared.device.Heard.{Heard}
-use Rattle.usb_control.specs.declared.device.Heard.TheVariants as hears
+use Rattle.usb_control.specs.declared.device.LastPacket.{LastPacket}
+use Rattle.usb_control.specs.declared.device.LastPacket.TheVariants as last_packets
 use Rattle.usb_control.specs.declared.device.Stage.{Stage}
 use Rattle.usb_control.specs.SetupBytes.{IsSpelled}
-use Rattle.usb_control.specs.Computed.{AppliesBy, PreparesBy, Table, acknowledged_if, control_after, control_tried, effect_reached, host_tried, is_acknowledged, is_applied, takes_effect}
-use Rattle.usb_control.specs.Device.{Answers, Applies, Decides as Decides', DevControlState, Effect, ack_heard}
+use Rattle.usb_control.specs.TryFunctions.{AppliesBy, PreparesBy, Table, after_ack_if, control_after, control_tried, effect_reached, host_tried, is_acknowledged, is_applied, takes_effect}
+use Rattle.usb_control.specs.Device.{Answers, Applies, Decides as Decides', DevControlState, Effect, effect_of_ack}
 use Rattle.usb_control.specs.Host.{HostTransferState, IsRunning}
-use Rattle.usb_control.specs.Transfer.{Shape, shape_of, Decision, Refused, Accepted, decision_of, Position, Setup, Piece, Status, Past, Place, Act, Nothing, Decides, TakesEffect, Acts, act_at, act_of, comes, tried, tried_at}
-use Rattle.usb_control.specs.Runs.{run, is_open, is_open_at}
-use Rattle.usb_control.specs.Standing.{Stands, StandsWith, host_stage, toggle}
-use Rattle.usb_control.specs.Meanwhile.{Ends, GoesBy, Turn, Tries, Meanwhile, act_now, is_effect, is_running, ends_tried, turned, turned_all, decision_now, tries_in, LeaveAnswers, StandAt}
+use Rattle.usb_control.specs.Transfer.{Shape, shape_of, Decision, Refused, Accepted, decision_of, Position, Setup, Piece, Status, Past, Place, Act, Nothing, Decides, TakesEffect, Acts, act_at, act_of, comes_from_device, place_after_try, place_after_try_at}
+use Rattle.usb_control.specs.Runs.{place_after_tries, is_open, is_open_at}
+use Rattle.usb_control.specs.Positions.{Stands, StandsWith, host_stage, piece_toggle}
+use Rattle.usb_control.specs.Interleaving.{Ends, GoesBy, Turn, Tries, Meanwhile, act_now, is_effect, is_running, ends_tried, ends_after_turn, ends_after_turns, decision_now, tries_in, LeaveAnswers, StandAt}
 use Rattle.usb_control.proofs.KeepsLemmas.{took_keeps}
 use Rattle.usb_control.proofs.TryLemmas.{try_shown}
 use Rattle.usb_control.proofs.LawLemmas.{kept_across, kept_is}
-use Rattle.usb_control.proofs.ComputedLemmas.{transacts_computed}
+use Rattle.usb_control.proofs.TryFunctionLemmas.{transacts_computed}
 
 -- a transfer runs exactly where its place is open
 runs_data : (b : Bool) (x y : HostStage) → is_running x ≡ true → is_running y ≡ true → is_running (if b then x else y) ≡ true
@@ -31,8 +31,9 @@ runs_data false x y hx hy = hy
 
 runs_at : (shape : Shape) (p : Position) → is_running (host_stage shape p) ≡ is_open_at None p
 runs_at shape Setup = refl
-runs_at shape (Piece k) = runs_data shape.reads (stages.DataIn (toggle k)) (stages.DataOut (8 * k) (toggle k)) refl refl
-runs_at shape Status = runs_data (comes shape Status) stages.StatusIn stages.StatusOut refl refl
+runs_at shape (Piece k) =
+    runs_data shape.reads (stages.DataIn (piece_toggle k)) (stages.DataOut (8 * k) (piece_toggle k)) refl refl
+runs_at shape Status = runs_data (comes_from_device shape Status) stages.StatusIn stages.StatusOut refl refl
 runs_at shape Past = refl
 
 running_is : {R : Type 0} (answer_of : R → Option (List ℕ)) (shape : Shape) (sends : List ℕ) (place : Place) (host : HostTransferState) (control : DevControlState R)
@@ -61,11 +62,19 @@ decides_so t request old new decision said gives is =
 
 tried_so : {R : Type 0} (t : Table R) (request : Request) (bytes : List ℕ) (shape : Shape) (fate : Fate) (p : Position) (held : Decision) (applied : Bool) (decision : Decision) (place : Place) (old new : R)
     → Acts (PreparesBy t) (AppliesBy t) t.answer_of request bytes (act_at p shape fate decision held applied) old new
-    → tried_at p shape fate decision place ≡ tried_at p shape fate (decision_of (t.accepts old request) (t.answer_of (t.prepared old request))) place
+    → place_after_try_at p shape fate decision place
+    ≡ place_after_try_at p shape fate
+    (decision_of (t.accepts old request) (t.answer_of (t.prepared old request))) place
 tried_so t request bytes shape TokenLost Setup held applied decision place old new acts = refl
-tried_so t request bytes shape Clean Setup held applied decision place old new (said, gives, is) = ap (λ (d : Decision). tried_at Setup shape Clean d place) (decides_so t request old new decision said gives is)
-tried_so t request bytes shape ReplyLost Setup held applied decision place old new (said, gives, is) = ap (λ (d : Decision). tried_at Setup shape ReplyLost d place) (decides_so t request old new decision said gives is)
-tried_so t request bytes shape AckLost Setup held applied decision place old new (said, gives, is) = ap (λ (d : Decision). tried_at Setup shape AckLost d place) (decides_so t request old new decision said gives is)
+tried_so t request bytes shape Clean Setup held applied decision place old new (said, gives, is) =
+    ap (λ (d : Decision). place_after_try_at Setup shape Clean d place)
+    (decides_so t request old new decision said gives is)
+tried_so t request bytes shape ReplyLost Setup held applied decision place old new (said, gives, is) =
+    ap (λ (d : Decision). place_after_try_at Setup shape ReplyLost d place)
+    (decides_so t request old new decision said gives is)
+tried_so t request bytes shape AckLost Setup held applied decision place old new (said, gives, is) =
+    ap (λ (d : Decision). place_after_try_at Setup shape AckLost d place)
+    (decides_so t request old new decision said gives is)
 tried_so t request bytes shape fate (Piece k) held applied decision place old new acts = refl
 tried_so t request bytes shape fate Status held applied decision place old new acts = refl
 tried_so t request bytes shape fate Past held applied decision place old new acts = refl
@@ -80,9 +89,11 @@ host_keeps t AckLost host c = (took_keeps host.stage _ host).0
 
 -- ---- whole lists
 
-run_closed : (shape : Shape) (tries : List (Fate × Decision)) (place : Place) → is_open place ≡ false → run shape tries place ≡ place
+run_closed : (shape : Shape) (tries : List (Fate × Decision)) (place : Place) → is_open place ≡ false
+    → place_after_tries shape tries place ≡ place
 run_closed shape [] place h = refl
-run_closed shape (x ∷ tries) place h = ap (λ (b : Bool). if b then run shape tries (tried shape x.0 x.1 place) else place) h
+run_closed shape (x ∷ tries) place h =
+    ap (λ (b : Bool). if b then place_after_tries shape tries (place_after_try shape x.0 x.1 place) else place) h
 
 -- ---- what a try does
 
@@ -157,27 +168,30 @@ acts_count t request bytes (Decides decision) inside new (said, gives, is) = ap 
 acts_count t request bytes TakesEffect inside new same = ap (λ (c : Counted _). c.count) same
 
 effect_counts : {R : Type 0} (t : Table R) (e : Effect) (inside : R) → (control_after (counting t) e (record { inside = inside; count = 0 })).requests.count ≡ once_if (is_applied e)
-effect_counts t (Answers answer stage heard) inside = refl
+effect_counts t (Answers answer stage last_packet) inside = refl
 effect_counts t (Decides' bytes) inside = refl
 effect_counts t (Applies bytes) inside = refl
 
-ack_counts : {R : Type 0} (t : Table R) (requests : Counted R) (stage : Stage) (heard : Heard)
-    → (control_after (counting t) (ack_heard (t.answer_of requests.inside) stage heard) requests).requests.count ≡ requests.count
-ack_counts t requests stage hears.Answered = refl
-ack_counts t requests stage hears.Nothing = refl
-ack_counts t requests stage hears.Setup = refl
-ack_counts t requests stage hears.Out = refl
+ack_counts : {R : Type 0} (t : Table R) (requests : Counted R) (stage : Stage) (last_packet : LastPacket)
+    → (control_after (counting t) (effect_of_ack (t.answer_of requests.inside) stage last_packet) requests).requests.count
+    ≡ requests.count
+ack_counts t requests stage last_packets.Answered = refl
+ack_counts t requests stage last_packets.Nothing = refl
+ack_counts t requests stage last_packets.Setup = refl
+ack_counts t requests stage last_packets.Out = refl
 
-acknowledged_counts : {R : Type 0} (t : Table R) (b : Bool) (c : DevControlState (Counted R)) → (acknowledged_if (counting t) b c).requests.count ≡ c.requests.count
-acknowledged_counts t true c = ack_counts t c.requests c.stage c.heard
+acknowledged_counts : {R : Type 0} (t : Table R) (b : Bool) (c : DevControlState (Counted R))
+    → (after_ack_if (counting t) b c).requests.count ≡ c.requests.count
+acknowledged_counts t true c = ack_counts t c.requests c.stage c.last_packet
 acknowledged_counts t false c = refl
 
 abbrev counted : {R : Type 0} → DevControlState R → DevControlState (Counted R)
-counted c = record { requests = record { inside = c.requests; count = 0 }; stage = c.stage; heard = c.heard }
+counted c = record { requests = record { inside = c.requests; count = 0 }; stage = c.stage; last_packet = c.last_packet }
 
 reached_counts : {R : Type 0} (t : Table R) (fate : Fate) (host : HostTransferState) (c : DevControlState R)
     → let e = effect_reached t host c in
-    (acknowledged_if (counting t) (is_acknowledged fate host e) (control_after (counting t) e (counted c).requests)).requests.count ≡ once_if (is_applied e)
+    (after_ack_if (counting t) (is_acknowledged fate host e)
+    (control_after (counting t) e (counted c).requests)).requests.count ≡ once_if (is_applied e)
 reached_counts t fate host c =
     let e = effect_reached t host c in
     acknowledged_counts t (is_acknowledged fate host e) (control_after (counting t) e (counted c).requests) ∙ effect_counts t e c.requests
@@ -213,14 +227,16 @@ pub goes_by : {R : Type 0} (t : Table R) (sends : List ℕ) (place : Place) (fat
 goes_by {R} t sends place fate m spelled running stands =
     let shape = shape_of m.host.setup in
     let shown = try_shown (PreparesBy t) (AppliesBy t) t.answer_of shape sends fate place m.host m.control (host_tried t fate m.host m.control) (control_tried t fate m.host m.control) spelled running stands (transacts_computed t fate m.host m.control) in
-    let same : tried shape fate shown.0 place ≡ tried shape fate (decision_now t m) place
+    let same : place_after_try shape fate shown.0 place ≡ place_after_try shape fate (decision_now t m) place
     = tried_so t m.host.setup sends shape fate place.host place.decision place.applied shown.0 place m.control.requests (control_tried t fate m.host m.control).requests shown.1 in
     let asked = host_keeps t fate m.host m.control in
     record {
       acts = acts_so t m.host.setup sends shape fate place.host place.decision place.applied shown.0 m.control.requests (control_tried t fate m.host m.control).requests shown.1;
       takes = takes_so t sends place fate m spelled running stands;
       asked = asked;
-      stands = subst (λ (s : Shape). Stands t.answer_of s sends (tried shape fate (decision_now t m) place) (host_tried t fate m.host m.control) (control_tried t fate m.host m.control)) (sym (ap shape_of asked))
+      stands = subst
+          (λ (s : Shape). Stands t.answer_of s sends (place_after_try shape fate (decision_now t m) place)
+          (host_tried t fate m.host m.control) (control_tried t fate m.host m.control)) (sym (ap shape_of asked))
           (subst (λ (p : Place). Stands t.answer_of shape sends p (host_tried t fate m.host m.control) (control_tried t fate m.host m.control)) same shown.2);
     }
 
@@ -228,30 +244,44 @@ pub runs_so : {R : Type 0} (t : Table R) (sends : List ℕ) (place : Place) (m :
 runs_so t sends place m stands = running_is t.answer_of (shape_of m.host.setup) sends place m.host m.control stands
 
 pub places_are_run : {R : Type 0} (t : Table R) (sends : List ℕ) (place : Place) (m : Ends R) (xs : List (Turn R)) → IsSpelled m.host.setup → LeaveAnswers t xs → StandAt t sends place m
-    → StandAt t sends (run (shape_of m.host.setup) (tries_in t m xs) place) (turned_all t m xs)
+    → StandAt t sends (place_after_tries (shape_of m.host.setup) (tries_in t m xs) place) (ends_after_turns t m xs)
 places_are_run t sends place m [] spelled keep stands = stands
 places_are_run t sends place m (Meanwhile f hears ∷ xs) spelled keep stands =
-    let n : Ends _ = record { control = record m.control { requests = f m.control.requests; heard = hears m.control.heard }; host = m.host } in
+    let n : Ends _ = record { control = record m.control { requests = f m.control.requests; last_packet = hears m.control.last_packet }; host = m.host } in
     places_are_run t sends place n xs spelled keep.1 (kept_is t.answer_of (shape_of m.host.setup) sends place m.host m.control n.control stands (keep.0 m.control.requests) refl)
 places_are_run {R} t sends place m (Tries fate ∷ xs) spelled keep stands =
     let shape = shape_of m.host.setup in
-    let Goal : Ends R → Bool → Type 0 = λ n o. StandAt t sends (if o then run shape (tries_in t n xs) (tried shape fate (decision_now t m) place) else place) (turned_all t n xs) in
+    let Goal : Ends R → Bool → Type 0 =
+    λ n o. StandAt t sends
+    (if o then place_after_tries shape (tries_in t n xs)
+    (place_after_try shape fate (decision_now t m) place) else place) (ends_after_turns t n xs) in
     let opens = runs_so t sends place m stands in
     elim (cases_Bool (is_running m.host.stage)) [
       | inl runs ↦
           let n = ends_tried t fate m in
           let same_setup : n.host.setup ≡ m.host.setup = host_keeps t fate m.host m.control in
           let next = (goes_by t sends place fate m spelled (is_running_runs m.host.stage runs) stands).stands in
-          let rest = places_are_run t sends (tried shape fate (decision_now t m) place) n xs (subst IsSpelled (sym same_setup) spelled) keep next in
-          let rest_here : Goal n true = subst (λ (s : Shape). StandAt t sends (run s (tries_in t n xs) (tried shape fate (decision_now t m) place)) (turned_all t n xs)) (ap shape_of same_setup) rest in
-          let there : ends_tried t fate m ≡ turned t m (Tries fate) = sym (ap (λ (b : Bool). if b then ends_tried t fate m else m) runs) in
-          subst (λ (o : Bool). Goal (turned t m (Tries fate)) o) (sym runs ∙ opens) (subst (λ (x : Ends R). Goal x true) there rest_here)
+          let rest =
+          places_are_run t sends (place_after_try shape fate (decision_now t m) place) n xs
+          (subst IsSpelled (sym same_setup) spelled) keep next in
+          let rest_here : Goal n true =
+          subst (λ (s : Shape). StandAt t sends
+          (place_after_tries s (tries_in t n xs) (place_after_try shape fate (decision_now t m) place))
+          (ends_after_turns t n xs)) (ap shape_of same_setup) rest in
+          let there : ends_tried t fate m ≡ ends_after_turn t m (Tries fate) =
+          sym (ap (λ (b : Bool). if b then ends_tried t fate m else m) runs) in
+          subst (λ (o : Bool). Goal (ends_after_turn t m (Tries fate)) o) (sym runs ∙ opens)
+          (subst (λ (x : Ends R). Goal x true) there rest_here)
       | inr over ↦
           let closed : is_open place ≡ false = sym opens ∙ over in
           let rest = places_are_run t sends place m xs spelled keep stands in
-          let rest_here : Goal m false = subst (λ (p : Place). StandAt t sends p (turned_all t m xs)) (run_closed shape (tries_in t m xs) place closed) rest in
-          let there : m ≡ turned t m (Tries fate) = sym (ap (λ (b : Bool). if b then ends_tried t fate m else m) over) in
-          subst (λ (o : Bool). Goal (turned t m (Tries fate)) o) (sym closed) (subst (λ (x : Ends R). Goal x false) there rest_here)
+          let rest_here : Goal m false =
+          subst (λ (p : Place). StandAt t sends p (ends_after_turns t m xs))
+          (run_closed shape (tries_in t m xs) place closed) rest in
+          let there : m ≡ ends_after_turn t m (Tries fate) =
+          sym (ap (λ (b : Bool). if b then ends_tried t fate m else m) over) in
+          subst (λ (o : Bool). Goal (ends_after_turn t m (Tries fate)) o) (sym closed)
+          (subst (λ (x : Ends R). Goal x false) there rest_here)
     ]
 
 -- what the host asked for stays
@@ -259,7 +289,9 @@ turned_setup : {R : Type 0} (t : Table R) (m : Ends R) (fate : Fate) (b : Bool) 
 turned_setup t m fate true = host_keeps t fate m.host m.control
 turned_setup t m fate false = refl
 
-pub setup_stays : {R : Type 0} (t : Table R) (m : Ends R) (xs : List (Turn R)) → (turned_all t m xs).host.setup ≡ m.host.setup
+pub setup_stays : {R : Type 0} (t : Table R) (m : Ends R) (xs : List (Turn R))
+    → (ends_after_turns t m xs).host.setup ≡ m.host.setup
 setup_stays t m [] = refl
-setup_stays t m (Meanwhile f hears ∷ xs) = setup_stays t (turned t m (Meanwhile f hears)) xs
-setup_stays t m (Tries fate ∷ xs) = setup_stays t (turned t m (Tries fate)) xs ∙ turned_setup t m fate (is_running m.host.stage)
+setup_stays t m (Meanwhile f hears ∷ xs) = setup_stays t (ends_after_turn t m (Meanwhile f hears)) xs
+setup_stays t m (Tries fate ∷ xs) =
+    setup_stays t (ends_after_turn t m (Tries fate)) xs ∙ turned_setup t m fate (is_running m.host.stage)

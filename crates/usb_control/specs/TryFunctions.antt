@@ -6,13 +6,13 @@ use Rattle.usb_transact.specs.declared.transaction.Fate.{Fate}
 use Rattle.usb_transact.specs.declared.transaction.Fate.TheVariants.{TokenLost}
 use Rattle.usb_control.specs.declared.setup.Setup.{Setup as Request}
 use Rattle.usb_control.specs.declared.device.Stage.TheVariants.{StatusIn}
-use Rattle.usb_control.specs.declared.device.Heard.TheVariants as hears
+use Rattle.usb_control.specs.declared.device.LastPacket.TheVariants as last_packets
 use Rattle.usb_control.specs.SetupBytes.{setup_of, reads}
 use Rattle.usb_control.specs.Requests.{PrepareGives, ApplyGives, AnswerOf}
 use Rattle.usb_control.specs.Packets.{data_packet}
-use Rattle.usb_control.specs.Device.{DevControlState, Effect, Answers, Decides, Applies, begun, ack_heard}
-use Rattle.usb_control.specs.Host.{HostTransferState, asks_at, took_at, acknowledges_at}
-use Rattle.usb_control.specs.Transaction.{reached, heard_of, is_clean}
+use Rattle.usb_control.specs.Device.{DevControlState, Effect, Answers, Decides, Applies, stage_after_decision, effect_of_ack}
+use Rattle.usb_control.specs.Host.{HostTransferState, asks_at, transfer_after_reply_at, acknowledges_at}
+use Rattle.usb_control.specs.Transaction.{effect_of_stage, reply_after_fate, is_clean}
 
 -- what answers requests by functions: the answer that is fixed, whether a request is accepted, what deciding on it
 -- leaves, and what a write of these bytes leaves
@@ -33,65 +33,65 @@ AppliesBy table = λ old bytes new. new ≡ table.applied old bytes
 
 -- endpoint 0 after what a packet brings about
 abbrev pub control_after : {R : Type 0} → Table R → Effect → R → DevControlState R
-control_after table (Answers answer stage heard) old =
-    record { requests = old; stage = stage; heard = heard }
+control_after table (Answers answer stage last_packet) old =
+    record { requests = old; stage = stage; last_packet = last_packet }
 control_after table (Decides bytes) old = record {
   requests = table.prepared old (setup_of bytes);
-  stage = begun (table.accepts old (setup_of bytes)) (reads (setup_of bytes))
+  stage = stage_after_decision (table.accepts old (setup_of bytes)) (reads (setup_of bytes))
       (setup_of bytes).length;
-  heard = hears.Nothing;
+  last_packet = last_packets.Nothing;
 }
 control_after table (Applies bytes) old = record {
   requests = table.applied old bytes;
   stage = StatusIn;
-  heard = hears.Answered;
+  last_packet = last_packets.Answered;
 }
 
 -- the answer to a packet that brings this about: ACK to a SETUP, and DATA1 without a byte for the status of a write
 abbrev pub answer_to : Effect → Option Packet
-answer_to (Answers answer stage heard) = answer
+answer_to (Answers answer stage last_packet) = answer
 answer_to (Decides bytes) = Some Ack
 answer_to (Applies bytes) = Some (data_packet true [])
 
 -- what the packets of a try bring about where they arrive
 abbrev pub effect_reached : {R : Type 0} → Table R → HostTransferState → DevControlState R → Effect
 effect_reached table host control =
-    reached host.stage host.setup host.bytes control.stage (table.answer_of control.requests)
+    effect_of_stage host.stage host.setup host.bytes control.stage (table.answer_of control.requests)
 
--- what the host hears of that
-abbrev pub reply_heard : Fate → HostTransferState → Effect → Option Packet
-reply_heard fate host effect = heard_of fate (asks_at host.stage) (answer_to effect)
+-- what the host receives of the answer to a try's first packets
+abbrev pub reply_received : Fate → HostTransferState → Effect → Option Packet
+reply_received fate host effect = reply_after_fate fate (asks_at host.stage) (answer_to effect)
 
 -- the host after a try whose first packets arrive, by what they brought about
-abbrev pub host_replied : Fate → HostTransferState → Effect → HostTransferState
-host_replied fate host effect = took_at host.stage (reply_heard fate host effect) host
+abbrev pub host_after_answer : Fate → HostTransferState → Effect → HostTransferState
+host_after_answer fate host effect = transfer_after_reply_at host.stage (reply_received fate host effect) host
 
 -- whether the host's ACK arrives
 abbrev pub is_acknowledged : Fate → HostTransferState → Effect → Bool
 is_acknowledged fate host effect =
     is_clean fate
-    && acknowledges_at host.stage (reply_heard fate host effect)
-    (host_replied fate host effect).stage
+    && acknowledges_at host.stage (reply_received fate host effect)
+    (host_after_answer fate host effect).stage
 
 -- endpoint 0 after an ACK, where one arrives
-abbrev pub acknowledged_if : {R : Type 0} → Table R → Bool → DevControlState R → DevControlState R
-acknowledged_if table true control =
-    control_after table (ack_heard (table.answer_of control.requests) control.stage control.heard)
+abbrev pub after_ack_if : {R : Type 0} → Table R → Bool → DevControlState R → DevControlState R
+after_ack_if table true control =
+    control_after table (effect_of_ack (table.answer_of control.requests) control.stage control.last_packet)
     control.requests
-acknowledged_if table false control = control
+after_ack_if table false control = control
 
 -- the host after a try
 abbrev pub host_tried :
     {R : Type 0} → Table R → Fate → HostTransferState → DevControlState R → HostTransferState
-host_tried table TokenLost host control = took_at host.stage None host
-host_tried table fate host control = host_replied fate host (effect_reached table host control)
+host_tried table TokenLost host control = transfer_after_reply_at host.stage None host
+host_tried table fate host control = host_after_answer fate host (effect_reached table host control)
 
 -- endpoint 0 after a try
 abbrev pub control_tried :
     {R : Type 0} → Table R → Fate → HostTransferState → DevControlState R → DevControlState R
 control_tried table TokenLost host control = control
 control_tried table fate host control =
-    acknowledged_if table (is_acknowledged fate host (effect_reached table host control))
+    after_ack_if table (is_acknowledged fate host (effect_reached table host control))
     (control_after table (effect_reached table host control) control.requests)
 
 -- an effect carries out a write

@@ -5,18 +5,18 @@ use Rattle.std.proofs.lemmas.Grind.{common_steps}
 use Rattle.usb_packet.specs.declared.packet.Packet.{Packet}
 use Rattle.usb_packet.specs.declared.fault.PacketFault.{PacketFault}
 use Rattle.usb_packet.specs.Spelling.{Spells}
-use Rattle.usb_packet.specs.Fault.{IsFault, Reads}
-use Rattle.usb_packet.proofs.decoding.read.Goals as goal
+use Rattle.usb_packet.specs.Fault.{Decodes, IsFault}
+use Rattle.usb_packet.proofs.decoding.decode_ref.Goals as goal
 
 -- bytes spell one packet
 one : (bytes : List ℕ) (packet other : Packet) → Spells packet bytes → Spells other bytes → packet ≡ other
 one bytes packet other here there = grind (arith, common_steps)
 
--- and none where a fault stands
+-- where a fault stands bytes spell no packet
 no_fault : (bytes : List ℕ) (fault : PacketFault) (packet : Packet) → IsFault fault bytes → Spells packet bytes → ⊥
 no_fault bytes fault packet here there = grind (arith, common_steps)
 
--- bytes are their first one and what stands behind it
+-- bytes are their first one and what stands after it
 split : (bytes : List ℕ) (first : ℕ) → 1 ≤ length bytes → get_or bytes 0 0 ≡ first
     → first ∷ take (length bytes - 1) (drop 1 bytes) ≡ bytes
 split [] first some is = absurd (omega arith)
@@ -28,14 +28,15 @@ record IsRead (bytes : List ℕ) (result : Result Packet PacketFault) : Type 0 w
   complete : (packet : Packet) → Spells packet bytes → result ≡ Ok packet
   fault : IfErr result (λ fault. IsFault fault bytes)
 
-of_bytes : (bytes : List ℕ) (result : Result Packet PacketFault) → Reads result bytes → IsRead bytes result
+of_bytes : (bytes : List ℕ) (result : Result Packet PacketFault) → Decodes result bytes → IsRead bytes result
 of_bytes bytes (Ok packet) is = record { found = is; complete = λ other there. ap Ok (one bytes packet other is there); fault = tt }
 of_bytes bytes (Err fault) is = record { found = tt; complete = λ other there. absurd (no_fault bytes fault other is there); fault = is }
 
--- what is read by the first byte and those behind it
+-- what is read by the first byte and those after it
 by_first : (bytes : List ℕ) (first : ℕ) (result : Result Packet PacketFault) → 1 ≤ length bytes → get_or bytes 0 0 ≡ first
-    → Reads result (first ∷ take (length bytes - 1) (drop 1 bytes)) → IsRead bytes result
-by_first bytes first result some is reads = of_bytes bytes result (subst (Reads result) (split bytes first some is) reads)
+    → Decodes result (first ∷ take (length bytes - 1) (drop 1 bytes)) → IsRead bytes result
+by_first bytes first result some is reads =
+    of_bytes bytes result (subst (Decodes result) (split bytes first some is) reads)
 
 pub returns-in-225 : goal.returns-in-225
 returns-in-225 c = let h = by_first c.args.bytes.now 225 _ c.in-len1-up.len_at_least c.in-225.is c.token.ensures in record { found = h.found; complete = h.complete; fault = h.fault }

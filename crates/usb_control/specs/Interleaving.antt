@@ -1,24 +1,24 @@
--- A transfer with other things between its tries: where both ends stand behind a whole list (USB 2.0, 8.5.3).
+-- A transfer with other things between its tries: where both ends stand after a whole list (USB 2.0, 8.5.3).
 use Rattle.std.specs.Prelude.{◌≡◌, ℕ, Bool, true, false, if◌then◌else◌, List, [], ◌∷◌}
 use Rattle.usb_transact.specs.declared.transaction.Fate.{Fate}
-use Rattle.usb_control.specs.declared.device.Heard.{Heard}
+use Rattle.usb_control.specs.declared.device.LastPacket.{LastPacket}
 use Rattle.usb_control.specs.declared.host.HostStage.{HostStage}
 use Rattle.usb_control.specs.declared.host.HostStage.TheVariants.{Done, Failed}
-use Rattle.usb_control.specs.Computed.{AppliesBy, PreparesBy, Table, control_tried, host_tried, takes_effect}
+use Rattle.usb_control.specs.TryFunctions.{AppliesBy, PreparesBy, Table, control_tried, host_tried, takes_effect}
 use Rattle.usb_control.specs.Device.{DevControlState}
 use Rattle.usb_control.specs.Host.{HostTransferState}
-use Rattle.usb_control.specs.Standing.{Stands}
-use Rattle.usb_control.specs.Transfer.{Act, Acts, Decision, Place, TakesEffect, act_of, decision_of, shape_of, tried}
+use Rattle.usb_control.specs.Positions.{Stands}
+use Rattle.usb_control.specs.Transfer.{Act, Acts, Decision, Place, TakesEffect, act_of, decision_of, place_after_try, shape_of}
 
 -- the transfer at the host, and endpoint 0 of the device
 pub record Ends (R : Type 0) : Type 0 where
   pub host : HostTransferState
   pub control : DevControlState R
 
--- a try of the transfer, or something else: what answers requests changes, and what endpoint 0 heard last
+-- a try of the transfer, or something else: what answers requests changes, and what endpoint 0 received last
 pub data Turn (R : Type 0) : Type 0 where
   Tries : Fate → Turn R
-  Meanwhile : (change : R → R) (hears : Heard → Heard) → Turn R
+  Meanwhile : (change : R → R) (hears : LastPacket → LastPacket) → Turn R
 
 -- a transfer at this stage has another try to make
 abbrev pub is_running : HostStage → Bool
@@ -34,21 +34,22 @@ ends_tried table fate ends = record {
 }
 
 -- both ends after a turn: a transfer that is over is tried no more
-abbrev pub turned : {R : Type 0} → Table R → Ends R → Turn R → Ends R
-turned table ends (Tries fate) = if is_running ends.host.stage then ends_tried table fate ends else ends
-turned table ends (Meanwhile change hears) = record {
+abbrev pub ends_after_turn : {R : Type 0} → Table R → Ends R → Turn R → Ends R
+ends_after_turn table ends (Tries fate) =
+    if is_running ends.host.stage then ends_tried table fate ends else ends
+ends_after_turn table ends (Meanwhile change hears) = record {
   host = ends.host;
   control = record {
     requests = change ends.control.requests;
     stage = ends.control.stage;
-    heard = hears ends.control.heard;
+    last_packet = hears ends.control.last_packet;
   };
 }
 
 -- both ends after a list of turns
-abbrev pub turned_all : {R : Type 0} → Table R → Ends R → List (Turn R) → Ends R
-turned_all table ends [] = ends
-turned_all table ends (turn ∷ turns) = turned_all table (turned table ends turn) turns
+abbrev pub ends_after_turns : {R : Type 0} → Table R → Ends R → List (Turn R) → Ends R
+ends_after_turns table ends [] = ends
+ends_after_turns table ends (turn ∷ turns) = ends_after_turns table (ends_after_turn table ends turn) turns
 
 -- what a SETUP that arrives now is decided
 abbrev pub decision_now : {R : Type 0} → Table R → Ends R → Decision
@@ -60,11 +61,11 @@ decision_now table ends =
 abbrev pub tries_in : {R : Type 0} → Table R → Ends R → List (Turn R) → List (Fate × Decision)
 tries_in table ends [] = []
 tries_in table ends (Tries fate ∷ turns) =
-    (fate, decision_now table ends) ∷ tries_in table (turned table ends (Tries fate)) turns
+    (fate, decision_now table ends) ∷ tries_in table (ends_after_turn table ends (Tries fate)) turns
 tries_in table ends (Meanwhile change hears ∷ turns) =
-    tries_in table (turned table ends (Meanwhile change hears)) turns
+    tries_in table (ends_after_turn table ends (Meanwhile change hears)) turns
 
--- in a list of turns, what comes between the tries keeps the answer that is fixed
+-- what comes between the tries of a list of turns keeps the answer that is fixed
 abbrev pub LeaveAnswers : {R : Type 0} → Table R → List (Turn R) → Type 0
 LeaveAnswers table [] = Unit {0}
 LeaveAnswers table (Tries fate ∷ turns) = LeaveAnswers table turns
@@ -91,5 +92,6 @@ pub record GoesBy {R : Type 0} (table : Table R) (sends : List ℕ) (place : Pla
       (act_now table place fate ends) ends.control.requests (control_tried table fate ends.host ends.control).requests
   pub takes : takes_effect table fate ends.host ends.control ≡ is_effect (act_now table place fate ends)
   pub asked : (host_tried table fate ends.host ends.control).setup ≡ ends.host.setup
-  pub stands : StandAt table sends (tried (shape_of ends.host.setup) fate (decision_now table ends) place)
+  pub stands : StandAt table sends
+      (place_after_try (shape_of ends.host.setup) fate (decision_now table ends) place)
       (ends_tried table fate ends)

@@ -1,4 +1,4 @@
--- What endpoint 0 ends as, where what answers its requests is lent (our choice).
+-- What endpoint 0 ends as, where what answers its requests is borrowed (our choice).
 use Rattle.std.specs.Borrow.{Lends, Fml, RattleType, MutBor}
 use Rattle.usb_control.specs.contracts.device.DevControl.{the_row}
 use Rattle.usb_control.specs.Device.{DevControlState}

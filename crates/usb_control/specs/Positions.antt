@@ -1,4 +1,4 @@
--- Where both ends of a transfer stand, by their positions (USB 2.0, 8.5.3 and 8.6).
+-- The stages of both ends of a transfer, by their positions (USB 2.0, 8.5.3 and 8.6).
 use Rattle.std.specs.Prelude.{◌≡◌, ℕ, zero, suc, ◌*◌, ◌<◌, ◌⊎◌, Bool, true, false, not, ◌==◌, if◌then◌else◌, List, [], length, take, Option, Some, None}
 use Rattle.usb_transact.specs.declared.transaction.Fate.{Fate}
 use Rattle.usb_control.specs.declared.setup.Setup.{Setup as Request}
@@ -10,48 +10,48 @@ use Rattle.usb_control.specs.declared.host.HostStage.TheVariants as tries
 use Rattle.usb_control.specs.Requests.{PrepareGives, ApplyGives, AnswerOf}
 use Rattle.usb_control.specs.Device.{DevControlState}
 use Rattle.usb_control.specs.Host.{HostTransferState}
-use Rattle.usb_control.specs.Transfer.{Shape, shape_of, Decision, Refused, Accepted, Position, Setup, Piece, Status, Past, Place, answered_bytes, comes, data_pieces, first, next, Tries}
+use Rattle.usb_control.specs.Transfer.{Shape, shape_of, Decision, Refused, Accepted, Position, Setup, Piece, Status, Past, Place, answered_bytes, comes_from_device, data_pieces, first_position, next_position, Tries}
 
 -- whether a data piece goes out as DATA1: the first one does
-abbrev pub toggle : ℕ → Bool
-toggle zero = true
-toggle (suc k) = not (toggle k)
+abbrev pub piece_toggle : ℕ → Bool
+piece_toggle zero = true
+piece_toggle (suc k) = not (piece_toggle k)
 
 -- the host's stage, in a read or a write
 abbrev pub host_stage : Shape → Position → HostStage
 host_stage shape Setup = tries.Setup
 host_stage shape (Piece k) =
-    if shape.reads then tries.DataIn (toggle k) else tries.DataOut (8 * k) (toggle k)
-host_stage shape Status = if comes shape Status then tries.StatusIn else tries.StatusOut
+    if shape.reads then tries.DataIn (piece_toggle k) else tries.DataOut (8 * k) (piece_toggle k)
+host_stage shape Status = if comes_from_device shape Status then tries.StatusIn else tries.StatusOut
 host_stage shape Past = tries.Done
 
 -- the first pieces of these bytes, joined
-abbrev pub got_bytes : List ℕ → Position → List ℕ
-got_bytes bytes Setup = []
-got_bytes bytes (Piece k) = take (8 * k) bytes
-got_bytes bytes Status = bytes
-got_bytes bytes Past = bytes
+abbrev pub bytes_before : List ℕ → Position → List ℕ
+bytes_before bytes Setup = []
+bytes_before bytes (Piece k) = take (8 * k) bytes
+bytes_before bytes Status = bytes
+bytes_before bytes Past = bytes
 
 -- the bytes that the host holds: those that it sends, or those that it has got
 abbrev pub host_bytes : Shape → List ℕ → Decision → Position → List ℕ
 host_bytes shape bytes decision position =
-    if shape.reads then got_bytes (answered_bytes shape decision) position else bytes
+    if shape.reads then bytes_before (answered_bytes shape decision) position else bytes
 
--- the device's stage in an accepted request, once it has the SETUP
+-- the device's stage in an accepted read, once it has the SETUP
 abbrev pub read_stage : ℕ → Position → Stage
-read_stage len (Piece k) = stages.ReadData len (8 * k) (toggle k)
+read_stage len (Piece k) = stages.ReadData len (8 * k) (piece_toggle k)
 read_stage len _ = stages.StatusOut
 
--- in a write: its bytes so far, then the status, before and after it took effect
+-- the device's stage in a write: its bytes so far, then the status, before and after the write took effect
 abbrev pub write_stage : ℕ → List ℕ → ℕ → Bool → Position → Stage
 write_stage len bytes count applied (Piece k) =
-    stages.WriteData len (toggle k) (record { items = take (8 * k) bytes }) true
+    stages.WriteData len (piece_toggle k) (record { items = take (8 * k) bytes }) true
 write_stage len bytes count true Status = stages.StatusIn
 write_stage len bytes count false Status =
-    stages.WriteData len (toggle count) (record { items = bytes }) false
+    stages.WriteData len (piece_toggle count) (record { items = bytes }) false
 write_stage len bytes count applied _ = stages.Idle
 
--- in a read of no bytes, which has a status alone
+-- the device's stage in a read of no bytes, which has a status alone
 abbrev pub empty_read_stage : Position → Stage
 empty_read_stage Status = stages.StatusIn
 empty_read_stage _ = stages.Idle
@@ -81,17 +81,17 @@ DeviceStands answer_of shape bytes decision applied Setup control = Unit {0}
 DeviceStands answer_of shape bytes decision applied position control =
     DeviceHas answer_of shape bytes decision applied position control
 
--- the device is at the piece before
+-- the device is at the piece before the k-th one
 abbrev pub IsBehind : ℕ → Position → Type 0
 IsBehind k device = (j : ℕ) × (suc j ≡ k) × (device ≡ Piece j)
 
--- at a piece: its receiver may have it before the sender knows
+-- the two ends near a piece: its receiver may have it before the sender knows
 abbrev pub NearPiece : Bool → ℕ → ℕ → Bool → Position → Type 0
 NearPiece true count k applied device = (k < count) × ((device ≡ Piece k) ⊎ IsBehind k device)
 NearPiece false count k applied device =
-    (k < count) × (applied ≡ false) × ((device ≡ Piece k) ⊎ (device ≡ next count (Piece k)))
+    (k < count) × (applied ≡ false) × ((device ≡ Piece k) ⊎ (device ≡ next_position count (Piece k)))
 
--- at the status: the two ends are at one place where it comes, and else the device may be a piece behind or ahead
+-- the two ends near the status: they are at one place where it comes, and else the device may be a piece after or ahead
 abbrev pub NearStatus : Bool → ℕ → Position → Type 0
 NearStatus true count device = device ≡ Status
 NearStatus false count device = (device ≡ Status) ⊎ (device ≡ Past) ⊎ IsBehind count device
@@ -99,12 +99,12 @@ NearStatus false count device = (device ≡ Status) ⊎ (device ≡ Past) ⊎ Is
 -- how far apart the two ends of a transfer may be
 abbrev pub Near : Shape → Decision → Bool → Position → Position → Type 0
 Near shape decision applied Setup device =
-    (device ≡ Setup) ⊎ (device ≡ first (data_pieces shape decision))
-Near shape Refused applied host device = device ≡ first (data_pieces shape Refused)
+    (device ≡ Setup) ⊎ (device ≡ first_position (data_pieces shape decision))
+Near shape Refused applied host device = device ≡ first_position (data_pieces shape Refused)
 Near shape (Accepted answer) applied (Piece k) device =
     NearPiece (shape.reads) (data_pieces shape (Accepted answer)) k applied device
 Near shape (Accepted answer) applied Status device =
-    NearStatus (comes shape Status) (data_pieces shape (Accepted answer)) device
+    NearStatus (comes_from_device shape Status) (data_pieces shape (Accepted answer)) device
 Near shape (Accepted answer) applied Past device = Unit {0}
 
 -- the host stands at its position
@@ -139,7 +139,7 @@ abbrev pub Stands :
 Stands answer_of shape sends place host control =
     StandsWith answer_of shape sends place place.fault host control
 
--- from a place, a try with this fate leads to one at which both ends then stand
+-- a try with this fate leads from a place to one at which both ends then stand
 abbrev pub GoesOn :
     {R : Type 0} → PrepareGives R → ApplyGives R → AnswerOf R → Request → List ℕ → Fate → Place → R
     → HostTransferState → DevControlState R → Type 0
