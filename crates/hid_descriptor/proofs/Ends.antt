@@ -1,4 +1,4 @@
--- What stands behind the last item: whether IDs are mixed, and whether the descriptor is accepted.
+-- What stands after the last item: whether IDs are mixed, and whether the descriptor is accepted.
 use Rattle.std.proofs.Common.{◌≡◌, ℕ, Bool, true, false, ◌&&◌, List, [], ◌∷◌, length, map, refl, sym, ◌∙◌, ap, arith, nat_eq, inr}
 use Rattle.std.specs.List.{list_any}
 use Rattle.std.proofs.lemmas.Grind.{common_steps}

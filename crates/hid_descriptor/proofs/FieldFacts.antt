@@ -185,8 +185,8 @@ short_minimum waiting (item ∷ before) s = by_case (nat_eq waiting 0) (is LOGIC
     by_case true false e here rest = rest
     by_case false b e here rest = rest
 
--- What is known of the fields that accepted items list: each is sound and lies behind the earlier ones of its report, and
--- no report is over its limit.
+-- What is known of the fields that accepted items list: each is sound and lies after the earlier ones of its report,
+-- and no report is over its limit.
 pub record AreListed (fs : List Field) : Type 0 where
   pub sound : (i : ℕ) (f : Field) → slice_get fs i ≡ Some f → IsSound f
   pub offsets : (i : ℕ) (f : Field) → slice_get fs i ≡ Some f → f.offset ≡ report_bits f.kind f.id (take i fs)

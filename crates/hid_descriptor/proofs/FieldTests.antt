@@ -11,7 +11,7 @@ use Rattle.hid_descriptor.specs.Kept.{AreKept, Keeps}
 use Rattle.hid_descriptor.specs.Parser.{Lists}
 use Rattle.hid_descriptor.proofs.ReportsLemmas.{bits_added, same_itself}
 
--- the tests that stand behind others count where none of those is met
+-- the tests that stand after others count where none of those is met
 pub met_behind : (ts us : List (Bool × Cause)) → first_met ts ≡ None → first_met (ts ++ us) ≡ first_met us
 met_behind [] us h = refl
 met_behind (t ∷ ts) us h = met_head (t.0) (t.1) (first_met ts) (first_met (ts ++ us)) (first_met us) (met_behind ts us) h

@@ -15,7 +15,7 @@ use Rattle.hid_descriptor.specs.Fields.{fields, add_field}
 use Rattle.hid_descriptor.specs.Faults.{fault_of}
 use Rattle.hid_descriptor.specs.State.{globals_at, AreGlobals}
 use Rattle.hid_descriptor.specs.Locals.{entry_on_page, AreLocals}
-use Rattle.hid_descriptor.specs.Usages.{entries, entries_behind, locals}
+use Rattle.hid_descriptor.specs.Usages.{entries, following_entries, locals}
 use Rattle.hid_items.specs.Reading.{kind_of}
 use Rattle.hid_items.specs.declared.ItemKind.TheVariants.{Long}
 use Rattle.hid_descriptor.specs.Kept.{AreKept}
@@ -36,7 +36,7 @@ pub fields_kept : (before : List Spelled) (item : Spelled) → is_field item ≡
 unfolding add_field
 fields_kept before item h = rw h refl
 
--- the fields as they stand behind an item that describes none
+-- the fields as they stand after an item that describes none
 pub fields_same : (before : List Spelled) (item : Spelled) (old new : KeptFields) → is_field item ≡ false → new ≡ old → AreKept (fields before) old → AreKept (fields (item ∷ before)) new
 fields_same before item old new h e k = subst (AreKept (fields (item ∷ before))) (sym e) (subst (λ fs. AreKept fs old) (sym (fields_kept before item h)) k)
 
@@ -73,7 +73,7 @@ globals_at_kept before item p q a b c d e f =
     let e6 : in_force REPORT_ID (item ∷ before) ≡ in_force REPORT_ID before = same REPORT_ID f in
     cc
 
--- the globals as they stand behind an item that is no Push and no Pop
+-- the globals as they stand after an item that is no Push and no Pop
 pub globals_set : (before : List Spelled) (item : Spelled) (old new : SavedGlobals) → prefix_of item ≢ PUSH → prefix_of item ≢ POP → AreGlobals before old → new.now ≡ globals_at (item ∷ before) → new.saved.items ≡ old.saved.items → AreGlobals (item ∷ before) new
 globals_set before item old new p q g n s = record { in_force_now = n; at_pushes = s ∙ g.at_pushes ∙ ap (map (λ push. globals_at (push.0))) (sym (open_pushes_kept before item p q)) }
 
@@ -180,7 +180,7 @@ stands_id before item old new h a b s g sv e1 e2 e3 e4 =
       },
     )
 
--- the globals behind a main item
+-- the globals after a main item
 pub globals_main : (before : List Spelled) (item : Spelled) (old : SavedGlobals) → is_main item ≡ true → AreGlobals before old → AreGlobals (item ∷ before) old
 globals_main before item old m g =
     globals_set before item old old (main_not item PUSH refl m) (main_not item POP refl m) g
@@ -212,7 +212,9 @@ stands_end before item old new h lt s e1 l p e3 e4 =
 
 -- the usages kept, on the page in force, are the entries of a main item that comes now
 pub usages_there : (before : List Spelled) (p : Parser) → StandsAt before p → map (entry_on_page p.globals.now.page) p.locals.entries.items ≡ entries before
-usages_there before p s = s.locals_there.all_entries p.globals.now.page ∙ ap (λ g. entries_behind g [] (locals before)) (ap (λ g. g.page) s.globals_there.in_force_now)
+usages_there before p s =
+    s.locals_there.all_entries p.globals.now.page
+    ∙ ap (λ g. following_entries g [] (locals before)) (ap (λ g. g.page) s.globals_there.in_force_now)
 
 pub end_is_main : (item : Spelled) → prefix_of item ≡ END_COLLECTION → is_main item ≡ true
 end_is_main item h = rw h refl

@@ -1,4 +1,4 @@
--- The lists of one more item, put behind the others.
+-- The lists of one more item, put after the others.
 use Rattle.std.proofs.Common.{◌≡◌, ℕ, zero, suc, ◌+◌, ◌-◌, ◌≤◌, List, [], ◌∷◌, ◌++◌, length, map, take, drop, refl, sym, subst, ap, ◌∙◌, arith, length-append, append-nil, Option, Some, None}
 use Rattle.std.specs.List.{slice_get, slice_range}
 use Rattle.std.specs.Option.{option_map}
@@ -11,11 +11,11 @@ use Rattle.hid_descriptor.specs.declared.collection.Collection.{Collection}
 use Rattle.hid_descriptor.specs.declared.item_lists.ItemSpans.{ItemSpans}
 use Rattle.hid_descriptor.specs.Usages.{Entry, entry_count, starts_from, starts_of}
 use Rattle.hid_descriptor.specs.Lists.{lists_at, AreWithin}
-use Rattle.hid_descriptor.specs.ItemLists.{listed_more, listed_at, entry_spans, path_spans, AreSingle, AreStarts, AddsStarts, AreListed}
+use Rattle.hid_descriptor.specs.ItemLists.{lists_with, lists_of_spans, entry_spans, path_spans, AreSingle, AreStarts, AddsStarts, AreListed}
 use Rattle.hid_descriptor.proofs.ListsLemmas.{lists_more, list_there, range_kept, range_added, within_more, Placed, earlier, last, placed}
 use Rattle.hid_descriptor.proofs.StartLemmas.{starts-length}
 
--- the new places lie behind the others
+-- the new places lie after the others
 pub record IsBehind (entries more : List Entry) (paths path : List Collection) (s : ItemSpans) : Type 0 where
   pub start : s.entries.start ≡ length entries
   pub end : s.entries.end ≡ length entries + length more
@@ -28,7 +28,8 @@ entries_more entries more paths path spans s w b =
     ap (lists_at (entries ++ more)) (map-append (λ (x : ItemSpans). x.entries) spans (s ∷ [])) ∙ lists_more entries more (entry_spans spans) s.entries.start s.entries.end w b.start b.end
 
 pub listed_added : (entries more : List Entry) (starts : List ℕ) (paths path : List Collection) (spans : List ItemSpans) (s : ItemSpans) → AreListed entries starts paths spans → IsBehind entries more paths path s
-    → listed_at (entries ++ more) (paths ++ path) (spans ++ s ∷ []) ≡ listed_more (listed_at entries paths spans) more path
+    → lists_of_spans (entries ++ more) (paths ++ path) (spans ++ s ∷ [])
+    ≡ lists_with (lists_of_spans entries paths spans) more path
 listed_added entries more starts paths path spans s l b =
     let e : lists_at (entries ++ more) (entry_spans (spans ++ s ∷ [])) ≡ lists_at entries (entry_spans spans) ++ more ∷ [] = entries_more entries more paths path spans s l.entries_within b in
     let p : lists_at (paths ++ path) (path_spans (spans ++ s ∷ [])) ≡ lists_at paths (path_spans spans) ++ path ∷ [] =
@@ -48,7 +49,7 @@ in_turn page n (e ∷ (f ∷ es)) h =
 pub single_starts : (page : ℕ) (named : List (NamedUsage × NamedUsage)) → AreSingle named → starts_of (map (entry_on_page page) named) ≡ upward 0 (length (map (entry_on_page page) named))
 single_starts page named h = in_turn page 0 named h
 
--- starts put behind others leave those of an item where they stand
+-- starts put after others leave those of an item where they stand
 starts_kept : (es : List Entry) (at : Option ℕ) (starts more : List ℕ) → AreStarts es at starts → AreStarts es at (starts ++ more)
 starts_kept es None starts more a = a
 starts_kept es (Some at) starts more a = (omega (arith, a.0, length-append starts more), range_kept starts more at (at + length es) (omega arith) a.0 ∙ a.1)
@@ -64,7 +65,7 @@ starts_more : (es : List Entry) (at : Option ℕ) (old new : List ℕ) → AddsS
 starts_more es None old new a = ([], a.1 ∙ sym (append-nil old))
 starts_more es (Some at) old new a = (starts_of es, a.1)
 
--- an item's lists stay as they are where others are put behind them
+-- an item's lists stay as they are where others are put after them
 kept_there : (entries more : List Entry) (starts others : List ℕ) (paths : List Collection) (spans : List ItemSpans) (i : ℕ) (s : ItemSpans) → AreListed entries starts paths spans → slice_get spans i ≡ Some s
     → AreStarts (slice_range (entries ++ more) s.entries.start s.entries.end) s.starts (starts ++ others)
 kept_there entries more starts others paths spans i s l at =
@@ -72,7 +73,7 @@ kept_there entries more starts others paths spans i s l at =
     subst (λ es. AreStarts es s.starts (starts ++ others)) (sym (range_kept entries more s.entries.start s.entries.end w.0 w.1))
     (starts_kept (slice_range entries s.entries.start s.entries.end) s.starts starts others (l.starts_there i s at))
 
--- more collections behind those of all paths change none of them
+-- more collections after those of all paths change none of them
 pub paths_longer : (entries : List Entry) (starts : List ℕ) (paths path : List Collection) (spans : List ItemSpans) → AreListed entries starts paths spans → AreListed entries starts (paths ++ path) spans
 paths_longer entries starts paths path spans l = record {
   entries_within = l.entries_within;

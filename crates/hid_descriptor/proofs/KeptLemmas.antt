@@ -16,7 +16,7 @@ use Rattle.hid_descriptor.specs.Heads.{head_of, whole_field, ArePlaced}
 use Rattle.hid_descriptor.specs.Usages.{Entry}
 use Rattle.hid_descriptor.specs.declared.collection.Collection.{Collection}
 use Rattle.hid_descriptor.specs.Kept.{AreKept}
-use Rattle.hid_descriptor.specs.ItemLists.{Listed, none_listed, listed_more}
+use Rattle.hid_descriptor.specs.ItemLists.{Listed, no_lists, lists_with}
 use Rattle.hid_descriptor.proofs.ReportsLemmas.{with_bits-reports_of, bits_in-reports_of, reports_of-nil}
 use Rattle.hid_descriptor.proofs.Shares.{share, bits-cons}
 use Rattle.hid_descriptor.specs.declared.report.ReportKind.{ReportKind}
@@ -167,7 +167,8 @@ ids_told id other old new there o n = by_case (nat_eq id other) refl
 
 -- one more field with its usages and its collections
 pub kept_more : (fs : List Field) (f : KeptField) (es : List Entry) (path : List Collection) (old new : KeptFields) → AreKept fs old → f.size * f.count ≢ 0 → f.id < 256 → f.offset + f.size * f.count ≤ 2048
-    → new.list.items ≡ old.list.items ++ f ∷ [] → new.lists ≡ listed_more old.lists es path → new.reports.list.items ≡ with_bits f.kind f.id (f.size * f.count) old.reports.list.items
+    → new.list.items ≡ old.list.items ++ f ∷ [] → new.lists ≡ lists_with old.lists es path
+    → new.reports.list.items ≡ with_bits f.kind f.id (f.size * f.count) old.reports.list.items
     → new.elements ≡ old.elements + cond (is_padding f.shape) 0 f.count → new.ids.list.items ≡ with_id f.id old.ids.list.items → AreKept (fs ++ whole_field f es path ∷ []) new
 unfolding report_ids
 kept_more fs f es path old new k some small short l ls r n i =
@@ -194,7 +195,8 @@ none_passed from zero = refl
 none_passed from (suc n) = none_passed (from + 1) n
 
 -- before all fields
-pub kept_none : (new : KeptFields) → new.list.items ≡ [] → new.lists ≡ none_listed → new.reports.list.items ≡ [] → new.elements ≡ 0 → new.ids.list.items ≡ [] → AreKept [] new
+pub kept_none : (new : KeptFields) → new.list.items ≡ [] → new.lists ≡ no_lists → new.reports.list.items ≡ []
+    → new.elements ≡ 0 → new.ids.list.items ≡ [] → AreKept [] new
 unfolding report_ids
 kept_none new l ls r n i = record {
   heads = l;

@@ -1,4 +1,4 @@
--- The fields of accepted items are sound, and lie one behind the other in their reports.
+-- The fields of accepted items are sound, and lie one after the other in their reports.
 use Rattle.std.proofs.Common.{◌≡◌, ◌≢◌, ℕ, zero, suc, ◌^◌, ◌<◌, ◌≤◌, Bool, true, false, cond, ◌&&◌, ◌||◌, List, [], ◌∷◌, ◌++◌, length, take, refl, sym, ◌∙◌, ap, subst, arith, nat_eq, nat_lt, Some, None}
 use Rattle.std.specs.Prelude.{pos, neg_ℤ, ◌≤ℤ◌, ◌⊎◌}
 use mathlib.Core.Logic.{inl, inr}

@@ -1,4 +1,4 @@
--- A list put behind the others leaves those where they stand.
+-- A list put after the others leaves those where they stand.
 use Rattle.std.proofs.Common.{length-append, Some, unwrap_or, ◌≡◌, ℕ, zero, suc, ◌+◌, ◌-◌, ◌≤◌, List, [], ◌∷◌, ◌++◌, length, take, drop, refl, sym, ap, ◌∙◌, arith}
 use Rattle.std.specs.List.{slice_get, slice_range}
 use Rattle.std.specs.Option.{option_map}

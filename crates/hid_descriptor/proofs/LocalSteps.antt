@@ -9,8 +9,8 @@ use Rattle.hid_items.specs.Spelling.{prefix_of}
 use Rattle.hid_descriptor.specs.declared.locals.NamedUsage.{NamedUsage}
 use Rattle.hid_descriptor.specs.declared.locals.Locals.{Locals}
 use Rattle.hid_descriptor.specs.Items.{Spelled, is, is_main, USAGE, USAGE_MINIMUM, USAGE_MAXIMUM}
-use Rattle.hid_descriptor.specs.Usages.{usage_named, entry_of, to_list, locals, minima, maxima, entry_at, entries_behind}
-use Rattle.hid_descriptor.specs.Locals.{named, on_page, entry_on_page, AreLocals, AddsLocal, entry_completed}
+use Rattle.hid_descriptor.specs.Usages.{usage_named, entry_of, to_list, locals, minima, maxima, entry_at, following_entries}
+use Rattle.hid_descriptor.specs.Locals.{named_usage, on_page, entry_on_page, AreLocals, AddsLocal, entry_completed}
 
 pub locals_more : (before : List Spelled) (item : Spelled) → is_main item ≡ false → locals (item ∷ before) ≡ locals before ++ item ∷ []
 locals_more before item h = grind (arith, common_steps)
@@ -19,12 +19,14 @@ pub filter_more : (p : Spelled → Bool) (xs : List Spelled) (x : Spelled) → f
 filter_more p [] x = grind (arith, common_steps)
 filter_more p (y ∷ xs) x = grind (arith, common_steps, filter_more p xs x)
 
-pub entries_more : (page : ℕ) (front xs : List Spelled) (x : Spelled) → entries_behind page front (xs ++ x ∷ []) ≡ entries_behind page front xs ++ entry_at page (front ++ xs) x
+pub entries_more : (page : ℕ) (front xs : List Spelled) (x : Spelled)
+    → following_entries page front (xs ++ x ∷ []) ≡ following_entries page front xs ++ entry_at page (front ++ xs) x
 entries_more page front [] x = rw append-nil (rw append-nil refl)
 entries_more page front (y ∷ xs) x =
     ap (λ r. entry_at page front y ++ r) (entries_more page (front ++ y ∷ []) xs x)
     ∙ sym (append_assoc (entry_at page front y) _ _)
-    ∙ ap (λ f. (entry_at page front y ++ entries_behind page (front ++ y ∷ []) xs) ++ entry_at page f x) (append_assoc front (y ∷ []) xs)
+    ∙ ap (λ f. (entry_at page front y ++ following_entries page (front ++ y ∷ []) xs) ++ entry_at page f x)
+    (append_assoc front (y ∷ []) xs)
 
 option_map_map : {A B C : Type 0} (g : B → C) (f : A → B) (o : Option A) → option_map g (option_map f o) ≡ option_map (λ x. g (f x)) o
 option_map_map g f None = refl
@@ -34,59 +36,104 @@ map_to_list : {A B : Type 0} (f : A → B) (o : Option A) → map f (to_list o) 
 map_to_list f None = refl
 map_to_list f (Some x) = refl
 
-named_on_page : (page : ℕ) (item : Spelled) → on_page page (named item) ≡ usage_named page item
+named_on_page : (page : ℕ) (item : Spelled) → on_page page (named_usage item) ≡ usage_named page item
 named_on_page page item = grind (arith, common_steps)
 
 -- an entry that a pair of kept usages makes, where the other one is looked up
-pair_low : (page : ℕ) (item : Spelled) (o : Option Spelled) → map (entry_on_page page) (to_list (option_map (λ high. (named item, high)) (option_map named o))) ≡ to_list (option_map (λ high. entry_of page item high) o)
+pair_low : (page : ℕ) (item : Spelled) (o : Option Spelled)
+    → map (entry_on_page page) (to_list (option_map (λ high. (named_usage item, high)) (option_map named_usage o)))
+    ≡ to_list (option_map (λ high. entry_of page item high) o)
 pair_low page item None = refl
-pair_low page item (Some high) = ap (λ e. e ∷ []) (ap (λ u. (u, on_page page (named high))) (named_on_page page item) ∙ ap (λ u. (usage_named page item, u)) (named_on_page page high))
+pair_low page item (Some high) =
+    ap (λ e. e ∷ [])
+    (ap (λ u. (u, on_page page (named_usage high))) (named_on_page page item)
+    ∙ ap (λ u. (usage_named page item, u)) (named_on_page page high))
 
-pair_high : (page : ℕ) (item : Spelled) (o : Option Spelled) → map (entry_on_page page) (to_list (option_map (λ low. (low, named item)) (option_map named o))) ≡ to_list (option_map (λ low. entry_of page low item) o)
+pair_high : (page : ℕ) (item : Spelled) (o : Option Spelled)
+    → map (entry_on_page page) (to_list (option_map (λ low. (low, named_usage item)) (option_map named_usage o)))
+    ≡ to_list (option_map (λ low. entry_of page low item) o)
 pair_high page item None = refl
-pair_high page item (Some low) = ap (λ e. e ∷ []) (ap (λ u. (u, on_page page (named item))) (named_on_page page low) ∙ ap (λ u. (usage_named page low, u)) (named_on_page page item))
+pair_high page item (Some low) =
+    ap (λ e. e ∷ [])
+    (ap (λ u. (u, on_page page (named_usage item))) (named_on_page page low)
+    ∙ ap (λ u. (usage_named page low, u)) (named_on_page page item))
 
-pair_one : (page : ℕ) (item : Spelled) → map (entry_on_page page) ((named item, named item) ∷ []) ≡ entry_of page item item ∷ []
+pair_one : (page : ℕ) (item : Spelled)
+    → map (entry_on_page page) ((named_usage item, named_usage item) ∷ []) ≡ entry_of page item item ∷ []
 pair_one page item = pair_low page item (Some item)
 
-length_named : (xs : List Spelled) → length (map named xs) ≡ length xs
-length_named xs = length-map xs named
+length_named : (xs : List Spelled) → length (map named_usage xs) ≡ length xs
+length_named xs = length-map xs named_usage
 
 -- the entry kept at a local item is the one that counts there
-completed : (page : ℕ) (ls : List Spelled) (item : Spelled) → map (entry_on_page page) (entry_completed (prefix_of item) (named item) (map named (minima ls)) (map named (maxima ls))) ≡ entry_at page ls item
+completed : (page : ℕ) (ls : List Spelled) (item : Spelled)
+    → map (entry_on_page page)
+    (entry_completed (prefix_of item) (named_usage item) (map named_usage (minima ls)) (map named_usage (maxima ls)))
+    ≡ entry_at page ls item
 completed page ls item = by_case (is USAGE item) (is USAGE_MINIMUM item) (is USAGE_MAXIMUM item)
   where
-    by_case : (a b c : Bool) → map (entry_on_page page) (cond a ((named item, named item) ∷ []) (cond b (to_list (option_map (λ high. (named item, high)) (slice_get (map named (maxima ls)) (length (map named (minima ls)))))) (cond c (to_list (option_map (λ low. (low, named item)) (slice_get (map named (minima ls)) (length (map named (maxima ls)))))) [])))
+    by_case : (a b c : Bool)
+        → map (entry_on_page page)
+        (cond a ((named_usage item, named_usage item) ∷ [])
+        (cond b (to_list
+        (option_map (λ high. (named_usage item, high))
+        (slice_get (map named_usage (maxima ls)) (length (map named_usage (minima ls))))))
+        (cond c (to_list
+        (option_map (λ low. (low, named_usage item))
+        (slice_get (map named_usage (minima ls)) (length (map named_usage (maxima ls)))))) [])))
         ≡ cond a (entry_of page item item ∷ []) (cond b (to_list (option_map (λ high. entry_of page item high) (slice_get (maxima ls) (length (minima ls))))) (cond c (to_list (option_map (λ low. entry_of page low item) (slice_get (minima ls) (length (maxima ls))))) []))
     by_case true b c = pair_one page item
-    by_case false true c = rw (length_named (minima ls), slice_get-map named (maxima ls) (length (minima ls))) (pair_low page item (slice_get (maxima ls) (length (minima ls))))
-    by_case false false true = rw (length_named (maxima ls), slice_get-map named (minima ls) (length (maxima ls))) (pair_high page item (slice_get (minima ls) (length (maxima ls))))
+    by_case false true c =
+        rw (length_named (minima ls), slice_get-map named_usage (maxima ls) (length (minima ls)))
+        (pair_low page item (slice_get (maxima ls) (length (minima ls))))
+    by_case false false true =
+        rw (length_named (maxima ls), slice_get-map named_usage (minima ls) (length (maxima ls)))
+        (pair_high page item (slice_get (minima ls) (length (maxima ls))))
     by_case false false false = refl
 
 map_if : {A B : Type 0} (f : A → B) (b : Bool) (x : A) → map f (cond b (x ∷ []) []) ≡ cond b (f x ∷ []) []
 map_if f true x = refl
 map_if f false x = refl
 
-kept_more : (p : Spelled → Bool) (ls : List Spelled) (item : Spelled) (old new : List NamedUsage) → old ≡ map named (filter p ls) → new ≡ old ++ cond (p item) (named item ∷ []) [] → new ≡ map named (filter p (ls ++ item ∷ []))
+kept_more : (p : Spelled → Bool) (ls : List Spelled) (item : Spelled) (old new : List NamedUsage)
+    → old ≡ map named_usage (filter p ls) → new ≡ old ++ cond (p item) (named_usage item ∷ []) []
+    → new ≡ map named_usage (filter p (ls ++ item ∷ []))
 kept_more p ls item old new e f =
-    f ∙ ap (λ o. o ++ cond (p item) (named item ∷ []) []) e ∙ ap (λ t. map named (filter p ls) ++ t) (sym (map_if named (p item) item)) ∙ sym (map-append named (filter p ls) _) ∙ ap (map named) (sym (filter_more p ls item))
+    f ∙ ap (λ o. o ++ cond (p item) (named_usage item ∷ []) []) e
+    ∙ ap (λ t. map named_usage (filter p ls) ++ t) (sym (map_if named_usage (p item) item))
+    ∙ sym (map-append named_usage (filter p ls) _) ∙ ap (map named_usage) (sym (filter_more p ls item))
 
 -- what is kept of one more local item is what counts of it
-pub locals_added : (before : List Spelled) (item : Spelled) (old new : Locals) → is_main item ≡ false → AreLocals before old → AddsLocal (prefix_of item) (named item) old new → AreLocals (item ∷ before) new
+pub locals_added : (before : List Spelled) (item : Spelled) (old new : Locals) → is_main item ≡ false
+    → AreLocals before old → AddsLocal (prefix_of item) (named_usage item) old new → AreLocals (item ∷ before) new
 locals_added before item old new h is_old adds =
     let more : locals (item ∷ before) ≡ locals before ++ item ∷ [] = locals_more before item h in
     record {
-      all_minima = kept_more (is USAGE_MINIMUM) (locals before) item _ _ is_old.all_minima adds.minima_after ∙ ap (λ ls. map named (minima ls)) (sym more);
-      all_maxima = kept_more (is USAGE_MAXIMUM) (locals before) item _ _ is_old.all_maxima adds.maxima_after ∙ ap (λ ls. map named (maxima ls)) (sym more);
+      all_minima =
+          kept_more (is USAGE_MINIMUM) (locals before) item _ _ is_old.all_minima adds.minima_after
+          ∙ ap (λ ls. map named_usage (minima ls)) (sym more);
+      all_maxima =
+          kept_more (is USAGE_MAXIMUM) (locals before) item _ _ is_old.all_maxima adds.maxima_after
+          ∙ ap (λ ls. map named_usage (maxima ls)) (sym more);
       all_entries = λ page.
-          ap (map (entry_on_page page)) (adds.entries_after ∙ ap (λ lows. old.entries.items ++ entry_completed (prefix_of item) (named item) lows old.maxima) is_old.all_minima ∙ ap (λ highs. old.entries.items ++ entry_completed (prefix_of item) (named item) (map named (minima (locals before))) highs) is_old.all_maxima)
+          ap (map (entry_on_page page))
+          (adds.entries_after
+          ∙ ap (λ lows. old.entries.items
+          ++ entry_completed (prefix_of item) (named_usage item) lows old.maxima) is_old.all_minima
+          ∙ ap (λ highs. old.entries.items
+          ++ entry_completed (prefix_of item) (named_usage item)
+          (map named_usage (minima (locals before))) highs) is_old.all_maxima)
           ∙ map-append (entry_on_page page) old.entries.items _
-          ∙ ap (λ t. t ++ map (entry_on_page page) (entry_completed (prefix_of item) (named item) (map named (minima (locals before))) (map named (maxima (locals before))))) (is_old.all_entries page)
-          ∙ ap (λ t. entries_behind page [] (locals before) ++ t) (completed page (locals before) item)
+          ∙ ap (λ t. t
+          ++ map (entry_on_page page)
+          (entry_completed (prefix_of item) (named_usage item) (map named_usage (minima (locals before)))
+          (map named_usage (maxima (locals before))))) (is_old.all_entries page)
+          ∙ ap (λ t. following_entries page [] (locals before) ++ t) (completed page (locals before) item)
           ∙ sym (entries_more page [] (locals before) item)
-          ∙ ap (entries_behind page []) (sym more);
+          ∙ ap (following_entries page []) (sym more);
     }
 
 -- the kept item is the one that was read
-pub adds_item : (prefix : ℕ) (item : Spelled) (old new : Locals) → prefix ≡ prefix_of item → AddsLocal prefix (named item) old new → AddsLocal (prefix_of item) (named item) old new
-adds_item prefix item old new p a = subst (λ n. AddsLocal n (named item) old new) p a
+pub adds_item : (prefix : ℕ) (item : Spelled) (old new : Locals) → prefix ≡ prefix_of item
+    → AddsLocal prefix (named_usage item) old new → AddsLocal (prefix_of item) (named_usage item) old new
+adds_item prefix item old new p a = subst (λ n. AddsLocal n (named_usage item) old new) p a

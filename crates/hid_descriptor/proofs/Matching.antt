@@ -38,7 +38,7 @@ look_back_matched prefix k (item ∷ before) front p e =
     step (is POP item) (is PUSH item) k (is prefix item) (data_of item) (before, item) front p (λ j. look_back prefix j before) (λ j. open_items PUSH POP j before) (λ q. look_back prefix 0 (q.0))
     (λ h. grind (arith, common_steps, nat_tests)) refl (λ j fr q. look_back_matched prefix j before fr q) e
 
--- the same step, of the items that stay open
+-- a step back over one item, of the items that stay open
 cut_step : (closes opens : Bool) (k : ℕ) (here : Placed) (front : List Placed) (p : Placed) (open_at : ℕ → List Placed)
     → (closes ≡ true → opens ≡ false)
     → ((j : ℕ) → (fr : List Placed) → (q : Placed) → open_at j ≡ fr ++ q ∷ [] → open_at (suc j) ≡ fr)

@@ -1,4 +1,4 @@
--- What is in force behind a Pop is what was in force before its matching Push.
+-- What is in force after a Pop is what was in force before its matching Push.
 use Rattle.std.proofs.Common.{◌≡◌, ◌≢◌, ℕ, zero, suc, ◌+◌, Bool, true, false, List, [], ◌∷◌, ◌++◌, refl, ◌∙◌, ap, arith}
 use Rattle.std.specs.Prelude.{count_by}
 use Rattle.std.proofs.lemmas.Grind.{common_steps}
@@ -43,7 +43,7 @@ look_back_between prefix k [] before push h b =
 look_back_between prefix k (item ∷ rest) before push h b =
     between_step (is POP item) (is PUSH item) prefix k item push rest before refl refl b (λ j bj. look_back_between prefix j rest before push h bj)
 
--- the global in force behind a Pop is the one before its matching Push
+-- the global in force after a Pop is the one before its matching Push
 pub in_force_behind_pop : (prefix : ℕ) (pop push : Spelled) (between before : List Spelled) → prefix ≢ POP → prefix_of pop ≡ POP → is PUSH push ≡ true → IsBetween 0 between → in_force prefix (pop ∷ (between ++ push ∷ before)) ≡ in_force prefix before
 in_force_behind_pop prefix pop push between before d p h b =
     let q : look_back prefix 1 (between ++ push ∷ before) ≡ look_back prefix 0 before = look_back_between prefix 0 between before push h b in

@@ -45,7 +45,7 @@ before_both : (kind : ReportKind) (id : ℕ) (a b : Report) → comes_before b.k
 before_both kind id a b h g =
     by_ranks kind id a ∙ through (rank a.kind) a.id (rank b.kind) b.id (rank kind) id (sym (by_ranks b.kind b.id a) ∙ h) (sym (by_ranks kind id b) ∙ g)
 
--- what neither stands before a report nor is it stands behind it
+-- what neither stands before a report nor is it stands after it
 behind : (kind : ReportKind) (id bits : ℕ) (r : Report) → comes_before kind id r ≡ false → is_report kind id r ≡ false → comes_before r.kind r.id (record { kind = kind; id = id; bits = bits }) ≡ true
 behind kind id bits r h g =
     by_ranks r.kind r.id (record { kind = kind; id = id; bits = bits }) ∙ other_way (rank r.kind) r.id (rank kind) id (sym (by_ranks kind id r) ∙ h) (sym (is_by_ranks kind id r) ∙ g)

@@ -58,7 +58,7 @@ All-tail_of : {A : Type 0} (P : A → Type 0) (xs ys : List A) → All P (xs ++ 
 All-tail_of P [] ys a = a
 All-tail_of P (x ∷ xs) ys a = All-tail_of P xs ys (All-tail P x (xs ++ ys) a)
 
--- the items behind some others, and what they say of them
+-- the items after some others, and what they say of them
 goes_on : (bytes : List ℕ) (at there : ℕ) (before others zs : List Spelled) (z : Spelled) → Reaches bytes at before → Reaches bytes there others → reverse others ≡ reverse before ++ z ∷ zs → GoesOn bytes at before
 goes_on bytes at there before others zs z r s e =
     let all : All IsSpelling (reverse before ++ z ∷ zs) = subst (All IsSpelling) e s.items.spelled in

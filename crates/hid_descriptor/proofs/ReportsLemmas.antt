@@ -74,7 +74,7 @@ with_bits_past kind id b (x ∷ xs) ys h = head (comes_before kind id x) refl (l
     head true c d e g k = ap (λ l. x ∷ l) (k (e ∙ g))
     head false c d e g k = absurd (cc)
 
--- a report behind that of a kind with an ID
+-- a report after that of a kind with an ID
 abbrev pub comes_after : ReportKind → ℕ → Report → Bool
 comes_after kind id r = not (comes_before kind id r) && not (is_report kind id r)
 
@@ -162,7 +162,7 @@ kinds_before fs kind other id h = kind_all (comes_before kind id) fs other 0 256
 kinds_kept : (fs : List Field) (f : Field) (other : ReportKind) → same_kind f.kind other ≡ false → kind_reports (fs ++ f ∷ []) other 0 256 ≡ kind_reports fs other 0 256
 kinds_kept fs f other h = kind_other other fs f 0 256 (λ i a b. rw h refl)
 
--- the reports of the field's kind, with those of kinds before and behind
+-- the reports of the field's kind, with those of kinds before and after
 with_bits_around : (fs : List Field) (f : Field) (kind : ReportKind) (front back : List Report) → bits_of f ≢ 0 → f.id < 256 → f.kind ≡ kind → list_all (comes_before f.kind f.id) front ≡ true → list_all (comes_after f.kind f.id) back ≡ true
     → with_bits f.kind f.id (bits_of f) (front ++ (kind_reports fs kind 0 256 ++ back)) ≡ front ++ (kind_reports (fs ++ f ∷ []) kind 0 256 ++ back)
 with_bits_around fs f kind front back some small k before after =

@@ -29,7 +29,7 @@ last_of f (x ∷ []) [] z e = record { front = []; last = x; whole = refl; image
 last_of f (x ∷ w ∷ xs) [] z e = absurd (cc)
 last_of f (x ∷ xs) (y ∷ ys) z e = last_under f x xs y ys z (cc) (last_of f xs ys z (cc))
 
--- behind a Pop each global is as at its Push
+-- after a Pop each global is as at its Push
 pub in_force_matched : (prefix : ℕ) (before : List Spelled) (item : Spelled) (front : List Placed) (p : Placed) → prefix ≢ POP → prefix_of item ≡ POP → open_pushes before ≡ front ++ p ∷ [] → in_force prefix (item ∷ before) ≡ in_force prefix (p.0)
 in_force_matched prefix before item front p d h e =
     let q : look_back prefix 1 before ≡ look_back prefix 0 (p.0) = look_back_matched prefix 0 before front p e in

@@ -43,7 +43,7 @@ kinds_equal Feature Feature e = refl
 pub own_share : (f : Field) → share f.kind f.id f ≡ bits_of f
 own_share f = let s : same_kind f.kind f.kind ≡ true = same_kind_itself f.kind in grind (arith, common_steps, nat_tests)
 
--- a report is as long as what stands before one of its fields, that field, and what stands behind
+-- a report is as long as what stands before one of its fields, that field, and what stands after
 pub up_to : (fs : List Field) (i : ℕ) (f : Field) → slice_get fs i ≡ Some f
     → report_bits f.kind f.id (take i fs) + bits_of f ≤ report_bits f.kind f.id fs
 up_to [] i f e = absurd cc

@@ -3,32 +3,36 @@ use Rattle.std.proofs.Common.{◌≡◌, ℕ, zero, suc, ◌+◌, ◌-◌, ◌<�
 use Rattle.std.specs.List.{slice_get}
 use Rattle.std.proofs.lemmas.List.{take-append-drop, take_all, drop_all}
 use Rattle.std.proofs.lemmas.Grind.{flat_map-append}
-use Rattle.hid_descriptor.specs.Usages.{Entry, entry_count, rising, usage_list, starts_from, starts_of}
+use Rattle.hid_descriptor.specs.Usages.{Entry, entry_count, usages_from, usage_list, starts_from, starts_of}
 use Rattle.std.proofs.lemmas.Bool.Decides.{nat_tests}
-use Rattle.hid_descriptor.proofs.Places.{get_right, rising-length, found, skipped}
+use Rattle.hid_descriptor.proofs.Places.{get_right, usages_from-length, found, skipped}
 
 pub starts-length : (n : ℕ) (es : List Entry) → length (starts_from n es) ≡ length es
 starts-length n [] = refl
 starts-length n (e ∷ es) = ap suc (starts-length (n + entry_count e) es)
 
 ranges-length : (e : Entry) (es : List Entry) → length (usage_list (e ∷ es)) ≡ entry_count e + length (usage_list es)
-ranges-length e es = length-append (rising e.0.page e.0.id (entry_count e)) (usage_list es) ∙ ap (λ n. n + length (usage_list es)) (rising-length e.0.page e.0.id (entry_count e))
+ranges-length e es =
+    length-append (usages_from e.0.page e.0.id (entry_count e)) (usage_list es)
+    ∙ ap (λ n. n + length (usage_list es)) (usages_from-length e.0.page e.0.id (entry_count e))
 
--- a range begins behind the usages of those before it
+-- a range begins after the usages of those before it
 starts-get : (n : ℕ) (es : List Entry) (k : ℕ) → k < length es → get_or (starts_from n es) k 0 ≡ n + length (usage_list (take k es))
 starts-get n [] k h = absurd (omega arith)
 starts-get n (e ∷ es) zero h = omega arith
 starts-get n (e ∷ es) (suc k) h = starts-get (n + entry_count e) es k (omega arith) ∙ omega (arith, ranges-length e (take k es))
 
 split_list : (es : List Entry) (k : ℕ) → usage_list es ≡ usage_list (take k es) ++ usage_list (drop k es)
-split_list es k = ap usage_list (sym (take-append-drop k es)) ∙ flat_map-append (λ e. rising e.0.page e.0.id (entry_count e)) (take k es) (drop k es)
+split_list es k =
+    ap usage_list (sym (take-append-drop k es))
+    ∙ flat_map-append (λ e. usages_from e.0.page e.0.id (entry_count e)) (take k es) (drop k es)
 
 pub next_start : (es : List Entry) (k : ℕ) (d : Entry) → k < length es → length (usage_list (take (k + 1) es)) ≡ length (usage_list (take k es)) + entry_count (get_or es k d)
 next_start [] k d h = absurd (omega arith)
 next_start (e ∷ es) zero d h = ranges-length e [] ∙ omega arith
 next_start (e ∷ es) (suc k) d h = rw add-one (omega (arith, ranges-length e (take (suc k) es), ranges-length e (take k es), rw add-one at (next_start es k d (omega arith))))
 
--- the place behind the start of a range
+-- the place after the start of a range
 pub from_start : (es : List Entry) (k index : ℕ) → length (usage_list (take k es)) ≤ index → slice_get (usage_list es) index ≡ slice_get (usage_list (drop k es)) (index - length (usage_list (take k es)))
 from_start es k index h = ap (λ l. slice_get l index) (split_list es k) ∙ get_right (usage_list (take k es)) (usage_list (drop k es)) index h
 
@@ -59,7 +63,7 @@ past_by_start es starts k index d s within low past next =
             let more : k + 1 < length es = grind (arith, nat_tests) in
             absurd (omega (arith, more, at, past, low, next (omega (arith, more, n)), next_start es k d within, ap (λ l. get_or l (k + 1) 0) s, starts-get 0 es (k + 1) more))
 
--- the last range begins behind the usages of the others, and ends the list
+-- the last range begins after the usages of the others, and ends the list
 pub counted : (es : List Entry) (starts : List ℕ) (k : ℕ) (d : Entry) → starts ≡ starts_of es → k + 1 ≡ length es → get_or starts k 0 + entry_count (get_or es k d) ≡ length (usage_list es)
 counted es starts k d s n =
     let within : k < length es = omega (arith, n) in

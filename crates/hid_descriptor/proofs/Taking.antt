@@ -15,7 +15,7 @@ use Rattle.hid_descriptor.specs.declared.fault.Cause.TheVariants.{Memory, Trunca
 use Rattle.hid_descriptor.specs.declared.parser.Parser.{Parser}
 use Rattle.hid_descriptor.specs.Items.{Spelled}
 use Rattle.hid_descriptor.specs.Faults.{fault_of, Reaches, IsRefused, Refuses, Explains}
-use Rattle.hid_descriptor.specs.Parser.{StandsAt, Took, told_place, place_of, HasTaken}
+use Rattle.hid_descriptor.specs.Parser.{StandsAt, Took, fault_place, place_of, HasTaken}
 
 pub reverse_more : (before : List Spelled) (item : Spelled) → reverse (item ∷ before) ≡ reverse before ++ item ∷ []
 reverse_more before item = grind (arith, common_steps)
@@ -48,12 +48,15 @@ took_err : (before : List Spelled) (item : Spelled) (cause : Cause) (parser : Pa
 took_err before item Memory parser t n = absurd (n refl)
 took_err before item cause parser t n = t
 
-explains_refusal : (bytes : List ℕ) (cause : Cause) (at : ℕ) → (cause ≡ Memory → ⊥) → Refuses bytes cause at → Explains bytes cause (told_place cause at)
+explains_refusal : (bytes : List ℕ) (cause : Cause) (at : ℕ) → (cause ≡ Memory → ⊥) → Refuses bytes cause at
+    → Explains bytes cause (fault_place cause at)
 explains_refusal bytes Memory at n r = absurd (n refl)
 explains_refusal bytes cause at n r = r
 
--- a refused item explains the fault, unless memory was wanting
-pub item_explains : (bytes : List ℕ) (before : List Spelled) (old new : Items) (item : Read) (parser next : Parser) (cause : Cause) → length bytes ≤ 4096 → HasTaken bytes before old parser → GivesItem old item new → Took before item.bytes.now (Err cause) next → Explains bytes cause (told_place cause item.at)
+-- a refused item explains the fault, unless memory ran out
+pub item_explains : (bytes : List ℕ) (before : List Spelled) (old new : Items) (item : Read) (parser next : Parser)
+    (cause : Cause) → length bytes ≤ 4096 → HasTaken bytes before old parser → GivesItem old item new
+    → Took before item.bytes.now (Err cause) next → Explains bytes cause (fault_place cause item.at)
 item_explains bytes before old new item parser next Memory le t g k = (le, refl)
 item_explains bytes before old new item parser next cause le t g k =
     explains_refusal bytes cause item.at (λ e. cc) (inl (

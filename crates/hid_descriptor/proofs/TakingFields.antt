@@ -14,7 +14,7 @@ use Rattle.hid_descriptor.specs.Path.{path}
 use Rattle.hid_descriptor.specs.Fields.{Field, fields, add_field, field_of, kind_of, list_field, report_bits, shape_of, shown_entries}
 use Rattle.hid_descriptor.specs.Faults.{fault_of, field_fault, first_met, checked_values, limit_tests, field_tests}
 use Rattle.hid_descriptor.specs.State.{globals_at, maximum_of, AreGlobals}
-use Rattle.hid_descriptor.specs.Locals.{named, AreLocals}
+use Rattle.hid_descriptor.specs.Locals.{named_usage, AreLocals}
 use Rattle.hid_descriptor.specs.Totals.{bits_in}
 use Rattle.hid_descriptor.specs.Heads.{whole_field}
 use Rattle.hid_descriptor.specs.declared.report.ReportKind.{ReportKind}
@@ -47,8 +47,10 @@ field_there before item p head es s kind k small e d =
 
 pub paired_there : (before : List Spelled) (old : Parser) → StandsAt before old → nat_eq (length old.locals.minima) (length old.locals.maxima) ≡ are_paired before
 paired_there before old s =
-    let a : length old.locals.minima ≡ length (minima (locals before)) = ap length s.locals_there.all_minima ∙ length-map (minima (locals before)) named in
-    let b : length old.locals.maxima ≡ length (maxima (locals before)) = ap length s.locals_there.all_maxima ∙ length-map (maxima (locals before)) named in
+    let a : length old.locals.minima ≡ length (minima (locals before)) =
+    ap length s.locals_there.all_minima ∙ length-map (minima (locals before)) named_usage in
+    let b : length old.locals.maxima ≡ length (maxima (locals before)) =
+    ap length s.locals_there.all_maxima ∙ length-map (maxima (locals before)) named_usage in
     cc
 
 -- the fault of a field item by what stands at it

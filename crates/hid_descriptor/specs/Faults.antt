@@ -55,7 +55,7 @@ are_too_many fs =
     nat_lt MAX_ITEMS (length fs)
     || (nat_lt MAX_ELEMENTS (element_count fs) || nat_lt MAX_REPORT_IDS (length (report_ids fs)))
 
--- the most bits of a report behind its ID, which takes a byte where it isn't 0
+-- the most bits of a report after its ID, which takes a byte where it isn't 0
 abbrev pub report_limit : ℕ → ℕ
 report_limit id = if id == 0 then 8 * MAX_REPORT_BYTES else 8 * (MAX_REPORT_BYTES - 1)
 
@@ -81,12 +81,12 @@ limit_tests fs field =
     ∷ (are_too_many fs || nat_lt MAX_ENTRIES (length field.entries), TooMany)
     ∷ []
 
--- all tests of a field, in the order in which a cause is told
+-- all tests of a field, in the order in which a cause is reported
 abbrev pub field_tests : List Field → List Spelled → Field → List (Bool × Cause)
 field_tests earlier before field =
     checked_values field (are_paired before) (entries before) ++ limit_tests (list_field earlier field) field
 
--- the cause for which an Input, Output or Feature item is refused behind the items before it
+-- the cause for which an Input, Output or Feature item is refused after the items before it
 unfoldable pub field_fault : List Spelled → Spelled → Option Cause
 field_fault before item =
     first_met (field_tests (fields before) before (field_of (fields before) before item))
@@ -122,7 +122,7 @@ pub record Reaches (bytes : List ℕ) (at : ℕ) (before : List Spelled) : Type 
   pub items : AreItems (take at bytes) (reverse before)
   pub accepted : AreAccepted before
 
--- this item comes next, and is refused for the cause
+-- the item after these is refused for this cause, at this place of the descriptor
 pub record IsRefused (bytes : List ℕ) (cause : Cause) (at : ℕ) (before : List Spelled) (item : Spelled) : Type 0 where
   pub reaches : Reaches bytes at before
   pub spelled : IsSpelling item
@@ -133,7 +133,7 @@ pub record IsRefused (bytes : List ℕ) (cause : Cause) (at : ℕ) (before : Lis
 abbrev pub IsRefusedAtItem : List ℕ → Cause → ℕ → Type 0
 IsRefusedAtItem bytes cause at = (before : List Spelled) × (item : Spelled) × IsRefused bytes cause at before item
 
--- The descriptor is refused as a whole: it is too long, cut off behind its items, or its items are accepted
+-- The descriptor is refused as a whole: it is too long, cut off after its items, or its items are accepted
 -- and a collection is open at the end, or an item has no report ID though some item sets one.
 abbrev pub IsRefusedAsWhole : List ℕ → Cause → ℕ → Type 0
 IsRefusedAsWhole bytes TooLong at = (MAX_DESCRIPTOR < length bytes) × (at ≡ MAX_DESCRIPTOR)
@@ -166,7 +166,7 @@ abbrev pub or_else : Option (Cause × ℕ) → Option (Cause × ℕ) → Option 
 or_else None other = other
 or_else (Some x) other = Some x
 
--- the first refused item behind the items before it, with its cause and its place
+-- the first refused item after the items before it, with its cause and its place
 abbrev pub first_fault : List Spelled → ℕ → List Spelled → Option (Cause × ℕ)
 first_fault before at [] = None
 first_fault before at (item ∷ items) =

@@ -1,4 +1,4 @@
--- What the Input, Output and Feature items put into the reports: fields of one kind and ID lie one behind the other in
+-- What the Input, Output and Feature items put into the reports: fields of one kind and ID lie one after the other in
 -- descriptor order, and the bits of a report are their sum (HID 1.11, 6.2.2.4, 6.2.2.5, 6.2.2.7, 6.2.2.9 and 8).
 use Rattle.std.specs.Prelude.{ℕ, ◌*◌, ◌%◌, Bool, true, false, List, [], ◌∷◌, ◌++◌, filter, sum_by, ◌==◌, ◌&&◌, ◌||◌, if◌then◌else◌, ℤ}
 use Rattle.hid_items.specs.Spelling.{data_of, unsigned_of}
@@ -59,7 +59,7 @@ shown_entries Padding es = []
 shown_entries Variable es = es
 shown_entries Array es = es
 
--- the field that an item describes, behind the earlier fields
+-- the field that an item describes, after the earlier fields
 abbrev pub field_of : List Field → List Spelled → Spelled → Field
 field_of earlier before item =
     let flags = unsigned_of (data_of item) % FLAGS in

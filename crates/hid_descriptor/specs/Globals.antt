@@ -47,7 +47,7 @@ logical_maximum before =
     if int_le (pos 0) (logical_minimum before) then pos (unsigned_of maximum) else signed_of maximum
 
 -- What stands between a Pop and its matching Push, the nearest first: as many Pushes as Pops, and no Push in
--- it has as many Pushes as Pops behind it up to the Pop. `more` counts Pops that wait besides.
+-- it has as many Pushes as Pops after it up to the Pop. `more` counts Pops that wait besides.
 pub record IsBetween (more : ℕ) (between : List Spelled) : Type 0 where
   pub as_many : count_by (is PUSH) between ≡ more + count_by (is POP) between
   pub no_later : (near far : List Spelled) (push : Spelled) → between ≡ near ++ push ∷ far → is PUSH push ≡ true

@@ -1,4 +1,4 @@
--- The usages and collections of the listed items, as they stand one behind the other (our choice).
+-- The usages and collections of the listed items, as they stand one after the other (our choice).
 use Rattle.std.specs.Prelude.{◌≡◌, ℕ, ◌+◌, ◌<◌, ◌≤◌, List, [], ◌∷◌, ◌++◌, map, length, slice_get, slice_range, Option, Some, None}
 use Rattle.hid_descriptor.specs.declared.collection.Collection.{Collection}
 use Rattle.hid_descriptor.specs.declared.item_lists.ItemSpans.{ItemSpans}
@@ -15,12 +15,12 @@ pub record Listed : Type 0 where
   pub paths : List (List Collection)
 
 -- no item is listed
-abbrev pub none_listed : Listed
-none_listed = record { entries = []; paths = [] }
+abbrev pub no_lists : Listed
+no_lists = record { entries = []; paths = [] }
 
 -- the lists, once those of one more item are there
-abbrev pub listed_more : Listed → List Entry → List Collection → Listed
-listed_more old es path = record { entries = old.entries ++ es ∷ []; paths = old.paths ++ path ∷ [] }
+abbrev pub lists_with : Listed → List Entry → List Collection → Listed
+lists_with old es path = record { entries = old.entries ++ es ∷ []; paths = old.paths ++ path ∷ [] }
 
 -- the places of the usages of each item
 abbrev pub entry_spans : List ItemSpans → List Span
@@ -31,8 +31,8 @@ abbrev pub path_spans : List ItemSpans → List Span
 path_spans spans = map (λ (s : ItemSpans). s.path) spans
 
 -- the lists that stand at these places
-abbrev pub listed_at : List Entry → List Collection → List ItemSpans → Listed
-listed_at entries paths spans = record {
+abbrev pub lists_of_spans : List Entry → List Collection → List ItemSpans → Listed
+lists_of_spans entries paths spans = record {
   entries = lists_at entries (entry_spans spans);
   paths = lists_at paths (path_spans spans);
 }
@@ -48,7 +48,7 @@ AreStarts es None starts = (starts_of es ≡ upward 0 (length es)) × (length es
 AreStarts es (Some at) starts =
     (at + length es ≤ length starts) × (slice_range starts at (at + length es) ≡ starts_of es)
 
--- the starts of these ranges are put behind the others, unless they are the first numbers
+-- the starts of these ranges are put after the others, unless they are the first numbers
 abbrev pub AddsStarts : List Entry → Option ℕ → List ℕ → List ℕ → Type 0
 AddsStarts es None old new = (starts_of es ≡ upward 0 (length es)) × (new ≡ old)
 AddsStarts es (Some at) old new = (at ≡ length old) × (new ≡ old ++ starts_of es)

@@ -9,7 +9,7 @@ use Rattle.hid_descriptor.specs.Faults.{are_too_many, element_count, report_ids}
 use Rattle.hid_descriptor.specs.Reporting.{reports_of}
 use Rattle.hid_descriptor.specs.Heads.{head_of, ArePlaced}
 
--- these are the listed fields, and the totals are theirs
+-- what is kept of the listed fields: their heads, usages and collections, and their totals
 pub record AreKept (fs : List Field) (kept : KeptFields) : Type 0 where
   pub heads : kept.list.items ≡ map head_of fs
   pub placed : ArePlaced kept.list.items
@@ -21,7 +21,7 @@ pub record AreKept (fs : List Field) (kept : KeptFields) : Type 0 where
   pub ids : (id : ℕ) → list_any (λ other. other == id) kept.ids.list.items
       ≡ (not (id == 0) && list_any (λ field. field.id == id) fs)
 
--- the field is listed and the fields aren't too many, or they are, or memory was wanting
+-- the field is listed and the fields aren't too many, or they are, or memory ran out
 abbrev pub Keeps : List Field → Field → Result Unit Cause → KeptFields → Type 0
 Keeps fs field (Ok done) new = AreKept (fs ++ field ∷ []) new × (are_too_many (fs ++ field ∷ []) ≡ false)
 Keeps fs field (Err Memory) new = Unit {0}

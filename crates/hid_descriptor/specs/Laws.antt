@@ -26,7 +26,7 @@ abbrev pub HasOnePlace : Type 0
 HasOnePlace = (bytes : List ℕ) (cause other : Cause) (at there : ℕ)
     → Refuses bytes cause at → Refuses bytes other there → at ≡ there
 
--- a global behind a Pop is the one that was in force before the matching Push (6.2.2.7)
+-- a global after a Pop is the one that was in force before the matching Push (6.2.2.7)
 abbrev pub PopRestores : Type 0
 PopRestores = (prefix : ℕ) (pop push : Spelled) (between before : List Spelled)
     → prefix ≢ POP → prefix_of pop ≡ POP → is PUSH push ≡ true → IsBetween 0 between

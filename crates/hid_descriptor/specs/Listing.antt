@@ -1,4 +1,4 @@
--- The fields that a report descriptor lists, as they are handed on (HID 1.11, 6.2.2).
+-- The fields that a report descriptor lists, as the crate above gets them (HID 1.11, 6.2.2).
 use Rattle.std.specs.Prelude.{◌≡◌, ◌≤◌, true, List, length, map}
 use Rattle.std.specs.List.{list_any}
 use Rattle.hid_descriptor.specs.declared.limits.TheConstants.{MAX_ITEMS}
@@ -9,8 +9,8 @@ use Rattle.hid_descriptor.specs.Heads.{head_of}
 use Rattle.hid_descriptor.specs.Reporting.{reports_of}
 use Rattle.hid_descriptor.specs.Totals.{are_in_order}
 
--- These are the listed fields of these items (the last one first): the fields of accepted items, with their reports,
--- usages and paths, and whether an item sets a Report ID.
+-- What is handed on of accepted items (the last one first): the listed fields with their reports, usages and paths, and
+-- whether an item sets a Report ID.
 pub record ListsFields (before : List Spelled) (listed : ListedFields) : Type 0 where
   pub heads : listed.fields.items ≡ map head_of (fields before)
   pub reports : listed.reports.items ≡ reports_of (fields before)

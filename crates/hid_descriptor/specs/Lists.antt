@@ -1,4 +1,4 @@
--- Lists that stand one behind the other in one list (our choice).
+-- Lists that stand one after the other in one list (our choice).
 use Rattle.std.specs.Prelude.{◌≡◌, ℕ, ◌≤◌, List, map, length, slice_get, slice_range, Some}
 use Rattle.hid_descriptor.specs.declared.span.Span.{Span}
 

@@ -6,30 +6,31 @@ use Rattle.hid_descriptor.specs.declared.usage.Usage.{Usage}
 use Rattle.hid_descriptor.specs.declared.locals.NamedUsage.{NamedUsage}
 use Rattle.hid_descriptor.specs.declared.locals.Locals.{Locals}
 use Rattle.hid_descriptor.specs.Items.{Spelled, USAGE, USAGE_MINIMUM, USAGE_MAXIMUM}
-use Rattle.hid_descriptor.specs.Usages.{Entry, to_list, locals, minima, maxima, entries_behind}
+use Rattle.hid_descriptor.specs.Usages.{Entry, to_list, locals, minima, maxima, following_entries}
 
 -- the usage that an item names, before its page is known
-abbrev pub named : Spelled → NamedUsage
-named item =
+abbrev pub named_usage : Spelled → NamedUsage
+named_usage item =
     let n = unsigned_of (data_of item) in
     if length (data_of item) == 4 then record { page = Some (n / 2 ^ 16); id = n % 2 ^ 16 }
     else record { page = None; id = n }
 
--- the usage, on its own page or else on this one
+-- a usage, on its own page or else on a given one
 abbrev pub on_page : ℕ → NamedUsage → Usage
 on_page page usage = record { page = unwrap_or usage.page page; id = usage.id }
 
--- the range, each end on its own page or else on this one
+-- a range, each end on its own page or else on a given one
 abbrev pub entry_on_page : ℕ → NamedUsage × NamedUsage → Entry
 entry_on_page page e = (on_page page (e.0), on_page page (e.1))
 
--- the locals behind these items, for whatever page will be in force
+-- the locals after these items, for whatever page will be in force
 pub record AreLocals (before : List Spelled) (kept : Locals) : Type 0 where
-  pub all_minima : kept.minima ≡ map named (minima (locals before))
-  pub all_maxima : kept.maxima ≡ map named (maxima (locals before))
-  pub all_entries : (page : ℕ) → map (entry_on_page page) kept.entries.items ≡ entries_behind page [] (locals before)
+  pub all_minima : kept.minima ≡ map named_usage (minima (locals before))
+  pub all_maxima : kept.maxima ≡ map named_usage (maxima (locals before))
+  pub all_entries : (page : ℕ)
+      → map (entry_on_page page) kept.entries.items ≡ following_entries page [] (locals before)
 
--- the entry that a local item makes whole, behind these minima and maxima
+-- the entry that a local item makes whole, after these minima and maxima
 abbrev pub entry_completed : ℕ → NamedUsage → List NamedUsage → List NamedUsage → List (NamedUsage × NamedUsage)
 entry_completed prefix usage lows highs =
     if prefix == USAGE then (usage, usage) ∷ []

@@ -1,4 +1,4 @@
--- What the parser's state says of the items behind it, and what one step of it does (HID 1.11, 6.2.2).
+-- What the parser's state says of the items after it, and what one step of it does (HID 1.11, 6.2.2).
 use Rattle.std.specs.Prelude.{◌≡◌, ◌≢◌, ℕ, List, ◌∷◌, ◌++◌, ◌%◌, length, reverse, All, Some, None, Result, Ok, Err}
 use Rattle.std.specs.List.{list_any, flat_map}
 use Rattle.hid_items.specs.Spelling.{IsSpelling, data_of, unsigned_of}
@@ -31,8 +31,8 @@ pub record StandsAt (before : List Spelled) (parser : Parser) : Type 0 where
   pub fields_there : AreKept (fields before) parser.fields
   pub numbered_there : parser.numbered ≡ list_any (is REPORT_ID) before
 
--- One step: the item is accepted, and the state moves behind it, or it is refused for this cause. Memory may
--- be wanting at any item.
+-- One step: the item is accepted, and the state moves after it, or it is refused for this cause. Memory may run out
+-- at any item.
 abbrev pub Took : List Spelled → Spelled → Result Unit Cause → Parser → Type 0
 Took before item (Ok done) parser = (fault_of before item ≡ None) × StandsAt (item ∷ before) parser
 Took before item (Err Memory) parser = Unit {0}
@@ -50,10 +50,10 @@ pub record IsOther (prefix : ℕ) : Type 0 where
   pub no_id : prefix ≢ REPORT_ID
   pub no_delimiter : prefix ≢ DELIMITER
 
--- the place that is told with a cause
-abbrev pub told_place : Cause → ℕ → ℕ
-told_place Memory at = 0
-told_place cause at = at
+-- the place that is reported with a cause
+abbrev pub fault_place : Cause → ℕ → ℕ
+fault_place Memory at = 0
+fault_place cause at = at
 
 -- the parser has taken these items, and the rest is to come
 pub record HasTaken (bytes : List ℕ) (before : List Spelled) (rest : Items) (parser : Parser) : Type 0 where
@@ -80,8 +80,8 @@ pub record IsDescribed (kind : ReportKind) (item : Spelled) (globals : Globals)
   pub max : field.max ≡ maximum_of globals
   pub shape : field.shape ≡ shape_of field.flags.0 field.count es
 
--- The field is listed where it has bits, and no limit is passed, or the tests of the limits tell which.
--- Memory may be wanting.
+-- The field is listed where it has bits, and no limit is passed, or the tests of the limits say which.
+-- Memory may run out.
 abbrev pub Lists : List Field → Field → Result Unit Cause → KeptFields → Type 0
 Lists fs field (Ok done) new =
     AreKept (list_field fs field) new × (first_met (limit_tests (list_field fs field) field) ≡ None)

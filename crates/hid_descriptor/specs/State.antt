@@ -6,7 +6,7 @@ use Rattle.hid_descriptor.specs.declared.globals.SavedGlobals.{SavedGlobals}
 use Rattle.hid_descriptor.specs.Items.{Spelled, LOGICAL_MAXIMUM}
 use Rattle.hid_descriptor.specs.Globals.{open_pushes, in_force, usage_page, logical_minimum, report_size, report_count, report_id}
 
--- the globals in force behind these items
+-- the globals in force after these items
 abbrev pub globals_at : List Spelled → Globals
 globals_at before = record {
   page = usage_page before;
@@ -22,7 +22,7 @@ globals_at before = record {
 abbrev pub maximum_of : Globals → ℤ
 maximum_of globals = if int_le (pos 0) globals.minimum then pos globals.maximum_unsigned else globals.maximum_signed
 
--- the parser's globals are those in force behind these items, and at each open Push
+-- the parser's globals are those in force after these items, and at each open Push
 pub record AreGlobals (before : List Spelled) (globals : SavedGlobals) : Type 0 where
   pub in_force_now : globals.now ≡ globals_at before
   pub at_pushes : globals.saved.items ≡ map (λ push. globals_at (push.0)) (open_pushes before)

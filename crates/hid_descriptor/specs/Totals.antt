@@ -9,7 +9,7 @@ use Rattle.hid_descriptor.specs.Kinds.{same_kind, rank}
 abbrev pub is_report : ReportKind → ℕ → Report → Bool
 is_report kind id r = same_kind r.kind kind && (r.id == id)
 
--- there is a report, and it is that of a kind with an ID
+-- a report that may be there is that of a kind with an ID
 abbrev pub has_report : ReportKind → ℕ → Option Report → Bool
 has_report kind id None = false
 has_report kind id (Some r) = is_report kind id r
@@ -23,7 +23,7 @@ abbrev pub bits_in : ReportKind → ℕ → List Report → ℕ
 bits_in kind id [] = 0
 bits_in kind id (r ∷ rs) = if is_report kind id r then r.bits else bits_in kind id rs
 
--- the reports, once that of a kind with an ID has so many bits more
+-- the reports, once that of a kind with an ID has n bits more
 abbrev pub with_bits : ReportKind → ℕ → ℕ → List Report → List Report
 with_bits kind id bits [] = record { kind = kind; id = id; bits = bits } ∷ []
 with_bits kind id bits (r ∷ rs) =
@@ -46,13 +46,13 @@ abbrev pub are_in_order : List Report → Bool
 are_in_order [] = true
 are_in_order (r ∷ rs) = list_all (λ later. comes_before later.kind later.id r) rs && are_in_order rs
 
--- at this place is the report of a kind with an ID
+-- the report of a kind with an ID is at this place
 pub record IsFound (kind : ReportKind) (id : ℕ) (reports : List Report) (i : ℕ) : Type 0 where
   pub its_place : i ≡ place_for kind id reports
   pub there : has_report kind id (slice_get reports i) ≡ true
 
--- There is no report of a kind with an ID, and this would be its place. Example: of Input 1 and Input 3, Input 2 would
--- stand at place 1
+-- No report of a kind with an ID is in the list, and its place would be this one. Example: of Input 1 and Input 3,
+-- Input 2 would stand at place 1
 pub record IsAbsent (kind : ReportKind) (id : ℕ) (reports : List Report) (i : ℕ) : Type 0 where
   pub its_place : i ≡ place_for kind id reports
   pub within : i ≤ length reports

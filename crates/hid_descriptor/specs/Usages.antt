@@ -38,7 +38,7 @@ abbrev pub to_list : {A : Type 0} → Option A → List A
 to_list None = []
 to_list (Some x) = x ∷ []
 
--- The entry that is whole at a local item, behind the locals in front of it: a Usage's own, or that of the
+-- The entry that is whole at a local item, after the locals in front of it: a Usage's own, or that of the
 -- k-th Usage Minimum with the k-th Usage Maximum, at the later of the two.
 abbrev pub entry_at : ℕ → List Spelled → Spelled → List Entry
 entry_at page front item =
@@ -49,14 +49,15 @@ entry_at page front item =
     then to_list (option_map (λ low. entry_of page low item) (slice_get (minima front) (length (maxima front))))
     else []))
 
--- the entries that these local items make whole, behind the locals in front of them
-abbrev pub entries_behind : ℕ → List Spelled → List Spelled → List Entry
-entries_behind page front [] = []
-entries_behind page front (item ∷ items) = entry_at page front item ++ entries_behind page (front ++ item ∷ []) items
+-- the entries that these local items make whole, after the locals in front of them
+abbrev pub following_entries : ℕ → List Spelled → List Spelled → List Entry
+following_entries page front [] = []
+following_entries page front (item ∷ items) =
+    entry_at page front item ++ following_entries page (front ++ item ∷ []) items
 
 -- the entries of the main item after these, on the Usage Page in force at that item
 abbrev pub entries : List Spelled → List Entry
-entries before = entries_behind (usage_page before) [] (locals before)
+entries before = following_entries (usage_page before) [] (locals before)
 
 -- each Usage Minimum has its Usage Maximum
 abbrev pub are_paired : List Spelled → Bool
@@ -71,9 +72,9 @@ abbrev pub are_ranges : List Entry → Bool
 are_ranges es = list_all is_range es
 
 -- `n` usages of a page by rising number
-abbrev pub rising : ℕ → ℕ → ℕ → List Usage
-rising page id zero = []
-rising page id (suc n) = record { page = page; id = id } ∷ rising page (id + 1) n
+abbrev pub usages_from : ℕ → ℕ → ℕ → List Usage
+usages_from page id zero = []
+usages_from page id (suc n) = record { page = page; id = id } ∷ usages_from page (id + 1) n
 
 -- a range has as many usages as IDs, and none if its minimum is over its maximum
 abbrev pub entry_count : Entry → ℕ
@@ -82,7 +83,7 @@ entry_count e = (e.1.id + 1) - e.0.id
 -- the usage list: each range written out by rising ID, on its minimum's page. Example: 09:01-09:03 is 09:01, 09:02,
 -- 09:03
 abbrev pub usage_list : List Entry → List Usage
-usage_list es = flat_map (λ e. rising e.0.page e.0.id (entry_count e)) es
+usage_list es = flat_map (λ e. usages_from e.0.page e.0.id (entry_count e)) es
 
 -- for each range how many usages stand before it
 abbrev pub starts_from : ℕ → List Entry → List ℕ

@@ -6,7 +6,7 @@ ghost use Rattle.hid_descriptor.specs.Codes.{code_of, layout_fault_text};
 use std::alloc::AllocError;
 use std::fmt;
 
-/// Why a descriptor is refused. TooLong comes first; then the item that comes first decides; behind the last item
+/// Why a descriptor is refused. TooLong comes first; then the item that comes first decides; after the last item
 /// Unclosed comes before MixedReportId. Of one Input, Output or Feature item the order is UnpairedUsage, BadUsageRange,
 /// BadSize, BadRange, ReportTooLong, TooMany. It is printed as its code.
 #[derive(Clone, Copy, Debug, PartialEq, Eq)]
@@ -43,7 +43,7 @@ pub enum Cause {
     ReportTooLong,
     /// L16: more than 512 listed items, 4,096 data fields, 64 usage entries of one item or 64 report IDs (our choice).
     TooMany,
-    /// L17: memory was wanting.
+    /// L17: memory ran out.
     Memory,
 }
 

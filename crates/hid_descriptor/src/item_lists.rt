@@ -1,4 +1,4 @@
-//! The usages and the collections of the listed items, kept one behind the other in a few pieces of memory.
+//! The usages and the collections of the listed items, kept one after the other in a few pieces of memory.
 
 ghost use Rattle.std.specs.Prelude.{◌≡◌, ◌<◌, ◌≤◌, ◌++◌, length, map, slice_get, slice_range, IfOk, OnOk, OnErr, Some};
 ghost use Rattle.std.specs.Bool.{OnTrue};
@@ -55,20 +55,20 @@ pub struct ItemLists {
 }
 
 impl Model for ItemLists {
-    ghost use Rattle.hid_descriptor.specs.ItemLists.{Listed, listed_at, AreListed};
+    ghost use Rattle.hid_descriptor.specs.ItemLists.{Listed, lists_of_spans, AreListed};
 
     ghost Value = { Listed };
 
-    ghost view = { λ l. listed_at l.entries.items l.paths.items l.spans.items };
+    ghost view = { λ l. lists_of_spans l.entries.items l.paths.items l.spans.items };
 
     ghost invariant = { λ l. AreListed l.entries.items l.starts.items l.paths.items l.spans.items };
 }
 
 impl ItemLists {
-    ghost use Rattle.hid_descriptor.specs.ItemLists.{none_listed, listed_more};
+    ghost use Rattle.hid_descriptor.specs.ItemLists.{no_lists, lists_with};
 
     pub(crate) fn new(alloc: Global) -> Result<ItemLists, AllocError>
-        ensures { IfOk result (λ lists. lists ≡ none_listed) }
+        ensures { IfOk result (λ lists. lists ≡ no_lists) }
     {
         Ok(ItemLists {
             entries: Vec::with_capacity(alloc, FIRST_ENTRIES)?,
@@ -113,7 +113,7 @@ impl ItemLists {
         part(&self.paths, spans_of(&self.spans, item).path)
     }
 
-    /// Makes room for the lists of so many more items, with two ranges each.
+    /// Makes room for the lists of n more items, with two ranges each.
     pub(crate) fn reserve(&mut self, items: usize) -> Result<(), AllocError>
         ensures { self.new ≡ self.old }
     {
@@ -131,7 +131,7 @@ impl ItemLists {
     ) -> Result<(), AllocError>
         requires { length entries.now ≤ MAX_ENTRIES }
         ensures { OnOk result (self.new
-            ≡ listed_more self.old (map (entry_on_page page) entries.now) path.now) }
+            ≡ lists_with self.old (map (entry_on_page page) entries.now) path.now) }
     {
         self.spans.reserve(1)?;
         let path_start = self.paths.len();

@@ -52,7 +52,7 @@ impl KeptFields {
         })
     }
 
-    /// Makes room for as many fields as a descriptor of so many bytes has where it has many.
+    /// Reserves room for the fields of a descriptor of this length.
     #[inline(never)]
     pub(crate) fn reserve(&mut self, length: usize) -> Result<(), AllocError>
         ensures { (fs : List Field) → AreKept fs self.old → AreKept fs self.new }

@@ -26,7 +26,7 @@ pub fn one_refusal()
     prefix_free();
 }
 
-/// The global in force behind a Pop is the one before its matching Push (HID 1.11, 6.2.2.7).
+/// The global in force after a Pop is the one before its matching Push (HID 1.11, 6.2.2.7).
 pub fn pop_restores()
     ensures { PopRestores }
 {}

@@ -27,5 +27,5 @@ pub const MAX_REPORT_BYTES: u32 = 256;
 /// The widest data field, in bits (our choice).
 pub const MAX_WIDTH: u32 = 32;
 
-/// No key of an array stands at this place of its usage list or behind it (our choice).
+/// No key of an array stands at this place of its usage list or after it (our choice).
 pub const MAX_KEYS: usize = 65_536;

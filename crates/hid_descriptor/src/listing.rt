@@ -30,7 +30,7 @@ pub struct ListedFields {
 }
 
 /// The fields of a parser that has taken all items.
-fn listed_by(parser: Parser) -> ListedFields
+fn into_fields(parser: Parser) -> ListedFields
     ensures { (before : List Spelled) → StandsAt before parser → ListsFields before result }
 {
     let Parser {
@@ -79,13 +79,13 @@ fn check_end(parser: &Parser, descriptor: &[u8]) -> Result<(), LayoutFault>
 ///
 /// # Errors
 /// A descriptor that is too long is refused before its items are looked at. Otherwise the first item with a cause decides,
-/// by the first of its causes in the order in which an item is looked at ([`Cause`]); behind the last item Unclosed comes
-/// before MixedReportId. Where memory is wanting the cause is Memory, at 0.
+/// by the first of its causes in the order in which an item is looked at ([`Cause`]); after the last item Unclosed
+/// comes before MixedReportId. Where memory runs out the cause is Memory, at 0.
 pub fn list_fields(alloc: Global, descriptor: &[u8]) -> Result<ListedFields, LayoutFault>
     // The descriptor's items are accepted, and the fields are theirs.
     ensures ok { IfOk result (λ listed. (before : List Spelled) × Accepts descriptor.now before
         × ListsFields before listed) }
-    // Memory was wanting, or this is the one refusal.
+    // Memory ran out, or this is the one refusal.
     ensures err { IfErr result (λ f. Explains descriptor.now f.cause f.at) }
 {
     if descriptor.len() > MAX_DESCRIPTOR {
@@ -96,7 +96,7 @@ pub fn list_fields(alloc: Global, descriptor: &[u8]) -> Result<ListedFields, Lay
     }
     let parser = parse_items(alloc, descriptor)?;
     match check_end(&parser, descriptor) {
-        Ok(()) => Ok(listed_by(parser)),
+        Ok(()) => Ok(into_fields(parser)),
         Err(f) => Err(f),
     }
 }

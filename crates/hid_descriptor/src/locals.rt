@@ -1,4 +1,4 @@
-//! The usages behind the last main item.
+//! The usages after the last main item.
 
 ghost use Rattle.std.specs.Prelude.{◌≡◌, List, [], ◌∷◌, ◌++◌, true, false, OnOk, IfOk, slice_get, length, ◌==◌};
 ghost use Rattle.std.specs.Option.{option_map};
@@ -25,11 +25,11 @@ pub(crate) struct NamedUsage {
 }
 
 impl NamedUsage {
-    ghost use Rattle.hid_descriptor.specs.Locals.{named, on_page};
+    ghost use Rattle.hid_descriptor.specs.Locals.{named_usage, on_page};
 
     pub(crate) fn of(item: &Item) -> NamedUsage
         requires { IsShort item.now }
-        ensures { result ≡ named item.now.bytes.now }
+        ensures { result ≡ named_usage item.now.bytes.now }
     {
         let n = item.unsigned();
         if item.bytes.len() == 5 {
@@ -71,7 +71,7 @@ pub(crate) struct Locals {
 }
 
 impl Locals {
-    ghost use Rattle.hid_descriptor.specs.Locals.{AreLocals, AddsLocal, named};
+    ghost use Rattle.hid_descriptor.specs.Locals.{AreLocals, AddsLocal, named_usage};
 
     pub(crate) fn new(alloc: Global) -> Result<Locals, AllocError>
         ensures { IfOk result (AreLocals []) }
@@ -123,7 +123,8 @@ impl Locals {
     /// Adds the usage that a local item names; another item has none that is read.
     fn add(&mut self, prefix: u8, item: &Item) -> Result<(), AllocError>
         requires { IsShort item.now }
-        ensures { OnOk result (AddsLocal prefix (named item.now.bytes.now) self.old self.new) }
+        ensures { OnOk result
+            (AddsLocal prefix (named_usage item.now.bytes.now) self.old self.new) }
     {
         match prefix {
             prefix::USAGE => {

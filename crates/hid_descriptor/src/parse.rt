@@ -1,9 +1,9 @@
-//! The parser behind all items of a descriptor.
+//! The parser after all items of a descriptor.
 
 ghost use Rattle.std.specs.Prelude.{◌≡◌, List, [], ◌≤◌, length, IfOk, IfErr, OnOk};
 ghost use Rattle.hid_descriptor.specs.Items.{Spelled};
 ghost use Rattle.hid_descriptor.specs.Faults.{Reaches, Explains};
-ghost use Rattle.hid_descriptor.specs.Parser.{StandsAt, told_place, place_of};
+ghost use Rattle.hid_descriptor.specs.Parser.{StandsAt, fault_place, place_of};
 
 use crate::fault::{Cause, LayoutFault};
 use crate::limits::MAX_DESCRIPTOR;
@@ -13,7 +13,7 @@ use std::alloc::Global;
 
 fn fault(cause: Cause, at: usize) -> LayoutFault
     ensures cause { result.cause ≡ cause }
-    ensures at { result.at ≡ told_place cause at }
+    ensures at { result.at ≡ fault_place cause at }
 {
     let at = match cause {
         Cause::Memory => 0,
@@ -55,7 +55,7 @@ fn take_items(parser: &mut Parser, descriptor: &[u8]) -> Result<(), LayoutFault>
     Ok(())
 }
 
-/// The parser behind all items.
+/// The parser after all items.
 pub(crate) fn parse_items(alloc: Global, descriptor: &[u8]) -> Result<Parser, LayoutFault>
     requires { length descriptor.now ≤ MAX_DESCRIPTOR }
     ensures ok { IfOk result (λ parser. (before : List Spelled)

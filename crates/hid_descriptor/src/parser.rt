@@ -146,7 +146,7 @@ impl Parser {
     }
 
     /// The fields that an Input, Output or Feature item describes, by the globals in force and its usages.
-    fn described(&self, kind: ReportKind, item: &Item) -> KeptField
+    fn field_of(&self, kind: ReportKind, item: &Item) -> KeptField
         requires { IsShort item.now }
         ensures { (page : ℕ)
             → IsDescribed kind item.now.bytes.now self.now.globals.now
@@ -176,7 +176,7 @@ impl Parser {
             → kind ≡ kind_of item.now.bytes.now → StandsAt before self.old
             → Took before item.now.bytes.now result self.new }
     {
-        let field = self.described(kind, item);
+        let field = self.field_of(kind, item);
         match field.check_values(&self.locals, self.globals.now.page) {
             Ok(()) => {}
             Err(cause) => return Err(cause),
@@ -251,7 +251,7 @@ impl Parser {
         self.numbered && self.fields.lack_id()
     }
 
-    /// Makes room for the fields of a descriptor of so many bytes, where it is long.
+    /// Makes room for the fields of a descriptor of n bytes, where it is long.
     pub(crate) fn make_room(&mut self, length: usize) -> Result<(), AllocError>
         ensures { (before : List Spelled) → StandsAt before self.old → StandsAt before self.new }
     {

@@ -22,7 +22,7 @@ impl Report {
     }
 }
 
-/// Up to so many reports a walk is quicker than halving.
+/// Up to this many reports a linear search is quicker than bisection.
 const FEW_REPORTS: usize = 4;
 
 /// Where the first report stands that doesn't come before the one of that kind with that ID, found by a walk.
@@ -38,7 +38,7 @@ fn place_by_walk(reports: &[Report], kind: ReportKind, id: u8) -> usize
     reports.len()
 }
 
-/// The same place among reports by kind and then by ID, found by halving.
+/// The place of a report among reports by kind and then by ID, found by halving.
 fn place_by_halving(reports: &[Report], kind: ReportKind, id: u8) -> usize
     requires { are_in_order reports.now ≡ true }
     ensures within { result ≤ length reports.now }
@@ -57,7 +57,7 @@ fn place_by_halving(reports: &[Report], kind: ReportKind, id: u8) -> usize
     low
 }
 
-/// The same place, found by a walk where the reports are few, and by halving where they are more.
+/// The place of a report, found by a walk where the reports are few, and by halving where they are more.
 fn place(reports: &[Report], kind: ReportKind, id: u8) -> usize
     requires { are_in_order reports.now ≡ true }
     ensures within { result ≤ length reports.now }

@@ -15,24 +15,26 @@ use Rattle.hid_descriptor.specs.Globals.{look_back, report_size, report_count}
 use Rattle.hid_descriptor.specs.Items.{Spelled, is, is_field, PUSH, POP, REPORT_SIZE, REPORT_COUNT}
 use Rattle.hid_descriptor.specs.Matching.{waiting_after}
 use Rattle.hid_layout.specs.Layout.{main_item, layout_of}
-use Rattle.hid_drawing.specs.Items.{AreItemsOf, ArePlaced, bytes_in, spelled_at}
+use Rattle.hid_drawing.specs.Items.{AreItemsOf, ArePlaced, bytes_in, item_spelling_at}
 use Rattle.hid_drawing.specs.Laws.{spelled_before, field_from}
-use Rattle.hid_drawing.specs.Makers.{nearest, is_positive_at, global_place, is_listed, listed_below}
+use Rattle.hid_drawing.specs.Makers.{nearest_place, is_positive_at, global_place, is_listed, listed_places}
 
 -- the data of the item at a place that there may be
 abbrev value_at : List Item → Option ℕ → List ℕ
 value_at items None = []
-value_at items (Some k) = data_of (spelled_at items k)
+value_at items (Some k) = data_of (item_spelling_at items k)
 
 -- looking back by places is looking back by items
 looks_same : (items : List Item) (prefix waiting n : ℕ)
-    → look_back prefix waiting (spelled_before items n) ≡ value_at items (nearest items prefix waiting n)
+    → look_back prefix waiting (spelled_before items n) ≡ value_at items (nearest_place items prefix waiting n)
 looks_same items prefix waiting zero = refl
 looks_same items prefix waiting (suc k) =
-    by_case _ (nearest items prefix (waiting_after PUSH POP waiting (spelled_at items k)) k) ((waiting == 0) && is prefix (spelled_at items k)) (looks_same items prefix (waiting_after PUSH POP waiting (spelled_at items k)) k)
+    by_case _ (nearest_place items prefix (waiting_after PUSH POP waiting (item_spelling_at items k)) k)
+    ((waiting == 0) && is prefix (item_spelling_at items k))
+    (looks_same items prefix (waiting_after PUSH POP waiting (item_spelling_at items k)) k)
   where
     by_case : (before : List ℕ) (place : Option ℕ) (b : Bool) → before ≡ value_at items place
-        → cond b (data_of (spelled_at items k)) before ≡ value_at items (cond b (Some k) place)
+        → cond b (data_of (item_spelling_at items k)) before ≡ value_at items (cond b (Some k) place)
     by_case before place true same = refl
     by_case before place false same = same
 
@@ -43,7 +45,7 @@ some_byte (byte ∷ bytes) = let rest = some_byte bytes in grind (arith, common_
 
 positive_value : (items : List Item) (place : Option ℕ) → is_positive_at items place ≡ not (unsigned_of (value_at items place) == 0)
 positive_value items None = refl
-positive_value items (Some k) = some_byte (data_of (spelled_at items k))
+positive_value items (Some k) = some_byte (data_of (item_spelling_at items k))
 
 positive_global : (items : List Item) (m prefix : ℕ)
     → is_positive_at items (global_place items m prefix) ≡ not (unsigned_of (look_back prefix 0 (spelled_before items m)) == 0)
@@ -63,9 +65,9 @@ some_product (suc a) (suc b) =
 
 -- an item is listed where it describes a field with bits
 listed_field : (items : List Item) (m : ℕ)
-    → is_listed items m ≡ (is_field (spelled_at items m) && not (bits_of (field_from items m) == 0))
+    → is_listed items m ≡ (is_field (item_spelling_at items m) && not (bits_of (field_from items m) == 0))
 listed_field items m =
-    ap (λ (b : Bool). is_field (spelled_at items m) && b)
+    ap (λ (b : Bool). is_field (item_spelling_at items m) && b)
     (rw (positive_global items m REPORT_SIZE, positive_global items m REPORT_COUNT)
     (some_product (report_size (spelled_before items m)) (report_count (spelled_before items m))))
 
@@ -73,12 +75,14 @@ map_more : {A B : Type 0} (f : A → B) (xs ys : List A) → map f (xs ++ ys) �
 map_more f [] ys = refl
 map_more f (x ∷ xs) ys = ap (λ l. f x ∷ l) (map_more f xs ys)
 
-fields_below : (items : List Item) (n : ℕ) → fields (spelled_before items n) ≡ map (field_from items) (listed_below items n)
+fields_below : (items : List Item) (n : ℕ)
+    → fields (spelled_before items n) ≡ map (field_from items) (listed_places items n)
 unfolding add_field
 fields_below items zero = refl
 fields_below items (suc m) =
-    by_case (is_field (spelled_at items m)) (bits_of (field_from items m) == 0) (is_listed items m) (fields_below items m) (listed_field items m)
-    ∙ sym (map_more (field_from items) (listed_below items m) (cond (is_listed items m) (m ∷ []) []))
+    by_case (is_field (item_spelling_at items m)) (bits_of (field_from items m) == 0) (is_listed items m)
+    (fields_below items m) (listed_field items m)
+    ∙ sym (map_more (field_from items) (listed_places items m) (cond (is_listed items m) (m ∷ []) []))
   where
     by_case : {earlier shown : List Field} (f none l : Bool) → earlier ≡ shown → l ≡ (f && not none)
         → cond f (cond none earlier (earlier ++ field_from items m ∷ [])) earlier
@@ -94,7 +98,8 @@ fields_below items (suc m) =
 abbrev spellings : List Item → List Spelled
 spellings items = map (λ item. item.bytes.now) items
 
-spelling_at : (items : List Item) (k : ℕ) (d : Spelled) → k < length items → get_or (spellings items) k d ≡ spelled_at items k
+spelling_at : (items : List Item) (k : ℕ) (d : Spelled) → k < length items
+    → get_or (spellings items) k d ≡ item_spelling_at items k
 spelling_at [] k d below = absurd (omega (arith, below))
 spelling_at (item ∷ items) zero d below = refl
 spelling_at (item ∷ items) (suc k) d below = spelling_at items k d (omega (arith, below))
@@ -108,7 +113,7 @@ first_spelled items zero within = refl
 first_spelled items (suc k) within =
     let below : k < length (spellings items) = omega (arith, within, spelled_length items) in
     rw (take-suc (spellings items) k [] below, reverse-append (take k (spellings items)) (get_or (spellings items) k [] ∷ []), spelling_at items k [] (omega (arith, within)))
-    (ap (λ l. spelled_at items k ∷ l) (first_spelled items k (omega (arith, within))))
+    (ap (λ l. item_spelling_at items k ∷ l) (first_spelled items k (omega (arith, within))))
 
 whole_spelled : (items : List Item) → spelled_before items (length items) ≡ reverse (spellings items)
 whole_spelled items =
@@ -164,7 +169,7 @@ same_items one none_cut descriptor items before read a =
 
 -- the fields of the descriptor
 pub all_fields : OneReading → NoneCut → (descriptor : List ℕ) (items : List Item) (before : List Spelled) → AreItemsOf descriptor items
-    → Accepts descriptor before → fields before ≡ map (field_from items) (listed_below items (length items))
+    → Accepts descriptor before → fields before ≡ map (field_from items) (listed_places items (length items))
 all_fields one none_cut descriptor items before read a =
     ap fields (same_items one none_cut descriptor items before read a) ∙ fields_below items (length items)
 
@@ -175,7 +180,8 @@ map_map g f (x ∷ xs) = ap (λ l. g (f x) ∷ l) (map_map g f xs)
 -- the listed items of its layout
 pub all_items : OneReading → NoneCut → (descriptor : List ℕ) (items : List Item) (before : List Spelled) → AreItemsOf descriptor items
     → Accepts descriptor before
-    → (layout_of before).items ≡ map (λ m. main_item (layout_of before).reports (field_from items m)) (listed_below items (length items))
+    → (layout_of before).items
+    ≡ map (λ m. main_item (layout_of before).reports (field_from items m)) (listed_places items (length items))
 all_items one none_cut descriptor items before read a =
     ap (map (main_item (layout_of before).reports)) (all_fields one none_cut descriptor items before read a)
-    ∙ map_map (main_item (layout_of before).reports) (field_from items) (listed_below items (length items))
+    ∙ map_map (main_item (layout_of before).reports) (field_from items) (listed_places items (length items))

@@ -1,4 +1,4 @@
--- The pieces of a report lie one behind the other, from its first bit to its last.
+-- The pieces of a report lie one after the other, from its first bit to its last.
 use Rattle.std.proofs.Common.{◌≡◌, ℕ, zero, suc, ◌+◌, ◌-◌, ◌*◌, ◌/◌, ◌%◌, ◌<◌, ◌≤◌, Bool, true, false, cond, ◌&&◌, ◌==◌, nat_eq, nat_lt, List, [], ◌∷◌, ◌++◌, length, map, take, reverse, refl, sym, ◌∙◌, ap, subst, arith, Some, nat_le}
 use Rattle.std.specs.Prelude.{All, slice_get, min}
 use Rattle.std.specs.List.{list_any, count_by}
@@ -28,64 +28,75 @@ use Rattle.hid_layout.specs.declared.main_item.MainItem.{MainItem}
 use Rattle.hid_layout.specs.Layout.{Contents, main_item, contents_of, layout_of}
 use Rattle.hid_layout.specs.Reports.{IsLayout, first_bit, report_bytes, bits_of as bits_of_report, element_of, field_at}
 use Rattle.hid_layout.proofs.WellFormed.{layout_of_accepted}
-use Rattle.hid_drawing.specs.declared.pieces.Part.TheVariants.{ReportId, Filler}
-use Rattle.hid_drawing.specs.declared.pieces.Piece.{Piece}
-use Rattle.hid_drawing.specs.declared.pieces.Stretch.{Stretch}
+use Rattle.hid_drawing.specs.declared.pieces.BitSource.TheVariants.{ReportId, FinalPadding}
+use Rattle.hid_drawing.specs.declared.pieces.ByteSlice.{ByteSlice}
+use Rattle.hid_drawing.specs.declared.pieces.Segment.{Segment}
 use Rattle.hid_drawing.specs.Laws.{LieFrom, has_bit}
-use Rattle.hid_drawing.specs.Pieces.{gathered, piece_of, stretch_pieces, field_stretch, element_pieces, shape_pieces, item_pieces, id_pieces, filler_pieces, pieces_of}
+use Rattle.hid_drawing.specs.Pieces.{concat_lists, piece_of, segment_pieces, field_segment, element_pieces, shape_pieces, item_pieces, id_pieces, padding_pieces, pieces_of}
 use Rattle.hid_drawing.proofs.PieceLemmas.{bits_at}
 
-behind : (from middle to : ℕ) (xs ys : List Piece) → LieFrom from xs middle → LieFrom middle ys to → LieFrom from (xs ++ ys) to
+behind : (from middle to : ℕ) (xs ys : List ByteSlice) → LieFrom from xs middle → LieFrom middle ys to
+    → LieFrom from (xs ++ ys) to
 behind from middle to [] ys first second = subst (λ (n : ℕ). LieFrom n ys to) (sym first) second
 behind from middle to (x ∷ xs) ys first second =
     (first.0, first.1, first.2, behind (8 * x.byte + x.high) middle to xs ys first.3 second)
 
--- the same pieces, by equal ends
-same_ends : (from to start end : ℕ) (pieces : List Piece) → from ≡ start → to ≡ end → LieFrom from pieces to → LieFrom start pieces end
+-- pieces that lie from one bit to another lie between bits that equal these
+same_ends : (from to start end : ℕ) (pieces : List ByteSlice) → from ≡ start → to ≡ end → LieFrom from pieces to
+    → LieFrom start pieces end
 same_ends from to start end pieces e d lie =
     subst (λ (n : ℕ). LieFrom n pieces end) e (subst (λ (n : ℕ). LieFrom from pieces n) d lie)
 
--- the piece in a byte behind the first
-later_piece : (s : Stretch) (k from : ℕ) → 0 < k → 8 * (s.bit / 8 + k) ≡ from → from < s.bit + s.width
+-- the piece in a byte after the first
+later_piece : (s : Segment) (k from : ℕ) → 0 < k → 8 * (s.bit / 8 + k) ≡ from → from < s.bit + s.width
     → LieFrom from (piece_of s k ∷ []) (min (s.bit + s.width) (8 * (s.bit / 8 + suc k)))
 later_piece s k from later here below =
     let none : nat_eq k 0 ≡ false = grind (arith, nat_tests) in
     rw none (omega (arith, here), omega (arith, here, below), omega arith, omega (arith, here, below))
 
-first_piece : (s : Stretch) → 0 < s.width → LieFrom s.bit (piece_of s 0 ∷ []) (min (s.bit + s.width) (8 * (s.bit / 8 + 1)))
+first_piece : (s : Segment) → 0 < s.width
+    → LieFrom s.bit (piece_of s 0 ∷ []) (min (s.bit + s.width) (8 * (s.bit / 8 + 1)))
 first_piece s some = (omega arith, omega (arith, some), omega arith, omega (arith, some))
 
 -- the first pieces of a stretch
-stretch_below : (s : Stretch) (n : ℕ) → 0 < s.width → suc n ≤ (s.bit % 8 + s.width + 7) / 8
-    → LieFrom s.bit (gathered (suc n) (λ k. piece_of s k ∷ [])) (min (s.bit + s.width) (8 * (s.bit / 8 + suc n)))
+stretch_below : (s : Segment) (n : ℕ) → 0 < s.width → suc n ≤ (s.bit % 8 + s.width + 7) / 8
+    → LieFrom s.bit (concat_lists (suc n) (λ k. piece_of s k ∷ [])) (min (s.bit + s.width) (8 * (s.bit / 8 + suc n)))
 stretch_below s zero some within = first_piece s some
 stretch_below s (suc n) some within =
-    behind s.bit (min (s.bit + s.width) (8 * (s.bit / 8 + suc n))) _ (gathered (suc n) (λ k. piece_of s k ∷ [])) (piece_of s (suc n) ∷ [])
+    behind s.bit (min (s.bit + s.width) (8 * (s.bit / 8 + suc n))) _ (concat_lists (suc n) (λ k. piece_of s k ∷ []))
+    (piece_of s (suc n) ∷ [])
     (stretch_below s n some (omega (arith, within)))
     (later_piece s (suc n) _ (omega arith) (omega (arith, within)) (omega (arith, within)))
 
-stretch_lies : (s : Stretch) → 0 < s.width → LieFrom s.bit (stretch_pieces s) (s.bit + s.width)
+stretch_lies : (s : Segment) → 0 < s.width → LieFrom s.bit (segment_pieces s) (s.bit + s.width)
 stretch_lies s some = by_count ((s.bit % 8 + s.width + 7) / 8) refl
   where
-    by_count : (n : ℕ) → (s.bit % 8 + s.width + 7) / 8 ≡ n → LieFrom s.bit (gathered n (λ k. piece_of s k ∷ [])) (s.bit + s.width)
+    by_count : (n : ℕ) → (s.bit % 8 + s.width + 7) / 8 ≡ n
+        → LieFrom s.bit (concat_lists n (λ k. piece_of s k ∷ [])) (s.bit + s.width)
     by_count zero e = absurd (omega (arith, e, some))
     by_count (suc n) e =
-        same_ends s.bit _ s.bit (s.bit + s.width) (gathered (suc n) (λ k. piece_of s k ∷ [])) refl (omega (arith, e))
+        same_ends s.bit _ s.bit (s.bit + s.width) (concat_lists (suc n) (λ k. piece_of s k ∷ [])) refl
+        (omega (arith, e))
         (stretch_below s n some (omega (arith, e)))
 
 -- the first data fields of an item
 elements_lie : (layout : Contents) (i : ℕ) (item : MainItem) → slice_get layout.items i ≡ Some item → is_padding item.shape ≡ false
     → 0 < item.size → (n : ℕ) → n ≤ item.count
-    → LieFrom (first_bit layout + item.offset) (gathered n (λ j. element_pieces layout i j (element_of layout i j))) (first_bit layout + item.offset + n * item.size)
+    → LieFrom (first_bit layout + item.offset)
+    (concat_lists n (λ j. element_pieces layout i j (element_of layout i j)))
+    (first_bit layout + item.offset + n * item.size)
 elements_lie layout i item at plain some zero within = omega arith
 elements_lie layout i item at plain some (suc j) within =
     let below : nat_lt j item.count ≡ true = grind (arith, nat_tests) in
     let here : element_of layout i j ≡ Some (field_at item j) = rw (at, plain, below) refl in
-    behind (first_bit layout + item.offset) (first_bit layout + item.offset + j * item.size) _ (gathered j (λ j. element_pieces layout i j (element_of layout i j))) (element_pieces layout i j (element_of layout i j))
+    behind (first_bit layout + item.offset) (first_bit layout + item.offset + j * item.size) _
+    (concat_lists j (λ j. element_pieces layout i j (element_of layout i j)))
+    (element_pieces layout i j (element_of layout i j))
     (elements_lie layout i item at plain some j (omega (arith, within)))
     (rw here
-    (same_ends _ _ _ _ (stretch_pieces (field_stretch layout i j (item.offset + j * item.size) item.size)) (omega arith) (omega arith)
-    (stretch_lies (field_stretch layout i j (item.offset + j * item.size) item.size) some)))
+    (same_ends _ _ _ _ (segment_pieces (field_segment layout i j (item.offset + j * item.size) item.size))
+    (omega arith) (omega arith)
+    (stretch_lies (field_segment layout i j (item.offset + j * item.size) item.size) some)))
 
 shape_lies : (layout : Contents) (i : ℕ) (item : MainItem) → slice_get layout.items i ≡ Some item → 0 < item.size * item.count
     → (is_padding item.shape ≡ false → 0 < item.size)
@@ -93,13 +104,17 @@ shape_lies : (layout : Contents) (i : ℕ) (item : MainItem) → slice_get layou
 shape_lies layout i item at some narrow = by_shape item.shape refl
   where
     all : is_padding item.shape ≡ false
-        → LieFrom (first_bit layout + item.offset) (gathered item.count (λ j. element_pieces layout i j (element_of layout i j))) (first_bit layout + item.offset + item.size * item.count)
-    all plain = same_ends _ _ _ _ (gathered item.count (λ j. element_pieces layout i j (element_of layout i j))) refl (omega arith)
+        → LieFrom (first_bit layout + item.offset)
+        (concat_lists item.count (λ j. element_pieces layout i j (element_of layout i j)))
+        (first_bit layout + item.offset + item.size * item.count)
+    all plain =
+        same_ends _ _ _ _ (concat_lists item.count (λ j. element_pieces layout i j (element_of layout i j))) refl
+        (omega arith)
         (elements_lie layout i item at plain (narrow plain) item.count (omega arith))
 
     by_shape : (shape : Shape) → item.shape ≡ shape
         → LieFrom (first_bit layout + item.offset) (shape_pieces layout i item shape) (first_bit layout + item.offset + item.size * item.count)
-    by_shape Padding e = stretch_lies (field_stretch layout i 0 item.offset (item.size * item.count)) some
+    by_shape Padding e = stretch_lies (field_segment layout i 0 item.offset (item.size * item.count)) some
     by_shape Variable e = all (ap is_padding e)
     by_shape Array e = all (ap is_padding e)
 
@@ -228,13 +243,13 @@ item_lies fs numbered r report a h at i f there = rw there_in (by_report (is_of 
 items_lie : (fs : List Field) (numbered : Bool) (r : ℕ) (report : Report) → AreListed fs → IsLayout (contents_of fs numbered)
     → slice_get (reports_of fs) r ≡ Some report → (n : ℕ) → n ≤ length fs
     → LieFrom (first_bit (contents_of fs numbered))
-    (gathered n (λ i. item_pieces (contents_of fs numbered) r i (slice_get (contents_of fs numbered).items i)))
+    (concat_lists n (λ i. item_pieces (contents_of fs numbered) r i (slice_get (contents_of fs numbered).items i)))
     (first_bit (contents_of fs numbered) + report_bits report.kind report.id (take n fs))
 items_lie fs numbered r report a h at zero within = omega arith
 items_lie fs numbered r report a h at (suc i) within =
     let f = some_at fs i (omega (arith, within)) in
     behind (first_bit (contents_of fs numbered)) _ _
-    (gathered i (λ i. item_pieces (contents_of fs numbered) r i (slice_get (contents_of fs numbered).items i))) _
+    (concat_lists i (λ i. item_pieces (contents_of fs numbered) r i (slice_get (contents_of fs numbered).items i))) _
     (items_lie fs numbered r report a h at i (omega (arith, within)))
     (item_lies fs numbered r report a h at i f.0 f.1)
 
@@ -246,7 +261,7 @@ id_lies layout = by_numbers layout.numbered
     by_numbers false = refl
 
 filler_lies : (layout : Contents) (r : ℕ) (report : Report) → slice_get layout.reports r ≡ Some report
-    → LieFrom (first_bit layout + report.bits) (filler_pieces layout (Some report)) (8 * report_bytes layout r)
+    → LieFrom (first_bit layout + report.bits) (padding_pieces layout (Some report)) (8 * report_bytes layout r)
 filler_lies layout r report at = by_rest ((report.bits % 8) == 0) refl
   where
     bytes : 8 * report_bytes layout r ≡ first_bit layout + 8 * ((report.bits + 7) / 8)
@@ -258,13 +273,20 @@ filler_lies layout r report at = by_rest ((report.bits % 8) == 0) refl
 
     by_rest : (b : Bool) → nat_eq (report.bits % 8) 0 ≡ b
         → LieFrom (first_bit layout + report.bits)
-        (cond b [] (stretch_pieces (record { part = Filler; bit = first_bit layout + report.bits; width = 8 - report.bits % 8 })))
+        (cond b []
+        (segment_pieces
+        (record { part = FinalPadding; bit = first_bit layout + report.bits; width = 8 - report.bits % 8 })))
         (8 * report_bytes layout r)
     by_rest true e = let none : report.bits % 8 ≡ 0 = grind (arith, nat_tests) in omega (arith, bytes, none)
     by_rest false e =
         let some : 0 < report.bits % 8 = grind (arith, nat_tests) in
-        same_ends _ _ _ _ (stretch_pieces (record { part = Filler; bit = first_bit layout + report.bits; width = 8 - report.bits % 8 })) refl (omega (arith, bytes, some))
-        (stretch_lies (record { part = Filler; bit = first_bit layout + report.bits; width = 8 - report.bits % 8 }) (omega arith))
+        same_ends _ _ _ _
+        (segment_pieces
+        (record { part = FinalPadding; bit = first_bit layout + report.bits; width = 8 - report.bits % 8 })) refl
+        (omega (arith, bytes, some))
+        (stretch_lies
+        (record { part = FinalPadding; bit = first_bit layout + report.bits; width = 8 - report.bits % 8 })
+        (omega arith))
 
 report_filled : (fs : List Field) (numbered : Bool) (r : ℕ) (report : Report) → AreListed fs → IsLayout (contents_of fs numbered)
     → slice_get (reports_of fs) r ≡ Some report
@@ -276,9 +298,16 @@ report_filled fs numbered r report a h at =
     ap (report_bits report.kind report.id) (take_all (length fs) fs (omega arith)) ∙ sym (bits_in-reports_of report.kind report.id fs (h.byte_id r report at)) ∙ found.1 in
     let all : length (contents_of fs numbered).items ≡ length fs = map_length (main_item (reports_of fs)) fs in
     rw (at, all)
-    (behind 0 (first_bit (contents_of fs numbered) + report.bits) _ (id_pieces (contents_of fs numbered) ++ gathered (length fs) (λ i. item_pieces (contents_of fs numbered) r i (slice_get (contents_of fs numbered).items i))) (filler_pieces (contents_of fs numbered) (Some report))
+    (behind 0 (first_bit (contents_of fs numbered) + report.bits) _
+    (id_pieces (contents_of fs numbered)
+    ++ concat_lists (length fs)
+    (λ i. item_pieces (contents_of fs numbered) r i (slice_get (contents_of fs numbered).items i)))
+    (padding_pieces (contents_of fs numbered) (Some report))
     (behind 0 (first_bit (contents_of fs numbered)) _ (id_pieces (contents_of fs numbered)) _ (id_lies (contents_of fs numbered))
-    (same_ends _ _ _ _ (gathered (length fs) (λ i. item_pieces (contents_of fs numbered) r i (slice_get (contents_of fs numbered).items i))) refl (omega (arith, bits))
+    (same_ends _ _ _ _
+    (concat_lists (length fs)
+    (λ i. item_pieces (contents_of fs numbered) r i (slice_get (contents_of fs numbered).items i))) refl
+    (omega (arith, bits))
     (items_lie fs numbered r report a h at (length fs) (omega arith))))
     (filler_lies (contents_of fs numbered) r report at))
 
@@ -306,7 +335,8 @@ reports_filled descriptor before r a there =
     (listed before a.reaches.accepted (are_spelled before a.reaches.items.spelled)) (layout_of_accepted descriptor before a) report.1
 
 -- which bits a piece has
-within : (bit : ℕ) (piece : Piece) → has_bit bit piece ≡ true → (8 * piece.byte + piece.low ≤ bit) × (bit < 8 * piece.byte + piece.high)
+within : (bit : ℕ) (piece : ByteSlice) → has_bit bit piece ≡ true
+    → (8 * piece.byte + piece.low ≤ bit) × (bit < 8 * piece.byte + piece.high)
 within bit piece e =
     let tests = and_parts (nat_eq piece.byte (bit / 8)) (nat_le piece.low (bit % 8) && nat_lt (bit % 8) piece.high) e in
     let ends = and_parts (nat_le piece.low (bit % 8)) (nat_lt (bit % 8) piece.high) tests.1 in
@@ -315,7 +345,8 @@ within bit piece e =
     let high : bit % 8 < piece.high = (let t = ends.1 in grind (arith, nat_tests)) in
     (omega (arith, byte, low), omega (arith, byte, high))
 
-has_it : (bit : ℕ) (piece : Piece) → piece.high ≤ 8 → 8 * piece.byte + piece.low ≤ bit → bit < 8 * piece.byte + piece.high
+has_it : (bit : ℕ) (piece : ByteSlice) → piece.high ≤ 8 → 8 * piece.byte + piece.low ≤ bit
+    → bit < 8 * piece.byte + piece.high
     → has_bit bit piece ≡ true
 has_it bit piece small from to =
     let byte : nat_eq piece.byte (bit / 8) ≡ true = (let same : piece.byte ≡ bit / 8 = omega (arith, small, from, to) in grind (arith, nat_tests)) in
@@ -323,26 +354,29 @@ has_it bit piece small from to =
     let high : nat_lt (bit % 8) piece.high ≡ true = (let in_it : bit % 8 < piece.high = omega (arith, small, from, to) in grind (arith, nat_tests)) in
     rw (byte, low, high) refl
 
-has_not : (bit : ℕ) (piece : Piece) → (8 * piece.byte + piece.low ≤ bit → bit < 8 * piece.byte + piece.high → ⊥) → has_bit bit piece ≡ false
+has_not : (bit : ℕ) (piece : ByteSlice) → (8 * piece.byte + piece.low ≤ bit → bit < 8 * piece.byte + piece.high → ⊥)
+    → has_bit bit piece ≡ false
 has_not bit piece out = by_case (has_bit bit piece) refl
   where
     by_case : (b : Bool) → has_bit bit piece ≡ b → b ≡ false
     by_case true e = let has = within bit piece e in absurd (out has.0 has.1)
     by_case false e = refl
 
--- pieces that lie one behind the other have no bit in front of them
-none_before : (bit from to : ℕ) (pieces : List Piece) → LieFrom from pieces to → bit < from → count_by (has_bit bit) pieces ≡ 0
+-- pieces that lie one after the other have no bit in front of them
+none_before : (bit from to : ℕ) (pieces : List ByteSlice) → LieFrom from pieces to → bit < from
+    → count_by (has_bit bit) pieces ≡ 0
 none_before bit from to [] lie before = refl
 none_before bit from to (piece ∷ pieces) lie before =
     let not_here : has_bit bit piece ≡ false = has_not bit piece (λ a b. omega (arith, lie.0, before, a)) in
     let rest : count_by (has_bit bit) pieces ≡ 0 = none_before bit (8 * piece.byte + piece.high) to pieces lie.3 (omega (arith, lie.0, lie.1, before)) in
-    sum_by-cons (λ (p : Piece). cond (has_bit bit p) 1 0) piece pieces ∙ rw (not_here, rest) refl
+    sum_by-cons (λ (p : ByteSlice). cond (has_bit bit p) 1 0) piece pieces ∙ rw (not_here, rest) refl
 
--- and each of the bits from the first to the last once
-one_in : (bit from to : ℕ) (pieces : List Piece) → LieFrom from pieces to → from ≤ bit → bit < to → count_by (has_bit bit) pieces ≡ 1
+-- pieces that lie one after the other have each bit from the first to the last once
+one_in : (bit from to : ℕ) (pieces : List ByteSlice) → LieFrom from pieces to → from ≤ bit → bit < to
+    → count_by (has_bit bit) pieces ≡ 1
 one_in bit from to [] lie first last = absurd (omega (arith, lie, first, last))
 one_in bit from to (piece ∷ pieces) lie first last =
-    sum_by-cons (λ (p : Piece). cond (has_bit bit p) 1 0) piece pieces
+    sum_by-cons (λ (p : ByteSlice). cond (has_bit bit p) 1 0) piece pieces
     ∙ by_case (nat_lt bit (8 * piece.byte + piece.high)) refl
     (λ later. one_in bit (8 * piece.byte + piece.high) to pieces lie.3 later last)
     (λ before. none_before bit (8 * piece.byte + piece.high) to pieces lie.3 before)

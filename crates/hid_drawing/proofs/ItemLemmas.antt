@@ -3,13 +3,13 @@ use Rattle.std.proofs.Common.{◌≡◌, ℕ, zero, suc, ◌+◌, ◌<◌, List,
 use Rattle.hid_items.specs.declared.spelling.Item.{Item}
 use Rattle.hid_items.specs.declared.reading.Items.{Items}
 use Rattle.hid_items.specs.Spelling.{IsSpelling}
-use Rattle.hid_items.specs.Reading.{GivesItem, left, place}
+use Rattle.hid_items.specs.Reading.{GivesItem, place, remaining_bytes}
 use Rattle.hid_drawing.specs.Items.{ArePlaced, IsWhole, bytes_in}
 
 -- the items read so far, with what is left
 pub record HaveRead (descriptor : List ℕ) (items : List Item) (iterator : Items) : Type 0 where
   pub placed : ArePlaced 0 items
-  pub joined : bytes_in items ++ left iterator ≡ descriptor
+  pub joined : bytes_in items ++ remaining_bytes iterator ≡ descriptor
   pub at : place iterator ≡ length (bytes_in items)
 
 bytes_more : (items : List Item) (item : Item) → bytes_in (items ++ item ∷ []) ≡ bytes_in items ++ item.bytes.now
@@ -27,7 +27,8 @@ pub read_more : (descriptor : List ℕ) (items : List Item) (item : Item) (old n
     → GivesItem old item new → HaveRead descriptor (items ++ item ∷ []) new
 read_more descriptor items item old new read gives = record {
   placed = placed_more 0 items item read.placed (gives.at ∙ read.at ∙ sym (zero-add (length (bytes_in items)))) gives.spelled;
-  joined = rw (bytes_more items item, append_assoc (bytes_in items) item.bytes.now (left new)) (rw gives.rest at read.joined);
+  joined = rw (bytes_more items item, append_assoc (bytes_in items) item.bytes.now (remaining_bytes new))
+      (rw gives.rest at read.joined);
   at = gives.after ∙ rw (bytes_more items item) (omega (arith, read.at, length-append (bytes_in items) item.bytes.now));
 }
 

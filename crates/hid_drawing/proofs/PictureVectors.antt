@@ -1,11 +1,11 @@
 -- Worked values of where cells stand, of lines and of what is escaped, each by hand.
 use Rattle.std.proofs.Common.{◌≡◌, ◌∷◌, [], ℕ, List, map, refl, ◌+◌, ◌/◌, ◌%◌}
 use Rattle.std.specs.Prelude.{codes, slice_get, unwrap_or}
-use Rattle.hid_notation.specs.Text.{joined_below}
+use Rattle.hid_notation.specs.Text.{concat_below}
 use Rattle.std.specs.Fmt.{digits}
-use Rattle.hid_drawing.specs.declared.pieces.Part.TheVariants.{Field}
+use Rattle.hid_drawing.specs.declared.pieces.BitSource.TheVariants.{Field}
 use Rattle.hid_drawing.specs.Areas.{left_of, piece_area}
-use Rattle.hid_drawing.specs.Escape.{escaped}
+use Rattle.hid_drawing.specs.Escape.{escaped_words}
 use Rattle.hid_drawing.specs.Lines.{line_at, line_count}
 use Rattle.hid_drawing.specs.Terminal.{row_number}
 use Rattle.hid_drawing.specs.declared.glyphs.TheConstants as glyphs
@@ -29,10 +29,10 @@ words = refl
 count : line_count (codes "Keyboard LeftControl") 9 ≡ 3
 count = refl
 
-a_tag : escaped (codes "<b>") ≡ codes "&lt;b&gt;"
+a_tag : escaped_words (codes "<b>") ≡ codes "&lt;b&gt;"
 a_tag = refl
 
--- numbers of two digits have a space behind them, and beside one of three digits all three columns
+-- numbers of two digits have a space after them, and beside one of three digits all three columns
 numbers : map (row_number 100) (0 ∷ 42 ∷ 99 ∷ []) ≡ codes " 0 " ∷ codes "42 " ∷ codes "99 " ∷ []
 unfolding row_number digits
 numbers = refl
@@ -70,10 +70,10 @@ unfolding in_utf8
 frames = refl
 
 -- nine of the horizontal ones are a bit
-bit_line : glyphs.BIT_LINE.now ≡ joined_below 9 (λ k. glyphs.FLAT.now)
+bit_line : glyphs.BIT_LINE.now ≡ concat_below 9 (λ k. glyphs.FLAT.now)
 bit_line = refl
 
--- a bit has ten columns from the fourth on: behind its corner stands its number, and that of bit 7 behind a word
+-- a bit has ten columns from the fourth on: after its corner stands its number, and that of bit 7 after a word
 ruler : map (λ column. unwrap_or (slice_get glyphs.BIT_RULER.now column) 0)
     (8 ∷ 14 ∷ 24 ∷ 34 ∷ 44 ∷ 54 ∷ 64 ∷ 74 ∷ []) ≡ codes "76543210"
 ruler = refl

@@ -1,4 +1,4 @@
--- What a text is behind the last words that are added to it.
+-- What a text is after the last words that are added to it.
 use Rattle.std.proofs.Common.{◌≡◌, ℕ, List, Result, Ok, Err, cond, ◌∙◌}
 use Rattle.std.specs.Result.{OnOk, is_ok}
 

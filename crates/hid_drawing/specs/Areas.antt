@@ -1,12 +1,12 @@
--- Where the parts of a picture stand, in its units (our choice: docs/PICTURES.md).
+-- The places of the parts of a picture, in its units (our choice: docs/PICTURES.md).
 use Rattle.std.specs.Prelude.{ℕ, zero, suc, List, slice_get, unwrap_or, ◌+◌, ◌-◌, ◌*◌, ◌/◌, min, max}
 use Rattle.hid_descriptor.specs.declared.limits.TheConstants.{MAX_OPEN_COLLECTIONS}
 use Rattle.hid_drawing.specs.declared.areas.Area.{Area}
 use Rattle.hid_drawing.specs.declared.areas.TheConstants.{BIT, GAP, CELL, LINE, TOP, LEFT, STEP}
 use Rattle.hid_drawing.specs.declared.frames.Frame.{Frame}
-use Rattle.hid_drawing.specs.declared.pieces.Piece.{Piece}
+use Rattle.hid_drawing.specs.declared.pieces.ByteSlice.{ByteSlice}
 
--- what so many frames take at one side
+-- what n frames take at one side
 abbrev pub inset : ℕ → ℕ
 inset level = STEP * min level MAX_OPEN_COLLECTIONS
 
@@ -22,14 +22,14 @@ left_of depth = LEFT + inset depth
 abbrev pub cell_height : List ℕ → ℕ → ℕ
 cell_height rows byte = CELL + LINE * (unwrap_or (slice_get rows byte) 2 - 2)
 
--- where the cells of a byte begin: below all those of the bytes before it
+-- the top of the cells of a byte: below those of all earlier bytes
 abbrev pub row_top : ℕ → List ℕ → ℕ → ℕ
 row_top depth rows zero = TOP + gap_of depth / 2
 row_top depth rows (suc byte) = row_top depth rows byte + (cell_height rows byte + gap_of depth)
 
 -- the area of a piece: bit 7 is the first from the left, and each byte has its row, as high as its cells and frame names
 -- need. Example: Button 1 of the mouse stands at 848, 34
-unfoldable pub piece_area : ℕ → List ℕ → Piece → Area
+unfoldable pub piece_area : ℕ → List ℕ → ByteSlice → Area
 piece_area depth rows piece = record {
   x = left_of depth + (8 - piece.high) * BIT;
   y = row_top depth rows piece.byte;

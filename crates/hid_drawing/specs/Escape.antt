@@ -7,8 +7,8 @@ abbrev pub is_printed : ℕ → Bool
 is_printed byte = nat_le 32 byte && nat_le byte 126
 
 -- a byte, or `?` for one that isn't printed
-abbrev pub printed : ℕ → ℕ
-printed byte = if is_printed byte then byte else 63
+abbrev pub printable_byte : ℕ → ℕ
+printable_byte byte = if is_printed byte then byte else 63
 
 -- a byte by its reference where it could end text, a tag or an attribute
 abbrev pub escape_of : ℕ → List ℕ
@@ -18,12 +18,12 @@ escape_of byte =
     else if byte == 62 then codes "&gt;"
     else if byte == 39 then codes "&#39;"
     else if byte == 34 then codes "&#34;"
-    else printed byte ∷ []
+    else printable_byte byte ∷ []
 
 -- words with a reference for each byte that could end text, a tag or an attribute, and ? for one that isn't printed.
 -- Example: < is &lt;
-abbrev pub escaped : List ℕ → List ℕ
-escaped words = flat_map escape_of words
+abbrev pub escaped_words : List ℕ → List ℕ
+escaped_words words = flat_map escape_of words
 
 -- the byte is printed, and is no angle bracket and no quote
 abbrev pub is_inert : ℕ → Bool

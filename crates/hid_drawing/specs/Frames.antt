@@ -6,7 +6,7 @@ use Rattle.hid_descriptor.specs.Matching.{waiting_after}
 use Rattle.hid_layout.specs.declared.main_item.MainItem.{MainItem}
 use Rattle.hid_layout.specs.Layout.{Contents}
 use Rattle.hid_layout.specs.Reports.{first_bit}
-use Rattle.hid_drawing.specs.Items.{spelled_at}
+use Rattle.hid_drawing.specs.Items.{item_spelling_at}
 use Rattle.hid_drawing.specs.declared.frames.Frame.{Frame}
 use Rattle.hid_drawing.specs.Makers.{lies_in}
 
@@ -14,7 +14,7 @@ use Rattle.hid_drawing.specs.Makers.{lies_in}
 abbrev pub first_byte : Contents → MainItem → ℕ
 first_byte layout item = (first_bit layout + item.offset) / 8
 
--- the last one
+-- the last byte in which an item has bits
 abbrev pub last_byte : Contents → MainItem → ℕ
 last_byte layout item = ((first_bit layout + (item.offset + item.size * item.count)) - 1) / 8
 
@@ -23,16 +23,17 @@ abbrev pub main_at : List ℕ → ℕ → ℕ
 main_at mains i = unwrap_or (slice_get mains i) 0
 
 -- a frame that reaches to one more item, or begins with it
-abbrev pub reaching : Contents → ℕ → MainItem → Option Frame → Frame
-reaching layout i item None =
+abbrev pub extended_frame : Contents → ℕ → MainItem → Option Frame → Frame
+extended_frame layout i item None =
     record { level = 0; item = i; first = first_byte layout item; last = last_byte layout item }
-reaching layout i item (Some frame) = record frame { last = last_byte layout item }
+extended_frame layout i item (Some frame) = record frame { last = last_byte layout item }
 
 -- the frame of a collection once an item has come
 abbrev pub frame_with : Contents → List Item → List ℕ → ℕ → ℕ → ℕ → Option Frame → Option MainItem → Option Frame
 frame_with layout items mains r c i frame None = frame
 frame_with layout items mains r c i frame (Some item) =
-    if (item.report == r) && lies_in items c (main_at mains i) then Some (reaching layout i item frame) else frame
+    if (item.report == r)
+    && lies_in items c (main_at mains i) then Some (extended_frame layout i item frame) else frame
 
 -- the frame of the collection at a place, by the first listed items
 abbrev pub frame_below : Contents → List Item → List ℕ → ℕ → ℕ → ℕ → Option Frame
@@ -40,23 +41,25 @@ frame_below layout items mains r c zero = None
 frame_below layout items mains r c (suc i) =
     frame_with layout items mains r c i (frame_below layout items mains r c i) (slice_get layout.items i)
 
--- how many collections are open behind the first items
+-- how many collections are open after the first items
 abbrev pub open_below : List Item → ℕ → ℕ
 open_below items zero = 0
-open_below items (suc k) = waiting_after END_COLLECTION COLLECTION (open_below items k) (spelled_at items k)
+open_below items (suc k) =
+    waiting_after END_COLLECTION COLLECTION (open_below items k) (item_spelling_at items k)
 
 -- how many collections are round a place: those open there, but for the one that ends there
 abbrev pub round_at : List Item → ℕ → ℕ
-round_at items c = open_below items c - (if is END_COLLECTION (spelled_at items c) then 1 else 0)
+round_at items c = open_below items c - (if is END_COLLECTION (item_spelling_at items c) then 1 else 0)
 
 -- the frame with the number of collections from the outermost one to it
-abbrev pub leveled : List Item → ℕ → Option Frame → List Frame
-leveled items c None = []
-leveled items c (Some frame) = record frame { level = round_at items c + 1 } ∷ []
+abbrev pub with_level : List Item → ℕ → Option Frame → List Frame
+with_level items c None = []
+with_level items c (Some frame) = record frame { level = round_at items c + 1 } ∷ []
 
 -- the frame of the collection at a place, where the report has an item in it
 abbrev pub frame_at : Contents → List Item → List ℕ → ℕ → ℕ → List Frame
-frame_at layout items mains r c = leveled items c (frame_below layout items mains r c (length layout.items))
+frame_at layout items mains r c =
+    with_level items c (frame_below layout items mains r c (length layout.items))
 
 -- the frames of the collections at the first places
 abbrev pub frames_below : Contents → List Item → List ℕ → ℕ → ℕ → List Frame
@@ -74,5 +77,5 @@ deepest_from level [] = level
 deepest_from level (frame ∷ frames) = deepest_from (max level frame.level) frames
 
 -- how many frames stand in one another
-abbrev pub deepest : List Frame → ℕ
-deepest frames = deepest_from 0 frames
+abbrev pub frame_depth : List Frame → ℕ
+frame_depth frames = deepest_from 0 frames

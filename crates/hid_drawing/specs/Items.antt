@@ -13,7 +13,7 @@ IsWhole item = IsSpelling item.bytes.now
 abbrev pub bytes_in : List Item → List ℕ
 bytes_in items = flat_map (λ item. item.bytes.now) items
 
--- each item is a spelling, and stands behind the one before it
+-- each item is a spelling, and stands after the one before it
 abbrev pub ArePlaced : ℕ → List Item → Type 0
 ArePlaced at [] = Unit {0}
 ArePlaced at (item ∷ items) =
@@ -32,8 +32,8 @@ spelling_of None = []
 spelling_of (Some item) = item.bytes.now
 
 -- how the item at a place among the items is spelled
-abbrev pub spelled_at : List Item → ℕ → Spelled
-spelled_at items k = spelling_of (slice_get items k)
+abbrev pub item_spelling_at : List Item → ℕ → Spelled
+item_spelling_at items k = spelling_of (slice_get items k)
 
 -- the byte of the descriptor at which an item begins
 abbrev pub place_of : Option Item → ℕ

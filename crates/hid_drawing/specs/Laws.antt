@@ -6,36 +6,37 @@ use Rattle.hid_descriptor.specs.Items.{Spelled}
 use Rattle.hid_items.specs.declared.spelling.Item.{Item}
 use Rattle.hid_layout.specs.Layout.{main_item, layout_of}
 use Rattle.hid_layout.specs.Reports.{report_bytes}
-use Rattle.hid_drawing.specs.Items.{AreItemsOf, spelled_at}
-use Rattle.hid_drawing.specs.Makers.{listed_below}
+use Rattle.hid_drawing.specs.Items.{AreItemsOf, item_spelling_at}
+use Rattle.hid_drawing.specs.Makers.{listed_places}
 use Rattle.hid_drawing.specs.Pieces.{pieces_of}
-use Rattle.hid_drawing.specs.declared.pieces.Piece.{Piece}
+use Rattle.hid_drawing.specs.declared.pieces.ByteSlice.{ByteSlice}
 
 -- the first items, this many, the last one first
 abbrev pub spelled_before : List Item → ℕ → List Spelled
 spelled_before items zero = []
-spelled_before items (suc k) = spelled_at items k ∷ spelled_before items k
+spelled_before items (suc k) = item_spelling_at items k ∷ spelled_before items k
 
 -- the field that the main item at a place describes
 abbrev pub field_from : List Item → ℕ → Field
 field_from items m =
-    field_of (fields (spelled_before items m)) (spelled_before items m) (spelled_at items m)
+    field_of (fields (spelled_before items m)) (spelled_before items m) (item_spelling_at items m)
 
 -- the fields of a descriptor are those that the places with bits describe, in order
 abbrev pub ListsAllFields : Type 0
 ListsAllFields = (descriptor : List ℕ) (items : List Item) (before : List Spelled)
     → AreItemsOf descriptor items → Accepts descriptor before
-    → fields before ≡ map (field_from items) (listed_below items (length items))
+    → fields before ≡ map (field_from items) (listed_places items (length items))
 
 -- The listed items of a descriptor's layout are those of the places with bits, in order.
 abbrev pub ListsAllItems : Type 0
 ListsAllItems = (descriptor : List ℕ) (items : List Item) (before : List Spelled)
     → AreItemsOf descriptor items → Accepts descriptor before
     → (layout_of before).items
-    ≡ map (λ m. main_item (layout_of before).reports (field_from items m)) (listed_below items (length items))
+    ≡ map (λ m. main_item (layout_of before).reports (field_from items m))
+    (listed_places items (length items))
 
--- pieces with bits lie one behind the other, from one bit of a report to another one
-abbrev pub LieFrom : ℕ → List Piece → ℕ → Type 0
+-- pieces with bits lie one after the other, from one bit of a report to another one
+abbrev pub LieFrom : ℕ → List ByteSlice → ℕ → Type 0
 LieFrom from [] to = from ≡ to
 LieFrom from (piece ∷ pieces) to =
     (8 * piece.byte + piece.low ≡ from) × (piece.low < piece.high) × (piece.high ≤ 8)
@@ -48,7 +49,7 @@ FillReports = (descriptor : List ℕ) (before : List Spelled) (r : ℕ)
     → LieFrom 0 (pieces_of (layout_of before) r) (8 * report_bytes (layout_of before) r)
 
 -- a piece has a bit of its report
-abbrev pub has_bit : ℕ → Piece → Bool
+abbrev pub has_bit : ℕ → ByteSlice → Bool
 has_bit bit piece = (piece.byte == bit / 8) && (nat_le piece.low (bit % 8) && nat_lt (bit % 8) piece.high)
 
 -- each bit of a report is in one piece, and in one alone

@@ -1,18 +1,18 @@
--- Words in lines of so many columns, and how high they make a row (our choice: docs/PICTURES.md).
+-- Words in lines of n columns, and how high they make a row (our choice: docs/PICTURES.md).
 use Rattle.std.specs.Prelude.{ℕ, zero, suc, ◌+◌, ◌-◌, ◌*◌, ◌^◌, min, max, Bool, true, ◌==◌, nat_lt, List, [], ◌∷◌, length, slice_get, unwrap_or, take, drop, if◌then◌else◌, Option, None, Some}
 use Rattle.hid_layout.specs.Layout.{Contents}
-use Rattle.hid_notation.specs.Text.{joined_below}
+use Rattle.hid_notation.specs.Text.{concat_below}
 use Rattle.hid_drawing.specs.declared.frames.Frame.{Frame}
-use Rattle.hid_drawing.specs.declared.pieces.Piece.{Piece}
+use Rattle.hid_drawing.specs.declared.pieces.ByteSlice.{ByteSlice}
 use Rattle.hid_drawing.specs.Words.{piece_name, part_details}
 use Rattle.hid_drawing.specs.declared.lines.TheConstants.{NAME_COLUMNS, LEAST_LINES}
 use Rattle.hid_drawing.specs.PictureWords.{frame_name}
 
--- the byte at a place, and a space behind the end
+-- the byte at a place, and a space after the end
 abbrev pub byte_at : List ℕ → ℕ → ℕ
 byte_at words k = unwrap_or (slice_get words k) 32
 
--- the last place from 1 on, of the columns and the one behind them, that has a space; 0 where none has one
+-- the last place from 1 on, of the columns and the one after them, that has a space; 0 where none has one
 abbrev pub last_space : List ℕ → ℕ → ℕ
 last_space words zero = 0
 last_space words (suc n) = if byte_at words (suc n) == 32 then suc n else last_space words n
@@ -22,36 +22,38 @@ abbrev pub first_width : List ℕ → ℕ → ℕ
 first_width words columns =
     min (if last_space words columns == 0 then columns else last_space words columns) (length words)
 
--- a space between two lines stands in neither
+-- words without the space in front of them: the space at which a line was broken is in neither line
 abbrev pub without_space : List ℕ → List ℕ
 without_space [] = []
 without_space (byte ∷ rest) = if byte == 32 then rest else byte ∷ rest
 
--- what stands behind the first line
-abbrev pub behind_line : List ℕ → ℕ → List ℕ
-behind_line words columns = without_space (drop (first_width words columns) words)
+-- what follows the first line of words
+abbrev pub after_line : List ℕ → ℕ → List ℕ
+after_line words columns = without_space (drop (first_width words columns) words)
 
--- what stands behind so many lines
-abbrev pub behind_lines : List ℕ → ℕ → ℕ → List ℕ
-behind_lines words columns zero = words
-behind_lines words columns (suc k) = behind_line (behind_lines words columns k) columns
+-- what follows the first n lines of words
+abbrev pub after_lines : List ℕ → ℕ → ℕ → List ℕ
+after_lines words columns zero = words
+after_lines words columns (suc k) = after_line (after_lines words columns k) columns
 
--- the line behind k others
+-- the line after k others
 abbrev pub line_at : List ℕ → ℕ → ℕ → List ℕ
-line_at words columns k = take (first_width (behind_lines words columns k) columns) (behind_lines words columns k)
+line_at words columns k =
+    take (first_width (after_lines words columns k) columns) (after_lines words columns k)
 
 -- how many of the first n lines have words
 abbrev pub lines_below : List ℕ → ℕ → ℕ → ℕ
 lines_below words columns zero = 0
 lines_below words columns (suc n) =
-    min (lines_below words columns n + (if length (behind_lines words columns n) == 0 then 0 else 1)) (2 ^ 16 - 1)
+    min (lines_below words columns n + (if length (after_lines words columns n) == 0 then 0 else 1))
+    (2 ^ 16 - 1)
 
 -- how many lines words take: each has a byte at least
 abbrev pub line_count : List ℕ → ℕ → ℕ
 line_count words columns = lines_below words columns (length words)
 
 -- how many columns a cell has: ten for each bit in characters, and fourteen narrow ones in a drawing
-abbrev pub columns_of : Bool → Piece → ℕ
+abbrev pub columns_of : Bool → ByteSlice → ℕ
 columns_of drawn piece =
     if drawn then 14 * (piece.high - piece.low) - 2 else 10 * (piece.high - piece.low) - 1
 
@@ -60,22 +62,22 @@ abbrev pub both_counts : List ℕ → List ℕ → ℕ → ℕ
 both_counts name details columns = min (line_count name columns + line_count details columns) (2 ^ 16 - 1)
 
 -- how many lines a cell has: its name, and what is said of it
-abbrev pub piece_lines : Contents → ℕ → Bool → Piece → ℕ
+abbrev pub piece_lines : Contents → ℕ → Bool → ByteSlice → ℕ
 piece_lines layout r drawn piece =
     both_counts (piece_name layout piece) (part_details layout r piece.part) (columns_of drawn piece)
 
--- those of a piece that lies in the byte
-abbrev pub byte_lines : Contents → ℕ → Bool → ℕ → Piece → ℕ
+-- how many lines a piece has in a byte: none where it lies in another one
+abbrev pub byte_lines : Contents → ℕ → Bool → ℕ → ByteSlice → ℕ
 byte_lines layout r drawn byte piece = if piece.byte == byte then piece_lines layout r drawn piece else 0
 
 -- the most of some lines and of those of the pieces
-abbrev pub most_lines : Contents → ℕ → Bool → ℕ → ℕ → List Piece → ℕ
+abbrev pub most_lines : Contents → ℕ → Bool → ℕ → ℕ → List ByteSlice → ℕ
 most_lines layout r drawn byte lines [] = lines
 most_lines layout r drawn byte lines (piece ∷ pieces) =
     most_lines layout r drawn byte (max lines (byte_lines layout r drawn byte piece)) pieces
 
 -- how many lines a row has: those of its cells, and no less than two
-abbrev pub row_lines : Contents → ℕ → Bool → ℕ → List Piece → ℕ
+abbrev pub row_lines : Contents → ℕ → Bool → ℕ → List ByteSlice → ℕ
 row_lines layout r drawn byte pieces = most_lines layout r drawn byte LEAST_LINES pieces
 
 -- a line of a cell: of its name, and below that of what is said of it. A line ends at the last space that has room, or
@@ -98,11 +100,11 @@ lines_in_front layout frames byte (suc k) =
     min (lines_in_front layout frames byte k + name_lines layout byte (slice_get frames k)) (2 ^ 16 - 1)
 
 -- how many lines a row of a drawing has, for its cells and for the names of the frames beside it
-abbrev pub drawn_lines : Contents → ℕ → List Frame → List Piece → ℕ → ℕ
+abbrev pub drawn_lines : Contents → ℕ → List Frame → List ByteSlice → ℕ → ℕ
 drawn_lines layout r frames pieces byte =
     max (row_lines layout r true byte pieces) (lines_in_front layout frames byte (length frames))
 
--- the lines of the rows of a drawing
-abbrev pub rows_of : Contents → ℕ → ℕ → List Frame → List Piece → List ℕ
+-- the numbers of lines of the rows of a drawing
+abbrev pub rows_of : Contents → ℕ → ℕ → List Frame → List ByteSlice → List ℕ
 rows_of layout r bytes frames pieces =
-    joined_below bytes (λ byte. drawn_lines layout r frames pieces byte ∷ [])
+    concat_below bytes (λ byte. drawn_lines layout r frames pieces byte ∷ [])

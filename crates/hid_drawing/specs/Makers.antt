@@ -5,7 +5,7 @@ use Rattle.hid_items.specs.declared.spelling.Item.{Item}
 use Rattle.hid_items.specs.Spelling.{prefix_of}
 use Rattle.hid_descriptor.specs.Items.{is, is_main, is_field, USAGE_PAGE, LOGICAL_MINIMUM, LOGICAL_MAXIMUM, REPORT_SIZE, REPORT_ID, REPORT_COUNT, PUSH, POP, COLLECTION, END_COLLECTION}
 use Rattle.hid_descriptor.specs.Matching.{waiting_after}
-use Rattle.hid_drawing.specs.Items.{spelled_at, is_positive}
+use Rattle.hid_drawing.specs.Items.{item_spelling_at, is_positive}
 use Rattle.hid_drawing.specs.declared.makers.InForce.{InForce}
 
 -- the globals that fields are made of
@@ -20,32 +20,33 @@ is_local prefix = ((prefix / 4) % 4) == 2
 
 -- The nearest item with a prefix among the first ones, looking back, where what stands between a Pop and its matching
 -- Push doesn't count.
-abbrev pub nearest : List Item → ℕ → ℕ → ℕ → Option ℕ
-nearest items prefix waiting zero = None
-nearest items prefix waiting (suc k) =
-    if (waiting == 0) && is prefix (spelled_at items k) then Some k
-    else nearest items prefix (waiting_after PUSH POP waiting (spelled_at items k)) k
+abbrev pub nearest_place : List Item → ℕ → ℕ → ℕ → Option ℕ
+nearest_place items prefix waiting zero = None
+nearest_place items prefix waiting (suc k) =
+    if (waiting == 0) && is prefix (item_spelling_at items k) then Some k
+    else nearest_place items prefix (waiting_after PUSH POP waiting (item_spelling_at items k)) k
 
 -- the item that sets a global in force at a place
 abbrev pub global_place : List Item → ℕ → ℕ → Option ℕ
-global_place items m prefix = nearest items prefix 0 m
+global_place items m prefix = nearest_place items prefix 0 m
 
--- where the locals of a place begin, by how many items stand before: behind the last main item in front of it
+-- where the locals of a place begin, by how many items stand before: after the last main item in front of it
 abbrev pub locals_start : List Item → ℕ → ℕ
 locals_start items zero = 0
-locals_start items (suc k) = if is_main (spelled_at items k) then suc k else locals_start items k
+locals_start items (suc k) = if is_main (item_spelling_at items k) then suc k else locals_start items k
 
 -- where a collection ends whose items are these, the first of them at a place
-abbrev pub closed_at : ℕ → ℕ → List Item → ℕ
-closed_at waiting place [] = place
-closed_at waiting place (item ∷ items) =
+abbrev pub closing_place : ℕ → ℕ → List Item → ℕ
+closing_place waiting place [] = place
+closing_place waiting place (item ∷ items) =
     if (waiting == 0) && is END_COLLECTION item.bytes.now then place
-    else closed_at (waiting_after END_COLLECTION COLLECTION waiting item.bytes.now) (place + 1) items
+    else closing_place (waiting_after END_COLLECTION COLLECTION waiting item.bytes.now) (place + 1) items
 
 -- whether a place lies in the collection that another one opens
 abbrev pub lies_in : List Item → ℕ → ℕ → Bool
 lies_in items c m =
-    is COLLECTION (spelled_at items c) && (nat_lt c m && nat_lt m (closed_at 0 (c + 1) (drop (c + 1) items)))
+    is COLLECTION (item_spelling_at items c)
+    && (nat_lt c m && nat_lt m (closing_place 0 (c + 1) (drop (c + 1) items)))
 
 -- a place that there may be is this one
 abbrev pub is_at : Option ℕ → ℕ → Bool
@@ -68,22 +69,22 @@ in_force items m = record {
 -- 24
 abbrev pub makes : List Item → ℕ → ℕ → Bool
 makes items m k =
-    let prefix = prefix_of (spelled_at items k) in
+    let prefix = prefix_of (item_spelling_at items k) in
     (k == m) || ((is_global prefix && is_at (global_place items m prefix) k)
     || ((is_local prefix && (nat_le (locals_start items m) k && nat_lt k m)) || lies_in items k m))
 
 -- some global is in force, and isn't 0
 abbrev pub is_positive_at : List Item → Option ℕ → Bool
 is_positive_at items None = false
-is_positive_at items (Some k) = is_positive (spelled_at items k)
+is_positive_at items (Some k) = is_positive (item_spelling_at items k)
 
 -- an Input, Output or Feature item with bits
 abbrev pub is_listed : List Item → ℕ → Bool
 is_listed items m =
-    is_field (spelled_at items m) && (is_positive_at items (global_place items m REPORT_SIZE)
+    is_field (item_spelling_at items m) && (is_positive_at items (global_place items m REPORT_SIZE)
     && is_positive_at items (global_place items m REPORT_COUNT))
 
 -- the places among the first ones of the items that have bits
-abbrev pub listed_below : List Item → ℕ → List ℕ
-listed_below items zero = []
-listed_below items (suc m) = listed_below items m ++ (if is_listed items m then m ∷ [] else [])
+abbrev pub listed_places : List Item → ℕ → List ℕ
+listed_places items zero = []
+listed_places items (suc m) = listed_places items m ++ (if is_listed items m then m ∷ [] else [])

@@ -9,17 +9,17 @@ use Rattle.hid_descriptor.specs.declared.shape.Shape.TheVariants.{Padding, Varia
 use Rattle.hid_layout.specs.declared.main_item.MainItem.{MainItem}
 use Rattle.hid_layout.specs.Layout.{Contents}
 use Rattle.hid_layout.specs.Reports.{report_bytes}
-use Rattle.hid_notation.specs.Text.{joined_below}
+use Rattle.hid_notation.specs.Text.{concat_below}
 use Rattle.hid_drawing.specs.declared.frames.Frame.{Frame}
-use Rattle.hid_drawing.specs.declared.pieces.Part.{Part}
-use Rattle.hid_drawing.specs.declared.pieces.Part.TheVariants.{ReportId, Field, Filler}
-use Rattle.hid_drawing.specs.declared.pieces.Piece.{Piece}
+use Rattle.hid_drawing.specs.declared.pieces.BitSource.{BitSource}
+use Rattle.hid_drawing.specs.declared.pieces.BitSource.TheVariants.{ReportId, Field, FinalPadding}
+use Rattle.hid_drawing.specs.declared.pieces.ByteSlice.{ByteSlice}
 use Rattle.hid_drawing.specs.declared.areas.Area.{Area}
 use Rattle.hid_drawing.specs.declared.svg.TheConstants.{STYLE, OPENING, EDGE}
 use Rattle.hid_drawing.specs.declared.areas.TheConstants.{LINE, RIGHT}
 use Rattle.hid_drawing.specs.declared.lines.TheConstants.{NAME_COLUMNS}
-use Rattle.hid_drawing.specs.Escape.{escaped}
-use Rattle.hid_drawing.specs.Frames.{deepest}
+use Rattle.hid_drawing.specs.Escape.{escaped_words}
+use Rattle.hid_drawing.specs.Frames.{frame_depth}
 use Rattle.hid_drawing.specs.Words.{report_name, count_text, piece_name, part_details, part_flags, place_text}
 use Rattle.hid_drawing.specs.Areas.{left_of, cell_height, row_top, piece_area, frame_area, bit_middle, name_left}
 use Rattle.hid_drawing.specs.Lines.{line_count, both_counts, columns_of, line_of, lines_in_front, rows_of}
@@ -45,29 +45,29 @@ field_class item (Some main) =
     ++ codes "'"
 
 -- the class of a part
-unfoldable pub part_class : Contents → Part → List ℕ
+unfoldable pub part_class : Contents → BitSource → List ℕ
 part_class layout ReportId = codes " class='i'"
-part_class layout Filler = codes " class='p'"
+part_class layout FinalPadding = codes " class='p'"
 part_class layout (Field item element) = field_class item (slice_get layout.items item)
 
--- what is said of a part behind its place: the filler has nothing, and only fields have flags
-unfoldable pub part_saying : Contents → ℕ → Part → List ℕ
+-- what is said of a part after its place: the filler has nothing, and only fields have flags
+unfoldable pub part_saying : Contents → ℕ → BitSource → List ℕ
 part_saying layout r ReportId = codes "; " ++ part_details layout r ReportId
-part_saying layout r Filler = []
+part_saying layout r FinalPadding = []
 part_saying layout r (Field i j) =
     codes "; " ++ part_details layout r (Field i j) ++ codes "; " ++ part_flags layout (Field i j)
 
 -- what a cell is read as: its name, its place, what is said of it and its flags
-unfoldable pub cell_title : Contents → ℕ → Piece → List ℕ
+unfoldable pub cell_title : Contents → ℕ → ByteSlice → List ℕ
 cell_title layout r piece =
-    codes "<title>" ++ escaped (piece_name layout piece) ++ codes ": " ++ place_text piece
+    codes "<title>" ++ escaped_words (piece_name layout piece) ++ codes ": " ++ place_text piece
     ++ part_saying layout r piece.part ++ codes "</title>"
 
 -- the class of a line: a name, or what is said of it
 abbrev pub line_class : ℕ → ℕ → List ℕ
 line_class count k = if nat_lt k count then codes "n" else codes "d"
 
--- where a line of a cell begins
+-- the opening tag of a line of a cell: its class and its place
 unfoldable pub line_head : ℕ → ℕ → ℕ → List ℕ
 line_head count k y =
     codes "<text class='" ++ line_class count k ++ codes "' x='6' y='" ++ decimal y ++ codes "'>"
@@ -75,14 +75,16 @@ line_head count k y =
 -- a line of two texts, one below the other
 unfoldable pub text_line : List ℕ → List ℕ → ℕ → ℕ → List ℕ
 text_line name details columns k =
-    line_head (line_count name columns) k (15 + LINE * k) ++ escaped (line_of name details columns k) ++ codes "</text>"
+    line_head (line_count name columns) k (15 + LINE * k) ++ escaped_words (line_of name details columns k)
+    ++ codes "</text>"
 
 -- the lines of two texts
 unfoldable pub text_lines : List ℕ → List ℕ → ℕ → List ℕ
-text_lines name details columns = joined_below (both_counts name details columns) (text_line name details columns)
+text_lines name details columns =
+    concat_below (both_counts name details columns) (text_line name details columns)
 
 -- what a cell shows: its name, and what is said of it
-unfoldable pub cell_words : Contents → ℕ → Piece → List ℕ
+unfoldable pub cell_words : Contents → ℕ → ByteSlice → List ℕ
 cell_words layout r piece =
     text_lines (piece_name layout piece) (part_details layout r piece.part) (columns_of true piece)
 
@@ -91,13 +93,13 @@ unfoldable pub edge_text : ℕ → List ℕ
 edge_text height = EDGE.now ++ decimal (height - 2) ++ codes "' rx='3'/>"
 
 -- a cell begins with its class, and with the area in which it lies
-unfoldable pub cell_head : Contents → ℕ → List ℕ → Piece → List ℕ
+unfoldable pub cell_head : Contents → ℕ → List ℕ → ByteSlice → List ℕ
 cell_head layout depth rows piece =
     codes "<a" ++ part_class layout piece.part ++ codes "><svg" ++ area_text (piece_area depth rows piece)
     ++ edge_text (cell_height rows piece.byte)
 
 -- a cell stands where its piece says
-unfoldable pub cell_text : Contents → ℕ → ℕ → List ℕ → Piece → List ℕ
+unfoldable pub cell_text : Contents → ℕ → ℕ → List ℕ → ByteSlice → List ℕ
 cell_text layout r depth rows piece =
     cell_head layout depth rows piece ++ cell_title layout r piece ++ cell_words layout r piece
     ++ codes "</svg></a>" ++ 10 ∷ []
@@ -105,24 +107,26 @@ cell_text layout r depth rows piece =
 -- what a frame is read as
 unfoldable pub frame_title : Contents → Frame → List ℕ
 frame_title layout frame =
-    codes "<g><title>" ++ escaped (frame_name layout frame) ++ codes ": bytes " ++ decimal frame.first ++ codes " to "
+    codes "<g><title>" ++ escaped_words (frame_name layout frame) ++ codes ": bytes " ++ decimal frame.first
+    ++ codes " to "
     ++ decimal frame.last ++ codes "</title>"
 
--- where a name begins
+-- the opening tag of a name beside a frame: its place
 unfoldable pub label_head : ℕ → ℕ → List ℕ
 label_head x y = codes "<text class='o' x='" ++ decimal x ++ codes "' y='" ++ decimal y ++ codes "'>"
 
 -- a line of the name beside a frame
 unfoldable pub label_line : ℕ → ℕ → List ℕ → ℕ → List ℕ
 label_line depth top name k =
-    label_head (name_left depth) (top + LINE * k) ++ escaped (line_of name [] NAME_COLUMNS k) ++ codes "</text>"
+    label_head (name_left depth) (top + LINE * k) ++ escaped_words (line_of name [] NAME_COLUMNS k)
+    ++ codes "</text>"
 
 -- the lines of the name beside a frame
 unfoldable pub label_lines : ℕ → ℕ → List ℕ → List ℕ
 label_lines depth top name =
-    joined_below (line_count name NAME_COLUMNS) (label_line depth top name) ++ codes "</g>" ++ 10 ∷ []
+    concat_below (line_count name NAME_COLUMNS) (label_line depth top name) ++ codes "</g>" ++ 10 ∷ []
 
--- the name beside a frame stands at its first byte, below so many other lines
+-- the name beside a frame stands at its first byte, below n other lines
 unfoldable pub frame_label : Contents → ℕ → List ℕ → ℕ → Frame → List ℕ
 frame_label layout depth rows front frame =
     label_lines depth (row_top depth rows frame.first + 11 + LINE * front) (frame_name layout frame)
@@ -134,9 +138,9 @@ frame_text layout depth rows front frame =
     ++ frame_label layout depth rows front frame
 
 -- a frame that there may be, its name below those of the frames in front of it that begin in its first byte
-unfoldable pub frame_behind : Contents → ℕ → List ℕ → List Frame → ℕ → Option Frame → List ℕ
-frame_behind layout depth rows frames k None = []
-frame_behind layout depth rows frames k (Some frame) =
+unfoldable pub frame_backdrop : Contents → ℕ → List ℕ → List Frame → ℕ → Option Frame → List ℕ
+frame_backdrop layout depth rows frames k None = []
+frame_backdrop layout depth rows frames k (Some frame) =
     frame_text layout depth rows (lines_in_front layout frames frame.first k) frame
 
 -- the number above a bit
@@ -153,11 +157,11 @@ byte_number depth rows b =
 
 -- the numbers above the bits
 unfoldable pub bit_ruler : ℕ → List ℕ
-bit_ruler left = joined_below 8 (bit_number left)
+bit_ruler left = concat_below 8 (bit_number left)
 
 -- the numbers beside the bytes
 unfoldable pub byte_ruler : ℕ → List ℕ → ℕ → List ℕ
-byte_ruler depth rows bytes = joined_below bytes (byte_number depth rows)
+byte_ruler depth rows bytes = concat_below bytes (byte_number depth rows)
 
 -- the rulers of a report
 unfoldable pub rulers : ℕ → List ℕ → ℕ → List ℕ
@@ -186,25 +190,25 @@ picture_head numbered depth rows bytes report =
 -- the frames of a report
 unfoldable pub frames_text : Contents → ℕ → List ℕ → List Frame → List ℕ
 frames_text layout depth rows frames =
-    joined_below (length frames) (λ k. frame_behind layout depth rows frames k (slice_get frames k))
+    concat_below (length frames) (λ k. frame_backdrop layout depth rows frames k (slice_get frames k))
 
 -- the cells of a report
-unfoldable pub cells_text : Contents → ℕ → ℕ → List ℕ → List Piece → List ℕ
+unfoldable pub cells_text : Contents → ℕ → ℕ → List ℕ → List ByteSlice → List ℕ
 cells_text layout r depth rows pieces = flat_map (λ piece. cell_text layout r depth rows piece) pieces
 
--- the picture of a report of so many bytes, by its frames, its pieces and the lines of its rows
-unfoldable pub picture_by : Contents → ℕ → ℕ → List Frame → List Piece → Report → ℕ → List ℕ → List ℕ
+-- the picture of a report of n bytes, by its frames, its pieces and the lines of its rows
+unfoldable pub picture_by : Contents → ℕ → ℕ → List Frame → List ByteSlice → Report → ℕ → List ℕ → List ℕ
 picture_by layout r bytes frames pieces report depth rows =
     picture_head layout.numbered depth rows bytes report ++ codes "<g id='g" ++ decimal r ++ codes "'>"
     ++ rulers depth rows bytes ++ frames_text layout depth rows frames ++ cells_text layout r depth rows pieces
     ++ codes "</g></svg>" ++ 10 ∷ []
 
--- the picture of a report of so many bytes, by its frames and its pieces
-unfoldable pub picture_of : Contents → ℕ → ℕ → List Frame → List Piece → Report → List ℕ
+-- the picture of a report of n bytes, by its frames and its pieces
+unfoldable pub picture_of : Contents → ℕ → ℕ → List Frame → List ByteSlice → Report → List ℕ
 picture_of layout r bytes frames pieces report =
-    picture_by layout r bytes frames pieces report (deepest frames) (rows_of layout r bytes frames pieces)
+    picture_by layout r bytes frames pieces report (frame_depth frames) (rows_of layout r bytes frames pieces)
 
 -- the picture of the report at a place, or nothing if there is none
-abbrev pub picture_at : Contents → ℕ → List Frame → List Piece → Option Report → List ℕ
+abbrev pub picture_at : Contents → ℕ → List Frame → List ByteSlice → Option Report → List ℕ
 picture_at layout r frames pieces None = []
 picture_at layout r frames pieces (Some report) = picture_of layout r (report_bytes layout r) frames pieces report

@@ -15,9 +15,9 @@ use Rattle.hid_descriptor.specs.declared.usage.Usage.{Usage}
 use Rattle.hid_layout.specs.declared.main_item.MainItem.{MainItem}
 use Rattle.hid_layout.specs.Layout.{Contents}
 use Rattle.hid_layout.specs.Reports.{usage_of}
-use Rattle.hid_drawing.specs.declared.pieces.Part.{Part}
-use Rattle.hid_drawing.specs.declared.pieces.Part.TheVariants.{ReportId, Field, Filler}
-use Rattle.hid_drawing.specs.declared.pieces.Piece.{Piece}
+use Rattle.hid_drawing.specs.declared.pieces.BitSource.{BitSource}
+use Rattle.hid_drawing.specs.declared.pieces.BitSource.TheVariants.{ReportId, Field, FinalPadding}
+use Rattle.hid_drawing.specs.declared.pieces.ByteSlice.{ByteSlice}
 use Rattle.hid_drawing.specs.declared.words.TheConstants.{FLAG_WORDS}
 use Rattle.hid_drawing.specs.Label.{usage_label}
 
@@ -93,7 +93,7 @@ entry_text entry =
     if (entry.0.page == entry.1.page) && (entry.0.id == entry.1.id) then usage_label entry.0
     else usage_label entry.0 ++ codes " to " ++ usage_label entry.1
 
--- from the first usage of a range to the last one of the ranges behind it
+-- the usages from the first one of a range to the last one of the ranges after it, in words
 abbrev pub choice_from : Usage → Usage → List Entry → List ℕ
 choice_from first last [] = entry_text (first, last)
 choice_from first last (entry ∷ more) = choice_from first entry.1 more
@@ -124,20 +124,20 @@ field_name layout i j (Some item) (Some entries) = name_in layout i j item.shape
 field_name layout i j _ _ = []
 
 -- what a part of a report is called
-abbrev pub part_name : Contents → Part → List ℕ
+abbrev pub part_name : Contents → BitSource → List ℕ
 part_name layout ReportId = codes "Report ID"
-part_name layout Filler = codes "unused"
+part_name layout FinalPadding = codes "unused"
 part_name layout (Field i j) = field_name layout i j (slice_get layout.items i) (slice_get layout.entries i)
 
 -- which bits of its field a piece has, where it hasn't all of them
-abbrev pub share_text : Piece → List ℕ
+abbrev pub share_text : ByteSlice → List ℕ
 share_text piece =
     if (piece.high - piece.low) == piece.width then []
     else codes ", bits " ++ decimal piece.front ++ codes " to "
     ++ decimal ((piece.front + (piece.high - piece.low)) - 1)
 
 -- what a piece is called
-unfoldable pub piece_name : Contents → Piece → List ℕ
+unfoldable pub piece_name : Contents → ByteSlice → List ℕ
 piece_name layout piece = part_name layout piece.part ++ share_text piece
 
 -- a range, and what sets its numbers apart
@@ -164,9 +164,9 @@ id_text None = []
 id_text (Some report) = decimal report.id
 
 -- what is said of a part of the report r
-unfoldable pub part_details : Contents → ℕ → Part → List ℕ
+unfoldable pub part_details : Contents → ℕ → BitSource → List ℕ
 part_details layout r ReportId = id_text (slice_get layout.reports r)
-part_details layout r Filler = []
+part_details layout r FinalPadding = []
 part_details layout r (Field i j) = item_details (slice_get layout.items i)
 
 -- the flags of an item that there may be
@@ -175,9 +175,9 @@ item_flags layout None = []
 item_flags layout (Some item) = flags_text (is_input_item layout item) item.flags.0
 
 -- the flags of a part
-unfoldable pub part_flags : Contents → Part → List ℕ
+unfoldable pub part_flags : Contents → BitSource → List ℕ
 part_flags layout ReportId = []
-part_flags layout Filler = []
+part_flags layout FinalPadding = []
 part_flags layout (Field i j) = item_flags layout (slice_get layout.items i)
 
 -- a bit by its byte, and its place there
@@ -185,7 +185,7 @@ unfoldable pub bit_text : ℕ → List ℕ
 bit_text bit = codes "byte " ++ decimal (bit / 8) ++ codes ", bit " ++ decimal (bit % 8)
 
 -- the bits of a byte that a piece has
-unfoldable pub place_text : Piece → List ℕ
+unfoldable pub place_text : ByteSlice → List ℕ
 place_text piece =
     codes "byte " ++ decimal piece.byte
     ++ (if (piece.high - piece.low) == 1 then codes ", bit " ++ decimal piece.low

@@ -4,7 +4,7 @@ ghost use Rattle.std.specs.Prelude.{◌≡◌, ◌≤◌, ◌+◌, ◌*◌};
 ghost use Rattle.hid_drawing.specs.Areas.{inset, gap_of, left_of, cell_height, row_top, piece_area, frame_area, bit_middle, name_left};
 
 use crate::frames::Frame;
-use crate::pieces::Piece;
+use crate::pieces::ByteSlice;
 use hid_layout::MAX_OPEN_COLLECTIONS;
 
 /// The width of a bit.
@@ -40,7 +40,7 @@ pub struct Area {
     pub height: u64,
 }
 
-/// What so many frames take at one side.
+/// What n frames take at one side.
 fn inset(level: usize) -> u64
     ensures value { result ≡ inset level }
     ensures bound { result ≤ 96 }
@@ -48,7 +48,7 @@ fn inset(level: usize) -> u64
     STEP * level.min(MAX_OPEN_COLLECTIONS) as u64
 }
 
-/// Between two bytes.
+/// The gap between two bytes.
 pub fn gap_of(depth: usize) -> u64
     ensures value { result ≡ gap_of depth }
     ensures bound { result ≤ 96 }
@@ -91,7 +91,7 @@ pub fn row_top(depth: usize, rows: &[u16], byte: u32) -> u64
 
 /// The area of a piece.
 #[tactic(auto, unfolding(crate::specs::Areas::piece_area))]
-pub fn piece_area(depth: usize, rows: &[u16], piece: &Piece) -> Area
+pub fn piece_area(depth: usize, rows: &[u16], piece: &ByteSlice) -> Area
     ensures { result ≡ piece_area depth rows.now piece.now }
 {
     Area {

@@ -2,13 +2,17 @@
 
 ghost use Rattle.std.specs.Prelude.{◌≡◌, ◌∷◌, [], ◌++◌, ℕ, List, true, OnOk, string_bytes};
 ghost use Rattle.std.specs.List.{list_all};
-ghost use Rattle.hid_drawing.specs.Escape.{printed, escape_of, escaped, is_inert};
+ghost use Rattle.hid_drawing.specs.Escape.{printable_byte, escape_of, escaped_words, is_inert};
 
 use std::alloc::AllocError;
 
 /// Adds a byte, or `?` for one that is no ASCII that prints.
+///
+/// # Errors
+/// Out of memory.
 pub fn push_printed(text: &mut String, byte: u8) -> Result<(), AllocError>
-    ensures { OnOk result (string_bytes text.new ≡ string_bytes text.old ++ printed byte ∷ []) }
+    ensures { OnOk result
+        (string_bytes text.new ≡ string_bytes text.old ++ printable_byte byte ∷ []) }
 {
     if 32 <= byte && byte <= 126 {
         text.push(char::from(byte))
@@ -32,8 +36,12 @@ fn push_byte(text: &mut String, byte: u8) -> Result<(), AllocError>
 }
 
 /// Adds words so that they stand for themselves in a page.
+///
+/// # Errors
+/// Out of memory; part of the text may be added then.
 pub fn push_escaped(text: &mut String, words: &[u8]) -> Result<(), AllocError>
-    ensures { OnOk result (string_bytes text.new ≡ string_bytes text.old ++ escaped words.now) }
+    ensures { OnOk result
+        (string_bytes text.new ≡ string_bytes text.old ++ escaped_words words.now) }
 {
     for byte in words {
         push_byte(text, *byte)?;
@@ -43,5 +51,5 @@ pub fn push_escaped(text: &mut String, words: &[u8]) -> Result<(), AllocError>
 
 /// No words end the text, the tag or the attribute in which they stand.
 pub fn words_are_inert()
-    ensures { (words : List ℕ) → list_all is_inert (escaped words) ≡ true }
+    ensures { (words : List ℕ) → list_all is_inert (escaped_words words) ≡ true }
 {}

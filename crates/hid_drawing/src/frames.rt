@@ -2,9 +2,9 @@
 
 ghost use Rattle.std.specs.Prelude.{◌≡◌, ◌+◌, ◌++◌, ◌<◌, ◌≤◌, length, slice_get, Some, IfOk, OnOk};
 ghost use Rattle.hid_drawing.specs.Pieces.{LiesIn};
-ghost use Rattle.hid_drawing.specs.Frames.{first_byte, last_byte, main_at, reaching, frame_with, frame_below, open_below, round_at, frame_at, frames_of, deepest};
+ghost use Rattle.hid_drawing.specs.Frames.{first_byte, last_byte, main_at, extended_frame, frame_with, frame_below, open_below, round_at, frame_at, frames_of, frame_depth};
 
-use crate::items::spelled_at;
+use crate::items::item_spelling_at;
 use crate::listed::{first_bit_of, item_at};
 use crate::makers::{collections_after, ends_collection, lies_in};
 use hid_items::Item;
@@ -61,7 +61,7 @@ pub fn main_at(mains: &[usize], i: usize) -> usize
 /// A frame that reaches to one more item, or begins with it.
 fn reaching(layout: &Layout, i: usize, item: &MainItem, frame: Option<Frame>) -> Frame
     requires { LiesIn layout.now item.now }
-    ensures { result ≡ reaching layout.now i item.now frame }
+    ensures { result ≡ extended_frame layout.now i item.now frame }
 {
     let last = last_byte(layout, item);
     match frame {
@@ -119,6 +119,9 @@ impl Drawn<'_> {
     }
 
     /// The frames of the report, in the order of the descriptor.
+    ///
+    /// # Errors
+    /// Out of memory.
     pub fn frames(&self, alloc: Global) -> Result<Vec<Frame>, AllocError>
         ensures { IfOk result (λ frames. frames.items
             ≡ frames_of self.now.layout.now self.now.items.now self.now.mains.now self.now.report) }
@@ -131,14 +134,14 @@ impl Drawn<'_> {
     }
 }
 
-/// How many collections are open behind the first items.
+/// How many collections are open after the first items.
 fn open_below(items: &[Item], end: usize) -> usize
     ensures value { result ≡ open_below items.now end }
     ensures few { result ≤ end }
 {
     let mut count = 0;
     for k in 0..end {
-        count = collections_after(count, spelled_at(items, k));
+        count = collections_after(count, item_spelling_at(items, k));
     }
     count
 }
@@ -149,7 +152,7 @@ pub fn round_at(items: &[Item], c: usize) -> usize
     ensures few { result ≤ c }
 {
     let count = open_below(items, c);
-    if ends_collection(spelled_at(items, c)) {
+    if ends_collection(item_spelling_at(items, c)) {
         count.saturating_sub(1)
     } else {
         count
@@ -157,8 +160,8 @@ pub fn round_at(items: &[Item], c: usize) -> usize
 }
 
 /// How many frames stand in one another.
-pub fn deepest(frames: &[Frame]) -> usize
-    ensures { result ≡ deepest frames.now }
+pub fn frame_depth(frames: &[Frame]) -> usize
+    ensures { result ≡ frame_depth frames.now }
 {
     let mut level = 0;
     for frame in frames {

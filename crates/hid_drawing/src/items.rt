@@ -3,12 +3,15 @@
 ghost use Rattle.std.specs.Prelude.{◌≡◌, ◌==◌, ◌<◌, ◌^◌, not, length, slice_get, IfOk};
 ghost use Rattle.std.specs.List.{list_any};
 ghost use Rattle.hid_items.specs.Spelling.{prefix_of};
-ghost use Rattle.hid_drawing.specs.Items.{AreItemsOf, spelled_at, place_of, is_positive};
+ghost use Rattle.hid_drawing.specs.Items.{AreItemsOf, item_spelling_at, place_of, is_positive};
 
 use hid_items::{Item, Items};
 use std::alloc::{AllocError, Global};
 
 /// The items with which a descriptor begins, up to its end or to where it is cut off.
+///
+/// # Errors
+/// Out of memory.
 pub fn read_items(alloc: Global, descriptor: &[u8]) -> Result<Vec<Item<'_>>, AllocError>
     requires { length descriptor.now < 2 ^ 64 }
     ensures { IfOk result (λ items. AreItemsOf descriptor.now items.items) }
@@ -34,8 +37,8 @@ pub fn prefix_of(spelled: &[u8]) -> u8
 }
 
 /// How the item at a place is spelled; no bytes where there is none.
-pub fn spelled_at<'a>(items: &[Item<'a>], k: usize) -> &'a [u8]
-    ensures { result.now ≡ spelled_at items.now k }
+pub fn item_spelling_at<'a>(items: &[Item<'a>], k: usize) -> &'a [u8]
+    ensures { result.now ≡ item_spelling_at items.now k }
 {
     match items.get(k) {
         None => &[],

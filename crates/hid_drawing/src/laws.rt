@@ -14,7 +14,7 @@ pub fn places_are_fields()
     truncation_is_no_reading();
 }
 
-/// The pieces that [`pieces_of`](crate::pieces_of) gives lie one behind the other, from the first bit of a report to the
+/// The pieces that [`pieces_of`](crate::pieces_of) gives lie one after the other, from the first bit of a report to the
 /// last one of its last byte, so each bit is in one piece, and in one alone.
 pub fn pieces_fill_reports()
     ensures order { FillReports }

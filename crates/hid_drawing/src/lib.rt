@@ -38,7 +38,7 @@ mod words;
 
 pub use areas::{RIGHT, gap_of, name_left, row_top};
 pub use escape::{push_escaped, words_are_inert};
-pub use frames::{Drawn, Frame, deepest, main_at, round_at};
+pub use frames::{Drawn, Frame, frame_depth, main_at, round_at};
 pub use items::{place_of, prefix_of, read_items};
 pub use label::UsageLabel;
 pub use lines::rows_of;
@@ -46,7 +46,7 @@ pub use listed::{first_bit_of, item_at, report_at};
 pub use makers::{
     COLLECTION, InForce, global_place, in_force, is_field, is_main, listed_places, makes,
 };
-pub use pieces::{Part, Piece, pieces_of};
+pub use pieces::{BitSource, ByteSlice, pieces_of};
 pub use svg::print_picture;
 pub use terminal::print_terminal;
 pub use words::{

@@ -1,11 +1,11 @@
-//! Words in lines of so many columns, and how high they make a row.
+//! Words in lines of n columns, and how high they make a row.
 
 ghost use Rattle.std.specs.Prelude.{◌≡◌, ◌≤◌, ◌<◌, length, Some, IfOk};
-ghost use Rattle.hid_drawing.specs.Lines.{byte_at, last_space, first_width, behind_line, line_at, line_count, columns_of, both_counts, piece_lines, row_lines, line_of, name_lines, lines_in_front, rows_of};
+ghost use Rattle.hid_drawing.specs.Lines.{byte_at, last_space, first_width, after_line, line_at, line_count, columns_of, both_counts, piece_lines, row_lines, line_of, name_lines, lines_in_front, rows_of};
 
 use crate::frames::Frame;
 use crate::picture_words::print_frame_name;
-use crate::pieces::Piece;
+use crate::pieces::ByteSlice;
 use crate::words::{print_part_details, print_piece_name};
 use hid_layout::Layout;
 use std::alloc::{AllocError, Global};
@@ -16,7 +16,7 @@ pub const NAME_COLUMNS: usize = 24;
 /// So many lines has each row at least.
 pub const LEAST_LINES: u16 = 2;
 
-/// The byte at a place, and a space behind the end.
+/// The byte at a place, and a space after the end.
 pub fn byte_at(words: &[u8], k: usize) -> u8
     ensures { result ≡ byte_at words.now k }
 {
@@ -26,7 +26,7 @@ pub fn byte_at(words: &[u8], k: usize) -> u8
     }
 }
 
-/// The last place from 1 on, up to one behind the columns, that has a space; 0 where none has one.
+/// The last place from 1 on, up to one after the columns, that has a space; 0 where none has one.
 fn last_space(words: &[u8], columns: usize) -> usize
     ensures { result ≡ last_space words.now columns }
 {
@@ -49,9 +49,9 @@ fn first_width(words: &[u8], columns: usize) -> usize
     width.min(words.len())
 }
 
-/// What stands behind the first line, and behind the space at its end.
-fn behind_line(words: &[u8], columns: usize) -> &[u8]
-    ensures { result.now ≡ behind_line words.now columns }
+/// What stands after the first line, and after the space at its end.
+fn after_line(words: &[u8], columns: usize) -> &[u8]
+    ensures { result.now ≡ after_line words.now columns }
 {
     let rest = &words[first_width(words, columns)..];
     match rest {
@@ -60,13 +60,13 @@ fn behind_line(words: &[u8], columns: usize) -> &[u8]
     }
 }
 
-/// The line behind k others.
+/// The line after k others.
 fn line_at(words: &[u8], columns: usize, k: usize) -> &[u8]
     ensures { result.now ≡ line_at words.now columns k }
 {
     let mut rest = words;
     for _i in 0..k {
-        rest = behind_line(rest, columns);
+        rest = after_line(rest, columns);
     }
     &rest[..first_width(rest, columns)]
 }
@@ -81,13 +81,13 @@ pub fn line_count(words: &[u8], columns: usize) -> u16
         if rest.len() != 0 {
             count = count.saturating_add(1);
         }
-        rest = behind_line(rest, columns);
+        rest = after_line(rest, columns);
     }
     count
 }
 
 /// So many columns has a cell.
-pub fn columns_of(drawn: bool, piece: &Piece) -> usize
+pub fn columns_of(drawn: bool, piece: &ByteSlice) -> usize
     ensures { result ≡ columns_of drawn piece.now }
 {
     let bits = u64::from(piece.high.saturating_sub(piece.low));
@@ -123,7 +123,7 @@ fn piece_lines(
     layout: &Layout,
     r: usize,
     drawn: bool,
-    piece: &Piece,
+    piece: &ByteSlice,
 ) -> Result<u16, AllocError>
     requires { r < length layout.now.reports }
     ensures { IfOk result (λ lines. lines ≡ piece_lines layout.now r drawn piece.now) }
@@ -137,13 +137,16 @@ fn piece_lines(
 }
 
 /// How many lines a row has for its cells.
+///
+/// # Errors
+/// Out of memory.
 pub fn row_lines(
     alloc: Global,
     layout: &Layout,
     r: usize,
     drawn: bool,
     byte: u32,
-    pieces: &[Piece],
+    pieces: &[ByteSlice],
 ) -> Result<u16, AllocError>
     requires { r < length layout.now.reports }
     ensures { IfOk result (λ lines. lines ≡ row_lines layout.now r drawn byte pieces.now) }
@@ -170,6 +173,9 @@ fn name_lines(alloc: Global, layout: &Layout, byte: u32, frame: &Frame) -> Resul
 }
 
 /// How many lines the names of the first frames have beside the byte.
+///
+/// # Errors
+/// Out of memory.
 pub fn lines_in_front(
     alloc: Global,
     layout: &Layout,
@@ -188,13 +194,16 @@ pub fn lines_in_front(
 }
 
 /// The lines of the rows of a drawing, for cells and for the names of the frames.
+///
+/// # Errors
+/// Out of memory.
 pub fn rows_of(
     alloc: Global,
     layout: &Layout,
     r: usize,
     bytes: u32,
     frames: &[Frame],
-    pieces: &[Piece],
+    pieces: &[ByteSlice],
 ) -> Result<Vec<u16>, AllocError>
     requires { r < length layout.now.reports }
     ensures { IfOk result (λ rows. rows.items

@@ -23,11 +23,13 @@ pub fn report_at(layout: &Layout, r: usize) -> &Report
     ensures short { result.now.bits ≤ 8 * MAX_REPORT_BYTES }
     ensures bytes { report_bytes layout.now r ≤ MAX_REPORT_BYTES }
 {
-    let _items = layout.items();
+    // For the prover: what holds of every layout, as that its reports are short.
+    let _ = layout.items();
+
     &layout.reports()[r]
 }
 
-/// The first bit behind the ID.
+/// The first bit after the ID.
 pub(crate) fn first_bit(layout: &Layout) -> u32
     ensures { result ≡ first_bit layout.now }
 {

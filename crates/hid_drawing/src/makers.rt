@@ -4,9 +4,9 @@
 ghost use Rattle.std.specs.Prelude.{◌≡◌, ◌==◌, ◌&&◌, ◌+◌, ◌-◌, ◌<◌, ◌≤◌, ◌^◌, length, IfOk};
 ghost use Rattle.hid_descriptor.specs.Items.{is, is_main, is_field, PUSH, POP, COLLECTION, END_COLLECTION};
 ghost use Rattle.hid_descriptor.specs.Matching.{waiting_after};
-ghost use Rattle.hid_drawing.specs.Makers.{is_global, is_local, global_place, locals_start, closed_at, lies_in, is_at, in_force, makes, is_positive_at, is_listed, listed_below};
+ghost use Rattle.hid_drawing.specs.Makers.{is_global, is_local, global_place, locals_start, closing_place, lies_in, is_at, in_force, makes, is_positive_at, is_listed, listed_places};
 
-use crate::items::{is_positive, prefix_of, spelled_at};
+use crate::items::{is_positive, item_spelling_at, prefix_of};
 use hid_items::Item;
 use std::alloc::{AllocError, Global};
 
@@ -14,6 +14,7 @@ const REPORT_SIZE: u8 = 0x74;
 
 const REPORT_COUNT: u8 = 0x94;
 
+/// The prefix of a Collection item.
 pub const COLLECTION: u8 = 0xA0;
 
 const END_COLLECTION: u8 = 0xC0;
@@ -67,7 +68,7 @@ fn pops_after(waiting: usize, spelled: &[u8]) -> usize
     waiting_after(PUSH, POP, waiting, spelled)
 }
 
-/// How many collections are open behind an item.
+/// How many collections are open after an item.
 pub fn collections_after(count: usize, spelled: &[u8]) -> usize
     requires { count < 2 ^ 64 - 1 }
     ensures value { result ≡ waiting_after END_COLLECTION COLLECTION count spelled.now }
@@ -97,7 +98,7 @@ pub fn global_place(items: &[Item], m: usize, prefix: u8) -> Option<usize>
     let mut waiting = 0;
     for back in 0..m {
         let k = m - 1 - back;
-        let spelled = spelled_at(items, k);
+        let spelled = item_spelling_at(items, k);
         if is_sought(prefix, waiting, spelled) {
             return Some(k);
         }
@@ -106,13 +107,13 @@ pub fn global_place(items: &[Item], m: usize, prefix: u8) -> Option<usize>
     None
 }
 
-/// Behind how many items the locals of the place m begin.
+/// The number of items before the locals of the place m.
 fn locals_start(items: &[Item], m: usize) -> usize
     ensures { result ≡ locals_start items.now m }
 {
     for back in 0..m {
         let k = m - 1 - back;
-        if is_main(spelled_at(items, k)) {
+        if is_main(item_spelling_at(items, k)) {
             return k + 1;
         }
     }
@@ -120,9 +121,9 @@ fn locals_start(items: &[Item], m: usize) -> usize
 }
 
 /// Where the collection ends whose items are the rest, the first of them at a place.
-fn closed_at(rest: &[Item], place: usize) -> usize
+fn closing_place(rest: &[Item], place: usize) -> usize
     requires { place + length rest.now < 2 ^ 64 }
-    ensures { result ≡ closed_at 0 place rest.now }
+    ensures { result ≡ closing_place 0 place rest.now }
 {
     let mut waiting = 0;
     let mut at = place;
@@ -140,10 +141,10 @@ fn closed_at(rest: &[Item], place: usize) -> usize
 pub fn lies_in(items: &[Item], c: usize, m: usize) -> bool
     ensures { result ≡ lies_in items.now c m }
 {
-    prefix_of(spelled_at(items, c)) == COLLECTION
+    prefix_of(item_spelling_at(items, c)) == COLLECTION
         && c < items.len()
         && c < m
-        && m < closed_at(&items[c + 1..], c + 1)
+        && m < closing_place(&items[c + 1..], c + 1)
 }
 
 fn is_at(place: Option<usize>, k: usize) -> bool
@@ -155,7 +156,7 @@ fn is_at(place: Option<usize>, k: usize) -> bool
     }
 }
 
-/// What is in force at a main item: the places of the items that set its globals, and behind how many items its locals
+/// What is in force at a main item: the places of the items that set its globals, and after how many items its locals
 /// begin.
 #[derive(Clone, Copy)]
 pub struct InForce {
@@ -188,7 +189,6 @@ fn is_in_force(items: &[Item], found: &InForce, m: usize, prefix: u8, k: usize) 
     requires { found.now ≡ in_force items.now m }
     ensures { result ≡ is_global prefix && is_at (global_place items.now m prefix) k }
 {
-    let _items = items;
     match prefix {
         0x04 => is_at(found.page, k),
         0x14 => is_at(found.min, k),
@@ -205,7 +205,7 @@ pub fn makes(items: &[Item], found: &InForce, m: usize, k: usize) -> bool
     requires { found.now ≡ in_force items.now m }
     ensures { result ≡ makes items.now m k }
 {
-    let prefix = prefix_of(spelled_at(items, k));
+    let prefix = prefix_of(item_spelling_at(items, k));
     k == m
         || is_in_force(items, found, m, prefix, k)
         || (is_local(prefix) && (found.locals <= k && k < m))
@@ -217,7 +217,7 @@ fn is_positive_at(items: &[Item], place: Option<usize>) -> bool
 {
     match place {
         None => false,
-        Some(k) => is_positive(spelled_at(items, k)),
+        Some(k) => is_positive(item_spelling_at(items, k)),
     }
 }
 
@@ -225,14 +225,17 @@ fn is_positive_at(items: &[Item], place: Option<usize>) -> bool
 fn is_listed(items: &[Item], m: usize) -> bool
     ensures { result ≡ is_listed items.now m }
 {
-    is_field(spelled_at(items, m))
+    is_field(item_spelling_at(items, m))
         && is_positive_at(items, global_place(items, m, REPORT_SIZE))
         && is_positive_at(items, global_place(items, m, REPORT_COUNT))
 }
 
 /// The places of the items that have bits.
+///
+/// # Errors
+/// Out of memory.
 pub fn listed_places(alloc: Global, items: &[Item]) -> Result<Vec<usize>, AllocError>
-    ensures { IfOk result (λ places. places.items ≡ listed_below items.now (length items.now)) }
+    ensures { IfOk result (λ places. places.items ≡ listed_places items.now (length items.now)) }
 {
     let mut places = Vec::new(alloc);
     for m in 0..items.len() {

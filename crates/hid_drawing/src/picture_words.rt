@@ -21,6 +21,9 @@ fn print_level(text: &mut String, path: &[Collection], level: usize) -> Result<(
 }
 
 /// Adds what a frame is called.
+///
+/// # Errors
+/// Out of memory; part of the text may be added then.
 #[tactic(auto, unfolding(crate::specs::PictureWords::frame_name))]
 pub fn print_frame_name(text: &mut String, layout: &Layout, frame: &Frame) -> Result<(), AllocError>
     ensures { OnOk result (string_bytes text.new

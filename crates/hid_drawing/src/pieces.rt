@@ -2,7 +2,7 @@
 
 ghost use Rattle.std.specs.Prelude.{◌≡◌, ◌++◌, ◌+◌, ◌<◌, ◌≤◌, ◌/◌, ◌%◌, ◌^◌, length, slice_get, Some, IfOk, OnOk};
 ghost use Rattle.hid_layout.specs.Reports.{first_bit, element_of};
-ghost use Rattle.hid_drawing.specs.Pieces.{LiesIn, gathered, piece_of, stretch_pieces, element_pieces, shape_pieces, item_pieces, id_pieces, filler_pieces, pieces_of};
+ghost use Rattle.hid_drawing.specs.Pieces.{LiesIn, concat_lists, piece_of, segment_pieces, element_pieces, shape_pieces, item_pieces, id_pieces, padding_pieces, pieces_of};
 
 use crate::listed::{first_bit, first_bit_of, item_at, report_at};
 use hid_layout::{Layout, MainItem, Shape};
@@ -10,19 +10,19 @@ use std::alloc::{AllocError, Global};
 
 /// What some bits of a report are.
 #[derive(Clone, Copy, Debug)]
-pub enum Part {
+pub enum BitSource {
     /// The Report ID.
     ReportId,
     /// An element of a listed item; of padding all of it.
     Field { item: usize, element: usize },
     /// What fills up the last byte.
-    Filler,
+    FinalPadding,
 }
 
-/// Bits of a report that lie behind one another.
+/// Bits of a report that lie after one another.
 #[derive(Clone, Copy, Debug)]
-pub struct Stretch {
-    pub part: Part,
+pub struct Segment {
+    pub part: BitSource,
     /// Where it begins, in bits of the report with its ID.
     pub bit: u32,
     pub width: u32,
@@ -30,8 +30,8 @@ pub struct Stretch {
 
 /// What of a stretch lies in one byte.
 #[derive(Clone, Copy, Debug)]
-pub struct Piece {
-    pub part: Part,
+pub struct ByteSlice {
+    pub part: BitSource,
     /// The byte of the report, its ID among them.
     pub byte: u32,
     /// Its lowest bit in that byte.
@@ -45,15 +45,15 @@ pub struct Piece {
 }
 
 /// What of a stretch lies in the k-th byte that it touches.
-fn piece_of(stretch: &Stretch, k: u32) -> Piece
+fn piece_of(stretch: &Segment, k: u32) -> ByteSlice
     requires small { stretch.now.bit + stretch.now.width ≤ 2 ^ 16 }
     requires touched { k < (stretch.now.bit % 8 + stretch.now.width + 7) / 8 }
     ensures { result ≡ piece_of stretch.now k }
 {
-    let Stretch { part, bit, width } = *stretch;
+    let Segment { part, bit, width } = *stretch;
     let byte = bit / 8 + k;
     let low = if k == 0 { bit % 8 } else { 0 };
-    Piece {
+    ByteSlice {
         part,
         byte,
         low,
@@ -64,9 +64,9 @@ fn piece_of(stretch: &Stretch, k: u32) -> Piece
 }
 
 /// Adds the pieces of a stretch.
-fn push_pieces(pieces: &mut Vec<Piece>, stretch: &Stretch) -> Result<(), AllocError>
+fn push_pieces(pieces: &mut Vec<ByteSlice>, stretch: &Segment) -> Result<(), AllocError>
     requires { stretch.now.bit + stretch.now.width ≤ 2 ^ 16 }
-    ensures { OnOk result (pieces.new.items ≡ pieces.old.items ++ stretch_pieces stretch.now) }
+    ensures { OnOk result (pieces.new.items ≡ pieces.old.items ++ segment_pieces stretch.now) }
 {
     for k in 0..(stretch.bit % 8 + stretch.width + 7) / 8 {
         pieces.push(piece_of(stretch, k))?;
@@ -76,7 +76,7 @@ fn push_pieces(pieces: &mut Vec<Piece>, stretch: &Stretch) -> Result<(), AllocEr
 
 /// Adds the pieces of a data field.
 fn push_element(
-    pieces: &mut Vec<Piece>,
+    pieces: &mut Vec<ByteSlice>,
     layout: &Layout,
     i: usize,
     j: usize,
@@ -91,8 +91,8 @@ fn push_element(
         None => Ok(()),
         Some(element) => push_pieces(
             pieces,
-            &Stretch {
-                part: Part::Field {
+            &Segment {
+                part: BitSource::Field {
                     item: i,
                     element: j,
                 },
@@ -105,7 +105,7 @@ fn push_element(
 
 /// Adds the pieces of padding.
 fn push_padding(
-    pieces: &mut Vec<Piece>,
+    pieces: &mut Vec<ByteSlice>,
     layout: &Layout,
     i: usize,
     item: &MainItem,
@@ -116,8 +116,8 @@ fn push_padding(
 {
     push_pieces(
         pieces,
-        &Stretch {
-            part: Part::Field {
+        &Segment {
+            part: BitSource::Field {
                 item: i,
                 element: 0,
             },
@@ -129,7 +129,7 @@ fn push_padding(
 
 /// Adds the pieces of each data field of an item.
 fn push_elements(
-    pieces: &mut Vec<Piece>,
+    pieces: &mut Vec<ByteSlice>,
     layout: &Layout,
     i: usize,
     item: &MainItem,
@@ -137,7 +137,9 @@ fn push_elements(
     requires at { slice_get layout.now.items i ≡ Some item.now }
     requires lies { LiesIn layout.now item.now }
     ensures { OnOk result (pieces.new.items
-        ≡ pieces.old.items ++ gathered item.now.count (λ j. element_pieces layout.now i j (element_of layout.now i j))) }
+        ≡ pieces.old.items
+        ++ concat_lists item.now.count
+        (λ j. element_pieces layout.now i j (element_of layout.now i j))) }
 {
     for j in 0..item.count as usize {
         push_element(pieces, layout, i, j, item)?;
@@ -147,7 +149,7 @@ fn push_elements(
 
 /// Adds the pieces of an item, where it stands in the report.
 fn push_item(
-    pieces: &mut Vec<Piece>,
+    pieces: &mut Vec<ByteSlice>,
     layout: &Layout,
     r: usize,
     i: usize,
@@ -168,14 +170,14 @@ fn push_item(
 }
 
 /// Adds the byte of the Report ID.
-fn push_id(pieces: &mut Vec<Piece>, layout: &Layout) -> Result<(), AllocError>
+fn push_id(pieces: &mut Vec<ByteSlice>, layout: &Layout) -> Result<(), AllocError>
     ensures { OnOk result (pieces.new.items ≡ pieces.old.items ++ id_pieces layout.now) }
 {
     if !layout.numbered() {
         return Ok(());
     }
-    pieces.push(Piece {
-        part: Part::ReportId,
+    pieces.push(ByteSlice {
+        part: BitSource::ReportId,
         byte: 0,
         low: 0,
         high: 8,
@@ -186,10 +188,14 @@ fn push_id(pieces: &mut Vec<Piece>, layout: &Layout) -> Result<(), AllocError>
 }
 
 /// Adds the bits that fill up the last byte of a report.
-fn push_filler(pieces: &mut Vec<Piece>, layout: &Layout, r: usize) -> Result<(), AllocError>
+fn push_last_padding(
+    pieces: &mut Vec<ByteSlice>,
+    layout: &Layout,
+    r: usize,
+) -> Result<(), AllocError>
     requires { r < length layout.now.reports }
     ensures { OnOk result (pieces.new.items
-        ≡ pieces.old.items ++ filler_pieces layout.now (slice_get layout.now.reports r)) }
+        ≡ pieces.old.items ++ padding_pieces layout.now (slice_get layout.now.reports r)) }
 {
     let bits = report_at(layout, r).bits;
     if bits % 8 == 0 {
@@ -197,8 +203,8 @@ fn push_filler(pieces: &mut Vec<Piece>, layout: &Layout, r: usize) -> Result<(),
     }
     push_pieces(
         pieces,
-        &Stretch {
-            part: Part::Filler,
+        &Segment {
+            part: BitSource::FinalPadding,
             bit: first_bit(layout) + bits,
             width: 8 - bits % 8,
         },
@@ -206,8 +212,11 @@ fn push_filler(pieces: &mut Vec<Piece>, layout: &Layout, r: usize) -> Result<(),
 }
 
 /// The pieces of a report, from its first bit on.
+///
+/// # Errors
+/// Out of memory.
 #[tactic(auto, unfolding(crate::specs::Pieces::pieces_of))]
-pub fn pieces_of(alloc: Global, layout: &Layout, r: usize) -> Result<Vec<Piece>, AllocError>
+pub fn pieces_of(alloc: Global, layout: &Layout, r: usize) -> Result<Vec<ByteSlice>, AllocError>
     requires { r < length layout.now.reports }
     ensures { IfOk result (λ pieces. pieces.items ≡ pieces_of layout.now r) }
 {
@@ -216,12 +225,12 @@ pub fn pieces_of(alloc: Global, layout: &Layout, r: usize) -> Result<Vec<Piece>,
     for i in 0..layout.items().len() {
         push_item(&mut pieces, layout, r, i, item_at(layout, i))?;
     }
-    push_filler(&mut pieces, layout, r)?;
+    push_last_padding(&mut pieces, layout, r)?;
     Ok(pieces)
 }
 
 /// The piece at a place.
-pub(crate) fn piece_at(pieces: &[Piece], k: usize) -> &Piece
+pub(crate) fn piece_at(pieces: &[ByteSlice], k: usize) -> &ByteSlice
     requires { k < length pieces.now }
     ensures { slice_get pieces.now k ≡ Some result.now }
 {

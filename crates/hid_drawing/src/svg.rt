@@ -1,23 +1,23 @@
 //! The picture of a report: a row of eight bits for each byte, bit 7 at the left.
 
 ghost use Rattle.std.specs.Prelude.{◌≡◌, ◌++◌, ◌<◌, ◌≤◌, ◌^◌, length, slice_get, Some, OnOk, string_bytes};
-ghost use Rattle.hid_drawing.specs.Escape.{escaped};
-ghost use Rattle.hid_drawing.specs.Frames.{deepest};
+ghost use Rattle.hid_drawing.specs.Escape.{escaped_words};
+ghost use Rattle.hid_drawing.specs.Frames.{frame_depth};
 ghost use Rattle.hid_drawing.specs.Words.{piece_name};
 ghost use Rattle.hid_drawing.specs.PictureWords.{frame_name};
-ghost use Rattle.hid_drawing.specs.Svg.{area_text, color_class, field_class, part_class, part_saying, cell_title, line_class, line_head, text_line, text_lines, cell_words, edge_text, cell_head, cell_text, frame_title, label_head, label_line, label_lines, frame_label, frame_behind, frames_text, cells_text, bit_number, bit_ruler, byte_number, byte_ruler, rulers, measures, opening, description, picture_head, picture_by, picture_at};
+ghost use Rattle.hid_drawing.specs.Svg.{area_text, color_class, field_class, part_class, part_saying, cell_title, line_class, line_head, text_line, text_lines, cell_words, edge_text, cell_head, cell_text, frame_title, label_head, label_line, label_lines, frame_label, frame_backdrop, frames_text, cells_text, bit_number, bit_ruler, byte_number, byte_ruler, rulers, measures, opening, description, picture_head, picture_by, picture_at};
 
 use crate::areas::{
     Area, LINE, RIGHT, bit_middle, cell_height, frame_area, left_of, name_left, piece_area, row_top,
 };
 use crate::escape::push_escaped;
-use crate::frames::{Frame, deepest};
+use crate::frames::{Frame, frame_depth};
 use crate::lines::{
     NAME_COLUMNS, both_counts, columns_of, line_count, line_of, lines_in_front, rows_of,
 };
 use crate::listed::{item_at, report_at};
 use crate::picture_words::print_frame_name;
-use crate::pieces::{Part, Piece};
+use crate::pieces::{BitSource, ByteSlice};
 use crate::words::{
     print_count, print_part_details, print_part_flags, print_piece_name, print_place,
     print_report_name,
@@ -75,14 +75,14 @@ fn print_field_class(text: &mut String, item: usize, main: &MainItem) -> Result<
 
 /// Adds the class of a part. The edge of a Report ID is solid, as that of a field.
 #[tactic(auto, unfolding(crate::specs::Svg::part_class))]
-fn print_part_class(text: &mut String, layout: &Layout, part: Part) -> Result<(), AllocError>
+fn print_part_class(text: &mut String, layout: &Layout, part: BitSource) -> Result<(), AllocError>
     ensures { OnOk result (string_bytes text.new
         ≡ string_bytes text.old ++ part_class layout.now part) }
 {
     match part {
-        Part::ReportId => text.push_str(" class='i'"),
-        Part::Filler => text.push_str(" class='p'"),
-        Part::Field { item, .. } => {
+        BitSource::ReportId => text.push_str(" class='i'"),
+        BitSource::FinalPadding => text.push_str(" class='p'"),
+        BitSource::Field { item, .. } => {
             if item >= layout.items().len() {
                 return Ok(());
             }
@@ -96,30 +96,35 @@ fn print_escaped_name(
     alloc: Global,
     text: &mut String,
     layout: &Layout,
-    piece: &Piece,
+    piece: &ByteSlice,
 ) -> Result<(), AllocError>
     ensures { OnOk result (string_bytes text.new
-        ≡ string_bytes text.old ++ escaped (piece_name layout.now piece.now)) }
+        ≡ string_bytes text.old ++ escaped_words (piece_name layout.now piece.now)) }
 {
     let mut name = String::new(alloc);
     print_piece_name(&mut name, layout, piece)?;
     push_escaped(text, name.as_bytes())
 }
 
-/// Adds what is said of a part behind its place.
+/// Adds what is said of a part after its place.
 #[tactic(auto, unfolding(crate::specs::Svg::part_saying))]
-fn print_saying(text: &mut String, layout: &Layout, r: usize, part: Part) -> Result<(), AllocError>
+fn print_saying(
+    text: &mut String,
+    layout: &Layout,
+    r: usize,
+    part: BitSource,
+) -> Result<(), AllocError>
     requires { r < length layout.now.reports }
     ensures { OnOk result (string_bytes text.new
         ≡ string_bytes text.old ++ part_saying layout.now r part) }
 {
     match part {
-        Part::Filler => Ok(()),
-        Part::ReportId => {
+        BitSource::FinalPadding => Ok(()),
+        BitSource::ReportId => {
             text.push_str("; ")?;
             print_part_details(text, layout, r, part)
         }
-        Part::Field { .. } => {
+        BitSource::Field { .. } => {
             text.push_str("; ")?;
             print_part_details(text, layout, r, part)?;
             text.push_str("; ")?;
@@ -135,7 +140,7 @@ fn print_title(
     text: &mut String,
     layout: &Layout,
     r: usize,
-    piece: &Piece,
+    piece: &ByteSlice,
 ) -> Result<(), AllocError>
     requires { r < length layout.now.reports }
     ensures { OnOk result (string_bytes text.new
@@ -210,7 +215,7 @@ fn print_words(
     text: &mut String,
     layout: &Layout,
     r: usize,
-    piece: &Piece,
+    piece: &ByteSlice,
 ) -> Result<(), AllocError>
     requires { r < length layout.now.reports }
     ensures { OnOk result (string_bytes text.new
@@ -246,7 +251,7 @@ fn print_cell_head(
     layout: &Layout,
     depth: usize,
     rows: &[u16],
-    piece: &Piece,
+    piece: &ByteSlice,
 ) -> Result<(), AllocError>
     ensures { OnOk result (string_bytes text.new
         ≡ string_bytes text.old ++ cell_head layout.now depth rows.now piece.now) }
@@ -267,7 +272,7 @@ fn print_cell(
     r: usize,
     depth: usize,
     rows: &[u16],
-    piece: &Piece,
+    piece: &ByteSlice,
 ) -> Result<(), AllocError>
     requires { r < length layout.now.reports }
     ensures { OnOk result (string_bytes text.new
@@ -287,7 +292,7 @@ fn print_escaped_frame(
     frame: &Frame,
 ) -> Result<(), AllocError>
     ensures { OnOk result (string_bytes text.new
-        ≡ string_bytes text.old ++ escaped (frame_name layout.now frame.now)) }
+        ≡ string_bytes text.old ++ escaped_words (frame_name layout.now frame.now)) }
 {
     let mut name = String::new(alloc);
     print_frame_name(&mut name, layout, frame)?;
@@ -355,7 +360,7 @@ fn print_label_lines(
     text.push_str("</g>\n")
 }
 
-/// Adds the name beside a frame, below so many other lines.
+/// Adds the name beside a frame, below n other lines.
 #[tactic(auto, unfolding(crate::specs::Svg::frame_label))]
 fn print_frame_label(
     alloc: Global,
@@ -376,7 +381,7 @@ fn print_frame_label(
 }
 
 /// Adds the frame of a collection, with its name beside it.
-#[tactic(auto, unfolding(crate::specs::Svg::frame_behind, crate::specs::Svg::frame_text))]
+#[tactic(auto, unfolding(crate::specs::Svg::frame_backdrop, crate::specs::Svg::frame_text))]
 fn print_frame(
     alloc: Global,
     text: &mut String,
@@ -389,7 +394,7 @@ fn print_frame(
 ) -> Result<(), AllocError>
     requires { k ≤ length frames.now }
     ensures { OnOk result (string_bytes text.new ≡ string_bytes text.old
-        ++ frame_behind layout.now depth rows.now frames.now k (Some frame.now)) }
+        ++ frame_backdrop layout.now depth rows.now frames.now k (Some frame.now)) }
 {
     let front = lines_in_front(alloc, layout, frames, frame.first, k)?;
     print_frame_title(alloc, text, layout, frame)?;
@@ -569,7 +574,7 @@ fn print_cells(
     r: usize,
     depth: usize,
     rows: &[u16],
-    pieces: &[Piece],
+    pieces: &[ByteSlice],
 ) -> Result<(), AllocError>
     requires { r < length layout.now.reports }
     ensures { OnOk result (string_bytes text.new
@@ -590,15 +595,16 @@ fn print_by(
     r: usize,
     bytes: u32,
     frames: &[Frame],
-    pieces: &[Piece],
+    pieces: &[ByteSlice],
     report: &Report,
     rows: &[u16],
 ) -> Result<(), AllocError>
     requires { r < length layout.now.reports }
     ensures { OnOk result (string_bytes text.new ≡ string_bytes text.old
-        ++ picture_by layout.now r bytes frames.now pieces.now report.now (deepest frames.now) rows.now) }
+        ++ picture_by layout.now r bytes frames.now pieces.now report.now
+        (frame_depth frames.now) rows.now) }
 {
-    let depth = deepest(frames);
+    let depth = frame_depth(frames);
     print_head(text, layout.numbered(), depth, rows, bytes, report)?;
     write!(text, "<g id='g{r}'>")?;
     print_rulers(text, depth, rows, bytes)?;
@@ -608,6 +614,9 @@ fn print_by(
 }
 
 /// Adds the picture of a report, by its frames and its pieces.
+///
+/// # Errors
+/// Out of memory; part of the text may be added then.
 #[tactic(auto, unfolding(crate::specs::Svg::picture_of))]
 pub fn print_picture(
     alloc: Global,
@@ -615,7 +624,7 @@ pub fn print_picture(
     layout: &Layout,
     r: usize,
     frames: &[Frame],
-    pieces: &[Piece],
+    pieces: &[ByteSlice],
 ) -> Result<(), AllocError>
     requires { r < length layout.now.reports }
     ensures { OnOk result (string_bytes text.new ≡ string_bytes text.old

@@ -1,13 +1,13 @@
 //! The picture of a report in characters: a row for each byte, ten columns for each bit.
 
 ghost use Rattle.std.specs.Prelude.{◌≡◌, ◌++◌, ◌-◌, ◌<◌, min, codes, length, slice_get, Some, OnOk, string_bytes};
-ghost use Rattle.hid_notation.specs.Text.{joined_below};
+ghost use Rattle.hid_notation.specs.Text.{concat_below};
 ghost use Rattle.hid_drawing.specs.Pieces.{LiesIn};
 ghost use Rattle.hid_drawing.specs.declared.terminal.TheConstants.{MOST_STEPS};
-ghost use Rattle.hid_drawing.specs.Terminal.{fitted, is_edge, is_edge_above, end_corner, corner, corner_at, edge_line, is_held, is_held_on, bracket, bracket_at, brackets, side_at, sides, cell_line, byte_cell, cells_line, line_number, row_line, line_above, two_columns, row_number, row_text, frame_line, frame_lines, usage_lines, item_lines, field_lines, fields_text, terminal_head, rows_text, terminal_of, terminal_at};
+ghost use Rattle.hid_drawing.specs.Terminal.{padded_words, is_edge, is_edge_above, end_corner, corner, corner_at, edge_line, is_held, is_held_on, bracket, bracket_at, brackets, side_at, sides, cell_line, byte_cell, cells_line, line_number, row_line, line_above, two_columns, row_number, row_text, frame_line, frame_lines, usage_lines, item_lines, field_lines, fields_text, terminal_head, rows_text, terminal_of, terminal_at};
 
 use crate::escape::push_printed;
-use crate::frames::{Frame, deepest};
+use crate::frames::{Frame, frame_depth};
 use crate::glyphs::{
     BIT_LINE, BIT_RULER, BLANK, CROSS, DOWNWARD, FLAT, FRAME_FIRST, FRAME_LAST, LEFT_BOTH,
     LEFT_FIRST, LEFT_LAST, RIGHT_BOTH, RIGHT_FIRST, RIGHT_LAST, SIDE, UPWARD,
@@ -15,7 +15,7 @@ use crate::glyphs::{
 use crate::lines::{byte_at, columns_of, line_of, row_lines};
 use crate::listed::{first_bit_of, item_at, report_at};
 use crate::picture_words::print_frame_name;
-use crate::pieces::{Piece, piece_at};
+use crate::pieces::{ByteSlice, piece_at};
 use crate::words::{
     is_input_item, print_bit, print_count, print_entry, print_flags, print_part_details,
     print_piece_name, print_report_name,
@@ -23,15 +23,15 @@ use crate::words::{
 use hid_layout::{Layout, MainItem, Report, Usage};
 use std::alloc::{AllocError, Global};
 
-/// The name of a frame is indented by so many steps at most: the longest line, of a name of
+/// The name of a frame is indented by n steps at most: the longest line, of a name of
 /// 55 columns and bytes of three digits, then has 99.
 pub const MOST_STEPS: usize = 13;
 
-/// Adds so many columns of words: what has room, and spaces.
-#[tactic(auto, unfolding(crate::specs::Terminal::fitted))]
+/// Adds n columns of words: what has room, and spaces.
+#[tactic(auto, unfolding(crate::specs::Terminal::padded_words))]
 fn push_fitted(text: &mut String, words: &[u8], columns: usize) -> Result<(), AllocError>
     ensures { OnOk result (string_bytes text.new
-        ≡ string_bytes text.old ++ fitted words.now columns) }
+        ≡ string_bytes text.old ++ padded_words words.now columns) }
 {
     for k in 0..columns {
         push_printed(text, byte_at(words, k))?;
@@ -40,14 +40,14 @@ fn push_fitted(text: &mut String, words: &[u8], columns: usize) -> Result<(), Al
 }
 
 /// Whether a cell of a byte begins or ends in front of the bit k.
-fn is_edge(pieces: &[Piece], byte: u32, k: u32) -> bool
+fn is_edge(pieces: &[ByteSlice], byte: u32, k: u32) -> bool
     ensures { result ≡ is_edge pieces.now byte k }
 {
     pieces.iter().any(|piece| piece.byte == byte && (piece.low == k || piece.high == k))
 }
 
 /// Whether one of the byte in front does.
-fn is_edge_above(pieces: &[Piece], byte: u32, k: u32) -> bool
+fn is_edge_above(pieces: &[ByteSlice], byte: u32, k: u32) -> bool
     ensures { result ≡ is_edge_above pieces.now byte k }
 {
     0 < byte && is_edge(pieces, byte - 1, k)
@@ -92,7 +92,12 @@ fn corner(k: u32, above: bool, below: bool) -> &'static str
 
 /// Adds the corner in front of the bit k.
 #[tactic(auto, unfolding(crate::specs::Terminal::corner_at))]
-fn print_corner(text: &mut String, pieces: &[Piece], byte: u32, k: u32) -> Result<(), AllocError>
+fn print_corner(
+    text: &mut String,
+    pieces: &[ByteSlice],
+    byte: u32,
+    k: u32,
+) -> Result<(), AllocError>
     ensures { OnOk result (string_bytes text.new
         ≡ string_bytes text.old ++ corner_at pieces.now byte k) }
 {
@@ -103,7 +108,7 @@ fn print_corner(text: &mut String, pieces: &[Piece], byte: u32, k: u32) -> Resul
 
 /// Adds the line above a byte, bit 7 first.
 #[tactic(auto, unfolding(crate::specs::Terminal::edge_line))]
-fn print_edge_line(text: &mut String, pieces: &[Piece], byte: u32) -> Result<(), AllocError>
+fn print_edge_line(text: &mut String, pieces: &[ByteSlice], byte: u32) -> Result<(), AllocError>
     ensures { OnOk result (string_bytes text.new
         ≡ string_bytes text.old ++ edge_line pieces.now byte) }
 {
@@ -219,7 +224,7 @@ fn print_cell_line(
     layout: &Layout,
     r: usize,
     k: u16,
-    piece: &Piece,
+    piece: &ByteSlice,
 ) -> Result<(), AllocError>
     requires { r < length layout.now.reports }
     ensures { OnOk result (string_bytes text.new
@@ -246,7 +251,7 @@ fn print_byte_cell(
     r: usize,
     k: u16,
     byte: u32,
-    piece: &Piece,
+    piece: &ByteSlice,
 ) -> Result<(), AllocError>
     requires { r < length layout.now.reports }
     ensures { OnOk result (string_bytes text.new
@@ -267,7 +272,7 @@ fn print_cells_line(
     r: usize,
     k: u16,
     byte: u32,
-    pieces: &[Piece],
+    pieces: &[ByteSlice],
 ) -> Result<(), AllocError>
     requires { r < length layout.now.reports }
     ensures { OnOk result (string_bytes text.new
@@ -286,14 +291,14 @@ fn print_line_above(
     text: &mut String,
     byte: u32,
     frames: &[Frame],
-    pieces: &[Piece],
+    pieces: &[ByteSlice],
 ) -> Result<(), AllocError>
     ensures { OnOk result (string_bytes text.new
         ≡ string_bytes text.old ++ line_above byte frames.now pieces.now) }
 {
     text.push_str("   ")?;
     print_edge_line(text, pieces, byte)?;
-    print_brackets(text, frames, deepest(frames), byte)?;
+    print_brackets(text, frames, frame_depth(frames), byte)?;
     text.push_str("\n")
 }
 
@@ -307,7 +312,7 @@ fn print_two_columns(text: &mut String, byte: u32) -> Result<(), AllocError>
     write!(text, "{byte}")
 }
 
-/// Adds the number of a byte, of so many, in three columns.
+/// Adds the number of one of n bytes, in three columns.
 #[tactic(auto, unfolding(crate::specs::Terminal::row_number))]
 fn print_row_number(text: &mut String, bytes: u32, byte: u32) -> Result<(), AllocError>
     ensures { OnOk result (string_bytes text.new
@@ -345,7 +350,7 @@ fn print_row_line(
     r: usize,
     bytes: u32,
     frames: &[Frame],
-    pieces: &[Piece],
+    pieces: &[ByteSlice],
     byte: u32,
     k: u16,
 ) -> Result<(), AllocError>
@@ -356,7 +361,7 @@ fn print_row_line(
     print_line_number(text, bytes, byte, k)?;
     print_cells_line(alloc, text, layout, r, k, byte, pieces)?;
     text.push_str(SIDE)?;
-    print_sides(text, frames, deepest(frames), byte)?;
+    print_sides(text, frames, frame_depth(frames), byte)?;
     text.push_str("\n")
 }
 
@@ -369,7 +374,7 @@ fn print_row(
     r: usize,
     bytes: u32,
     frames: &[Frame],
-    pieces: &[Piece],
+    pieces: &[ByteSlice],
     byte: u32,
 ) -> Result<(), AllocError>
     requires { r < length layout.now.reports }
@@ -387,7 +392,7 @@ fn print_row(
 /// Adds the indentation of a level.
 fn print_indentation(text: &mut String, level: usize) -> Result<(), AllocError>
     ensures { OnOk result (string_bytes text.new
-        ≡ string_bytes text.old ++ joined_below (min (level - 1) MOST_STEPS) (λ i. codes "  ")) }
+        ≡ string_bytes text.old ++ concat_below (min (level - 1) MOST_STEPS) (λ i. codes "  ")) }
 {
     for _i in 0..level.saturating_sub(1).min(MOST_STEPS) {
         text.push_str("  ")?;
@@ -503,7 +508,7 @@ fn print_head(
     text.push_str(BIT_RULER)
 }
 
-/// Adds the rows of a report of so many bytes.
+/// Adds the rows of a report of n bytes.
 #[tactic(auto, unfolding(crate::specs::Terminal::rows_text))]
 fn print_rows(
     alloc: Global,
@@ -512,7 +517,7 @@ fn print_rows(
     r: usize,
     bytes: u32,
     frames: &[Frame],
-    pieces: &[Piece],
+    pieces: &[ByteSlice],
 ) -> Result<(), AllocError>
     requires { r < length layout.now.reports }
     ensures { OnOk result (string_bytes text.new
@@ -524,7 +529,7 @@ fn print_rows(
     print_line_above(text, bytes, frames, pieces)
 }
 
-/// Adds the picture of a report of so many bytes.
+/// Adds the picture of a report of n bytes.
 #[tactic(auto, unfolding(crate::specs::Terminal::terminal_of))]
 fn print_sized(
     alloc: Global,
@@ -533,7 +538,7 @@ fn print_sized(
     r: usize,
     bytes: u32,
     frames: &[Frame],
-    pieces: &[Piece],
+    pieces: &[ByteSlice],
     report: &Report,
 ) -> Result<(), AllocError>
     requires { r < length layout.now.reports }
@@ -547,13 +552,16 @@ fn print_sized(
 }
 
 /// Adds the picture of a report in characters, by its frames and its pieces.
+///
+/// # Errors
+/// Out of memory; part of the text may be added then.
 pub fn print_terminal(
     alloc: Global,
     text: &mut String,
     layout: &Layout,
     r: usize,
     frames: &[Frame],
-    pieces: &[Piece],
+    pieces: &[ByteSlice],
 ) -> Result<(), AllocError>
     requires { r < length layout.now.reports }
     ensures { OnOk result (string_bytes text.new ≡ string_bytes text.old

@@ -7,7 +7,7 @@ ghost use Rattle.hid_drawing.specs.Words.{flag_words, bit_7_words, flags_text, i
 
 use crate::label::UsageLabel;
 use crate::listed::{item_at, report_at};
-use crate::pieces::{Part, Piece};
+use crate::pieces::{BitSource, ByteSlice};
 use hid_layout::{
     Collection, Layout, MainFlags, MainItem, Report, ReportKind, Shape, Usage, usage_count,
 };
@@ -67,6 +67,9 @@ fn bit_7_words(input: bool) -> &'static str
 }
 
 /// Adds what the flags of an Input item say, or of an Output or Feature item.
+///
+/// # Errors
+/// Out of memory; part of the text may be added then.
 #[tactic(auto, unfolding(crate::specs::Words::flags_text))]
 pub fn print_flags(text: &mut String, input: bool, flags: MainFlags) -> Result<(), AllocError>
     ensures { OnOk result (string_bytes text.new
@@ -107,6 +110,9 @@ fn kind_name(kind: ReportKind) -> &'static str
 }
 
 /// Adds `Input report 1`, or `Input report` where reports have no IDs.
+///
+/// # Errors
+/// Out of memory; part of the text may be added then.
 #[tactic(auto, unfolding(crate::specs::Words::report_name))]
 pub fn print_report_name(
     text: &mut String,
@@ -126,6 +132,9 @@ pub fn print_report_name(
 }
 
 /// Adds a number of things: `3 bytes`.
+///
+/// # Errors
+/// Out of memory; part of the text may be added then.
 #[tactic(auto, unfolding(crate::specs::Words::count_text))]
 pub fn print_count(text: &mut String, count: u64, thing: &str) -> Result<(), AllocError>
     ensures { OnOk result (string_bytes text.new
@@ -138,6 +147,7 @@ pub fn print_count(text: &mut String, count: u64, thing: &str) -> Result<(), All
     text.push_str("s")
 }
 
+/// The name of a collection's kind (HID 1.11, 6.2.2.6).
 pub fn collection_name(kind: u8) -> &'static str
     ensures { result.now ≡ collection_name kind }
 {
@@ -168,6 +178,9 @@ fn print_purpose(text: &mut String, usage: Option<Usage>) -> Result<(), AllocErr
 }
 
 /// Adds a collection: `Mouse (Application)`.
+///
+/// # Errors
+/// Out of memory; part of the text may be added then.
 #[tactic(auto, unfolding(crate::specs::Words::collection_text))]
 pub fn print_collection(text: &mut String, collection: &Collection) -> Result<(), AllocError>
     ensures { OnOk result (string_bytes text.new
@@ -179,6 +192,9 @@ pub fn print_collection(text: &mut String, collection: &Collection) -> Result<()
 }
 
 /// Adds a range of usages: `Button 1 to Button 3`.
+///
+/// # Errors
+/// Out of memory; part of the text may be added then.
 #[tactic(auto, unfolding(crate::specs::Words::entry_text))]
 pub fn print_entry(text: &mut String, low: Usage, high: Usage) -> Result<(), AllocError>
     ensures { OnOk result (string_bytes text.new
@@ -192,7 +208,7 @@ pub fn print_entry(text: &mut String, low: Usage, high: Usage) -> Result<(), All
     write!(text, "{first} to {last}")
 }
 
-/// Adds what lies from the first usage of a range to the last one of the ranges behind it.
+/// Adds what lies from the first usage of a range to the last one of the ranges after it.
 fn print_choice_from(
     text: &mut String,
     first: Usage,
@@ -264,14 +280,14 @@ fn print_field_name(
 }
 
 /// Adds what a part of a report is called.
-fn print_part_name(text: &mut String, layout: &Layout, part: Part) -> Result<(), AllocError>
+fn print_part_name(text: &mut String, layout: &Layout, part: BitSource) -> Result<(), AllocError>
     ensures { OnOk result (string_bytes text.new
         ≡ string_bytes text.old ++ part_name layout.now part) }
 {
     match part {
-        Part::ReportId => text.push_str("Report ID"),
-        Part::Filler => text.push_str("unused"),
-        Part::Field { item, element } => {
+        BitSource::ReportId => text.push_str("Report ID"),
+        BitSource::FinalPadding => text.push_str("unused"),
+        BitSource::Field { item, element } => {
             if item >= layout.items().len() {
                 return Ok(());
             }
@@ -282,7 +298,7 @@ fn print_part_name(text: &mut String, layout: &Layout, part: Part) -> Result<(),
 }
 
 /// Adds which bits of its field a piece has, where it hasn't all of them.
-fn print_share(text: &mut String, piece: &Piece) -> Result<(), AllocError>
+fn print_share(text: &mut String, piece: &ByteSlice) -> Result<(), AllocError>
     ensures { OnOk result (string_bytes text.new ≡ string_bytes text.old ++ share_text piece.now) }
 {
     let bits = piece.high.saturating_sub(piece.low);
@@ -299,7 +315,7 @@ fn print_share(text: &mut String, piece: &Piece) -> Result<(), AllocError>
 pub(crate) fn print_piece_name(
     text: &mut String,
     layout: &Layout,
-    piece: &Piece,
+    piece: &ByteSlice,
 ) -> Result<(), AllocError>
     ensures { OnOk result (string_bytes text.new
         ≡ string_bytes text.old ++ piece_name layout.now piece.now) }
@@ -344,19 +360,19 @@ pub(crate) fn print_part_details(
     text: &mut String,
     layout: &Layout,
     r: usize,
-    part: Part,
+    part: BitSource,
 ) -> Result<(), AllocError>
     requires { r < length layout.now.reports }
     ensures { OnOk result (string_bytes text.new
         ≡ string_bytes text.old ++ part_details layout.now r part) }
 {
     match part {
-        Part::ReportId => {
+        BitSource::ReportId => {
             let id = report_at(layout, r).id;
             write!(text, "{id}")
         }
-        Part::Filler => Ok(()),
-        Part::Field { item, .. } => {
+        BitSource::FinalPadding => Ok(()),
+        BitSource::Field { item, .. } => {
             if item >= layout.items().len() {
                 return Ok(());
             }
@@ -370,14 +386,14 @@ pub(crate) fn print_part_details(
 pub(crate) fn print_part_flags(
     text: &mut String,
     layout: &Layout,
-    part: Part,
+    part: BitSource,
 ) -> Result<(), AllocError>
     ensures { OnOk result (string_bytes text.new
         ≡ string_bytes text.old ++ part_flags layout.now part) }
 {
     match part {
-        Part::ReportId | Part::Filler => Ok(()),
-        Part::Field { item, .. } => {
+        BitSource::ReportId | BitSource::FinalPadding => Ok(()),
+        BitSource::Field { item, .. } => {
             if item >= layout.items().len() {
                 return Ok(());
             }
@@ -388,6 +404,9 @@ pub(crate) fn print_part_flags(
 }
 
 /// Adds where a bit stands.
+///
+/// # Errors
+/// Out of memory; part of the text may be added then.
 #[tactic(auto, unfolding(crate::specs::Words::bit_text))]
 pub fn print_bit(text: &mut String, at: u32) -> Result<(), AllocError>
     ensures { OnOk result (string_bytes text.new ≡ string_bytes text.old ++ bit_text at) }
@@ -399,10 +418,10 @@ pub fn print_bit(text: &mut String, at: u32) -> Result<(), AllocError>
 
 /// Adds the bits of a byte that a piece has.
 #[tactic(auto, unfolding(crate::specs::Words::place_text))]
-pub(crate) fn print_place(text: &mut String, piece: &Piece) -> Result<(), AllocError>
+pub(crate) fn print_place(text: &mut String, piece: &ByteSlice) -> Result<(), AllocError>
     ensures { OnOk result (string_bytes text.new ≡ string_bytes text.old ++ place_text piece.now) }
 {
-    let Piece {
+    let ByteSlice {
         byte,
         low,
         high,

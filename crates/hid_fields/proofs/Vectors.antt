@@ -4,7 +4,7 @@ use Rattle.std.proofs.lemmas.Int.{ints}
 use Rattle.hid_fields.specs.declared.codec.TheConstants.{MAX_WIDTH}
 use Rattle.hid_fields.specs.Field.{bit_of, pattern_of}
 use Rattle.hid_fields.specs.Value.{value_of, pattern_for, IsLeastOutside}
-use Rattle.hid_fields.specs.Word.{spliced}
+use Rattle.hid_fields.specs.Word.{splice}
 use Rattle.hid_fields.proofs.ValueLemmas.{value_of-low}
 
 -- the widest field that is read or written, in bits
@@ -24,7 +24,7 @@ ninth_bit : bit_of (0xFE ∷ 0x01 ∷ []) 8 ≡ 1
 ninth_bit = refl
 
 -- five bits from bit 3 of FF cleared
-upper_bits_cleared : spliced 3 5 0 0xFF ≡ 0x07
+upper_bits_cleared : splice 3 5 0 0xFF ≡ 0x07
 upper_bits_cleared = refl
 
 -- the least number of a byte in two's complement, and the same pattern without sign

@@ -10,7 +10,7 @@ use Rattle.std.specs.List.{between}
 use Rattle.std.proofs.lemmas.List.Edits.{length-between}
 use Rattle.hid_fields.proofs.PartLemmas.{pattern_of-between, bit_of-between, bit_of-put, bit_of-put_other}
 use Rattle.hid_fields.specs.Field.{bit_of, pattern_of, IsOutside}
-use Rattle.hid_fields.specs.Word.{spliced}
+use Rattle.hid_fields.specs.Word.{splice}
 use Rattle.hid_fields.proofs.FieldLemmas.{pattern_of-lt}
 
 -- a field is its low part and its high part
@@ -195,9 +195,9 @@ gathered_part bytes first count word inside is =
 low_fits : (n s : ℕ) → n % 2 ^ s < 2 ^ s
 low_fits n s = mod_below n (2 ^ s) (pow_pos s)
 
-pub spliced-field : (s w pattern word : ℕ) → pattern < 2 ^ w
-    → spliced s w pattern word / 2 ^ s % 2 ^ w ≡ pattern
-spliced-field s w pattern word h =
+pub splice-field : (s w pattern word : ℕ) → pattern < 2 ^ w
+    → splice s w pattern word / 2 ^ s % 2 ^ w ≡ pattern
+splice-field s w pattern word h =
     rw (shr_high (word / 2 ^ (s + w) * 2 ^ w + pattern) s (word % 2 ^ s) (low_fits word s))
     (mod_low (word / 2 ^ (s + w)) w pattern h)
 
@@ -217,12 +217,12 @@ bit_low n s k h = sym (bit_at_cat_low (n / 2 ^ s) s (n % 2 ^ s) k h) ∙ ap (λ 
 bit_high : (n s k : ℕ) → s ≤ k → bit_at (n / 2 ^ s) (k - s) ≡ bit_at n k
 bit_high n s k h = sym (bit_at_cat_high (n / 2 ^ s) s (n % 2 ^ s) k (low_fits n s) h) ∙ ap (λ (m : ℕ). bit_at m k) (shr_split n s)
 
-pub spliced-others : (s w pattern word k : ℕ) → pattern < 2 ^ w → (k < s) ⊎ (s + w ≤ k)
-    → bit_at (spliced s w pattern word) k ≡ bit_at word k
-spliced-others s w pattern word k h (inl below) =
+pub splice-others : (s w pattern word k : ℕ) → pattern < 2 ^ w → (k < s) ⊎ (s + w ≤ k)
+    → bit_at (splice s w pattern word) k ≡ bit_at word k
+splice-others s w pattern word k h (inl below) =
     bit_at_cat_low (word / 2 ^ (s + w) * 2 ^ w + pattern) s (word % 2 ^ s) k below
     ∙ bit_low word s k below
-spliced-others s w pattern word k h (inr above) =
+splice-others s w pattern word k h (inr above) =
     let e : k - s - w ≡ k - (s + w) = omega arith in
     bit_at_cat_high (word / 2 ^ (s + w) * 2 ^ w + pattern) s (word % 2 ^ s) k (low_fits word s) (omega arith)
     ∙ bit_at_cat_high (word / 2 ^ (s + w)) w pattern (k - s) h (omega arith)
@@ -230,9 +230,9 @@ spliced-others s w pattern word k h (inr above) =
     ∙ bit_high word (s + w) k above
 
 -- a bound on a word with a field replaced
-pub spliced-lt : (s w pattern word m : ℕ) → pattern < 2 ^ w → s + w ≤ m → word < 2 ^ m
-    → spliced s w pattern word < 2 ^ m
-spliced-lt s w pattern word m h inside word_fits =
+pub splice-lt : (s w pattern word m : ℕ) → pattern < 2 ^ w → s + w ≤ m → word < 2 ^ m
+    → splice s w pattern word < 2 ^ m
+splice-lt s w pattern word m h inside word_fits =
     let rest = m - (s + w) in
     let e : rest + (s + w) ≡ m = omega arith in
     let word_fits' : word < 2 ^ (rest + (s + w)) = rw e word_fits in
@@ -243,11 +243,12 @@ spliced-lt s w pattern word m h inside word_fits =
     rw p all
 
 -- what the code makes, step by step
-pub spliced-made : (word s w pattern : ℕ) → word < 2 ^ 40 → s < 8 → w ≤ 32 → pattern < 2 ^ w
-    → bit_or (bit_or (word / 2 ^ (s + w) * 2 ^ w % 2 ^ 64) pattern * 2 ^ s % 2 ^ 64) (bit_and word (1 * 2 ^ s % 2 ^ 64 - 1)) ≡ spliced s w pattern word
-spliced-made word s w pattern word_fits s_fits w_fits h =
+pub splice-made : (word s w pattern : ℕ) → word < 2 ^ 40 → s < 8 → w ≤ 32 → pattern < 2 ^ w
+    → bit_or (bit_or (word / 2 ^ (s + w) * 2 ^ w % 2 ^ 64) pattern * 2 ^ s % 2 ^ 64)
+    (bit_and word (1 * 2 ^ s % 2 ^ 64 - 1)) ≡ splice s w pattern word
+splice-made word s w pattern word_fits s_fits w_fits h =
     let one : 1 * 2 ^ s % 2 ^ 64 ≡ 2 ^ s = mod-eq_of_lt (omega (arith, pow_below s 64 (omega arith))) ∙ omega arith in
-    let whole : spliced s w pattern word < 2 ^ 40 = spliced-lt s w pattern word 40 h (omega arith) word_fits in
+    let whole : splice s w pattern word < 2 ^ 40 = splice-lt s w pattern word 40 h (omega arith) word_fits in
     let word_fits' : word < 2 ^ ((40 - (s + w)) + (s + w)) = let e : (40 - (s + w)) + (s + w) ≡ 40 = omega arith in rw e word_fits in
     let high : word / 2 ^ (s + w) * 2 ^ w + 0 < 2 ^ (40 - (s + w)) * 2 ^ w = cat_lt _ _ _ _ (shr_below word (40 - (s + w)) (s + w) word_fits') (pow_pos w) in
     let high_fits : word / 2 ^ (s + w) * 2 ^ w < 2 ^ 64 = omega (arith, sym (pow-add 2 (40 - (s + w)) w), pow_below (40 - (s + w) + w) 64 (omega arith)) in
@@ -256,20 +257,21 @@ spliced-made word s w pattern word_fits s_fits w_fits h =
     (or_shifted (word / 2 ^ (s + w) * 2 ^ w + pattern) s (word % 2 ^ s) (low_fits word s))
 
 -- a bit outside a field that was replaced in a word of bytes
-pub bit_of-spliced : (xs ys : List ℕ) (at s w m pattern k : ℕ) → pattern < 2 ^ w → k < m
-    → pattern_of ys at m ≡ spliced s w pattern (pattern_of xs at m)
+pub bit_of-splice : (xs ys : List ℕ) (at s w m pattern k : ℕ) → pattern < 2 ^ w → k < m
+    → pattern_of ys at m ≡ splice s w pattern (pattern_of xs at m)
     → (k < s) ⊎ (s + w ≤ k) → bit_of ys (at + k) ≡ bit_of xs (at + k)
-bit_of-spliced xs ys at s w m pattern k h inside word outside =
+bit_of-splice xs ys at s w m pattern k h inside word outside =
     sym (bit_at-pattern_of ys at m k inside)
     ∙ ap (λ (x : ℕ). bit_at x k) word
-    ∙ spliced-others s w pattern (pattern_of xs at m) k h outside
+    ∙ splice-others s w pattern (pattern_of xs at m) k h outside
     ∙ bit_at-pattern_of xs at m k inside
 
 -- a bit outside a field that was replaced in a part of a slice
 pub put_elsewhere : (xs ys : List ℕ) (first last s w pattern n : ℕ) → first ≤ last → last ≤ length xs
     → length (between first last xs) ≡ last - first → length ys ≡ last - first
     → pattern < 2 ^ w
-    → pattern_of ys 0 (8 * length (between first last xs)) ≡ spliced s w pattern (pattern_of (between first last xs) 0 (8 * length (between first last xs)))
+    → pattern_of ys 0 (8 * length (between first last xs))
+    ≡ splice s w pattern (pattern_of (between first last xs) 0 (8 * length (between first last xs)))
     → IsOutside (8 * first + s) w n → bit_of (put_mid first (last - first) xs ys) n ≡ bit_of xs n
 put_elsewhere xs ys first last s w pattern n order inside part_len len fits word outside =
     elim (cases_lt n (8 * first)) [
@@ -283,7 +285,8 @@ put_elsewhere xs ys first last s w pattern n order inside part_len len fits word
             let apart : (k < s) ⊎ (s + w ≤ k) = elim outside [ inl a ↦ inl (omega arith) | inr b ↦ inr (omega arith) ] in
             ap (bit_of (put_mid first (last - first) xs ys)) (sym place)
             ∙ bit_of-put xs ys first last (0 + k) (omega arith) len low
-            ∙ bit_of-spliced (between first last xs) ys 0 s w (8 * length (between first last xs)) pattern k fits (omega arith) word apart
+            ∙ bit_of-splice (between first last xs) ys 0 s w (8 * length (between first last xs)) pattern k fits
+            (omega arith) word apart
             ∙ bit_of-between xs first last (0 + k) low
             ∙ ap (bit_of xs) place
       ]

@@ -5,7 +5,7 @@ ghost use Rattle.hid_fields.specs.Value.{value_of, pattern_for, FitsField, FitsE
 
 use crate::codec::MAX_WIDTH;
 
-/// How many patterns there are of so many bits.
+/// How many patterns there are of `width` bits.
 pub(crate) fn pattern_count(bits: u32) -> u64
     requires { bits ≤ MAX_WIDTH }
     ensures value { result ≡ 2 ^ bits }
@@ -14,7 +14,7 @@ pub(crate) fn pattern_count(bits: u32) -> u64
     1u64 << bits
 }
 
-/// The number that a pattern of so many bits, 1 to 32, stands for: in two's complement where it is
+/// The number that a pattern of `width` bits, 1 to 32, stands for: in two's complement where it is
 /// signed, else as it is.
 #[inline(always)]
 pub fn to_value(pattern: u32, width: u32, signed: bool) -> i64
@@ -32,7 +32,7 @@ pub fn to_value(pattern: u32, width: u32, signed: bool) -> i64
 }
 
 /// The number modulo 2 to the width.
-fn wrapped(value: i64, width: u32) -> u32
+fn wrap(value: i64, width: u32) -> u32
     requires some { 0 < width }
     requires width { width ≤ MAX_WIDTH }
     requires fits { FitsEitherSign value width }
@@ -45,7 +45,7 @@ fn wrapped(value: i64, width: u32) -> u32
     }
 }
 
-/// The one pattern of so many bits, 1 to 32, that stands for a number. The number fits them, with
+/// The one pattern of `width` bits, 1 to 32, that stands for a number. The number fits them, with
 /// or without sign: it is at least -2 to the width less 1, and below 2 to the width.
 pub fn to_pattern(value: i64, width: u32) -> u32
     requires some { 0 < width }
@@ -62,7 +62,7 @@ pub fn to_pattern(value: i64, width: u32) -> u32
     ensures only { (signed : Bool) (pattern : ℕ) → pattern < 2 ^ width
         → value_of pattern width signed ≡ value → result ≡ pattern }
 {
-    wrapped(value, width)
+    wrap(value, width)
 }
 
 /// The least number from 0 up to this end that is over the maximum.
@@ -84,7 +84,7 @@ fn goes_under(half: u64, min: i64) -> bool
     -(half as i64) < min
 }
 
-/// The least pattern of so many bits, 1 to 32, whose number is out of the range, where there is one:
+/// The least pattern of `width` bits, 1 to 32, whose number is out of the range, where there is one:
 /// what a null is sent as (our choice; HID 1.11, 5.10 asks only for one out of the range). Patterns
 /// are signed exactly where the minimum is negative (6.2.2.7).
 pub fn null_pattern(width: u32, min: i64, max: i64) -> Option<u32>

@@ -2,7 +2,7 @@
 //! eight are taken at once where there are as many.
 ghost use Rattle.std.specs.Prelude.{◌≡◌, ◌+◌, ◌*◌, ◌%◌, ◌^◌, ◌<◌, ◌≤◌, ℕ, length};
 ghost use Rattle.hid_fields.specs.Field.{bit_of, pattern_of, IsOutside};
-ghost use Rattle.hid_fields.specs.Word.{spliced};
+ghost use Rattle.hid_fields.specs.Word.{splice};
 
 use crate::codec::{FieldCodec, MAX_WIDTH};
 
@@ -16,7 +16,7 @@ const WORD_BYTES: usize = 8;
 pub struct WordCodec;
 
 /// How many bytes a field of this width touches that begins at this bit of a byte.
-fn touched(shift: usize, width: u32) -> usize
+fn touched_bytes(shift: usize, width: u32) -> usize
     requires shift { shift < 8 }
     requires width { width ≤ MAX_WIDTH }
     ensures enough { shift + width ≤ 8 * result }
@@ -72,11 +72,11 @@ fn touched_pattern(bytes: &[u8], at: usize, width: u32) -> u32
     ensures { result ≡ pattern_of bytes.now at width }
 {
     let (first, shift) = (at / 8, at % 8);
-    let word = gather(&bytes[first..first + touched(shift, width)]);
+    let word = gather(&bytes[first..first + touched_bytes(shift, width)]);
     (word >> shift & ((1u64 << width) - 1)) as u32
 }
 
-/// The same, of eight bytes: those from its first one on, or the last ones.
+/// The pattern of a field, of eight bytes: those from its first one on, or the last ones.
 #[inline(always)]
 fn word_pattern(bytes: &[u8], at: usize, width: u32) -> u32
     requires some { 0 < width }
@@ -113,7 +113,7 @@ fn splice(word: u64, shift: usize, width: u32, pattern: u32) -> u64
     requires shift { shift < 8 }
     requires width { width ≤ MAX_WIDTH }
     requires fits { pattern < 2 ^ width }
-    ensures { result ≡ spliced shift width pattern word }
+    ensures { result ≡ splice shift width pattern word }
 {
     let low = word & ((1u64 << shift) - 1);
     let high = word >> (shift + width as usize);
@@ -130,7 +130,7 @@ fn put_spliced(bytes: &mut [u8], at: usize, width: u32, pattern: u32)
     ensures others { (n : ℕ) → IsOutside at width n → bit_of bytes.new n ≡ bit_of bytes.old n }
 {
     let (first, shift) = (at / 8, at % 8);
-    let field = &mut bytes[first..first + touched(shift, width)];
+    let field = &mut bytes[first..first + touched_bytes(shift, width)];
     let word = splice(gather(field), shift, width, pattern);
     scatter(field, word);
 }

@@ -17,7 +17,7 @@ long_same (n ∷ tag ∷ x) [] p q s t e = absurd t
 long_same (n ∷ tag ∷ x) (m ∷ []) p q s t e = absurd t
 long_same (n ∷ tag ∷ x) (m ∷ tag' ∷ y) p q s t e = let k : n ≡ m = cc in omega arith
 
--- so are the rests of any two items behind the same first byte
+-- so are the rests of any two items after the same first byte
 rest_same : (l : Bool) (a : ℕ) (x y p q : List ℕ) → MatchBool l (IsLongRest x) (length x ≡ data_length a) → MatchBool l (IsLongRest y) (length y ≡ data_length a) → x ++ p ≡ y ++ q → length x ≡ length y
 rest_same true a x y p q s t e = long_same x y p q s t e
 rest_same false a x y p q s t e = s ∙ sym t
@@ -49,7 +49,7 @@ all_of items = flat_map (λ item. item) items
 all_of-cons : (x : List ℕ) (xs : List (List ℕ)) (p : List ℕ) → all_of (x ∷ xs) ++ p ≡ x ++ (all_of xs ++ p)
 all_of-cons x xs p = ap (λ l. l ++ p) (flat_map-cons (λ item. item) x xs) ∙ append_assoc x (all_of xs) p
 
--- the same bytes are the same items, as far as items begin
+-- two readings of equal bytes have equal items, as far as items begin
 same_reading : (xs ys : List (List ℕ)) (p q : List ℕ) → All IsSpelling xs → All IsSpelling ys → BeginsNone p → BeginsNone q → all_of xs ++ p ≡ all_of ys ++ q → (xs ≡ ys) × (p ≡ q)
 same_reading [] [] p q a b m n e = (refl, e)
 same_reading [] (y ∷ ys) p q a b m n e = absurd (m y (all_of ys ++ q) (All-head IsSpelling y ys b) (e ∙ all_of-cons y ys q))

@@ -13,12 +13,12 @@ abbrev pub place : Items → ℕ
 place items = items.at
 
 -- the bytes that are left, from the next item on
-abbrev pub left : Items → List ℕ
-left items = items.rest.now
+abbrev pub remaining_bytes : Items → List ℕ
+remaining_bytes items = items.rest.now
 
 -- nothing has been read: these bytes are to come, the first of them at this place
 abbrev pub StartsAt : Items → ℕ → List ℕ → Type 0
-StartsAt items at bytes = (place items ≡ at) × (left items ≡ bytes)
+StartsAt items at bytes = (place items ≡ at) × (remaining_bytes items ≡ bytes)
 
 -- what stands first in a spelling
 abbrev pub kind_of : List ℕ → ItemKind
@@ -29,14 +29,15 @@ pub record GivesItem (old : Items) (item : Item) (new : Items) : Type 0 where
   pub at : item.at ≡ place old
   pub spelled : IsSpelling item.bytes.now
   pub kind : item.kind ≡ kind_of item.bytes.now
-  pub rest : left old ≡ item.bytes.now ++ left new
+  pub rest : remaining_bytes old ≡ item.bytes.now ++ remaining_bytes new
   pub after : place new ≡ place old + length item.bytes.now
 
 -- what the iterator returns: an item, the one refusal, or the end; after a refusal comes the end
 abbrev pub GivesNext : Items → Option (Result Item ItemFault) → Items → Type 0
-GivesNext old None new = (left old ≡ []) × (left new ≡ [])
+GivesNext old None new = (remaining_bytes old ≡ []) × (remaining_bytes new ≡ [])
 GivesNext old (Some (Ok item)) new = GivesItem old item new
-GivesNext old (Some (Err (Truncated at))) new = (at ≡ place old) × IsCut (left old) × (left new ≡ [])
+GivesNext old (Some (Err (Truncated at))) new =
+    (at ≡ place old) × IsCut (remaining_bytes old) × (remaining_bytes new ≡ [])
 
 -- the item is a short one, spelled as such
 abbrev pub IsShort : Item → Type 0

@@ -8,7 +8,7 @@ use Rattle.std.specs.List.{flat_map}
 abbrev pub data_length : ℕ → ℕ
 data_length first = if (first % 4) == 3 then 4 else first % 4
 
--- after the first byte of a long item: n, a tag and n bytes (6.2.2.3)
+-- the bytes after the first one of a long item: n, a tag and n bytes (6.2.2.3)
 abbrev pub IsLongRest : List ℕ → Type 0
 IsLongRest (n ∷ tag ∷ bytes) = length bytes ≡ n
 IsLongRest (n ∷ []) = ⊥

@@ -27,15 +27,15 @@ impl<'a> Items<'a> {
 impl<'a> Iterator for Items<'a> {
     ghost use Rattle.std.specs.Prelude.{◌+◌, ◌<◌, ◌^◌, length};
     ghost use Rattle.std.specs.Iterator.{at_most};
-    ghost use Rattle.hid_items.specs.Reading.{GivesNext, place, left};
+    ghost use Rattle.hid_items.specs.Reading.{GivesNext, place, remaining_bytes};
 
     type Item = Result<Item<'a>, ItemFault>;
 
     ghost next_gives = { GivesNext };
 
-    ghost remaining = { λ items. at_most (length (left items)) };
+    ghost remaining = { λ items. at_most (length (remaining_bytes items)) };
 
-    ghost can_next = { λ items. place items + length (left items) < 2 ^ 64 };
+    ghost can_next = { λ items. place items + length (remaining_bytes items) < 2 ^ 64 };
 
     fn next(&mut self) -> Option<Result<Item<'a>, ItemFault>> {
         if self.rest.is_empty() {

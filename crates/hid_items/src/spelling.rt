@@ -76,7 +76,7 @@ pub(crate) fn kind_of(bytes: &[u8]) -> ItemKind
     }
 }
 
-/// The number that a bit pattern, one of so many, stands for in two's complement.
+/// The number that one of n bit patterns stands for in two's complement.
 fn twos_complement(patterns: u64, pattern: u64) -> i64
     requires one_of_them { pattern < patterns }
     requires width { patterns ≤ 2 ^ 32 }

@@ -12,7 +12,7 @@ use Rattle.hid_layout.specs.Controls.{is_key, is_encodable, least_of, greatest_o
 use Rattle.hid_descriptor.specs.Usages.{tells_error}
 use Rattle.hid_descriptor.specs.Faults.{least_value, greatest_value}
 use Rattle.hid_layout.specs.Sent.{is_in, at_zero, place_named, names_nothing}
-use Rattle.hid_layout.specs.Stretches.{is_nothing, IsFirst}
+use Rattle.hid_layout.specs.EmptyCodes.{is_nothing, IsFirst}
 
 test_true : (b : Bool) → T b → b ≡ true
 test_true true h = refl

@@ -15,44 +15,49 @@ use Rattle.hid_descriptor.specs.Usages.{Entry, entry_count, usage_list, starts_o
 use Rattle.hid_descriptor.specs.Fields.{is_padding}
 use Rattle.hid_layout.specs.Layout.{Contents}
 use Rattle.hid_layout.specs.Reports.{IsLayout}
-use Rattle.hid_layout.specs.Controls.{Form, Elements, Keys, spread, keys_from, is_key, is_input, Item, items_of, form_at, form_of, control_of, control_of_item, control_of_key}
+use Rattle.hid_layout.specs.Controls.{Form, Elements, Keys, spread_usages, keys_from, is_key, is_input, Item, items_of, form_at, form_of, control_of, control_of_item, control_of_key}
 use Rattle.hid_layout.specs.declared.control.ControlId.{ControlId}
-use Rattle.hid_layout.specs.Finding.{shown_in, shown_at, holds}
+use Rattle.hid_layout.specs.Finding.{usage_in_form, control_usage, holds}
 use Rattle.std.proofs.lemmas.Grind.{common_steps}
 use Rattle.std.proofs.lemmas.List.{take_all}
 use Rattle.hid_descriptor.proofs.Places.{found}
 use Rattle.hid_descriptor.proofs.StartLemmas.{at_start, next_start, from_start}
-use Rattle.hid_layout.proofs.FormLemmas.{spread-get, spread-past, key-get, key-past, some_at, form-input, form-other, control-form, items_from-past}
+use Rattle.hid_layout.proofs.FormLemmas.{spread_usages-get, spread_usages-past, key-get, key-past, some_at, form-input, form-other, control-form, items_from-past}
 
 -- a control's usage stands in the usage list, at its place or before it
 pub record Earlier (form : Form) (us : List Usage) (u : Usage) (j : ℕ) : Type 0 where
   pub place : ℕ
   pub before : place ≤ j
   pub listed : slice_get us place ≡ Some u
-  pub shown : shown_in form place ≡ Some u
+  pub shown : usage_in_form form place ≡ Some u
 
 element_usage : (kind : ControlKind) (o : Option Usage) → option_map (λ (c : Control). c.usage) (option_map (λ u. record { kind = kind; usage = u }) o) ≡ o
 element_usage kind None = refl
 element_usage kind (Some u) = refl
 
-of_elements : (kind : ControlKind) (least greatest : ℤ) (n : ℕ) (us : List Usage) (u : Usage) (j : ℕ) → 0 < length us → shown_in (Elements kind least greatest (spread n us)) j ≡ Some u → Earlier (Elements kind least greatest (spread n us)) us u j
+of_elements : (kind : ControlKind) (least greatest : ℤ) (n : ℕ) (us : List Usage) (u : Usage) (j : ℕ) → 0 < length us
+    → usage_in_form (Elements kind least greatest (spread_usages n us)) j ≡ Some u
+    → Earlier (Elements kind least greatest (spread_usages n us)) us u j
 of_elements kind least greatest n us u j some h = by_place (nat_lt j n) refl
   where
-    e : slice_get (spread n us) j ≡ Some u
-    e = sym (element_usage kind (slice_get (spread n us) j)) ∙ h
+    e : slice_get (spread_usages n us) j ≡ Some u
+    e = sym (element_usage kind (slice_get (spread_usages n us) j)) ∙ h
 
-    by_place : (b : Bool) → nat_lt j n ≡ b → Earlier (Elements kind least greatest (spread n us)) us u j
-    by_place false t = let past : n ≤ j = grind (arith, nat_tests) in let none : None ≡ Some u = sym (spread-past n us j some past) ∙ e in absurd (cc)
+    by_place : (b : Bool) → nat_lt j n ≡ b → Earlier (Elements kind least greatest (spread_usages n us)) us u j
+    by_place false t = let past : n ≤ j = grind (arith, nat_tests) in let none : None ≡ Some u =
+        sym (spread_usages-past n us j some past) ∙ e in absurd (cc)
     by_place true t =
         let lt : j < n = grind (arith, nat_tests) in
         let le : min j (length us - 1) ≤ j = omega arith in
-        let at : slice_get us (min j (length us - 1)) ≡ Some u = sym (spread-get n us j some lt) ∙ e in
+        let at : slice_get us (min j (length us - 1)) ≡ Some u = sym (spread_usages-get n us j some lt) ∙ e in
         let same : min (min j (length us - 1)) (length us - 1) ≡ min j (length us - 1) = omega arith in
         record {
           place = min j (length us - 1);
           before = le;
           listed = at;
-          shown = element_usage kind (slice_get (spread n us) (min j (length us - 1))) ∙ spread-get n us (min j (length us - 1)) some (omega (arith, lt, le)) ∙ ap (slice_get us) same ∙ at;
+          shown = element_usage kind (slice_get (spread_usages n us) (min j (length us - 1)))
+              ∙ spread_usages-get n us (min j (length us - 1)) some (omega (arith, lt, le)) ∙ ap (slice_get us) same
+              ∙ at;
         }
 
 key_usage : (item : MainItem) (j : ℕ) (o : Option Usage) (u : Usage) → option_map (λ (c : Control). c.usage) (control_of_key (option_map (λ v. record { usage = v; is_switch = is_key item j v }) o)) ≡ Some u → o ≡ Some u
@@ -63,7 +68,9 @@ key_usage item j (Some v) u h = by_test (is_key item j v) h
     by_test true e = e
     by_test false e = absurd (cc)
 
-of_keys : (item : MainItem) (elements : ℕ) (rolls : Bool) (us : List Usage) (u : Usage) (j : ℕ) → shown_in (Keys elements rolls (keys_from item 0 (take 65536 us))) j ≡ Some u → Earlier (Keys elements rolls (keys_from item 0 (take 65536 us))) us u j
+of_keys : (item : MainItem) (elements : ℕ) (rolls : Bool) (us : List Usage) (u : Usage) (j : ℕ)
+    → usage_in_form (Keys elements rolls (keys_from item 0 (take 65536 us))) j ≡ Some u
+    → Earlier (Keys elements rolls (keys_from item 0 (take 65536 us))) us u j
 of_keys item elements rolls us u j h = by_place (nat_lt j 65536) refl
   where
     by_place : (b : Bool) → nat_lt j 65536 ≡ b → Earlier (Keys elements rolls (keys_from item 0 (take 65536 us))) us u j
@@ -79,7 +86,8 @@ of_keys item elements rolls us u j h = by_place (nat_lt j 65536) refl
           shown = h;
         }
 
-pub of_form : (item : MainItem) (us : List Usage) (shape : Shape) (u : Usage) (j : ℕ) → 0 < length us → shown_in (form_of item us shape) j ≡ Some u → Earlier (form_of item us shape) us u j
+pub of_form : (item : MainItem) (us : List Usage) (shape : Shape) (u : Usage) (j : ℕ) → 0 < length us
+    → usage_in_form (form_of item us shape) j ≡ Some u → Earlier (form_of item us shape) us u j
 of_form item us Padding u j some h = absurd (cc)
 of_form item us Variable u j some h = of_elements _ _ _ item.count us u j some h
 of_form item us Array u j some h = of_keys item _ _ us u j h
@@ -89,13 +97,18 @@ get_within [] i x h = absurd (cc)
 get_within (y ∷ xs) zero x h = omega arith
 get_within (y ∷ xs) (suc i) x h = omega (arith, get_within xs i x h)
 
-of_shape : (item : MainItem) (us : List Usage) (shape : Shape) (u : Usage) (j : ℕ) → (is_padding shape ≡ false → 0 < length us) → shown_in (form_of item us shape) j ≡ Some u → Earlier (form_of item us shape) us u j
+of_shape : (item : MainItem) (us : List Usage) (shape : Shape) (u : Usage) (j : ℕ)
+    → (is_padding shape ≡ false → 0 < length us) → usage_in_form (form_of item us shape) j ≡ Some u
+    → Earlier (form_of item us shape) us u j
 of_shape item us Padding u j some h = absurd (cc)
 of_shape item us Variable u j some h = of_form item us Variable u j (some refl) h
 of_shape item us Array u j some h = of_keys item _ _ us u j h
 
--- the same of the item at a place
-pub of_layout : (layout : Contents) (i : ℕ) (es : List Entry) (u : Usage) (j : ℕ) → IsLayout layout → i < length layout.items → slice_get layout.entries i ≡ Some es → shown_in (form_at (items_of layout) i) j ≡ Some u → Earlier (form_at (items_of layout) i) (usage_list es) u j
+-- a control's usage stands in the usage list of the item at its place, at its own place or before it
+pub of_layout : (layout : Contents) (i : ℕ) (es : List Entry) (u : Usage) (j : ℕ) → IsLayout layout
+    → i < length layout.items → slice_get layout.entries i ≡ Some es
+    → usage_in_form (form_at (items_of layout) i) j ≡ Some u
+    → Earlier (form_at (items_of layout) i) (usage_list es) u j
 of_layout layout i es u j is within at h =
     let item : MainItem = (some_at layout.items i within).0 in
     let there : slice_get layout.items i ≡ Some item = (some_at layout.items i within).1 in
@@ -104,9 +117,12 @@ of_layout layout i es u j is within at h =
     by_test : (item : MainItem) → slice_get layout.items i ≡ Some item → (b : Bool) → is_input layout.reports item.report ≡ b → Earlier (form_at (items_of layout) i) (usage_list es) u j
     by_test item there true t =
         let e : form_at (items_of layout) i ≡ form_of item (usage_list es) item.shape = form-input layout i item es there at t in
-        subst (λ f. Earlier f (usage_list es) u j) (sym e) (of_shape item (usage_list es) item.shape u j (is.some_usage i item es there at) (ap (λ f. shown_in f j) (sym e) ∙ h))
+        subst (λ f. Earlier f (usage_list es) u j) (sym e)
+        (of_shape item (usage_list es) item.shape u j (is.some_usage i item es there at)
+        (ap (λ f. usage_in_form f j) (sym e) ∙ h))
     by_test item there false t =
-        let none : None ≡ Some u = ap (λ f. shown_in f j) (sym (form-other layout i item es there at t)) ∙ h in absurd (cc)
+        let none : None ≡ Some u =
+        ap (λ f. usage_in_form f j) (sym (form-other layout i item es there at t)) ∙ h in absurd (cc)
 
 -- where a usage stands in a range
 held : (e : Entry) (u : Usage) (r : ℕ) → r < entry_count e → Some (record { page = e.0.page; id = e.0.id + r }) ≡ Some u → (holds e u ≡ true) × (r ≡ u.id - e.0.id)
@@ -119,10 +135,11 @@ held e u r lt h =
 
 -- what the rounds of the search know, and what they find
 abbrev pub NoneBefore : Form → List Usage → Usage → ℕ → Type 0
-NoneBefore form us u n = (j : ℕ) → j < n → slice_get us j ≡ Some u → shown_in form j ≡ Some u → ⊥
+NoneBefore form us u n = (j : ℕ) → j < n → slice_get us j ≡ Some u → usage_in_form form j ≡ Some u → ⊥
 
 pub next_range : (form : Form) (es : List Entry) (starts : List ℕ) (u : Usage) (k : ℕ) (d : Entry) → starts ≡ starts_of es → k < length es → NoneBefore form (usage_list es) u (length (usage_list (take k es)))
-    → (holds (get_or es k d) u ≡ true → shown_in form (get_or starts k 0 + (u.id - (get_or es k d).0.id)) ≡ Some u → ⊥)
+    → (holds (get_or es k d) u ≡ true
+    → usage_in_form form (get_or starts k 0 + (u.id - (get_or es k d).0.id)) ≡ Some u → ⊥)
     → NoneBefore form (usage_list es) u (length (usage_list (take (k + 1) es)))
 next_range form es starts u k d s within none not_here j lt at shown = by_place (nat_lt j (length (usage_list (take k es)))) refl
   where
@@ -133,7 +150,7 @@ next_range form es starts u k d s within none not_here j lt at shown = by_place 
         let start : get_or starts k 0 ≡ length (usage_list (take k es)) = at_start es starts k s within in
         let here = held (get_or es k d) u (j - length (usage_list (take k es))) (omega (arith, lt, next_start es k d within, le)) (sym (found es k (j - length (usage_list (take k es))) d within (omega (arith, lt, next_start es k d within, le))) ∙ sym (from_start es k j le) ∙ at) in
         let same : j ≡ get_or starts k 0 + (u.id - (get_or es k d).0.id) = omega (arith, start, here.1, le) in
-        not_here here.0 (ap (shown_in form) (sym same) ∙ shown)
+        not_here here.0 (ap (usage_in_form form) (sym same) ∙ shown)
 
 in_bounds : (e : Entry) (u : Usage) → holds e u ≡ true → (e.0.id ≤ u.id) × (u.id ≤ e.1.id)
 in_bounds e u h = (grind (arith, common_steps, nat_tests), grind (arith, common_steps, nat_tests))
@@ -157,7 +174,9 @@ pub none_there : (form : Form) (es : List Entry) (u : Usage) (k i : ℕ) → len
 none_there form es u k i le none e = none e.place (omega (arith, get_within (usage_list es) e.place u e.listed, ap (λ l. length (usage_list l)) (take_all k es le))) e.listed e.shown
 
 -- what stands at a place, by the control there
-pub shown_by : (items : List Item) (i j : ℕ) (o : Option Control) (u : Usage) → o ≡ control_of items (record { item = i; index = j }) → shown_in (form_at items i) j ≡ Some u → option_map (λ (c : Control). c.usage) o ≡ Some u
+pub shown_by : (items : List Item) (i j : ℕ) (o : Option Control) (u : Usage)
+    → o ≡ control_of items (record { item = i; index = j }) → usage_in_form (form_at items i) j ≡ Some u
+    → option_map (λ (c : Control). c.usage) o ≡ Some u
 shown_by items i j o u e h = ap (option_map (λ (c : Control). c.usage)) (e ∙ control-form items (record { item = i; index = j })) ∙ h
 
 pub none_shown : (u : Usage) (o : Option Control) → o ≡ None → option_map (λ (c : Control). c.usage) o ≡ Some u → ⊥
@@ -173,6 +192,7 @@ other_shown u o k e t h =
 pub starts_at : (starts : List (List ℕ)) (ess : List (List Entry)) (i : ℕ) (s : List ℕ) (es : List Entry) → starts ≡ map starts_of ess → slice_get starts i ≡ Some s → slice_get ess i ≡ Some es → s ≡ starts_of es
 starts_at starts ess i s es e a b = ap (λ o. unwrap_or o s) (sym a ∙ ap (λ l. slice_get l i) e ∙ slice_get-map starts_of ess i ∙ ap (option_map starts_of) b)
 
-pub none_past : (layout : Contents) (d : ControlId) (u : Usage) → length layout.items ≤ d.item → shown_at (items_of layout) d ≡ Some u → ⊥
+pub none_past : (layout : Contents) (d : ControlId) (u : Usage) → length layout.items ≤ d.item
+    → control_usage (items_of layout) d ≡ Some u → ⊥
 none_past layout d u le h =
     let none : None ≡ Some u = ap (λ o. option_map (λ (c : Control). c.usage) (control_of_item d.index o)) (sym (items_from-past layout layout.items layout.entries d.item le)) ∙ h in absurd (cc)

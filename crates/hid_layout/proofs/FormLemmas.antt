@@ -11,34 +11,37 @@ use Rattle.hid_layout.specs.Sent.{rollover_number}
 use Rattle.hid_layout.specs.declared.control.ControlId.{ControlId}
 use Rattle.hid_descriptor.specs.Usages.{Entry, usage_list}
 use Rattle.hid_layout.specs.Layout.{Contents, report_bytes}
-use Rattle.hid_layout.specs.Controls.{Item, NoControls, input_item, no_item, spread, keys_from, is_key, has_place, rollover_from, is_input, item_of, form_of, items_from, items_of, form_of_item, form_at, control_in, control_of_item, control_of, events_in, max_events}
+use Rattle.hid_layout.specs.Controls.{Item, NoControls, input_item, no_item, spread_usages, keys_from, is_key, has_place, rollover_from, is_input, item_of, form_of, items_from, items_of, form_of_item, form_at, control_in, control_of_item, control_of, events_in, max_events}
 use Rattle.std.proofs.lemmas.List.Sums.{sum_by-append}
 use Rattle.hid_layout.proofs.IndexLemmas.{take_next}
 
 -- there is one usage for each element
-pub spread-length : (n : ℕ) (us : List Usage) → 0 < length us → length (spread n us) ≡ n
-unfolding spread
-spread-length zero us h = refl
-spread-length (suc n) [] h = absurd (omega arith)
-spread-length (suc n) (u ∷ []) h = ap suc (spread-length n (u ∷ []) (omega arith))
-spread-length (suc n) (u ∷ v ∷ us) h = ap suc (spread-length n (v ∷ us) (omega arith))
+pub spread_usages-length : (n : ℕ) (us : List Usage) → 0 < length us → length (spread_usages n us) ≡ n
+unfolding spread_usages
+spread_usages-length zero us h = refl
+spread_usages-length (suc n) [] h = absurd (omega arith)
+spread_usages-length (suc n) (u ∷ []) h = ap suc (spread_usages-length n (u ∷ []) (omega arith))
+spread_usages-length (suc n) (u ∷ v ∷ us) h = ap suc (spread_usages-length n (v ∷ us) (omega arith))
 
 -- the usage of an element is that at its place, or the last one
-pub spread-get : (n : ℕ) (us : List Usage) (j : ℕ) → 0 < length us → j < n → slice_get (spread n us) j ≡ slice_get us (min j (length us - 1))
-unfolding spread
-spread-get zero us j h lt = absurd (omega arith)
-spread-get (suc n) [] j h lt = absurd (omega arith)
-spread-get (suc n) (u ∷ []) zero h lt = refl
-spread-get (suc n) (u ∷ []) (suc j) h lt =
+pub spread_usages-get : (n : ℕ) (us : List Usage) (j : ℕ) → 0 < length us → j < n
+    → slice_get (spread_usages n us) j ≡ slice_get us (min j (length us - 1))
+unfolding spread_usages
+spread_usages-get zero us j h lt = absurd (omega arith)
+spread_usages-get (suc n) [] j h lt = absurd (omega arith)
+spread_usages-get (suc n) (u ∷ []) zero h lt = refl
+spread_usages-get (suc n) (u ∷ []) (suc j) h lt =
     let e : min j (suc 0 - 1) ≡ min (suc j) (suc 0 - 1) = omega arith in
-    spread-get n (u ∷ []) j (omega arith) (omega arith) ∙ ap (slice_get (u ∷ [])) e
-spread-get (suc n) (u ∷ v ∷ us) zero h lt = let e : 0 ≡ min 0 (suc (suc (length us)) - 1) = omega arith in ap (slice_get (u ∷ v ∷ us)) e
-spread-get (suc n) (u ∷ v ∷ us) (suc j) h lt =
+    spread_usages-get n (u ∷ []) j (omega arith) (omega arith) ∙ ap (slice_get (u ∷ [])) e
+spread_usages-get (suc n) (u ∷ v ∷ us) zero h lt = let e : 0 ≡ min 0 (suc (suc (length us)) - 1) =
+    omega arith in ap (slice_get (u ∷ v ∷ us)) e
+spread_usages-get (suc n) (u ∷ v ∷ us) (suc j) h lt =
     let e : suc (min j (suc (length us) - 1)) ≡ min (suc j) (suc (suc (length us)) - 1) = omega arith in
-    spread-get n (v ∷ us) j (omega arith) (omega arith) ∙ ap (slice_get (u ∷ v ∷ us)) e
+    spread_usages-get n (v ∷ us) j (omega arith) (omega arith) ∙ ap (slice_get (u ∷ v ∷ us)) e
 
-pub spread-past : (n : ℕ) (us : List Usage) (j : ℕ) → 0 < length us → n ≤ j → slice_get (spread n us) j ≡ None
-spread-past n us j h le = slice_get_past (spread n us) j (omega (arith, spread-length n us h))
+pub spread_usages-past : (n : ℕ) (us : List Usage) (j : ℕ) → 0 < length us → n ≤ j
+    → slice_get (spread_usages n us) j ≡ None
+spread_usages-past n us j h le = slice_get_past (spread_usages n us) j (omega (arith, spread_usages-length n us h))
 
 -- the key at a place
 keys_from-get : (item : MainItem) (i : ℕ) (us : List Usage) (j : ℕ) → slice_get (keys_from item i us) j ≡ option_map (λ u. record { usage = u; is_switch = is_key item (i + j) u }) (slice_get us j)

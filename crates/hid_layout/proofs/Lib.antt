@@ -1,6 +1,6 @@
 pub mod Vectors
 pub mod WellFormed
-pub mod StretchLemmas
+pub mod EmptyCodeLemmas
 pub mod CodeLemmas
 pub mod PatternLemmas
 pub mod NullLemmas

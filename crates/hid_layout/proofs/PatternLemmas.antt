@@ -11,7 +11,7 @@ use Rattle.hid_layout.specs.declared.main_item.MainItem.{MainItem}
 use Rattle.hid_descriptor.specs.declared.usage.Usage.{Usage}
 use Rattle.hid_descriptor.specs.Faults.{least_value, greatest_value}
 use Rattle.hid_layout.specs.Sent.{first_passing, names_nothing, number_of, empty_number}
-use Rattle.hid_layout.specs.Stretches.{IsLeastNothing, NamesAll}
+use Rattle.hid_layout.specs.EmptyCodes.{IsLeastNothing, NamesAll}
 
 -- the least number that passes, found
 pub first_is : (test : ℕ → Bool) (n from count : ℕ) → from ≤ n → n < from + count → test n ≡ true → ((lower : ℕ) → from ≤ lower → lower < n → test lower ≡ false) → first_passing test from count ≡ Some n

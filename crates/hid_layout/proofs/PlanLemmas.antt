@@ -1,4 +1,4 @@
--- The places of reports: items are counted, and each place is put behind those that its report has so far.
+-- The places of reports: items are counted, and each place is put after those that its report has so far.
 use Rattle.std.proofs.Common.{◌≡◌, ◌≢◌, ℕ, zero, suc, ◌+◌, ◌-◌, ◌<◌, ◌≤◌, List, [], ◌∷◌, ◌++◌, length, map, take, drop, get_or, set, refl, sym, subst, ap, ◌∙◌, arith, append-nil, Bool, true, false, cond, nat_eq, nat_lt, Some, pos, Vec}
 use Rattle.std.specs.Vec.{with_items}
 use Rattle.std.specs.List.{slice_get, slice_range}
@@ -58,7 +58,7 @@ made-get f from (suc n) (suc r) d h = made-get f (from + 1) n r d (omega arith) 
 pub made_get : (f : ℕ → ℕ) (n r d : ℕ) → r < n → get_or (map f (upward 0 n)) r d ≡ f r
 made_get f n r d h = made-get f 0 n r d h ∙ ap f (omega arith)
 
--- a part of a list stays where what is set lies before or behind it, and grows by what is set at its end
+-- a part of a list stays where what is set lies before or after it, and grows by what is set at its end
 range-before : (xs : List ℕ) (a b k v : ℕ) → a ≤ b → b ≤ k → slice_range (set xs k v) a b ≡ slice_range xs a b
 range-before xs a b k v le within =
     let at : a + (k - a) ≡ k = omega (arith, le, within) in
@@ -153,7 +153,7 @@ pub begin_within : (items : List MainItem) (n : ℕ) → begin_of items n ≤ le
 begin_within [] n = omega (arith, begin-none n)
 begin_within (x ∷ items) n = omega (arith, begin-cons x items n, begin_within items n, one_few (nat_lt x.report n))
 
--- reports lie one behind the other
+-- reports lie one after the other
 begin_behind : (items : List MainItem) (r q : ℕ) → r < q → begin_of items (suc r) ≤ begin_of items q
 begin_behind items r zero h = absurd (omega arith)
 begin_behind items r (suc q) h = by_case (nat_lt r q) refl (λ lt. begin_behind items r q lt)

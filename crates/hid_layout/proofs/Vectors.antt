@@ -121,7 +121,7 @@ limits = MAX_DESCRIPTOR ∷ MAX_ITEMS ∷ MAX_ELEMENTS ∷ MAX_ENTRIES ∷ MAX_O
 limits_there : limits ≡ 4096 ∷ 512 ∷ 4096 ∷ 64 ∷ 8 ∷ 16 ∷ 64 ∷ 256 ∷ 32 ∷ 65536 ∷ []
 limits_there = refl
 
--- a report without an ID has 2,048 bits at most, and one with an ID 2,040 behind it
+-- a report without an ID has 2,048 bits at most, and one with an ID 2,040 after it
 longest_without_id : report_limit 0 ≡ 2048
 longest_without_id = refl
 

@@ -7,10 +7,10 @@ use Rattle.std.proofs.lemmas.Float.{T_from_true}
 use Rattle.std.proofs.Math.Nat.{one-le-pow, le-mul_of_pos_right, mul_comm}
 use Rattle.std.proofs.Math.Pow.{pow_mono}
 use Rattle.std.specs.Int.{int_max, int_min}
-use Rattle.hid_descriptor.specs.Usages.{Entry, entry_count, rising, usage_list, are_ranges}
+use Rattle.hid_descriptor.specs.Usages.{Entry, entry_count, usages_from, usage_list, are_ranges}
 use Rattle.hid_layout.specs.Reports.{HasElements, IsLayout, first_bit, report_bytes, bits_of as bits_of_report}
 use Rattle.hid_descriptor.proofs.Taking.{reverse_more}
-use Rattle.hid_descriptor.proofs.Places.{rising-length}
+use Rattle.hid_descriptor.proofs.Places.{usages_from-length}
 use Rattle.std.proofs.lemmas.Grind.{common_steps}
 use Rattle.std.proofs.lemmas.List.Concat.{flat_map-cons}
 use Rattle.std.proofs.lemmas.Bool.Decides.{nat_tests}
@@ -239,9 +239,13 @@ some_usage (e ∷ es) h r =
     let a = both_true (nat_eq e.0.page e.1.page && nat_le e.0.id e.1.id) (list_all (λ e. nat_eq e.0.page e.1.page && nat_le e.0.id e.1.id) es) r in
     let b = both_true (nat_eq e.0.page e.1.page) (nat_le e.0.id e.1.id) a.0 in
     let up : e.0.id ≤ e.1.id = at_most e.0.id e.1.id b.1 in
-    let first : length (rising e.0.page e.0.id (entry_count e)) ≡ entry_count e = rising-length e.0.page e.0.id (entry_count e) in
-    let all : usage_list (e ∷ es) ≡ rising e.0.page e.0.id (entry_count e) ++ usage_list es = flat_map-cons (λ (e : Entry). rising e.0.page e.0.id (entry_count e)) e es in
-    let n : length (usage_list (e ∷ es)) ≡ length (rising e.0.page e.0.id (entry_count e)) + length (usage_list es) = ap length all ∙ length-append (rising e.0.page e.0.id (entry_count e)) (usage_list es) in
+    let first : length (usages_from e.0.page e.0.id (entry_count e)) ≡ entry_count e =
+    usages_from-length e.0.page e.0.id (entry_count e) in
+    let all : usage_list (e ∷ es) ≡ usages_from e.0.page e.0.id (entry_count e) ++ usage_list es =
+    flat_map-cons (λ (e : Entry). usages_from e.0.page e.0.id (entry_count e)) e es in
+    let n : length (usage_list (e ∷ es))
+    ≡ length (usages_from e.0.page e.0.id (entry_count e)) + length (usage_list es) =
+    ap length all ∙ length-append (usages_from e.0.page e.0.id (entry_count e)) (usage_list es) in
     omega (arith, up, first, n)
   where
     at_most : (a b : ℕ) → nat_le a b ≡ true → a ≤ b

@@ -30,7 +30,7 @@ pub record Key : Type 0 where
   pub is_switch : Bool
 
 -- The controls of a listed item: none; one for each element, of one kind and range of encodable values;
--- or the keys of an array with so many elements, which may have a rollover code.
+-- or the keys of an array with n elements, which may have a rollover code.
 pub data Form : Type 0 where
   NoControls : Form
   Elements : (kind : ControlKind) → (least greatest : ℤ) → (usages : List Usage) → Form
@@ -70,11 +70,11 @@ element_kind item =
 
 -- the usages of an item's elements, one for each: where there are fewer usages, the last one is for the rest (6.2.2.8).
 -- Example: two usages and three fields: the third has the second usage
-unfoldable pub spread : ℕ → List Usage → List Usage
-spread zero us = []
-spread (suc n) [] = []
-spread (suc n) (u ∷ []) = u ∷ spread n (u ∷ [])
-spread (suc n) (u ∷ v ∷ us) = u ∷ spread n (v ∷ us)
+unfoldable pub spread_usages : ℕ → List Usage → List Usage
+spread_usages zero us = []
+spread_usages (suc n) [] = []
+spread_usages (suc n) (u ∷ []) = u ∷ spread_usages n (u ∷ [])
+spread_usages (suc n) (u ∷ v ∷ us) = u ∷ spread_usages n (v ∷ us)
 
 -- A place of an array's usage list below 65,536 is a key if an element can carry its number, its usage ID isn't 0, and
 -- it is none of the errors 07:01 to 07:03 (6.2.2.5; HID Usage Tables, page 07). Example: places 4 to 101 of the
@@ -88,7 +88,7 @@ unfoldable pub keys_from : MainItem → ℕ → List Usage → List Key
 keys_from item i [] = []
 keys_from item i (u ∷ us) = record { usage = u; is_switch = is_key item i u } ∷ keys_from item (i + 1) us
 
--- no key stands beyond these
+-- the first places of a usage list: no key stands beyond them
 abbrev pub key_places : List Usage → List Usage
 key_places us = take MAX_KEYS us
 
@@ -103,7 +103,7 @@ rollover_from item i [] = None
 rollover_from item i (u ∷ us) =
     if is_rollover u && is_encodable item (item.min +ℤ pos i) then Some i else rollover_from item (i + 1) us
 
--- there is a place
+-- whether a place was found
 abbrev pub has_place : Option ℕ → Bool
 has_place None = false
 has_place (Some i) = true
@@ -111,7 +111,8 @@ has_place (Some i) = true
 -- the controls of an item with these usages
 abbrev pub form_of : MainItem → List Usage → Shape → Form
 form_of item us Padding = NoControls
-form_of item us Variable = Elements (element_kind item) (least_of item) (greatest_of item) (spread item.count us)
+form_of item us Variable =
+    Elements (element_kind item) (least_of item) (greatest_of item) (spread_usages item.count us)
 form_of item us Array = Keys item.count (has_place (rollover_from item 0 us)) (array_keys item us)
 
 -- a report that may be there is an Input report
@@ -123,7 +124,7 @@ is_input_report (Some report) = same_kind report.kind Input
 abbrev pub is_input : List Report → ℕ → Bool
 is_input reports r = is_input_report (slice_get reports r)
 
--- an item of the Input report of this number, which has so many bytes
+-- an item of the Input report of this number, which has n bytes
 abbrev pub input_item : ℕ → ℕ → Form → Item
 input_item r bytes form = record { report = Some r; bytes = bytes; form = form }
 
@@ -138,7 +139,7 @@ item_of layout item es =
     then input_item item.report (report_bytes layout item.report) (form_of item (usage_list es) item.shape)
     else no_item
 
--- these listed items with their entries, as they are seen
+-- listed items with their entries, as they are seen
 unfoldable pub items_from : Contents → List MainItem → List (List Entry) → List Item
 items_from layout [] ess = []
 items_from layout (item ∷ items) [] = []

@@ -7,12 +7,12 @@ use Rattle.hid_descriptor.specs.Usages.{Entry}
 use Rattle.hid_layout.specs.Controls.{Item, Form, control_in, control_of}
 
 -- the usage of an item's control at a place
-abbrev pub shown_in : Form → ℕ → Option Usage
-shown_in form j = option_map (λ c. c.usage) (control_in form j)
+abbrev pub usage_in_form : Form → ℕ → Option Usage
+usage_in_form form j = option_map (λ c. c.usage) (control_in form j)
 
 -- the usage of a layout's control
-abbrev pub shown_at : List Item → ControlId → Option Usage
-shown_at items c = option_map (λ c. c.usage) (control_of items c)
+abbrev pub control_usage : List Item → ControlId → Option Usage
+control_usage items c = option_map (λ c. c.usage) (control_of items c)
 
 -- a usage is one of a range
 abbrev pub holds : Entry → Usage → Bool

@@ -2,9 +2,9 @@ pub mod Layout
 pub mod Controls
 pub mod Reports
 pub mod Sent
-pub mod Stretches
+pub mod EmptyCodes
 pub mod Index
 pub mod Finding
 pub mod ControlKinds
 pub mod Plans
-pub mod Laying
+pub mod Parsing

@@ -1,11 +1,11 @@
 -- The places of the items of each report, kept in one list (our choice): where the places of each report begin, where
--- those of the last one end, and then the places, one report behind the other.
+-- those of the last one end, and then the places, one report after the other.
 use Rattle.std.specs.Prelude.{◌≡◌, ℕ, zero, suc, ◌+◌, ◌<◌, ◌≤◌, ◌==◌, if◌then◌else◌, List, [], ◌∷◌, map, length, drop, get_or, slice_get, slice_range, Some}
 use Rattle.hid_layout.specs.declared.main_item.MainItem.{MainItem}
 use Rattle.hid_descriptor.specs.Faults.{upward}
 use Rattle.hid_layout.specs.Index.{places_from}
 
--- each item is one of so many reports
+-- each item is one of n reports
 abbrev pub AreIn : ℕ → List MainItem → Type 0
 AreIn reports items = (i : ℕ) (item : MainItem) → slice_get items i ≡ Some item → item.report < reports
 
@@ -14,12 +14,12 @@ abbrev pub count_of : List MainItem → ℕ → ℕ
 count_of [] r = 0
 count_of (item ∷ items) r = (if item.report == r then 1 else 0) + count_of items r
 
--- where the places of a report begin: behind those of the reports before it
+-- the index at which the places of a report begin: after those of the earlier reports
 abbrev pub begin_of : List MainItem → ℕ → ℕ
 begin_of items zero = 0
 begin_of items (suc r) = begin_of items r + count_of items r
 
--- where they end, once the first items have their places
+-- the index at which the places of a report end, once the first items have theirs
 abbrev pub end_of : List MainItem → List MainItem → ℕ → ℕ
 end_of items first r = begin_of items r + count_of first r
 

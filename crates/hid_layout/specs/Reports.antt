@@ -13,7 +13,7 @@ use Rattle.hid_descriptor.specs.declared.usage.Usage.{Usage}
 use Rattle.hid_layout.specs.declared.main_item.Element.{Element}
 use Rattle.std.specs.Option.{option_and_then}
 
--- the first bit behind the ID byte, where there is one
+-- the first bit after the ID byte, where there is one
 abbrev pub first_bit : Contents → ℕ
 first_bit layout = if layout.numbered then 8 else 0
 
@@ -21,7 +21,7 @@ first_bit layout = if layout.numbered then 8 else 0
 abbrev pub usage_of : Contents → ℕ → ℕ → Option Usage
 usage_of layout item index = option_and_then (λ es. slice_get (usage_list es) index) (slice_get layout.entries item)
 
--- the field at a place of an item: fields lie one behind the other
+-- the field at a place of an item: fields lie one after the other
 abbrev pub field_at : MainItem → ℕ → Element
 field_at item j = record {
   bit = item.offset + j * item.size;

@@ -1,4 +1,4 @@
--- The codes of an item: the numbers by which its elements tell null (HID 1.11, 5.10), that they are empty (our
+-- The codes of an item: the numbers by which its elements report null (HID 1.11, 5.10), that they are empty (our
 -- choice), and that the array rolled over (HID Usage Tables, Keyboard/Keypad page).
 use Rattle.std.specs.Prelude.{◌≡◌, ℕ, zero, suc, ◌+◌, ◌^◌, Bool, true, not, ◌&&◌, ◌||◌, if◌then◌else◌, List, slice_get, Option, Some, None, ℤ, pos, negsuc, ◌+ℤ◌, ◌-ℤ◌, int_le}
 use Rattle.std.specs.Option.{option_map}
@@ -26,7 +26,7 @@ place_named item v = if is_in item.min item.max v then Some (at_zero (v -ℤ ite
 abbrev pub number_of : MainItem → ℕ → ℤ
 number_of item pattern = value_of pattern item.size (is_negative item.min)
 
--- the least of so many numbers, from one on, that passes
+-- the least of n numbers, from one on, that passes
 unfoldable pub first_passing : (ℕ → Bool) → ℕ → ℕ → Option ℕ
 first_passing test n zero = None
 first_passing test n (suc count) = if test n then Some n else first_passing test (n + 1) count
@@ -56,15 +56,15 @@ empty_code item us = least_pattern item (names_nothing item us)
 abbrev pub code_number : MainItem → Option ℕ → Option ℤ
 code_number item code = option_map (number_of item) code
 
--- the number by which an element tells null
+-- the number by which an element reports null
 abbrev pub null_number : MainItem → Option ℤ
 null_number item = code_number item (null_code item)
 
--- the number by which an element of an array tells no key
+-- the number by which an element of an array reports no key
 abbrev pub empty_number : MainItem → List Usage → Option ℤ
 empty_number item us = code_number item (empty_code item us)
 
--- the number by which the elements of an array tell that it rolled over: the least place of ErrorRollOver
+-- the number by which the elements of an array report that it rolled over: the least place of ErrorRollOver
 abbrev pub rollover_number : MainItem → List Usage → Option ℤ
 rollover_number item us = option_map (λ i. item.min +ℤ pos i) (rollover_from item 0 us)
 

@@ -24,8 +24,8 @@ fn array_codes(item: &MainItem, entries: &[(Usage, Usage)]) -> Codes
     }
 }
 
-/// The place behind the last array.
-fn behind_arrays(items: &[MainItem]) -> usize
+/// The place after the last array.
+fn after_arrays(items: &[MainItem]) -> usize
     ensures within { result ≤ length items.now }
     ensures all { (i : ℕ) (item : MainItem) → slice_get items.now i ≡ Some item
         → item.shape ≡ Shape.Array → i < result }
@@ -53,7 +53,7 @@ pub(crate) fn all_codes(
     requires one_each { length lists.now.entries ≡ length items.now }
     ensures { IfOk result (λ codes. AreArrayCodes items.now lists.now.entries codes.items) }
 {
-    let count = behind_arrays(items);
+    let count = after_arrays(items);
     let mut codes = Vec::with_capacity(alloc, count)?;
     for i in 0..count {
         codes.push_reserved(array_codes(&items[i], lists.entries(i)));

@@ -33,7 +33,7 @@ pub struct Layout {
     items: Vec<MainItem>,
     lists: ItemLists,
     plans: Plans,
-    /// The codes of arrays, each at its item's place; none at other places, nor behind the last array.
+    /// The codes of arrays, each at its item's place; none at other places, nor after the last array.
     codes: Vec<Codes>,
 }
 
@@ -235,19 +235,19 @@ impl Layout {
 }
 
 impl Layout {
-    ghost use Rattle.hid_layout.specs.Finding.{shown_at, shown_in};
+    ghost use Rattle.hid_layout.specs.Finding.{control_usage, usage_in_form};
     ghost use Rattle.hid_layout.specs.Controls.{items_of, form_at};
     ghost use Rattle.std.specs.Prelude.{IfSome, IfNone, ◌⊎◌};
 
     /// The least place of a listed item whose control has a usage.
     fn find_in(&self, item: usize, usage: Usage) -> Option<usize>
         requires { item < length self.now.items }
-        ensures found { IfSome result (λ j. shown_in (form_at (items_of self.now) item) j
+        ensures found { IfSome result (λ j. usage_in_form (form_at (items_of self.now) item) j
             ≡ Some usage) }
         ensures least { IfSome result (λ j. (i : ℕ) → i < j
-            → shown_in (form_at (items_of self.now) item) i ≡ Some usage → ⊥) }
+            → usage_in_form (form_at (items_of self.now) item) i ≡ Some usage → ⊥) }
         ensures none { IfNone result ((i : ℕ)
-            → shown_in (form_at (items_of self.now) item) i ≡ Some usage → ⊥) }
+            → usage_in_form (form_at (items_of self.now) item) i ≡ Some usage → ⊥) }
     {
         let entries = self.lists.entries(item);
         let starts = self.lists.starts(item);
@@ -267,11 +267,12 @@ impl Layout {
 
     /// The least control with a usage: the first item that has one, and its least place there.
     pub fn find(&self, usage: Usage) -> Option<ControlId>
-        ensures found { IfSome result (λ c. shown_at (items_of self.now) c ≡ Some usage) }
+        ensures found { IfSome result (λ c. control_usage (items_of self.now) c ≡ Some usage) }
         ensures least { IfSome result (λ c. (d : ControlId)
             → (d.item < c.item) ⊎ ((d.item ≡ c.item) × (d.index < c.index))
-            → shown_at (items_of self.now) d ≡ Some usage → ⊥) }
-        ensures none { IfNone result ((d : ControlId) → shown_at (items_of self.now) d ≡ Some usage
+            → control_usage (items_of self.now) d ≡ Some usage → ⊥) }
+        ensures none { IfNone result
+            ((d : ControlId) → control_usage (items_of self.now) d ≡ Some usage
             → ⊥) }
     {
         for item in 0..self.items.len() {
@@ -349,13 +350,13 @@ impl Layout {
     ///
     /// # Errors
     /// A descriptor that is too long is refused before its items are looked at. Otherwise the first item with a cause
-    /// decides, by the first of its causes in the order in which an item is looked at ([`Cause`]); behind the last item
-    /// Unclosed comes before MixedReportId. Where memory is wanting the cause is Memory, at 0.
+    /// decides, by the first of its causes in the order in which an item is looked at ([`Cause`]); after the last item
+    /// Unclosed comes before MixedReportId. Where memory runs out the cause is Memory, at 0.
     pub fn parse(alloc: Global, descriptor: &[u8]) -> Result<Layout, LayoutFault>
         // The descriptor's items are accepted, and the layout is theirs.
         ensures ok { IfOk result (λ layout. (before : List Spelled) × Accepts descriptor.now before
             × (layout ≡ layout_of before)) }
-        // Memory was wanting, or this is the one refusal.
+        // Memory ran out, or this is the one refusal.
         ensures err { IfErr result (λ f. Explains descriptor.now f.cause f.at) }
     {
         let listed = match list_fields(alloc, descriptor) {

@@ -15,7 +15,7 @@ use std::marker::Model;
 pub(crate) struct Plans {
     reports: usize,
     /// Where the places of each report begin among all places, and where those of the last one end; then all places,
-    /// one report behind the other.
+    /// one report after the other.
     bounds_and_places: Vec<usize>,
 }
 
@@ -31,7 +31,7 @@ impl Model for Plans {
 }
 
 impl Plans {
-    /// Of so many reports with these items: the items of each are counted, so that it is known where its places begin.
+    /// Of n reports with these items: the items of each are counted, so that it is known where its places begin.
     pub(crate) fn of(alloc: Global, reports: usize, items: &[MainItem]) -> Result<Plans, AllocError>
         requires few { reports < 2 ^ 63 }
         requires there { AreIn reports items.now }
@@ -80,7 +80,7 @@ fn count_items(items: &[MainItem], counts: &mut [usize])
     }
 }
 
-/// Puts in place of each count where the places of that report begin: behind those of the reports before it.
+/// Puts in place of each count where the places of that report begin: after those of the reports before it.
 fn begin_places(counts: &mut [usize])
     requires { (items : List MainItem) × (length items < 2 ^ 64)
         × (counts.old ≡ map (count_of items) (upward 0 (length counts.old))) }
@@ -95,7 +95,7 @@ fn begin_places(counts: &mut [usize])
     }
 }
 
-/// Puts each place behind those that its report has so far.
+/// Puts each place after those that its report has so far.
 fn put_places(items: &[MainItem], ends: &mut [usize], places: &mut [usize])
     requires there { AreIn (length ends.old) items.now }
     requires begun { ends.old ≡ map (begin_of items.now) (upward 0 (length ends.old)) }

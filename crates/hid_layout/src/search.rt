@@ -7,7 +7,7 @@ ghost use Rattle.hid_layout.specs.Finding.{holds};
 use hid_descriptor::{Usage, entry_count};
 
 /// How many ranges begin at a place or before it.
-fn begun(starts: &[u32], place: usize) -> usize
+fn entries_up_to(starts: &[u32], place: usize) -> usize
     ensures within { result ≤ length starts.now }
     ensures last { 0 < result → slice_index starts.now (result - 1) ≤ place }
     ensures next { result < length starts.now → place < slice_index starts.now result }
@@ -34,7 +34,7 @@ pub(crate) fn usage_by_starts(
     requires { starts.now ≡ starts_of entries.now }
     ensures { result ≡ slice_get (usage_list entries.now) index }
 {
-    let ranges = begun(starts, index);
+    let ranges = entries_up_to(starts, index);
     if ranges == 0 {
         return None;
     }

@@ -10,7 +10,7 @@ ghost use Rattle.hid_descriptor.specs.Faults.{least_value, greatest_value};
 ghost use Rattle.hid_layout.specs.Reports.{HasElements};
 ghost use Rattle.hid_fields.specs.Value.{is_negative};
 ghost use Rattle.hid_descriptor.specs.declared.usage.Usage.{Usage as Named};
-ghost use Rattle.hid_layout.specs.Stretches.{RollsOverAt, RollsOverIn, IsFirst, IsLeastNothing, NamesAll};
+ghost use Rattle.hid_layout.specs.EmptyCodes.{RollsOverAt, RollsOverIn, IsFirst, IsLeastNothing, NamesAll};
 ghost use Rattle.hid_layout.specs.Sent.{is_in, AreCodes, names_nothing as names_nothing_at, number_of, empty_number, null_number, rollover_number};
 
 use crate::main_item::MainItem;
@@ -40,23 +40,23 @@ pub(crate) const NO_CODES: Codes = Codes {
 
 /// The usages of one entry at their places in the usage list.
 #[derive(Clone, Copy)]
-struct Stretch {
+struct EntryPlaces {
     low: Usage,
-    /// The place of the first one, and the place behind the last one.
+    /// The place of the first one, and the place after the last one.
     start: usize,
     end: usize,
     ghost small: { end < 2 ^ 40 },
     ghost ids: { low.id + (end - start) ≤ 2 ^ 16 },
 }
 
-impl Stretch {
-    ghost use Rattle.hid_layout.specs.Stretches.{IsFirstNothing, usage_behind};
+impl EntryPlaces {
+    ghost use Rattle.hid_layout.specs.EmptyCodes.{IsFirstNothing, usage_at_place};
 
     /// The usage at a place.
     fn usage(&self, place: usize) -> Usage
         requires low { self.now.start ≤ place }
         requires high { place < self.now.end }
-        ensures { result ≡ usage_behind self.now.low self.now.start place }
+        ensures { result ≡ usage_at_place self.now.low self.now.start place }
     {
         Usage {
             page: self.low.page,
@@ -64,8 +64,8 @@ impl Stretch {
         }
     }
 
-    /// The first place from one on that names neither a key nor an error, or the end, or where it is behind the end,
-    /// the place itself.
+    /// The first place at or after `from` that names neither a key nor an error: at most the end, or `from` if that is
+    /// past it.
     fn first_nothing(&self, from: usize) -> usize
         requires { self.now.start ≤ from }
         ensures { IsFirstNothing self.now.low self.now.start from self.now.end result }
@@ -85,7 +85,7 @@ impl Stretch {
     }
 }
 
-/// The first place of a usage list from one on, also behind its end, that names neither a key nor an error.
+/// The first place of a usage list from one on, also after its end, that names neither a key nor an error.
 fn first_nothing(entries: &[(Usage, Usage)], from: usize) -> usize
     requires few { length entries.now ≤ MAX_ENTRIES }
     requires small { from ≤ 2 ^ 34 }
@@ -96,7 +96,7 @@ fn first_nothing(entries: &[(Usage, Usage)], from: usize) -> usize
     let mut next = from;
     for entry in entries {
         let end = start + entry_count(entry);
-        let stretch = Stretch {
+        let stretch = EntryPlaces {
             low: entry.0,
             start,
             end,
@@ -288,7 +288,7 @@ pub(crate) fn is_encodable(item: &MainItem, place: usize) -> bool
     item.least() <= number && number <= item.greatest()
 }
 
-/// The same, where an element can carry the number by which it names the place.
+/// The place of ErrorRollOver, where an element can carry the number by which it names the place.
 fn rollover_in(item: &MainItem, entry: &(Usage, Usage), start: usize) -> Option<usize>
     requires elements { HasElements item.now }
     requires small { start ≤ MAX_ENTRIES * 2 ^ 16 }

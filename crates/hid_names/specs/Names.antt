@@ -13,10 +13,10 @@ pub data Name : Type 0 where
   Instance : ℕ → Name
 
 -- the name that a value of a usage's name stands for
-abbrev pub named : UsageName → Name
-named (kinds.Known name) = Known name.now
-named (kinds.Button number) = Button number
-named (kinds.Instance number) = Instance number
+abbrev pub name_of_value : UsageName → Name
+name_of_value (kinds.Known name) = Known name.now
+name_of_value (kinds.Button number) = Button number
+name_of_value (kinds.Instance number) = Instance number
 
 -- the name of a usage as it is printed
 abbrev pub name_text : Name → List ℕ

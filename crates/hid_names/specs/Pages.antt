@@ -8,9 +8,9 @@ abbrev pub rows_of : List (ℕ × Bor (List ℕ)) → List (ℕ × List ℕ)
 rows_of rows = map (λ row. (row.0, row.1.now)) rows
 
 -- what rows have under an ID
-abbrev pub under : List (ℕ × List ℕ) → ℕ → Option (List ℕ)
-under [] id = None
-under (row ∷ more) id = if id == row.0 then Some row.1 else under more id
+abbrev pub name_under : List (ℕ × List ℕ) → ℕ → Option (List ℕ)
+name_under [] id = None
+name_under (row ∷ more) id = if id == row.0 then Some row.1 else name_under more id
 
 -- page 01
 unfoldable pub desktop : List (ℕ × List ℕ)
@@ -83,26 +83,26 @@ cash = map (λ row. (row.0, row.1.now)) CASH
 -- what the table of a page has under an ID
 unfoldable pub in_page : ℕ → ℕ → Option (List ℕ)
 in_page page id =
-    if page == 0x01 then under desktop id
-    else if page == 0x02 then under simulation id
-    else if page == 0x03 then under reality id
-    else if page == 0x04 then under sport id
-    else if page == 0x05 then under games id
-    else if page == 0x07 then under keyboard id
-    else if page == 0x08 then under lights id
-    else if page == 0x0B then under telephony id
-    else if page == 0x0C then under consumer id
-    else if page == 0x0D then under digitizers id
-    else if page == 0x0F then under forces id
-    else if page == 0x14 then under displays id
-    else if page == 0x80 then under monitors id
-    else if page == 0x82 then under monitor_controls id
-    else if page == 0x84 then under power id
-    else if page == 0x85 then under batteries id
-    else if page == 0xF0 then under cash id
+    if page == 0x01 then name_under desktop id
+    else if page == 0x02 then name_under simulation id
+    else if page == 0x03 then name_under reality id
+    else if page == 0x04 then name_under sport id
+    else if page == 0x05 then name_under games id
+    else if page == 0x07 then name_under keyboard id
+    else if page == 0x08 then name_under lights id
+    else if page == 0x0B then name_under telephony id
+    else if page == 0x0C then name_under consumer id
+    else if page == 0x0D then name_under digitizers id
+    else if page == 0x0F then name_under forces id
+    else if page == 0x14 then name_under displays id
+    else if page == 0x80 then name_under monitors id
+    else if page == 0x82 then name_under monitor_controls id
+    else if page == 0x84 then name_under power id
+    else if page == 0x85 then name_under batteries id
+    else if page == 0xF0 then name_under cash id
     else None
 
--- each number is below the one behind it
+-- each number is below the one after it
 abbrev pub are_rising : List ℕ → Bool
 are_rising [] = true
 are_rising (first ∷ []) = true

@@ -2,7 +2,7 @@
 
 ghost use Rattle.std.specs.Prelude.{◌≡◌, Some};
 ghost use Rattle.std.specs.Option.{option_map};
-ghost use Rattle.hid_names.specs.Names.{named, name_of, name_text};
+ghost use Rattle.hid_names.specs.Names.{name_of_value, name_of, name_text};
 
 use crate::pages::in_page;
 use std::fmt;
@@ -25,7 +25,7 @@ pub enum UsageName {
 }
 
 impl fmt::Display for UsageName {
-    ghost output = { λ name. Some (name_text (named name)) };
+    ghost output = { λ name. Some (name_text (name_of_value name)) };
 
     fn fmt<W: fmt::Write>(&self, f: &mut fmt::Formatter<W>) -> fmt::Result {
         match *self {
@@ -39,7 +39,7 @@ impl fmt::Display for UsageName {
 /// What a usage is called, if it has a name.
 #[tactic(auto, unfolding(crate::specs::Names::name_of))]
 pub fn usage_name(page: u16, id: u16) -> Option<UsageName>
-    ensures name { option_map (λ name. named name) result ≡ name_of page id }
+    ensures name { option_map (λ name. name_of_value name) result ≡ name_of page id }
 {
     if page == BUTTONS && id != 0 {
         return Some(UsageName::Button(id));

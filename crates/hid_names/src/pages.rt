@@ -2,7 +2,7 @@
 
 ghost use Rattle.std.specs.Prelude.{◌≡◌};
 ghost use Rattle.std.specs.Option.{option_map};
-ghost use Rattle.hid_names.specs.Pages.{under, rows_of, in_page, desktop, simulation, reality, sport, games, keyboard, lights, telephony, consumer, digitizers, forces, displays, monitors, monitor_controls, power, batteries, cash};
+ghost use Rattle.hid_names.specs.Pages.{name_under, rows_of, in_page, desktop, simulation, reality, sport, games, keyboard, lights, telephony, consumer, digitizers, forces, displays, monitors, monitor_controls, power, batteries, cash};
 
 use crate::table::{
     BATTERIES, CASH, CONSUMER, DESKTOP, DIGITIZERS, DISPLAYS, FORCES, GAMES, KEYBOARD, LIGHTS,
@@ -11,7 +11,7 @@ use crate::table::{
 
 /// What rows have under an ID.
 fn look_up(rows: &[(u16, &'static str)], id: u16) -> Option<&'static str>
-    ensures { option_map (λ name. name.now) result ≡ under (rows_of rows.now) id }
+    ensures { option_map (λ name. name.now) result ≡ name_under (rows_of rows.now) id }
 {
     for row in rows {
         let (of, name) = *row;
@@ -22,121 +22,123 @@ fn look_up(rows: &[(u16, &'static str)], id: u16) -> Option<&'static str>
     None
 }
 
+// One function for each page: each unfolds one table alone.
+
 #[tactic(auto, unfolding(crate::specs::Pages::desktop))]
 fn in_desktop(id: u16) -> Option<&'static str>
-    ensures { option_map (λ name. name.now) result ≡ under desktop id }
+    ensures { option_map (λ name. name.now) result ≡ name_under desktop id }
 {
     look_up(&DESKTOP, id)
 }
 
 #[tactic(auto, unfolding(crate::specs::Pages::simulation))]
 fn in_simulation(id: u16) -> Option<&'static str>
-    ensures { option_map (λ name. name.now) result ≡ under simulation id }
+    ensures { option_map (λ name. name.now) result ≡ name_under simulation id }
 {
     look_up(&SIMULATION, id)
 }
 
 #[tactic(auto, unfolding(crate::specs::Pages::reality))]
 fn in_reality(id: u16) -> Option<&'static str>
-    ensures { option_map (λ name. name.now) result ≡ under reality id }
+    ensures { option_map (λ name. name.now) result ≡ name_under reality id }
 {
     look_up(&REALITY, id)
 }
 
 #[tactic(auto, unfolding(crate::specs::Pages::sport))]
 fn in_sport(id: u16) -> Option<&'static str>
-    ensures { option_map (λ name. name.now) result ≡ under sport id }
+    ensures { option_map (λ name. name.now) result ≡ name_under sport id }
 {
     look_up(&SPORT, id)
 }
 
 #[tactic(auto, unfolding(crate::specs::Pages::games))]
 fn in_games(id: u16) -> Option<&'static str>
-    ensures { option_map (λ name. name.now) result ≡ under games id }
+    ensures { option_map (λ name. name.now) result ≡ name_under games id }
 {
     look_up(&GAMES, id)
 }
 
 #[tactic(auto, unfolding(crate::specs::Pages::keyboard))]
 fn in_keyboard(id: u16) -> Option<&'static str>
-    ensures { option_map (λ name. name.now) result ≡ under keyboard id }
+    ensures { option_map (λ name. name.now) result ≡ name_under keyboard id }
 {
     look_up(&KEYBOARD, id)
 }
 
 #[tactic(auto, unfolding(crate::specs::Pages::lights))]
 fn in_lights(id: u16) -> Option<&'static str>
-    ensures { option_map (λ name. name.now) result ≡ under lights id }
+    ensures { option_map (λ name. name.now) result ≡ name_under lights id }
 {
     look_up(&LIGHTS, id)
 }
 
 #[tactic(auto, unfolding(crate::specs::Pages::telephony))]
 fn in_telephony(id: u16) -> Option<&'static str>
-    ensures { option_map (λ name. name.now) result ≡ under telephony id }
+    ensures { option_map (λ name. name.now) result ≡ name_under telephony id }
 {
     look_up(&TELEPHONY, id)
 }
 
 #[tactic(auto, unfolding(crate::specs::Pages::consumer))]
 fn in_consumer(id: u16) -> Option<&'static str>
-    ensures { option_map (λ name. name.now) result ≡ under consumer id }
+    ensures { option_map (λ name. name.now) result ≡ name_under consumer id }
 {
     look_up(&CONSUMER, id)
 }
 
 #[tactic(auto, unfolding(crate::specs::Pages::digitizers))]
 fn in_digitizers(id: u16) -> Option<&'static str>
-    ensures { option_map (λ name. name.now) result ≡ under digitizers id }
+    ensures { option_map (λ name. name.now) result ≡ name_under digitizers id }
 {
     look_up(&DIGITIZERS, id)
 }
 
 #[tactic(auto, unfolding(crate::specs::Pages::forces))]
 fn in_forces(id: u16) -> Option<&'static str>
-    ensures { option_map (λ name. name.now) result ≡ under forces id }
+    ensures { option_map (λ name. name.now) result ≡ name_under forces id }
 {
     look_up(&FORCES, id)
 }
 
 #[tactic(auto, unfolding(crate::specs::Pages::displays))]
 fn in_displays(id: u16) -> Option<&'static str>
-    ensures { option_map (λ name. name.now) result ≡ under displays id }
+    ensures { option_map (λ name. name.now) result ≡ name_under displays id }
 {
     look_up(&DISPLAYS, id)
 }
 
 #[tactic(auto, unfolding(crate::specs::Pages::monitors))]
 fn in_monitors(id: u16) -> Option<&'static str>
-    ensures { option_map (λ name. name.now) result ≡ under monitors id }
+    ensures { option_map (λ name. name.now) result ≡ name_under monitors id }
 {
     look_up(&MONITORS, id)
 }
 
 #[tactic(auto, unfolding(crate::specs::Pages::monitor_controls))]
 fn in_monitor_controls(id: u16) -> Option<&'static str>
-    ensures { option_map (λ name. name.now) result ≡ under monitor_controls id }
+    ensures { option_map (λ name. name.now) result ≡ name_under monitor_controls id }
 {
     look_up(&MONITOR_CONTROLS, id)
 }
 
 #[tactic(auto, unfolding(crate::specs::Pages::power))]
 fn in_power(id: u16) -> Option<&'static str>
-    ensures { option_map (λ name. name.now) result ≡ under power id }
+    ensures { option_map (λ name. name.now) result ≡ name_under power id }
 {
     look_up(&POWER, id)
 }
 
 #[tactic(auto, unfolding(crate::specs::Pages::batteries))]
 fn in_batteries(id: u16) -> Option<&'static str>
-    ensures { option_map (λ name. name.now) result ≡ under batteries id }
+    ensures { option_map (λ name. name.now) result ≡ name_under batteries id }
 {
     look_up(&BATTERIES, id)
 }
 
 #[tactic(auto, unfolding(crate::specs::Pages::cash))]
 fn in_cash(id: u16) -> Option<&'static str>
-    ensures { option_map (λ name. name.now) result ≡ under cash id }
+    ensures { option_map (λ name. name.now) result ≡ name_under cash id }
 {
     look_up(&CASH, id)
 }

@@ -21,4 +21,4 @@ layout_words UnpairedUsage = codes "a Usage Minimum or Maximum without the other
 layout_words Delimiter = codes "a Delimiter"
 layout_words ReportTooLong = codes "a report of over 256 bytes"
 layout_words TooMany = codes "too many items, fields, usages or Report IDs"
-layout_words Memory = codes "memory was wanting"
+layout_words Memory = codes "out of memory"

@@ -29,6 +29,6 @@ range_text range =
     else usage_text range.0 ++ 45 ∷ usage_text range.1
 
 -- the texts of 0, 1 and so on below n, joined
-abbrev pub joined_below : ℕ → (ℕ → List ℕ) → List ℕ
-joined_below zero text = []
-joined_below (suc n) text = joined_below n text ++ text n
+abbrev pub concat_below : ℕ → (ℕ → List ℕ) → List ℕ
+concat_below zero text = []
+concat_below (suc n) text = concat_below n text ++ text n

@@ -24,6 +24,6 @@ pub fn layout_words(cause: hid_layout::Cause) -> &'static str
         hid_layout::Cause::Delimiter => "a Delimiter",
         hid_layout::Cause::ReportTooLong => "a report of over 256 bytes",
         hid_layout::Cause::TooMany => "too many items, fields, usages or Report IDs",
-        hid_layout::Cause::Memory => "memory was wanting",
+        hid_layout::Cause::Memory => "out of memory",
     }
 }

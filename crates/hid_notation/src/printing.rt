@@ -19,6 +19,9 @@ fn print_digits(text: &mut String, number: u64) -> Result<(), AllocError>
 }
 
 /// Adds a number in decimal.
+///
+/// # Errors
+/// Out of memory.
 #[tactic(auto, using(std::proofs::lemmas::Fmt::decimal_digit))]
 pub fn print_number(text: &mut String, number: u64) -> Result<(), AllocError>
     ensures { OnOk result (string_bytes text.new ≡ string_bytes text.old ++ decimal number) }
@@ -29,7 +32,10 @@ pub fn print_number(text: &mut String, number: u64) -> Result<(), AllocError>
     print_digits(text, number)
 }
 
-/// Adds a number in decimal, behind `-` where it is below zero.
+/// Adds a number in decimal, after `-` where it is below zero.
+///
+/// # Errors
+/// Out of memory; part of the text may be added then.
 pub fn print_signed(text: &mut String, number: i64) -> Result<(), AllocError>
     ensures { OnOk result (string_bytes text.new ≡ string_bytes text.old ++ signed_decimal number) }
 {
@@ -68,7 +74,7 @@ fn print_hex(text: &mut String, number: u16) -> Result<(), AllocError>
     push_digit(text, (number % 16) as u8)
 }
 
-/// Adds a byte behind a space.
+/// Adds a byte after a space.
 fn push_byte(text: &mut String, byte: u8) -> Result<(), AllocError>
     ensures { OnOk result (string_bytes text.new ≡ string_bytes text.old ++ 32 ∷ hex_text byte) }
 {
@@ -76,7 +82,10 @@ fn push_byte(text: &mut String, byte: u8) -> Result<(), AllocError>
     print_hex(text, u16::from(byte))
 }
 
-/// Adds each byte behind a space.
+/// Adds each byte after a space.
+///
+/// # Errors
+/// Out of memory; part of the text may be added then.
 pub fn print_bytes(text: &mut String, bytes: &[u8]) -> Result<(), AllocError>
     ensures { OnOk result (string_bytes text.new ≡ string_bytes text.old ++ bytes_text bytes.now) }
 {
@@ -87,6 +96,9 @@ pub fn print_bytes(text: &mut String, bytes: &[u8]) -> Result<(), AllocError>
 }
 
 /// Adds a usage, as page and ID: `01:30`.
+///
+/// # Errors
+/// Out of memory; part of the text may be added then.
 pub fn print_usage(text: &mut String, usage: Usage) -> Result<(), AllocError>
     ensures { OnOk result (string_bytes text.new ≡ string_bytes text.old ++ usage_text usage) }
 {
@@ -96,6 +108,9 @@ pub fn print_usage(text: &mut String, usage: Usage) -> Result<(), AllocError>
 }
 
 /// Adds a usage, or `-` where there is none.
+///
+/// # Errors
+/// Out of memory; part of the text may be added then.
 pub fn print_usage_or_dash(text: &mut String, usage: Option<Usage>) -> Result<(), AllocError>
     ensures { OnOk result (string_bytes text.new ≡ string_bytes text.old ++ usage_or_dash usage) }
 {
@@ -106,6 +121,9 @@ pub fn print_usage_or_dash(text: &mut String, usage: Option<Usage>) -> Result<()
 }
 
 /// Adds a range of usages, `09:01-09:03`, or the one usage of a range with equal ends.
+///
+/// # Errors
+/// Out of memory; part of the text may be added then.
 #[tactic(auto, unfolding(crate::specs::Text::range_text))]
 pub fn print_usages(text: &mut String, range: (Usage, Usage)) -> Result<(), AllocError>
     ensures { OnOk result (string_bytes text.new ≡ string_bytes text.old ++ range_text range) }

@@ -5,16 +5,16 @@ use Rattle.hid_descriptor.specs.declared.fault.LayoutFault.{LayoutFault}
 use Rattle.hid_items.specs.declared.spelling.Item.{Item}
 use Rattle.hid_layout.specs.Layout.{Contents}
 use Rattle.hid_notation.specs.Causes.{layout_words}
-use Rattle.hid_notation.specs.Text.{joined_below}
+use Rattle.hid_notation.specs.Text.{concat_below}
 use Rattle.hid_page.specs.declared.drawing.Form.{Form}
 use Rattle.hid_page.specs.declared.drawing.Form.TheVariants.{Page, Svg, Characters}
 use Rattle.hid_drawing.specs.Items.{AreItemsOf, place_of}
 use Rattle.hid_page.specs.Page.{page_of, refused_page, svg_of, characters_of, mains_of}
 
--- the pictures of all reports in characters, an empty line behind each
+-- the pictures of all reports in characters, an empty line after each
 unfoldable pub all_characters : Contents → List Item → List ℕ → List ℕ
 all_characters layout items mains =
-    joined_below (length layout.reports) (λ r. characters_of layout items mains r ++ 10 ∷ [])
+    concat_below (length layout.reports) (λ r. characters_of layout items mains r ++ 10 ∷ [])
 
 -- what is drawn of a layout; nothing of a report that there isn't
 abbrev pub form_text : Form → Contents → List Item → List ℕ → Option (List ℕ)
@@ -23,24 +23,24 @@ form_text Characters layout items mains = Some (all_characters layout items main
 form_text (Svg r) layout items mains =
     if nat_lt r (length layout.reports) then Some (svg_of layout items mains r) else None
 
--- this text is drawn of a layout by the items of its descriptor
+-- a text is drawn of a layout by the items of its descriptor
 pub record IsDrawn (descriptor : List ℕ) (form : Form) (layout : Contents) (text : Option (List ℕ)) : Type 0 where
   pub items : List Item
   pub read : AreItemsOf descriptor items
   pub drawn : text ≡ form_text form layout items (mains_of items)
 
 -- how many of the first items begin up to a place
-abbrev pub begun_below : List Item → ℕ → ℕ → ℕ
-begun_below items at zero = 0
-begun_below items at (suc k) =
-    if nat_le (place_of (slice_get items k)) at then k + 1 else begun_below items at k
+abbrev pub begin_count : List Item → ℕ → ℕ → ℕ
+begin_count items at zero = 0
+begin_count items at (suc k) =
+    if nat_le (place_of (slice_get items k)) at then k + 1 else begin_count items at k
 
 -- a refusal: its code and place, and words
 abbrev pub refusal_words : LayoutFault → List ℕ
 refusal_words fault = layout_fault_text fault ++ codes ": " ++ layout_words fault.cause
 
--- this page shows the items up to the place of a refusal, and why
+-- a page shows the items up to the place of a refusal, and why
 pub record IsRefusal (descriptor : List ℕ) (fault : LayoutFault) (text : List ℕ) : Type 0 where
   pub items : List Item
   pub read : AreItemsOf descriptor items
-  pub shown : text ≡ refused_page items (begun_below items fault.at (length items)) (refusal_words fault)
+  pub shown : text ≡ refused_page items (begin_count items fault.at (length items)) (refusal_words fault)

@@ -6,19 +6,19 @@ use Rattle.hid_descriptor.specs.Items.{Spelled, is_main, is_field, INPUT, USAGE_
 use Rattle.hid_descriptor.specs.declared.usage.Usage.{Usage}
 use Rattle.hid_items.specs.Spelling.{data_of, prefix_of, unsigned_of, signed_of}
 use Rattle.hid_items.specs.declared.spelling.Item.{Item}
-use Rattle.hid_notation.specs.Text.{hex_text, bytes_text, joined_below}
+use Rattle.hid_notation.specs.Text.{hex_text, bytes_text, concat_below}
 use Rattle.hid_page.specs.declared.item_table.TheConstants.{ITEM_NAMES, ITEMS_HEAD, TABLE_END}
-use Rattle.hid_drawing.specs.Escape.{escaped}
+use Rattle.hid_drawing.specs.Escape.{escaped_words}
 use Rattle.hid_drawing.specs.Frames.{round_at}
-use Rattle.hid_drawing.specs.Items.{spelled_at}
+use Rattle.hid_drawing.specs.Items.{item_spelling_at}
 use Rattle.hid_drawing.specs.Label.{usage_label}
 use Rattle.hid_drawing.specs.Makers.{global_place}
 use Rattle.hid_drawing.specs.Words.{flags_text, collection_name}
 
 -- what a table of names has under a prefix
-abbrev pub named_in : List (ℕ × List ℕ) → ℕ → List ℕ
-named_in [] prefix = codes "Reserved"
-named_in (row ∷ rows) prefix = if prefix == row.0 then row.1 else named_in rows prefix
+abbrev pub name_in_table : List (ℕ × List ℕ) → ℕ → List ℕ
+name_in_table [] prefix = codes "Reserved"
+name_in_table (row ∷ rows) prefix = if prefix == row.0 then row.1 else name_in_table rows prefix
 
 -- prefixes and names
 abbrev pub names_of : List (ℕ × Bor (List ℕ)) → List (ℕ × List ℕ)
@@ -26,7 +26,7 @@ names_of rows = map (λ row. (row.0, row.1.now)) rows
 
 -- the name of an item
 unfoldable pub item_name : ℕ → List ℕ
-item_name prefix = named_in (map (λ row. (row.0, row.1.now)) ITEM_NAMES) prefix
+item_name prefix = name_in_table (map (λ row. (row.0, row.1.now)) ITEM_NAMES) prefix
 
 -- the first byte of an item
 abbrev pub first_of : Spelled → ℕ
@@ -62,13 +62,13 @@ exponent_of code number = if nat_le 8 code && nat_le code 15 then pos code -ℤ 
 -- the number of an item that there may be
 abbrev pub number_at : List Item → Option ℕ → ℕ
 number_at items None = 0
-number_at items (Some k) = number_of (spelled_at items k)
+number_at items (Some k) = number_of (item_spelling_at items k)
 
 -- where the page of a usage is looked up: at the next main item of the table, or at the usage where none follows
 abbrev pub page_place : List Item → ℕ → ℕ
 page_place items k = unwrap_or (next_main k (drop k items)) k
 
--- the page in force there
+-- the page in force where the page of a usage is looked up
 abbrev pub page_at : List Item → ℕ → ℕ
 page_at items k = number_at items (global_place items (page_place items k) USAGE_PAGE) % 2 ^ 16
 
@@ -104,7 +104,7 @@ data_text page item =
     if nat_le (length item) 1 then []
     else if is_field item then 32 ∷ flags_text (prefix_of item == INPUT) (number_of item % 2 ^ 9)
     else if prefix_of item == COLLECTION then 32 ∷ collection_name (number_of item % 2 ^ 8)
-    else if is_usage (prefix_of item) then 32 ∷ escaped (usage_label (usage_on page item))
+    else if is_usage (prefix_of item) then 32 ∷ escaped_words (usage_label (usage_on page item))
     else if prefix_of item == LONG then []
     else 32 ∷ number_text (prefix_of item) item
 
@@ -116,7 +116,7 @@ item_head at =
 -- an item is indented by the collections round it
 unfoldable pub item_words : List Item → ℕ → Spelled → List ℕ
 item_words items k item =
-    joined_below (round_at items k) (λ i. codes "&emsp;") ++ words_of item
+    concat_below (round_at items k) (λ i. codes "&emsp;") ++ words_of item
     ++ data_text (page_at items k) item
 
 -- the row of an item: its place, its bytes, and what it is
@@ -132,7 +132,7 @@ row_at items k (Some item) = item_row items k item
 
 -- the rows of items
 unfoldable pub item_rows : List Item → List ℕ
-item_rows items = joined_below (length items) (λ k. row_at items k (slice_get items k))
+item_rows items = concat_below (length items) (λ k. row_at items k (slice_get items k))
 
 -- the first items of a descriptor as a table
 unfoldable pub item_table : List Item → List ℕ

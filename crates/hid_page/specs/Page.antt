@@ -12,16 +12,16 @@ use Rattle.hid_items.specs.declared.spelling.Item.{Item}
 use Rattle.hid_layout.specs.Layout.{Contents}
 use Rattle.hid_layout.specs.Reports.{first_bit, report_bytes}
 use Rattle.hid_layout.specs.declared.main_item.MainItem.{MainItem}
-use Rattle.hid_notation.specs.Text.{joined_below}
+use Rattle.hid_notation.specs.Text.{concat_below}
 use Rattle.hid_page.specs.declared.item_table.TheConstants.{TABLE_END}
 use Rattle.hid_page.specs.declared.page.TheConstants.{HEAD, ACCEPTED, REFUSED, END}
 use Rattle.hid_page.specs.declared.field_table.TheConstants.{FIELDS_HEAD, NEXT, MARK}
-use Rattle.hid_drawing.specs.Escape.{escaped}
+use Rattle.hid_drawing.specs.Escape.{escaped_words}
 use Rattle.hid_drawing.specs.Frames.{frames_of, main_at}
 use Rattle.hid_drawing.specs.Items.{place_of}
 use Rattle.hid_page.specs.ItemTable.{item_table}
 use Rattle.hid_page.specs.Windows.{windows}
-use Rattle.hid_drawing.specs.Makers.{makes, listed_below}
+use Rattle.hid_drawing.specs.Makers.{makes, listed_places}
 use Rattle.hid_drawing.specs.Pieces.{pieces_of}
 use Rattle.hid_drawing.specs.Svg.{picture_at}
 use Rattle.hid_drawing.specs.Terminal.{terminal_at}
@@ -39,7 +39,7 @@ mark_at items m k = if makes items m k then codes ",#at" ++ decimal (place_of (s
 
 -- the rows of the items that made fields of a main item
 unfoldable pub marks_of : List Item → ℕ → List ℕ
-marks_of items m = joined_below (length items) (mark_at items m)
+marks_of items m = concat_below (length items) (mark_at items m)
 
 -- a field marks the rows of the items that made it
 unfoldable pub mark_rule : List Item → List ℕ → ℕ → List ℕ
@@ -47,7 +47,7 @@ mark_rule items mains i = mark_head i ++ marks_of items (main_at mains i) ++ MAR
 
 -- what each field marks
 unfoldable pub mark_rules : List Item → List ℕ → List ℕ
-mark_rules items mains = joined_below (length mains) (mark_rule items mains)
+mark_rules items mains = concat_below (length mains) (mark_rule items mains)
 
 -- the number of a field, to which its cells lead
 unfoldable pub number_cell : ℕ → List ℕ
@@ -61,7 +61,7 @@ size_cell item = decimal item.count ++ codes " &times; " ++ count_text item.size
 
 -- the usages of a field
 unfoldable pub usages_cell : List Entry → List ℕ
-usages_cell entries = flat_map (λ entry. escaped (entry_text entry) ++ codes "<br>") entries
+usages_cell entries = flat_map (λ entry. escaped_words (entry_text entry) ++ codes "<br>") entries
 
 -- the usages of a field that isn't padding
 abbrev pub meaning_cell : Shape → List Entry → List ℕ
@@ -83,7 +83,7 @@ range_cell Array item = limits_text item
 
 -- the collections round a field
 unfoldable pub path_cell : List Collection → List ℕ
-path_cell path = flat_map (λ collection. escaped (collection_text collection) ++ codes "<br>") path
+path_cell path = flat_map (λ collection. escaped_words (collection_text collection) ++ codes "<br>") path
 
 -- a link to an item
 unfoldable pub item_link : ℕ → List ℕ
@@ -95,7 +95,7 @@ link_at items m k = if makes items m k then item_link (place_of (slice_get items
 
 -- links to the items that made fields of a main item
 unfoldable pub links_cell : List Item → ℕ → List ℕ
-links_cell items m = joined_below (length items) (link_at items m)
+links_cell items m = concat_below (length items) (link_at items m)
 
 -- where a field stands: its number, its first bit and its size
 unfoldable pub place_cells : Contents → ℕ → MainItem → List ℕ
@@ -133,7 +133,7 @@ field_row_of layout items mains r i =
 
 -- the rows of a report's fields
 unfoldable pub field_rows : Contents → List Item → List ℕ → ℕ → List ℕ
-field_rows layout items mains r = joined_below (length layout.items) (field_row_of layout items mains r)
+field_rows layout items mains r = concat_below (length layout.items) (field_row_of layout items mains r)
 
 -- the fields of a report as a table
 unfoldable pub field_table : Contents → List Item → List ℕ → ℕ → List ℕ
@@ -172,11 +172,11 @@ section layout items mains r =
 
 -- what a page has of the reports
 unfoldable pub sections : Contents → List Item → List ℕ → List ℕ
-sections layout items mains = joined_below (length layout.reports) (section layout items mains)
+sections layout items mains = concat_below (length layout.reports) (section layout items mains)
 
 -- the places of the main items with bits
 abbrev pub mains_of : List Item → List ℕ
-mains_of items = listed_below items (length items)
+mains_of items = listed_places items (length items)
 
 -- the page of a layout and the items of its descriptor
 unfoldable pub page_of : Contents → List Item → List ℕ → List ℕ
@@ -186,7 +186,7 @@ page_of layout items mains =
 
 -- why a descriptor is refused
 unfoldable pub refusal : List ℕ → List ℕ
-refusal words = escaped words ++ codes "</p>" ++ 10 ∷ []
+refusal words = escaped_words words ++ codes "</p>" ++ 10 ∷ []
 
 -- the page of a descriptor that is refused: the words of the refusal, and the items up to its place
 unfoldable pub refused_page : List Item → ℕ → List ℕ → List ℕ

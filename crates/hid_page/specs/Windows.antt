@@ -1,23 +1,23 @@
--- The windows of a picture: its parts of so many bytes, printed in its place, since a sheet of paper may be shorter
+-- The windows of a picture: its parts of n bytes, printed in its place, since a sheet of paper may be shorter
 -- than a report (our choice: docs/PICTURES.md).
 use Rattle.std.specs.Prelude.{ℕ, zero, suc, ◌+◌, ◌-◌, ◌*◌, ◌/◌, nat_lt, if◌then◌else◌, List, [], ◌∷◌, ◌++◌, codes}
 use Rattle.std.specs.Fmt.{decimal}
 use Rattle.hid_layout.specs.Layout.{Contents}
 use Rattle.hid_layout.specs.Reports.{report_bytes}
-use Rattle.hid_notation.specs.Text.{joined_below}
+use Rattle.hid_notation.specs.Text.{concat_below}
 use Rattle.hid_page.specs.declared.windows.TheConstants.{WINDOW, WINDOW_HEAD}
 use Rattle.hid_drawing.specs.Areas.{gap_of, row_top, name_left}
 use Rattle.hid_drawing.specs.declared.areas.TheConstants.{RIGHT}
 use Rattle.hid_drawing.specs.Lines.{rows_of}
-use Rattle.hid_drawing.specs.Frames.{deepest}
+use Rattle.hid_drawing.specs.Frames.{frame_depth}
 use Rattle.hid_drawing.specs.declared.frames.Frame.{Frame}
-use Rattle.hid_drawing.specs.declared.pieces.Piece.{Piece}
+use Rattle.hid_drawing.specs.declared.pieces.ByteSlice.{ByteSlice}
 
--- how many windows a report of so many bytes has: none where one would hold all of it
+-- how many windows a report of n bytes has: none where one would hold all of it
 abbrev pub window_count : ℕ → ℕ
 window_count bytes = if nat_lt WINDOW bytes then (bytes - 1) / WINDOW + 1 else 0
 
--- where a picture is cut above a byte: at its top above the first, at its end behind the last, else between two rows
+-- where a picture is cut above a byte: at its top above the first, at its end after the last, else between two rows
 abbrev pub cut_above : ℕ → List ℕ → ℕ → ℕ → ℕ
 cut_above depth rows bytes zero = 0
 cut_above depth rows bytes (suc byte) =
@@ -41,9 +41,10 @@ window r depth rows bytes k =
 
 -- the windows of a picture, by the lines of its rows
 unfoldable pub windows_by : ℕ → ℕ → List ℕ → ℕ → List ℕ
-windows_by r depth rows bytes = joined_below (window_count bytes) (window r depth rows bytes)
+windows_by r depth rows bytes = concat_below (window_count bytes) (window r depth rows bytes)
 
 -- the windows of a report's picture, by its frames and its pieces
-unfoldable pub windows : Contents → ℕ → List Frame → List Piece → List ℕ
+unfoldable pub windows : Contents → ℕ → List Frame → List ByteSlice → List ℕ
 windows layout r frames pieces =
-    windows_by r (deepest frames) (rows_of layout r (report_bytes layout r) frames pieces) (report_bytes layout r)
+    windows_by r (frame_depth frames) (rows_of layout r (report_bytes layout r) frames pieces)
+    (report_bytes layout r)

@@ -3,7 +3,7 @@
 ghost use Rattle.std.specs.Prelude.{◌≡◌, ◌++◌, ◌<◌, ◌≤◌, ◌^◌, All, length, IfOk, OnOk, string_bytes};
 ghost use Rattle.std.specs.Option.{option_map};
 ghost use Rattle.hid_drawing.specs.Items.{IsWhole};
-ghost use Rattle.hid_page.specs.Drawing.{all_characters, form_text, IsDrawn, begun_below, refusal_words, IsRefusal};
+ghost use Rattle.hid_page.specs.Drawing.{all_characters, form_text, IsDrawn, begin_count, refusal_words, IsRefusal};
 
 use crate::page::{print_characters, print_page, print_refused, print_svg};
 use hid_drawing::{listed_places, place_of, read_items};
@@ -69,6 +69,9 @@ fn draw_form(
 }
 
 /// What is drawn of a layout and its descriptor; nothing of a report that there isn't.
+///
+/// # Errors
+/// Out of memory.
 pub fn draw(
     alloc: Global,
     layout: &Layout,
@@ -86,7 +89,7 @@ pub fn draw(
 
 /// How many of the items begin up to a place.
 fn begun_below(items: &[Item], at: usize) -> usize
-    ensures value { result ≡ begun_below items.now at (length items.now) }
+    ensures value { result ≡ begin_count items.now at (length items.now) }
     ensures few { result ≤ length items.now }
 {
     let mut count = 0;
@@ -109,6 +112,9 @@ fn words_of(alloc: Global, fault: LayoutFault) -> Result<String, AllocError>
 }
 
 /// The page of a descriptor that is refused: the items up to the place of the refusal, and why.
+///
+/// # Errors
+/// Out of memory.
 pub fn draw_refused(
     alloc: Global,
     descriptor: &[u8],

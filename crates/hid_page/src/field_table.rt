@@ -3,7 +3,7 @@
 ghost use Rattle.std.specs.Prelude.{◌≡◌, ◌++◌, ◌<◌, length, OnOk, string_bytes};
 ghost use Rattle.hid_drawing.specs.Makers.{in_force};
 ghost use Rattle.hid_drawing.specs.Pieces.{LiesIn};
-ghost use Rattle.hid_drawing.specs.Escape.{escaped};
+ghost use Rattle.hid_drawing.specs.Escape.{escaped_words};
 ghost use Rattle.hid_drawing.specs.Words.{entry_text, collection_text};
 ghost use Rattle.hid_page.specs.Page.{mark_head, mark_at, marks_of, mark_rule, mark_rules, number_cell, size_cell, usages_cell, meaning_cell, limits_text, range_cell, path_cell, item_link, link_at, links_cell, place_cells, meaning_cells, origin_cells, field_row, field_row_of, field_rows, field_table};
 
@@ -84,6 +84,9 @@ fn print_mark_rule(
 }
 
 /// Adds what each field marks.
+///
+/// # Errors
+/// Out of memory; part of the text may be added then.
 #[tactic(auto, unfolding(crate::specs::Page::mark_rules))]
 pub fn print_mark_rules(
     text: &mut String,
@@ -127,7 +130,7 @@ fn print_escaped_entry(
     entry: &(Usage, Usage),
 ) -> Result<(), AllocError>
     ensures { OnOk result (string_bytes text.new
-        ≡ string_bytes text.old ++ escaped (entry_text entry.now)) }
+        ≡ string_bytes text.old ++ escaped_words (entry_text entry.now)) }
 {
     let mut name = String::new(alloc);
     print_entry(&mut name, entry.0, entry.1)?;
@@ -199,7 +202,7 @@ fn print_escaped_collection(
     collection: &Collection,
 ) -> Result<(), AllocError>
     ensures { OnOk result (string_bytes text.new
-        ≡ string_bytes text.old ++ escaped (collection_text collection.now)) }
+        ≡ string_bytes text.old ++ escaped_words (collection_text collection.now)) }
 {
     let mut name = String::new(alloc);
     print_collection(&mut name, collection)?;
@@ -390,6 +393,9 @@ fn print_field_rows(
 }
 
 /// Adds the fields of a report as a table.
+///
+/// # Errors
+/// Out of memory; part of the text may be added then.
 #[tactic(auto, unfolding(crate::specs::Page::field_table))]
 pub fn print_field_table(
     alloc: Global,

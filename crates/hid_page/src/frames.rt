@@ -9,6 +9,9 @@ use hid_layout::Layout;
 use std::alloc::{AllocError, Global};
 
 /// The frames of the report r, for a layout with the items of its descriptor and the places of its main items.
+///
+/// # Errors
+/// Out of memory.
 pub fn frames_in(
     alloc: Global,
     layout: &Layout,

@@ -1,11 +1,11 @@
 //! The items of a descriptor as a table.
 
 ghost use Rattle.std.specs.Prelude.{◌≡◌, ◌++◌, ◌+◌, ◌<◌, ◌^◌, All, codes, length, slice_get, Some, OnOk, string_bytes};
-ghost use Rattle.hid_notation.specs.Text.{joined_below};
-ghost use Rattle.hid_drawing.specs.Escape.{escaped};
+ghost use Rattle.hid_notation.specs.Text.{concat_below};
+ghost use Rattle.hid_drawing.specs.Escape.{escaped_words};
 ghost use Rattle.hid_drawing.specs.Items.{IsWhole};
 ghost use Rattle.hid_drawing.specs.Label.{usage_label};
-ghost use Rattle.hid_page.specs.ItemTable.{named_in, names_of, item_name, first_of, words_of, next_main, page_place, number_of, signed_number, exponent_of, number_at, page_at, usage_on, is_signed, is_usage, number_text, data_text, item_head, item_words, item_row, item_rows, item_table};
+ghost use Rattle.hid_page.specs.ItemTable.{name_in_table, names_of, item_name, first_of, words_of, next_main, page_place, number_of, signed_number, exponent_of, number_at, page_at, usage_on, is_signed, is_usage, number_text, data_text, item_head, item_words, item_row, item_rows, item_table};
 
 use hid_drawing::{
     COLLECTION, UsageLabel, collection_name, global_place, is_field, is_main, prefix_of,
@@ -44,8 +44,8 @@ const UNIT_EXPONENT: u8 = 0x54;
 const LONG: u8 = 0xFC;
 
 /// What rows of names have under a prefix.
-fn named_in(rows: &[(u8, &'static str)], prefix: u8) -> &'static str
-    ensures { result.now ≡ named_in (names_of rows.now) prefix }
+fn name_in_table(rows: &[(u8, &'static str)], prefix: u8) -> &'static str
+    ensures { result.now ≡ name_in_table (names_of rows.now) prefix }
 {
     for row in rows {
         let (of, name) = *row;
@@ -60,7 +60,7 @@ fn named_in(rows: &[(u8, &'static str)], prefix: u8) -> &'static str
 fn item_name(prefix: u8) -> &'static str
     ensures { result.now ≡ item_name prefix }
 {
-    named_in(&ITEM_NAMES, prefix)
+    name_in_table(&ITEM_NAMES, prefix)
 }
 
 /// The first byte of an item.
@@ -131,7 +131,7 @@ fn number_of(item: &Item) -> u64
     item.unsigned()
 }
 
-/// The same in two's complement.
+/// The number of a short item in two's complement; 0 of a long one.
 fn signed_number(item: &Item) -> i64
     requires { IsWhole item.now }
     ensures { result ≡ signed_number item.now.bytes.now }
@@ -235,7 +235,7 @@ fn print_number(text: &mut String, prefix: u8, item: &Item) -> Result<(), AllocE
 /// Adds a usage, as it stands in a page.
 fn print_usage(alloc: Global, text: &mut String, usage: Usage) -> Result<(), AllocError>
     ensures { OnOk result (string_bytes text.new
-        ≡ string_bytes text.old ++ escaped (usage_label usage)) }
+        ≡ string_bytes text.old ++ escaped_words (usage_label usage)) }
 {
     let mut name = String::new(alloc);
     let label = UsageLabel(usage);
@@ -288,7 +288,7 @@ fn print_item_head(text: &mut String, at: usize) -> Result<(), AllocError>
 /// Adds a space for each collection round an item.
 fn print_indentation(text: &mut String, count: usize) -> Result<(), AllocError>
     ensures { OnOk result (string_bytes text.new
-        ≡ string_bytes text.old ++ joined_below count (λ i. codes "&emsp;")) }
+        ≡ string_bytes text.old ++ concat_below count (λ i. codes "&emsp;")) }
 {
     for _i in 0..count {
         text.push_str("&emsp;")?;
@@ -351,6 +351,9 @@ fn print_item_rows(alloc: Global, text: &mut String, items: &[Item]) -> Result<(
 }
 
 /// Adds the first items of a descriptor as a table.
+///
+/// # Errors
+/// Out of memory; part of the text may be added then.
 #[tactic(auto, unfolding(crate::specs::ItemTable::item_table))]
 pub fn print_item_table(alloc: Global, text: &mut String, items: &[Item]) -> Result<(), AllocError>
     requires { All IsWhole items.now }

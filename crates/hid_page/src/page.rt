@@ -60,6 +60,9 @@ fn print_heading_at(text: &mut String, layout: &Layout, r: usize) -> Result<(), 
 }
 
 /// Adds the picture of the report r, for a layout with the items of its descriptor and the places of its main items.
+///
+/// # Errors
+/// Out of memory; part of the text may be added then.
 #[tactic(auto, unfolding(crate::specs::Page::svg_of))]
 pub fn print_svg(
     alloc: Global,
@@ -79,6 +82,9 @@ pub fn print_svg(
 }
 
 /// Adds the same picture in characters.
+///
+/// # Errors
+/// Out of memory; part of the text may be added then.
 #[tactic(auto, unfolding(crate::specs::Page::characters_of))]
 pub fn print_characters(
     alloc: Global,
@@ -136,6 +142,9 @@ fn print_sections(
 }
 
 /// Adds the page of a layout, with the items of its descriptor and the places of its main items.
+///
+/// # Errors
+/// Out of memory; part of the text may be added then.
 #[tactic(auto, unfolding(crate::specs::Page::page_of))]
 pub fn print_page(
     alloc: Global,
@@ -166,6 +175,9 @@ fn print_refusal(text: &mut String, words: &str) -> Result<(), AllocError>
 }
 
 /// Adds the page of a descriptor that is refused, with its first items.
+///
+/// # Errors
+/// Out of memory; part of the text may be added then.
 #[tactic(auto, unfolding(crate::specs::Page::refused_page))]
 pub fn print_refused(
     alloc: Global,

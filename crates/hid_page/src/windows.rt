@@ -1,4 +1,4 @@
-//! The windows of a picture: its parts of so many bytes, printed in its place, since a sheet of paper may be shorter than a
+//! The windows of a picture: its parts of n bytes, printed in its place, since a sheet of paper may be shorter than a
 //! report.
 
 ghost use Rattle.std.specs.Prelude.{◌≡◌, ◌++◌, ◌<◌, length, OnOk, string_bytes};
@@ -7,7 +7,7 @@ ghost use Rattle.hid_page.specs.Page.{windows_of};
 ghost use Rattle.hid_page.specs.Windows.{window_count, cut_above, window_box, window_use, window, windows_by, windows};
 
 use crate::frames::frames_in;
-use hid_drawing::{RIGHT, deepest, gap_of, name_left, pieces_of, report_at, row_top, rows_of};
+use hid_drawing::{RIGHT, frame_depth, gap_of, name_left, pieces_of, report_at, row_top, rows_of};
 use hid_items::Item;
 use hid_layout::Layout;
 use std::alloc::{AllocError, Global};
@@ -28,7 +28,7 @@ fn bytes_of(layout: &Layout, r: usize) -> u32
     ((bits + 7) / 8) as u32 + id_bytes
 }
 
-/// How many windows a report of so many bytes has.
+/// How many windows a report of n bytes has.
 fn window_count(bytes: u32) -> u32
     ensures { result ≡ window_count bytes }
 {
@@ -109,6 +109,9 @@ fn print_windows_by(
 }
 
 /// Adds the windows of a report's picture, for a layout with the items of its descriptor and the places of its main items.
+///
+/// # Errors
+/// Out of memory; part of the text may be added then.
 #[tactic(auto, unfolding(crate::specs::Windows::windows, crate::specs::Page::windows_of))]
 pub fn print_windows(
     alloc: Global,
@@ -126,5 +129,5 @@ pub fn print_windows(
     let frames = frames_in(alloc, layout, items, mains, r)?;
     let pieces = pieces_of(alloc, layout, r)?;
     let rows = rows_of(alloc, layout, r, bytes, &frames, &pieces)?;
-    print_windows_by(text, r, deepest(&frames), &rows, bytes)
+    print_windows_by(text, r, frame_depth(&frames), &rows, bytes)
 }

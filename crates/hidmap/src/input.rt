@@ -33,7 +33,7 @@ impl fmt::Display for InputFault {
             InputFault::NoDescriptor => {
                 "text without a descriptor: hex digits, an R: line, an array of C or what usbhid-dump prints is expected"
             }
-            InputFault::Memory => "memory was wanting",
+            InputFault::Memory => "out of memory",
         })
     }
 }
@@ -73,14 +73,14 @@ fn read_hex(alloc: Global, text: &[u8]) -> Result<Vec<u8>, InputFault> {
 }
 
 /// The line without `R:`, where it begins so.
-fn behind_letter(line: &[u8]) -> Option<&[u8]> {
+fn after_letter(line: &[u8]) -> Option<&[u8]> {
     match line {
         [b'R', b':', rest @ ..] => Some(rest),
         _ => None,
     }
 }
 
-/// The count in front of the bytes, and what stands behind it.
+/// The count in front of the bytes, and what stands after it.
 fn read_count(text: &[u8]) -> (u64, &[u8]) {
     let mut count = 0u64;
     let mut rest = text;
@@ -164,9 +164,9 @@ fn between_braces(text: &[u8]) -> &[u8] {
 #[derive(Clone, Copy)]
 enum Place {
     Code,
-    /// Behind `//`.
+    /// After `//`.
     Line,
-    /// Behind `/*`.
+    /// After `/*`.
     Block,
 }
 
@@ -218,7 +218,7 @@ fn is_heading(line: &[u8]) -> bool {
         .any(|word| word == b"DESCRIPTOR".as_slice())
 }
 
-/// The lines of hex digits behind the first heading of usbhid-dump that has some, where there is one.
+/// The lines of hex digits after the first heading of usbhid-dump that has some, where there is one.
 fn read_dump(alloc: Global, text: &[u8]) -> Result<Option<Vec<u8>>, InputFault> {
     let mut digits = Vec::new(alloc);
     let mut is_behind = false;
@@ -257,7 +257,7 @@ fn is_text(bytes: &[u8]) -> bool {
 /// The descriptor in text.
 fn descriptor_in_text(alloc: Global, text: &[u8]) -> Result<Vec<u8>, InputFault> {
     for line in text.split(|byte| *byte == b'\n') {
-        if let Some(counted) = behind_letter(without_spaces(line)) {
+        if let Some(counted) = after_letter(without_spaces(line)) {
             return read_counted(alloc, counted);
         }
     }
@@ -275,6 +275,11 @@ fn descriptor_in_text(alloc: Global, text: &[u8]) -> Result<Vec<u8>, InputFault>
 
 /// The descriptor in the bytes of a file: in text the one of the first line that begins with `R:`; else what its digits
 /// spell; else the one that usbhid-dump or C writes. Other bytes are taken as they are.
+///
+/// # Errors
+/// What is wrong with the form that is found: [`InputFault::BadHex`], [`InputFault::BadCount`] of an `R:` line,
+/// [`InputFault::BadArray`] of an array; [`InputFault::NoDescriptor`] where text has none of these forms;
+/// [`InputFault::Memory`] where memory runs out.
 pub fn descriptor_in(alloc: Global, bytes: &[u8]) -> Result<Vec<u8>, InputFault> {
     let text = match bytes {
         [0xEF, 0xBB, 0xBF, rest @ ..] => rest,

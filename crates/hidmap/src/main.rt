@@ -3,7 +3,7 @@
 //!   hidmap [OPTIONS] [FILE]
 //!
 //!   FILE, or standard input --> descriptor_in --> Layout::parse --> hid_page::draw --> standard output
-//!     binary, hex, or R:                             |
+//!     binary, hex, R:, a dump or C                   |
 //!                                                    +-- refused --> draw_refused --> standard output
 //!                                                                    and in words --> standard error
 //! ```
@@ -26,7 +26,7 @@ use std::alloc::Global;
 use std::io::{self, Read, Write};
 use std::process::ExitCode;
 use std::{env, fs};
-use words::{Asked, asked_by};
+use words::{CliArgs, parse_args};
 
 /// All was drawn.
 const FINE: u8 = 0;
@@ -40,16 +40,16 @@ const WRONG_USAGE: u8 = 2;
 /// A file, standard output or memory failed.
 const OUTSIDE: u8 = 3;
 
-/// What is told where memory is wanting.
-const WANTING: &str = "memory was wanting";
+/// What is reported where memory runs out.
+const NO_MEMORY: &str = "out of memory";
 
-/// What is told where standard output doesn't take all.
+/// What is reported where standard output doesn't take all.
 const UNWRITTEN: &str = "standard output can't be written";
 
-/// The longest input: a descriptor of 4,096 bytes takes 12,300 in an R: line, and what lies behind it is of no use.
+/// The longest input: a descriptor of 4,096 bytes takes 12,300 in an R: line, and what lies after it is of no use.
 const LONGEST: usize = 1 << 24;
 
-/// So many bytes of a descriptor are looked at. One that is longer is refused at byte 4,096, and the item that begins there
+/// The most bytes of a descriptor that are read. One that is longer is refused at byte 4,096, and the item that begins there
 /// has 258 at most.
 const MOST: usize = MAX_DESCRIPTOR + 258;
 
@@ -57,20 +57,20 @@ fn main(rt: HostRuntime) -> ExitCode {
     let alloc = rt.alloc();
     let args = match env::args(&rt) {
         Ok(args) => args,
-        Err(error) => return ExitCode::from(tell_no_words(&rt, error.kind())),
+        Err(error) => return ExitCode::from(print_no_words(&rt, error.kind())),
     };
     let words: Result<Vec<String>, _> = args.collect(alloc);
     let Ok(words) = words else {
         return ExitCode::from(OUTSIDE);
     };
-    match asked_by(alloc, words.as_slice()) {
+    match parse_args(alloc, words.as_slice()) {
         Ok(asked) => ExitCode::from(draw_file(&rt, &asked)),
-        Err(error) => ExitCode::from(tell_words(&rt, &error)),
+        Err(error) => ExitCode::from(print_bad_words(&rt, &error)),
     }
 }
 
 /// Why the words of the command line can't be read: memory, or one isn't UTF-8.
-fn tell_no_words(rt: &HostRuntime, kind: io::ErrorKind) -> u8 {
+fn print_no_words(rt: &HostRuntime, kind: io::ErrorKind) -> u8 {
     if kind == io::ErrorKind::InvalidData {
         let _ = eprintln!(rt; "hidmap: a word of the command line isn't UTF-8");
         WRONG_USAGE
@@ -80,13 +80,13 @@ fn tell_no_words(rt: &HostRuntime, kind: io::ErrorKind) -> u8 {
 }
 
 /// Help and version go to standard output, and what is wrong with the words to standard error.
-fn tell_words(rt: &HostRuntime, error: &clap::Error) -> u8 {
+fn print_bad_words(rt: &HostRuntime, error: &clap::Error) -> u8 {
     match error.kind() {
         ErrorKind::DisplayHelp | ErrorKind::DisplayVersion => {
             if print!(rt; "{error}").is_ok() {
                 FINE
             } else {
-                tell_outside(rt, UNWRITTEN)
+                print_outside_fault(rt, UNWRITTEN)
             }
         }
         ErrorKind::OutOfMemory => OUTSIDE,
@@ -98,15 +98,15 @@ fn tell_words(rt: &HostRuntime, error: &clap::Error) -> u8 {
 }
 
 /// What went wrong outside: `hidmap` and words, on standard error.
-fn tell_outside(rt: &HostRuntime, words: &str) -> u8 {
+fn print_outside_fault(rt: &HostRuntime, words: &str) -> u8 {
     let _ = eprintln!(rt; "hidmap: {words}");
     OUTSIDE
 }
 
 /// Why a file can't be read.
-fn tell_unread(rt: &HostRuntime, name: &str, error: &io::Error) -> u8 {
+fn print_unread_fault(rt: &HostRuntime, name: &str, error: &io::Error) -> u8 {
     if error.kind() == io::ErrorKind::OutOfMemory {
-        return tell_outside(rt, WANTING);
+        return print_outside_fault(rt, NO_MEMORY);
     }
     let _ = eprintln!(rt; "hidmap: {name}: it can't be read: {error}");
     OUTSIDE
@@ -129,11 +129,11 @@ fn read_named(rt: &HostRuntime, name: &str) -> io::Result<Vec<u8>> {
 }
 
 /// Draws the descriptor of a file, and tells what stands against it.
-fn draw_file(rt: &HostRuntime, asked: &Asked<'_>) -> u8 {
+fn draw_file(rt: &HostRuntime, asked: &CliArgs<'_>) -> u8 {
     let name = asked.file;
     let bytes = match read_named(rt, name) {
         Ok(bytes) => bytes,
-        Err(error) => return tell_unread(rt, name, &error),
+        Err(error) => return print_unread_fault(rt, name, &error),
     };
     if bytes.len() > LONGEST {
         let _ = eprintln!(rt; "hidmap: {name}: over {LONGEST} bytes");
@@ -141,7 +141,7 @@ fn draw_file(rt: &HostRuntime, asked: &Asked<'_>) -> u8 {
     }
     match descriptor_in(rt.alloc(), bytes.as_slice()) {
         Ok(descriptor) => draw_bytes(rt, asked, descriptor.as_slice()),
-        Err(InputFault::Memory) => tell_outside(rt, WANTING),
+        Err(InputFault::Memory) => print_outside_fault(rt, NO_MEMORY),
         Err(fault) => {
             let _ = eprintln!(rt; "hidmap: {name}: {fault}");
             REFUSED
@@ -150,7 +150,7 @@ fn draw_file(rt: &HostRuntime, asked: &Asked<'_>) -> u8 {
 }
 
 /// Draws a descriptor, or what it is refused for.
-fn draw_bytes(rt: &HostRuntime, asked: &Asked<'_>, descriptor: &[u8]) -> u8 {
+fn draw_bytes(rt: &HostRuntime, asked: &CliArgs<'_>, descriptor: &[u8]) -> u8 {
     let descriptor = &descriptor[..descriptor.len().min(MOST)];
     match Layout::parse(rt.alloc(), descriptor) {
         Ok(layout) => {
@@ -165,7 +165,7 @@ fn draw_bytes(rt: &HostRuntime, asked: &Asked<'_>, descriptor: &[u8]) -> u8 {
                 cause: Cause::Memory,
                 ..
             },
-        ) => tell_outside(rt, WANTING),
+        ) => print_outside_fault(rt, NO_MEMORY),
         Err(fault) => {
             let name = asked.file;
             let words = layout_words(fault.cause);
@@ -190,7 +190,7 @@ fn draw_layout(rt: &HostRuntime, layout: &Layout, descriptor: &[u8], form: Form)
             }
             WRONG_USAGE
         }
-        Err(_) => tell_outside(rt, WANTING),
+        Err(_) => print_outside_fault(rt, NO_MEMORY),
     }
 }
 
@@ -202,7 +202,7 @@ fn draw_fault(rt: &HostRuntime, descriptor: &[u8], fault: LayoutFault, form: For
         Form::Svg(_) | Form::Characters => REFUSED,
         Form::Page => match draw_refused(rt.alloc(), descriptor, fault) {
             Ok(text) => write_out(rt, &text, REFUSED),
-            Err(_) => tell_outside(rt, WANTING),
+            Err(_) => print_outside_fault(rt, NO_MEMORY),
         },
     }
 }
@@ -211,6 +211,6 @@ fn draw_fault(rt: &HostRuntime, descriptor: &[u8], fault: LayoutFault, form: For
 fn write_out(rt: &HostRuntime, text: &String, status: u8) -> u8 {
     match rt.stdout().write_all(text.as_bytes()) {
         Ok(()) => status,
-        Err(_) => tell_outside(rt, UNWRITTEN),
+        Err(_) => print_outside_fault(rt, UNWRITTEN),
     }
 }

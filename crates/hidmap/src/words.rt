@@ -6,7 +6,7 @@ use std::alloc::{AllocError, Global};
 
 /// What the words ask for.
 #[derive(Clone, Copy)]
-pub struct Asked<'a> {
+pub struct CliArgs<'a> {
     pub form: Form,
     /// The file; `-` is standard input.
     pub file: &'a str,
@@ -51,21 +51,24 @@ fn command<'a>(alloc: Global) -> Result<Command<'a>, AllocError> {
     drawing(alloc)?.arg(text(alloc))?.arg(file(alloc))
 }
 
-/// What the words behind the first ask for, which is the program's name.
-pub fn asked_by<'a>(alloc: Global, words: &'a [String]) -> Result<Asked<'a>, Error> {
+/// What the words after the first ask for, which is the program's name.
+///
+/// # Errors
+/// The error of clap: words that it refuses, help or version that they ask for, or out of memory.
+pub fn parse_args<'a>(alloc: Global, words: &'a [String]) -> Result<CliArgs<'a>, Error> {
     let matches = command(alloc)?.try_get_matches_from(words)?;
-    let asked = asked_in(&matches);
+    let asked = read_matches(&matches);
     drop(matches);
     Ok(asked)
 }
 
-/// The same, of the words that were found.
-fn asked_in<'a>(matches: &ArgMatches<'a>) -> Asked<'a> {
+/// The arguments of the words that clap found.
+fn read_matches<'a>(matches: &ArgMatches<'a>) -> CliArgs<'a> {
     let form = match matches.get_one::<u16>("svg") {
         Some(report) => Form::Svg(usize::from(report)),
         None if matches.get_flag("text") => Form::Characters,
         None => Form::Page,
     };
     let file = matches.get_str("FILE").unwrap_or("-");
-    Asked { form, file }
+    CliArgs { form, file }
 }

@@ -8,4 +8,4 @@ returns-in-Err-clause-err c =
 pub returns-in-Ok-clause-ok : goal.returns-in-Ok-clause-ok
 returns-in-Ok-clause-ok c =
     let found = c.in_ok-parser.ensures.ok in
-    (found.0, c.in-Ok.ensures.ok found.0 found.1 found.2, c.listed_by.ensures found.0 found.2)
+    (found.0, c.in-Ok.ensures.ok found.0 found.1 found.2, c.into_fields.ensures found.0 found.2)

@@ -5,4 +5,5 @@ use Rattle.hid_drawing.proofs.makers.locals_start.Goals as goal
 pub loop-back-preserved : goal.loop-back-preserved
 loop-back-preserved c =
     let other = sym c.is_main.ensures ∙ c.if-is_main.false in
-    start_more c.args.items.now c.args.m c.loop-back.back c.loop-back-test.true (rw c.spelled_at.ensures at other) ∙ c.loop-back.invariant
+    start_more c.args.items.now c.args.m c.loop-back.back c.loop-back-test.true
+    (rw c.item_spelling_at.ensures at other) ∙ c.loop-back.invariant

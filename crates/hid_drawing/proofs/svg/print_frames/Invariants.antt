@@ -1,7 +1,7 @@
 use Rattle.std.proofs.Common.{◌≡◌, ◌++◌}
 use Rattle.std.specs.Prelude.{string_bytes, slice_get}
-use Rattle.hid_notation.specs.Text.{joined_below}
-use Rattle.hid_drawing.specs.Svg.{frame_behind}
+use Rattle.hid_notation.specs.Text.{concat_below}
+use Rattle.hid_drawing.specs.Svg.{frame_backdrop}
 use Rattle.hid_drawing.proofs.svg.print_frames.Given as goal
 
 -- the frames so far
@@ -9,4 +9,4 @@ abbrev pub invariant-loop-k : goal.invariant-loop-k
 invariant-loop-k l =
     string_bytes l.text
     ≡ string_bytes l.fn.text
-    ++ joined_below l.k (λ k. frame_behind l.layout l.depth l.rows l.frames k (slice_get l.frames k))
+    ++ concat_below l.k (λ k. frame_backdrop l.layout l.depth l.rows l.frames k (slice_get l.frames k))

@@ -1,6 +1,6 @@
 use Rattle.std.proofs.Common.{◌≡◌, ◌++◌}
 use Rattle.std.specs.Prelude.{string_bytes}
-use Rattle.hid_notation.specs.Text.{joined_below}
+use Rattle.hid_notation.specs.Text.{concat_below}
 use Rattle.hid_drawing.specs.Terminal.{line_above, row_line}
 use Rattle.hid_drawing.proofs.terminal.print_row.Given as goal
 
@@ -9,4 +9,4 @@ abbrev pub invariant-loop-k : goal.invariant-loop-k
 invariant-loop-k l =
     string_bytes l.text
     ≡ (string_bytes l.fn.text ++ line_above l.byte l.frames l.pieces)
-    ++ joined_below l.k (row_line l.layout l.r l.bytes l.byte l.frames l.pieces)
+    ++ concat_below l.k (row_line l.layout l.r l.bytes l.byte l.frames l.pieces)

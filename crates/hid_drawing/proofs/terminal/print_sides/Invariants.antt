@@ -1,10 +1,10 @@
 use Rattle.std.proofs.Common.{◌≡◌, ◌++◌, ◌-◌}
 use Rattle.std.specs.Prelude.{string_bytes}
-use Rattle.hid_notation.specs.Text.{joined_below}
+use Rattle.hid_notation.specs.Text.{concat_below}
 use Rattle.hid_drawing.specs.Terminal.{side_at}
 use Rattle.hid_drawing.proofs.terminal.print_sides.Given as goal
 
 -- the frames so far
 abbrev pub invariant-loop-i : goal.invariant-loop-i
 invariant-loop-i l =
-    string_bytes l.text ≡ string_bytes l.fn.text ++ joined_below l.i (λ i. side_at l.frames (l.depth - i) l.byte)
+    string_bytes l.text ≡ string_bytes l.fn.text ++ concat_below l.i (λ i. side_at l.frames (l.depth - i) l.byte)

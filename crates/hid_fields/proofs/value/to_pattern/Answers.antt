@@ -9,7 +9,7 @@ use Rattle.hid_fields.proofs.value.to_pattern.Goals as goal
 pub returns : goal.returns
 returns c =
     let whole : SFits w64 c.args.value = c.ranges.value in
-    let made : c.wrapped.result ≡ pattern_for c.args.value c.args.width = simp to_z-of_z at c.wrapped.ensures in
+    let made : c.wrap.result ≡ pattern_for c.args.value c.args.width = simp to_z-of_z at c.wrap.ensures in
     record {
       fits = rw made (pattern_for-lt c.args.value c.args.width c.requires.some c.requires.fits);
       pattern = made;

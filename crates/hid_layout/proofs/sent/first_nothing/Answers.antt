@@ -1,5 +1,5 @@
 use Rattle.std.proofs.Common.{arith, inl, inr}
-use Rattle.hid_layout.proofs.StretchLemmas.{found_first_in, still_named_in, continues_in, nothing_left, not_far, none_left}
+use Rattle.hid_layout.proofs.EmptyCodeLemmas.{found_first_in, still_named_in, continues_in, nothing_left, not_far, none_left}
 use Rattle.hid_layout.proofs.sent.first_nothing.Goals as goal
 
 pub returns-then-found-end-clause-first : goal.returns-then-found-end-clause-first

@@ -1,5 +1,5 @@
 use Rattle.std.proofs.Common.{◌≤◌, ◌+◌, ◌*◌, ◌^◌}
-use Rattle.hid_layout.proofs.StretchLemmas.{Continues, AllNamed}
+use Rattle.hid_layout.proofs.EmptyCodeLemmas.{Continues, AllNamed}
 use Rattle.hid_layout.proofs.sent.first_nothing.Given as goal
 
 -- the entries before this one take the places below its start, and no place up to the next one names nothing

@@ -3,7 +3,7 @@ use Rattle.std.specs.Prelude.{ℤ, ◌<ℤ◌}
 use lib.Signed.{mag}
 use Rattle.std.proofs.lemmas.Int.{ints}
 use Rattle.hid_descriptor.specs.Usages.{usage_list}
-use Rattle.hid_layout.specs.Stretches.{IsLeastNothing}
+use Rattle.hid_layout.specs.EmptyCodes.{IsLeastNothing}
 use Rattle.hid_layout.proofs.sent.least_nothing.Goals as goal
 
 same_number : (r : ℤ) → mag r < 2 ^ 63 → to_z w64 (of_z w64 r) ≡ r

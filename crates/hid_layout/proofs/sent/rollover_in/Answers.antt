@@ -1,6 +1,6 @@
 use Rattle.std.proofs.Common.{rules, sym, None}
-use Rattle.hid_layout.specs.Stretches.{RollsOverAt}
-use Rattle.hid_layout.proofs.StretchLemmas.{none_rolls, some_rolls, not_carried}
+use Rattle.hid_layout.specs.EmptyCodes.{RollsOverAt}
+use Rattle.hid_layout.proofs.EmptyCodeLemmas.{none_rolls, some_rolls, not_carried}
 use Rattle.hid_layout.proofs.sent.rollover_in.Goals as goal
 
 pub returns-in_default-clause-place : goal.returns-in_default-clause-place

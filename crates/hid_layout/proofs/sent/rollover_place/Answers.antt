@@ -1,5 +1,5 @@
 use Rattle.std.proofs.Common.{sym, arith}
-use Rattle.hid_layout.proofs.StretchLemmas.{rolls_on, rolls_here, rolls_nowhere}
+use Rattle.hid_layout.proofs.EmptyCodeLemmas.{rolls_on, rolls_here, rolls_nowhere}
 use Rattle.hid_layout.proofs.sent.rollover_place.Goals as goal
 
 pub returns-then-is_some-clause-place : goal.returns-then-is_some-clause-place

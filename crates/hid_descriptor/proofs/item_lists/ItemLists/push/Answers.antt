@@ -3,7 +3,7 @@ use Rattle.std.proofs.lemmas.List.{length-map}
 use Rattle.hid_descriptor.specs.declared.item_lists.ItemSpans.{ItemSpans}
 use Rattle.hid_descriptor.specs.Usages.{Entry}
 use Rattle.hid_descriptor.specs.Locals.{entry_on_page}
-use Rattle.hid_descriptor.specs.ItemLists.{listed_more, listed_at}
+use Rattle.hid_descriptor.specs.ItemLists.{lists_with, lists_of_spans}
 use Rattle.hid_descriptor.proofs.ItemListLemmas.{IsBehind, listed_added, paths_longer, starts_longer, still_listed}
 use Rattle.hid_descriptor.proofs.item_lists.ItemLists.push.Goals as goal
 
@@ -20,11 +20,11 @@ returns c =
       path_start = omega (arith, c.len-path_start.ensures);
       path_end = omega (arith, c.len-2.ensures, ap length ps, length-append c.self.inside.paths.items c.args.path.now);
     } in
-    ap (λ l. listed_at l c.add_path.new.paths.items c.push_reserved.new.self.items) es
-    ∙ ap (λ l. listed_at (c.self.inside.entries.items ++ ranges) l c.push_reserved.new.self.items) ps
-    ∙ ap (listed_at (c.self.inside.entries.items ++ ranges) (c.self.inside.paths.items ++ c.args.path.now)) ss
+    ap (λ l. lists_of_spans l c.add_path.new.paths.items c.push_reserved.new.self.items) es
+    ∙ ap (λ l. lists_of_spans (c.self.inside.entries.items ++ ranges) l c.push_reserved.new.self.items) ps
+    ∙ ap (lists_of_spans (c.self.inside.entries.items ++ ranges) (c.self.inside.paths.items ++ c.args.path.now)) ss
     ∙ listed_added c.self.inside.entries.items ranges c.self.inside.starts.items c.self.inside.paths.items c.args.path.now c.self.inside.spans.items s c.self.invariant b
-    ∙ ap (λ l. listed_more l ranges c.args.path.now) c.self.view_is
+    ∙ ap (λ l. lists_with l ranges c.args.path.now) c.self.view_is
 
 pub invariant_of-self : goal.invariant_of-self
 invariant_of-self c = rw c.in_err-reserve.ensures.items c.self.invariant

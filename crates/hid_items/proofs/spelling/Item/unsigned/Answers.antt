@@ -2,7 +2,7 @@ use Rattle.std.proofs.Common.{◌≡◌, ℕ, ◌+◌, ◌*◌, ◌<◌, ◌≤�
 use Rattle.hid_items.specs.Spelling.{data_of, unsigned_of}
 use Rattle.hid_items.proofs.spelling.Item.unsigned.Goals as goal
 
--- the number of two bytes behind the first one
+-- the number of two bytes after the first one
 of_two : (bytes : List ℕ) → 3 ≤ length bytes → length bytes < 4
     → get_or bytes 1 0 + 256 * get_or bytes 2 0 ≡ unsigned_of (data_of bytes)
 of_two [] low high = absurd (omega arith)
@@ -11,7 +11,7 @@ of_two (first ∷ a ∷ []) low high = absurd (omega arith)
 of_two (first ∷ a ∷ b ∷ []) low high = omega arith
 of_two (first ∷ a ∷ b ∷ c ∷ rest) low high = absurd (omega arith)
 
--- and of four
+-- the number of four bytes after the first one
 of_four : (bytes : List ℕ) → 5 ≤ length bytes → length bytes < 6
     → get_or bytes 1 0 + 256 * (get_or bytes 2 0 + 256 * (get_or bytes 3 0 + 256 * get_or bytes 4 0)) ≡ unsigned_of (data_of bytes)
 of_four [] low high = absurd (omega arith)
@@ -22,7 +22,7 @@ of_four (first ∷ a ∷ b ∷ c ∷ []) low high = absurd (omega arith)
 of_four (first ∷ a ∷ b ∷ c ∷ d ∷ []) low high = omega arith
 of_four (first ∷ a ∷ b ∷ c ∷ d ∷ e ∷ rest) low high = absurd (omega arith)
 
--- how much stands behind it
+-- how much stands after it
 behind : (bytes : List ℕ) (n : ℕ) → n + 1 ≤ length bytes → length bytes < n + 2 → length (data_of bytes) ≡ n
 behind [] n low high = absurd (omega arith)
 behind (first ∷ rest) n low high = omega arith

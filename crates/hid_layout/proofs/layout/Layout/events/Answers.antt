@@ -6,7 +6,7 @@ use Rattle.hid_descriptor.specs.Usages.{Entry, usage_list}
 use Rattle.hid_descriptor.specs.Fields.{is_padding}
 use Rattle.hid_layout.specs.Layout.{Contents}
 use Rattle.hid_layout.specs.Controls.{is_input, items_of, form_at, form_of, events_in}
-use Rattle.hid_layout.proofs.FormLemmas.{form-input, form-other, spread-length}
+use Rattle.hid_layout.proofs.FormLemmas.{form-input, form-other, spread_usages-length}
 use Rattle.hid_layout.proofs.layout.Layout.events.Goals as goal
 
 pub returns-then-not-is_input-clause-value : goal.returns-then-not-is_input-clause-value
@@ -39,7 +39,10 @@ returns-in-Variable-clause-value c =
     let there : slice_get c.self.inside.lists.entries c.args.item ≡ Some es = slice_get-get_or c.self.inside.lists.entries c.args.item [] within in
     let input : is_input layout.reports c.index-main.result.now.report ≡ true = ap (λ (l : Contents). is_input l.reports c.index-main.result.now.report) c.self.view_is ∙ sym c.if-not-is_input.ensures in
     let form : events_in (form_at (items_of layout) c.args.item) ≡ events_in (form_of c.index-main.result.now (usage_list es) Variable) = ap events_in (form-input layout c.args.item c.index-main.result.now es at there input) ∙ ap (λ s. events_in (form_of c.index-main.result.now (usage_list es) s)) c.in-Variable.is in
-    sym (spread-length c.index-main.result.now.count (usage_list es) (c.self.invariant.1.some_usage c.args.item c.index-main.result.now es at there (ap is_padding c.in-Variable.is))) ∙ sym form ∙ ap (λ l. events_in (form_at (items_of l) c.args.item)) c.self.view_is
+    sym (spread_usages-length c.index-main.result.now.count (usage_list es)
+    (c.self.invariant.1.some_usage c.args.item c.index-main.result.now es at there
+    (ap is_padding c.in-Variable.is))) ∙ sym form
+    ∙ ap (λ l. events_in (form_at (items_of l) c.args.item)) c.self.view_is
 
 pub returns-in-Array-clause-value : goal.returns-in-Array-clause-value
 returns-in-Array-clause-value c =

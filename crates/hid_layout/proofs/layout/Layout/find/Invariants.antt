@@ -1,6 +1,6 @@
 use Rattle.std.proofs.Common.{◌≡◌, ◌<◌, Some, length}
 use Rattle.hid_layout.specs.declared.control.ControlId.{ControlId}
-use Rattle.hid_layout.specs.Finding.{shown_at}
+use Rattle.hid_layout.specs.Finding.{control_usage}
 use Rattle.hid_layout.specs.Controls.{items_of}
 use Rattle.hid_layout.proofs.layout.Layout.find.Given as goal
 
@@ -8,5 +8,5 @@ use Rattle.hid_layout.proofs.layout.Layout.find.Given as goal
 abbrev pub invariant-loop-item : goal.invariant-loop-item
 invariant-loop-item l = record {
   end : l.item-end ≡ length l.fn.self.items;
-  none : (d : ControlId) → d.item < l.item → shown_at (items_of l.fn.self) d ≡ Some l.fn.usage → ⊥;
+  none : (d : ControlId) → d.item < l.item → control_usage (items_of l.fn.self) d ≡ Some l.fn.usage → ⊥;
 }

@@ -6,8 +6,8 @@ use Rattle.std.proofs.lemmas.Option.{slice_get-get_or}
 use Rattle.hid_layout.specs.declared.control.Controls.TheVariants.{Elements, Keys}
 use Rattle.hid_descriptor.specs.Fields.{is_padding}
 use Rattle.hid_descriptor.specs.Usages.{usage_list}
-use Rattle.hid_layout.specs.Controls.{form_of, head_of, element_kind, least_of, greatest_of, spread, has_place, rollover_from, array_keys}
-use Rattle.hid_layout.proofs.FormLemmas.{spread-length, keys-length, rolls_over}
+use Rattle.hid_layout.specs.Controls.{form_of, head_of, element_kind, least_of, greatest_of, spread_usages, has_place, rollover_from, array_keys}
+use Rattle.hid_layout.proofs.FormLemmas.{spread_usages-length, keys-length, rolls_over}
 use Rattle.hid_layout.proofs.main_item.MainItem.controls.Goals as goal
 
 pub returns-in-Variable : goal.returns-in-Variable
@@ -17,8 +17,11 @@ returns-in-Variable c =
     let low : to_z w64 (of_z w64 c.least.result) ≡ least_of item = to_z-of_z w64 c.least.result (record { sfits = omega arith }) ∙ c.least.ensures in
     let high : to_z w64 (of_z w64 c.greatest.result) ≡ greatest_of item = to_z-of_z w64 c.greatest.result (record { sfits = omega arith }) ∙ c.greatest.ensures in
     let kind : c.element_kind.result ≡ element_kind item = c.element_kind.ensures in
-    let count : length (spread item.count us) ≡ item.count = spread-length item.count us (c.requires.some (ap is_padding c.in-Variable.is)) in
-    let form : head_of (form_of item us item.shape) ≡ Elements (element_kind item) (least_of item) (greatest_of item) (length (spread item.count us)) = ap (λ s. head_of (form_of item us s)) c.in-Variable.is in
+    let count : length (spread_usages item.count us) ≡ item.count =
+    spread_usages-length item.count us (c.requires.some (ap is_padding c.in-Variable.is)) in
+    let form : head_of (form_of item us item.shape)
+    ≡ Elements (element_kind item) (least_of item) (greatest_of item) (length (spread_usages item.count us)) =
+    ap (λ s. head_of (form_of item us s)) c.in-Variable.is in
     cc
 
 pub returns-in-Array : goal.returns-in-Array

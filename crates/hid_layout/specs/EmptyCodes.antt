@@ -2,33 +2,33 @@
 use Rattle.std.specs.Prelude.{◌≡◌, ◌≢◌, ℕ, ◌+◌, ◌-◌, ◌<◌, ◌≤◌, Bool, true, false, not, ◌==◌, ◌&&◌, ◌||◌, nat_lt, List, ◌++◌, slice_get, Option, Some, None, ℤ, ◌≤ℤ◌, ◌<ℤ◌}
 use Rattle.hid_descriptor.specs.declared.limits.TheConstants.{MAX_KEYS}
 use Rattle.hid_descriptor.specs.declared.usage.Usage.{Usage}
-use Rattle.hid_descriptor.specs.Usages.{tells_error, is_rollover, Entry, entry_count, rising}
+use Rattle.hid_descriptor.specs.Usages.{tells_error, is_rollover, Entry, entry_count, usages_from}
 use Rattle.hid_layout.specs.Controls.{rollover_from}
 use Rattle.hid_layout.specs.declared.main_item.MainItem.{MainItem}
 use Rattle.hid_layout.specs.Sent.{names_nothing}
 
--- a usage at a place that an element can carry is a key or tells an error
+-- a usage at a place that an element can carry is a key or reports an error
 abbrev pub is_named : ℕ → Usage → Bool
 is_named place u = (nat_lt place MAX_KEYS && not (u.id == 0)) || tells_error u
 
--- nothing is named behind the end either
+-- the usage at a place names neither a key nor an error, or no usage is there
 abbrev pub is_nothing : ℕ → Option Usage → Bool
 is_nothing place None = true
 is_nothing place (Some u) = not (is_named place u)
 
 -- the usage at a place of a range that begins at another place
-abbrev pub usage_behind : Usage → ℕ → ℕ → Usage
-usage_behind low start place = record { page = low.page; id = low.id + (place - start) }
+abbrev pub usage_at_place : Usage → ℕ → ℕ → Usage
+usage_at_place low start place = record { page = low.page; id = low.id + (place - start) }
 
--- the first place of a range, from one on, that names nothing, or its end; a place behind the end itself
+-- the first place of a range, from one on, that names nothing, or its end; a place after the end itself
 pub record IsFirstNothing (low : Usage) (start from end place : ℕ) : Type 0 where
   pub low_bound : from ≤ place
   pub inside : from ≤ end → place ≤ end
   pub behind : end ≤ from → place ≡ from
-  pub nothing : place < end → is_named place (usage_behind low start place) ≡ false
-  pub named : (k : ℕ) → from ≤ k → k < place → is_named k (usage_behind low start k) ≡ true
+  pub nothing : place < end → is_named place (usage_at_place low start place) ≡ false
+  pub named : (k : ℕ) → from ≤ k → k < place → is_named k (usage_at_place low start k) ≡ true
 
--- the first place of a whole list, from one on, that names nothing, also behind its end
+-- the first place of a whole list, from one on, that names nothing, also after its end
 pub record IsFirst (us : List Usage) (from place : ℕ) : Type 0 where
   pub low_bound : from ≤ place
   pub nothing : is_nothing place (slice_get us place) ≡ true
@@ -47,15 +47,17 @@ pub record IsLeastNothing (item : MainItem) (us : List Usage) (first end v : ℤ
 
 -- the place of ErrorRollOver in an entry that begins at a place
 abbrev pub RollsOverAt : Entry → ℕ → Option ℕ → Type 0
-RollsOverAt e start None = (k : ℕ) → k < entry_count e → is_rollover (usage_behind e.0 start (start + k)) ≡ false
+RollsOverAt e start None =
+    (k : ℕ) → k < entry_count e → is_rollover (usage_at_place e.0 start (start + k)) ≡ false
 RollsOverAt e start (Some place) =
-    (start ≤ place) × (place < start + entry_count e) × (is_rollover (usage_behind e.0 start place) ≡ true)
-    × ((k : ℕ) → k < entry_count e → start + k ≢ place → is_rollover (usage_behind e.0 start (start + k)) ≡ false)
+    (start ≤ place) × (place < start + entry_count e) × (is_rollover (usage_at_place e.0 start place) ≡ true)
+    × ((k : ℕ) → k < entry_count e → start + k ≢ place
+    → is_rollover (usage_at_place e.0 start (start + k)) ≡ false)
 
--- the search of an item for the rollover ends in this entry, or goes on behind it
+-- the search of an item for the rollover ends in this entry, or goes on after it
 abbrev pub RollsOverIn : MainItem → Entry → ℕ → List Usage → Option ℕ → Type 0
 RollsOverIn item e start us None =
-    rollover_from item start (rising e.0.page e.0.id (entry_count e) ++ us)
+    rollover_from item start (usages_from e.0.page e.0.id (entry_count e) ++ us)
     ≡ rollover_from item (start + entry_count e) us
 RollsOverIn item e start us (Some place) =
-    rollover_from item start (rising e.0.page e.0.id (entry_count e) ++ us) ≡ Some place
+    rollover_from item start (usages_from e.0.page e.0.id (entry_count e) ++ us) ≡ Some place

@@ -1,5 +1,5 @@
 use Rattle.std.proofs.Common.{arith}
-use Rattle.hid_descriptor.proofs.listing.listed_by.Goals as goal
+use Rattle.hid_descriptor.proofs.listing.into_fields.Goals as goal
 
 pub returns : goal.returns
 returns c before s = record {

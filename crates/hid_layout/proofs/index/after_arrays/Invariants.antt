@@ -2,7 +2,7 @@ use Rattle.std.proofs.Common.{◌≡◌, ℕ, ◌<◌, ◌≤◌, Some}
 use Rattle.std.specs.List.{slice_get}
 use Rattle.hid_descriptor.specs.declared.shape.Shape.TheVariants.{Array}
 use Rattle.hid_layout.specs.declared.main_item.MainItem.{MainItem}
-use Rattle.hid_layout.proofs.index.behind_arrays.Given as goal
+use Rattle.hid_layout.proofs.index.after_arrays.Given as goal
 
 -- the arrays so far stand before the end
 abbrev pub invariant-loop-i : goal.invariant-loop-i

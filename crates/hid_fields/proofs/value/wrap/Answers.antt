@@ -1,7 +1,7 @@
 use Rattle.std.proofs.Common.{sym, arith}
 use Rattle.std.proofs.lemmas.Int.{ints}
 use Rattle.hid_fields.proofs.ValueLemmas.{pattern_for-pos, pattern_for-neg, twice_half, width_fits}
-use Rattle.hid_fields.proofs.value.wrapped.Goals as goal
+use Rattle.hid_fields.proofs.value.wrap.Goals as goal
 
 pub overflow_add-result : goal.overflow_add-result
 overflow_add-result c = omega (arith, ints)

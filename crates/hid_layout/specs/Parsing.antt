@@ -5,7 +5,7 @@ use Rattle.hid_descriptor.specs.Faults.{Accepts}
 use Rattle.hid_layout.specs.Layout.{Contents, layout_of}
 
 -- the descriptor is accepted with this layout
-pub record Lays (descriptor : List ℕ) (layout : Contents) : Type 0 where
+pub record ParsesTo (descriptor : List ℕ) (layout : Contents) : Type 0 where
   pub items : List Spelled
   pub accepted : Accepts descriptor items
   pub laid : layout ≡ layout_of items

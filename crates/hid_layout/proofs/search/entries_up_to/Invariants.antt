@@ -1,6 +1,6 @@
 use Rattle.std.proofs.Common.{◌-◌, ◌<◌, ◌≤◌, length}
 use Rattle.std.specs.Prelude.{slice_index}
-use Rattle.hid_layout.proofs.search.begun.Given as goal
+use Rattle.hid_layout.proofs.search.entries_up_to.Given as goal
 
 -- the range before the lower end has begun, and the one at the upper end hasn't
 abbrev pub invariant-loop-low : goal.invariant-loop-low

@@ -5,9 +5,9 @@ use Rattle.std.specs.List.{slice_get}
 use Rattle.std.proofs.lemmas.Bool.{cases_lt}
 use Rattle.hid_descriptor.specs.declared.usage.Usage.{Usage}
 use Rattle.hid_layout.specs.declared.main_item.MainItem.{MainItem}
-use Rattle.hid_descriptor.specs.Usages.{is_rollover, Entry, entry_count, usage_list, rising}
+use Rattle.hid_descriptor.specs.Usages.{is_rollover, Entry, entry_count, usage_list, usages_from}
 use Rattle.hid_layout.specs.Controls.{is_encodable, rollover_from}
-use Rattle.hid_layout.specs.Stretches.{RollsOverAt, RollsOverIn, is_nothing, usage_behind, IsFirstNothing, IsFirst}
+use Rattle.hid_layout.specs.EmptyCodes.{RollsOverAt, RollsOverIn, is_nothing, usage_at_place, IsFirstNothing, IsFirst}
 use Rattle.hid_descriptor.proofs.Places.{found, skipped, list_from}
 
 -- the places from a start on are those of the entries that are left
@@ -20,7 +20,7 @@ AllNamed es from next = (k : ℕ) → from ≤ k → k < next → is_nothing k (
 
 -- the usage at a place of the entry that comes next
 there : (es : List Entry) (start j k : ℕ) (d : Entry) → Continues es start j → j < length es → start ≤ k → k < start + entry_count (get_or es j d)
-    → slice_get (usage_list es) k ≡ Some (usage_behind (get_or es j d).0 start k)
+    → slice_get (usage_list es) k ≡ Some (usage_at_place (get_or es j d).0 start k)
 there es start j k d c l a b =
     ap (slice_get (usage_list es)) (omega (arith, a)) ∙ c (k - start) ∙ found es j (k - start) d l (omega (arith, a, b))
 
@@ -57,7 +57,7 @@ nothing_left es start j from next c e s f n = record {
   named = n;
 }
 
--- the same, as the loop meets them
+-- the first usage without a name, as the loop over the entries meets it
 pub found_first_in : (es : List Entry) (start j from next place n : ℕ) (d : Entry) → n ≡ entry_count (get_or es j d) → Continues es start j → j < length es → start ≤ next → from ≤ next → AllNamed es from next
     → IsFirstNothing (get_or es j d).0 start next (start + n) place → place < start + n → IsFirst (usage_list es) from place
 found_first_in es start j from next place n d e c l s f a is b =
@@ -84,9 +84,9 @@ none_left [] (suc j) h = refl
 none_left (x ∷ xs) zero h = absurd (omega (arith, h))
 none_left (x ∷ xs) (suc j) h = none_left xs j (omega (arith, h))
 
--- no usage of a range tells a rollover that an element can carry: the search goes on behind it
+-- no usage of a range tells a rollover that an element can carry: the search goes on after it
 pub rolls_not : (item : MainItem) (page id n place : ℕ) (us : List Usage) → ((k : ℕ) → k < n → (is_rollover (record { page = page; id = id + k }) && is_encodable item (item.min +ℤ pos (place + k))) ≡ false)
-    → rollover_from item place (rising page id n ++ us) ≡ rollover_from item (place + n) us
+    → rollover_from item place (usages_from page id n ++ us) ≡ rollover_from item (place + n) us
 unfolding rollover_from
 rolls_not item page id zero place us none = ap (λ k. rollover_from item k us) (omega arith)
 rolls_not item page id (suc n) place us none =
@@ -100,7 +100,8 @@ rolls_not item page id (suc n) place us none =
 
 -- the first usage of a range that tells one is found
 pub rolls_at : (item : MainItem) (page id n place after : ℕ) (us : List Usage) → after < n → is_rollover (record { page = page; id = id + after }) ≡ true → is_encodable item (item.min +ℤ pos (place + after)) ≡ true
-    → ((k : ℕ) → k < after → is_rollover (record { page = page; id = id + k }) ≡ false) → rollover_from item place (rising page id n ++ us) ≡ Some (place + after)
+    → ((k : ℕ) → k < after → is_rollover (record { page = page; id = id + k }) ≡ false)
+    → rollover_from item place (usages_from page id n ++ us) ≡ Some (place + after)
 unfolding rollover_from
 rolls_at item page id zero place after us h r e none = absurd (omega (arith, h))
 rolls_at item page id (suc n) place zero us h r e none =
@@ -114,7 +115,8 @@ rolls_at item page id (suc n) place (suc after) us h r e none =
     (λ k l. subst (λ (i : ℕ). is_rollover (record { page = page; id = i }) ≡ false) (omega arith) (none (suc k) (omega (arith, l))))
     ∙ ap (λ k. Some k) (omega arith))
 
-at_start : (low : Usage) (start k : ℕ) (b : Bool) → is_rollover (usage_behind low start (start + k)) ≡ b → is_rollover (record { page = low.page; id = low.id + k }) ≡ b
+at_start : (low : Usage) (start k : ℕ) (b : Bool) → is_rollover (usage_at_place low start (start + k)) ≡ b
+    → is_rollover (record { page = low.page; id = low.id + k }) ≡ b
 at_start low start k b e = subst (λ (i : ℕ). is_rollover (record { page = low.page; id = low.id + i }) ≡ b) (omega arith) e
 
 neither : (a b : Bool) → a ≡ false → (a && b) ≡ false
@@ -131,7 +133,9 @@ none_rolls item e start none us = rolls_not item e.0.page e.0.id (entry_count e)
 pub some_rolls : (item : MainItem) (e : Entry) (start place : ℕ) → RollsOverAt e start (Some place) → is_encodable item (item.min +ℤ pos place) ≡ true → (us : List Usage) → RollsOverIn item e start us (Some place)
 some_rolls item e start place is fits us =
     let there : start + (place - start) ≡ place = omega (arith, is.0) in
-    let here : is_rollover (record { page = e.0.page; id = e.0.id + (place - start) }) ≡ true = at_start e.0 start (place - start) true (subst (λ (p : ℕ). is_rollover (usage_behind e.0 start p) ≡ true) (sym there) is.2) in
+    let here : is_rollover (record { page = e.0.page; id = e.0.id + (place - start) }) ≡ true =
+    at_start e.0 start (place - start) true
+    (subst (λ (p : ℕ). is_rollover (usage_at_place e.0 start p) ≡ true) (sym there) is.2) in
     rolls_at item e.0.page e.0.id (entry_count e) start (place - start) us (omega (arith, is.0, is.1)) here (subst (λ (p : ℕ). is_encodable item (item.min +ℤ pos p) ≡ true) (sym there) fits)
     (λ k h. at_start e.0 start k false (is.3 k (omega (arith, is.0, is.1, h)) (λ same. omega (arith, is.0, same, h)))) ∙ ap (λ p. Some p) there
 
